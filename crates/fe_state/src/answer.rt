@@ -1,0 +1,23 @@
+/// The answer that a request gets once it completes.
+#[derive(Clone, Copy, Debug, PartialEq, Eq)]
+pub enum Answer {
+    /// The value of the word before the operation.
+    Value(u64),
+    Done,
+    /// The array that was made or found: its id, and its length in words.
+    Array { id: u64, length: u32 },
+    /// No array has the id, or the name.
+    NoArray,
+    /// The array has no word at the index.
+    BadIndex,
+    /// An array of that name is there already.
+    NameTaken,
+    /// As many arrays are there as there may be.
+    ArrayLimit,
+    /// All arrays together would have too many words.
+    WordLimit,
+    /// The name is no name of 1 to 16 letters `a` to `z`, digits or underscores.
+    BadName,
+    /// The length is not 1 to 65,536 words.
+    BadLength,
+}

@@ -1,0 +1,91 @@
+ghost use Rattle.std.specs.Prelude.{◌≡◌, ◌+◌, ◌<◌, ◌≤◌, ◌↔◌, [], ◌∷◌, ◌++◌, length, IfOk, IsTrue};
+
+use crate::entry::Entry;
+use crate::request::Request;
+use std::alloc::{AllocError, Global};
+use std::marker::Model;
+
+/// How many entries a batch has at most.
+pub const BATCH_ENTRIES: usize = 4097;
+
+/// The entries of a batch, in order: at most 4,097, with room for as many.
+#[derive(Debug, Drop)]
+pub struct Entries {
+    items: Vec<Entry>,
+}
+
+impl Model for Entries {
+    ghost use Rattle.std.specs.Prelude.{◌≤◌, List, vec_len, vec_capacity};
+    ghost use Rattle.fe_state.specs.declared.entry.Entry.{Entry};
+
+    ghost Value = { List Entry };
+
+    ghost view = { λ a. a.items.items };
+
+    ghost invariant = { λ a. (vec_len a.items ≤ 4097) × (4097 ≤ vec_capacity a.items) };
+}
+
+impl Entries {
+    /// No entries yet. It makes the room for 4,097.
+    pub fn new(alloc: Global) -> Result<Entries, AllocError>
+        ensures { IfOk result (λ entries. entries ≡ []) }
+    {
+        Ok(Entries {
+            items: Vec::with_capacity(alloc, BATCH_ENTRIES)?,
+        })
+    }
+
+    pub fn as_slice(&self) -> &[Entry]
+        ensures entries { result.now ≡ self.now }
+        ensures most { length result.now ≤ 4097 }
+    {
+        self.items.as_slice()
+    }
+
+    /// Whether no further entry has room.
+    pub fn is_full(&self) -> bool
+        ensures { IsTrue result ↔ (length self.now ≡ 4097) }
+    {
+        self.items.len() == BATCH_ENTRIES
+    }
+
+    /// Adds an entry at the end. It takes no memory.
+    pub fn push(&mut self, entry: Entry)
+        requires { length self.old < 4097 }
+        ensures { self.new ≡ self.old ++ entry ∷ [] }
+    {
+        let _named: Option<Request> = None;
+        let _ = self.items.push(entry);
+    }
+}
+
+/// Entries that follow one another in the history.
+#[derive(Debug, Drop)]
+pub struct Batch {
+    /// The place of the first entry.
+    pub first: u64,
+    pub entries: Entries,
+}
+
+impl Batch {
+    /// A batch with no entries yet. It makes the room for 4,097.
+    pub fn new(alloc: Global, first: u64) -> Result<Batch, AllocError>
+        ensures first { IfOk result (λ batch. batch.first ≡ first) }
+        ensures empty { IfOk result (λ batch. batch.entries ≡ []) }
+    {
+        Ok(Batch {
+            first,
+            entries: Entries::new(alloc)?,
+        })
+    }
+
+    /// Adds an entry at the end. It takes no memory.
+    pub fn push(&mut self, entry: Entry)
+        requires { length self.old.entries < 4097 }
+        ensures first { self.new.first ≡ self.old.first }
+        ensures entries { self.new.entries ≡ self.old.entries ++ entry ∷ [] }
+    {
+        let _named: Option<Request> = None;
+        self.entries.push(entry);
+    }
+}

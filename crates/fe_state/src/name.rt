@@ -1,0 +1,78 @@
+ghost use Rattle.std.specs.Prelude.{◌≡◌, ◌≤◌, ◌↔◌, length, IsSome, IfSome};
+ghost use Rattle.std.specs.List.{list_all};
+ghost use Rattle.fe_state.specs.Name.{is_plain, is_plain_byte};
+
+use std::marker::Model;
+
+/// How many bytes a name has at most.
+pub const NAME_BYTES: usize = 16;
+
+/// The name of an array as a client sent it: 0 to 16 bytes of any kind.
+#[derive(Clone, Copy, Debug, PartialEq, Eq)]
+pub struct Name {
+    len: u8,
+    cells: [u8; NAME_BYTES],
+}
+
+impl Model for Name {
+    ghost use Rattle.std.specs.Prelude.{◌≡◌, ℕ, ◌≤◌, ◌-◌, List, length, take, drop, replicate};
+    ghost use Rattle.fe_state.specs.Padding.{padded, padded-take};
+
+    ghost Value = { List ℕ };
+
+    ghost view = { λ a. take a.len a.cells };
+
+    ghost invariant = { λ a. (a.len ≤ 16) × (length a.cells ≡ 16) × (drop a.len a.cells ≡ replicate (16 - a.len) 0) };
+
+    ghost inverse = { λ bytes. record { len = length bytes; cells = padded 16 bytes } };
+
+    ghost inverse_ok = { λ a h i. record {
+      len = (padded-take a.len a.cells h).0 i;
+      cells = (padded-take a.len a.cells h).1 i;
+    } };
+}
+
+impl Name {
+    /// The name of these bytes, or `None` where they are more than 16.
+    pub fn new(bytes: &[u8]) -> Option<Name>
+        ensures fits { IsSome result ↔ (length bytes.now ≤ 16) }
+        ensures value { IfSome result (λ name. name ≡ bytes.now) }
+    {
+        if bytes.len() > NAME_BYTES {
+            return None;
+        }
+        let mut cells = [0; NAME_BYTES];
+        cells[..bytes.len()].copy_from_slice(bytes);
+        Some(Name {
+            len: bytes.len() as u8,
+            cells,
+        })
+    }
+
+    /// The bytes as they were sent.
+    pub fn bytes(&self) -> &[u8]
+        ensures bytes { result.now ≡ self.now }
+        ensures length { length result.now ≤ 16 }
+    {
+        &self.cells[..usize::from(self.len)]
+    }
+
+    /// Whether an array may have this name: 1 to 16 bytes, each of `a` to `z`, `0` to `9` or `_`.
+    pub fn is_plain(&self) -> bool
+        ensures { result ≡ is_plain self.now }
+    {
+        !self.bytes().is_empty() && are_plain(self.bytes())
+    }
+}
+
+fn are_plain(bytes: &[u8]) -> bool
+    ensures { result ≡ list_all is_plain_byte bytes.now }
+{
+    bytes.iter().all(|byte| is_plain_byte(*byte))
+}
+
+fn is_plain_byte(byte: u8) -> bool
+    ensures { result ≡ is_plain_byte byte }
+{
+    byte.is_ascii_lowercase() || byte.is_ascii_digit() || byte == b'_'
+}
