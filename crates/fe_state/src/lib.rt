@@ -2,16 +2,24 @@
 #![tactic(auto)]
 
 mod answer;
+mod array;
 mod batch;
 mod entry;
+mod kept;
+mod laws;
 mod name;
 mod request;
+mod words;
 
 pub use answer::Answer;
+pub use array::Array;
 pub use batch::{BATCH_ENTRIES, Batch, Entries};
 pub use entry::Entry;
+pub use kept::Kept;
+pub use laws::{histories_join_and_cut, limits_are_kept, numbers_finish_once};
 pub use name::{NAME_BYTES, Name};
 pub use request::Request;
+pub use words::Words;
 
 #[cfg(test)]
 mod tests;

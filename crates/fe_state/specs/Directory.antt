@@ -1,0 +1,100 @@
+-- The directory of arrays, what a request is answered in it, and what the request leaves.
+use Rattle.std.specs.Prelude.{◌≡◌, ℕ, ◌+◌, ◌≤◌, ◌<◌, refl, not, ◌&&◌, nat_le, nat_lt, if◌then◌else◌, List, length, find, slice_get, Option, Some, None, is_some, IsTrue}
+use Rattle.std.specs.Option.{option_map}
+use Rattle.std.specs.Ordering.{nat_cmp}
+use Rattle.std.specs.Str.{bytes_eq}
+use Rattle.std.specs.Coded.{Coded, code_by, coded×, coded_ℕ}
+use Rattle.std.specs.FinMap.{FinMap, code, empty, entries, get, len, contains_key}
+use Rattle.fe_words.specs.Table.{table}
+use Rattle.fe_words.specs.declared.word.Word.{Word}
+use Rattle.fe_words.specs.declared.word.Reply.{Reply}
+use Rattle.fe_words.specs.declared.word.Reply.TheVariants as reply
+use Rattle.fe_words.specs.declared.op.Op.{Op}
+use Rattle.fe_state.specs.Name.{is_plain}
+use Rattle.fe_state.specs.Total.{total}
+use Rattle.fe_state.specs.declared.array.Array.{Array}
+use Rattle.fe_state.specs.contracts.array.Array.{the_row}
+use Rattle.fe_state.specs.declared.answer.Answer.{Answer}
+use Rattle.fe_state.specs.declared.answer.Answer.TheVariants as answer
+use Rattle.fe_state.specs.declared.request.Request.{Request}
+use Rattle.fe_state.specs.declared.request.Request.TheVariants.{Create, Find, Remove, Access}
+
+-- the arrays by id, and the id that the next one gets
+pub record Directory : Type 0 where
+  pub arrays : FinMap nat_cmp Array
+  pub next_id : ℕ
+
+-- a directory is stored as the pair of its fields
+abbrev pub directory_code : Coded Directory
+directory_code =
+    code_by (FinMap nat_cmp Array × ℕ) (coded× (code coded_ℕ the_row.coded) coded_ℕ) (λ d. (d.arrays, d.next_id)) (λ p. record { arrays = p.0; next_id = p.1 }) (λ _. refl)
+
+-- no array yet; the first one gets id 1
+abbrev pub first_directory : Directory
+first_directory = record { arrays = empty; next_id = 1 }
+
+-- the words of all arrays together
+abbrev pub word_count : FinMap nat_cmp Array → ℕ
+word_count arrays = total (λ a. length a.words) arrays
+
+-- the array with this name, and its id
+abbrev pub named : FinMap nat_cmp Array → List ℕ → Option (ℕ × Array)
+named arrays name = find (λ e. bytes_eq e.1.name name) (entries arrays)
+
+-- the word at an index of an array, if both are there
+abbrev pub word_in : Option Array → ℕ → Option Word
+word_in None index = None
+word_in (Some a) index = slice_get a.words index
+
+-- a new array is answered the first of these that applies
+abbrev pub creation : Directory → List ℕ → ℕ → Answer
+creation d name size =
+    if not (is_plain name) then answer.BadName
+    else if not (nat_le 1 size && nat_le size 65536) then answer.BadLength
+    else if is_some (named d.arrays name) then answer.NameTaken
+    else if nat_le 64 (len d.arrays) then answer.ArrayLimit
+    else if nat_lt 65536 (word_count d.arrays + size) then answer.WordLimit
+    else answer.Array d.next_id size
+
+-- an array that is looked up by its name is answered so
+abbrev pub found : Option (ℕ × Array) → Answer
+found None = answer.NoArray
+found (Some e) = answer.Array e.0 (length e.1.words)
+
+-- the answer that a reply of the operation table becomes
+abbrev pub answer_of : Reply → Answer
+answer_of (reply.Value v) = answer.Value v
+answer_of reply.Done = answer.Done
+
+-- an operation on a word is answered by the operation table, if the word is there
+abbrev pub accessed : Option Word → Op → Option Answer
+accessed None op = Some answer.BadIndex
+accessed (Some w) op = option_map (λ after. answer_of after.1) (table op w)
+
+-- the same, if the array is there
+abbrev pub access : Option Array → ℕ → Op → Option Answer
+access None index op = Some answer.NoArray
+access (Some a) index op = accessed (slice_get a.words index) op
+
+-- what a request is answered; None where it has to wait
+abbrev pub answer_in : Directory → Request → Option Answer
+answer_in d (Create name size tag) = Some (creation d name size)
+answer_in d (Find name) = Some (if not (is_plain name) then answer.BadName else found (named d.arrays name))
+answer_in d (Remove id) = Some (if contains_key d.arrays id then answer.Done else answer.NoArray)
+answer_in d (Access id index op) = access (get d.arrays id) index op
+
+-- an array that a directory may hold under an id
+pub record IsArray (d : Directory) (id : ℕ) (a : Array) : Type 0 where
+  pub made : 1 ≤ id
+  pub older : id < d.next_id
+  pub name : IsTrue (is_plain a.name)
+  pub some_words : 1 ≤ length a.words
+  pub few_words : length a.words ≤ 65536
+
+-- a directory whose arrays, names and words are within the limits
+pub record IsDirectory (d : Directory) : Type 0 where
+  pub next_id : 1 ≤ d.next_id
+  pub few_arrays : len d.arrays ≤ 64
+  pub each : (id : ℕ) (a : Array) → get d.arrays id ≡ Some a → IsArray d id a
+  pub names : (i j : ℕ) (a b : Array) → get d.arrays i ≡ Some a → get d.arrays j ≡ Some b → a.name ≡ b.name → i ≡ j
+  pub words : word_count d.arrays ≤ 65536

@@ -1,0 +1,51 @@
+-- What a request that was answered leaves of the directory.
+use Rattle.std.specs.Prelude.{ℕ, ◌+◌, List, slice_set, replicate, Option, Some, None, option_and_then}
+use Rattle.std.specs.Ordering.{nat_cmp}
+use Rattle.std.specs.FinMap.{FinMap, get, insert, remove}
+use Rattle.fe_words.specs.Table.{word, table}
+use Rattle.fe_words.specs.declared.word.Word.{Word}
+use Rattle.fe_words.specs.declared.word.Tag.{Tag}
+use Rattle.fe_words.specs.declared.word.Reply.{Reply}
+use Rattle.fe_state.specs.Directory.{Directory, creation, word_in}
+use Rattle.fe_state.specs.declared.array.Array.{Array}
+use Rattle.fe_state.specs.declared.answer.Answer.{Answer}
+use Rattle.fe_state.specs.declared.answer.Answer.TheVariants as answer
+use Rattle.fe_state.specs.declared.request.Request.{Request}
+use Rattle.fe_state.specs.declared.request.Request.TheVariants.{Create, Find, Remove, Access}
+
+-- an array whose words all have value 0 and the tag
+abbrev pub new_array : List ℕ → ℕ → Tag → Array
+new_array name size tag = record { name = name; words = replicate size (word 0 tag) }
+
+-- a creation that is answered with an array adds it, and any other leaves the directory as it is
+abbrev pub created : Directory → List ℕ → ℕ → Tag → Answer → Directory
+created d name size tag (answer.Array id _) =
+    record { arrays = insert d.arrays id (new_array name size tag); next_id = d.next_id + 1 }
+created d name size tag _ = d
+
+-- the array with this word at the index
+abbrev pub with_word : Array → ℕ → Word → Array
+with_word a index w = record { name = a.name; words = slice_set a.words index w }
+
+-- the arrays with this word at the index of the array that was looked up, if it is there
+abbrev pub put_word : FinMap nat_cmp Array → ℕ → ℕ → Word → Option Array → FinMap nat_cmp Array
+put_word arrays id index w None = arrays
+put_word arrays id index w (Some a) = insert arrays id (with_word a index w)
+
+-- an operation leaves the word that the operation table says, and changes nothing where it waits
+abbrev pub operated : FinMap nat_cmp Array → ℕ → ℕ → Option (Word × Reply) → FinMap nat_cmp Array
+operated arrays id index None = arrays
+operated arrays id index (Some after) = put_word arrays id index after.0 (get arrays id)
+
+-- the directory after a request
+abbrev pub performed : Directory → Request → Directory
+performed d (Create name size tag) = created d name size tag (creation d name size)
+performed d (Find name) = d
+performed d (Remove id) = record { arrays = remove d.arrays id; next_id = d.next_id }
+performed d (Access id index op) =
+    record { arrays = operated d.arrays id index (option_and_then (table op) (word_in (get d.arrays id) index)); next_id = d.next_id }
+
+-- a creation is answered with a new array
+abbrev pub IsNewArray : Option Answer → Type 0
+IsNewArray (Some (answer.Array id size)) = Unit {0}
+IsNewArray _ = ⊥

@@ -1,0 +1,39 @@
+-- Histories: groups of entries, each legal after those before it.
+use Rattle.std.specs.Prelude.{◌≡◌, ◌<◌, ℕ, List, [], ◌∷◌, ◌++◌, length, flat_map, Contains}
+use Rattle.fe_state.specs.State.{ServerState, IsLegal, IsWithinLimits, after, after_all}
+use Rattle.fe_state.specs.declared.answer.Answer.{Answer}
+use Rattle.fe_state.specs.declared.request.Request.{Request}
+use Rattle.fe_state.specs.declared.entry.Entry.{Entry}
+use Rattle.fe_state.specs.declared.entry.Entry.TheVariants.{Closed, Finished}
+
+-- entries that are legal one after another
+abbrev pub AreLegal : ServerState → List Entry → Type 0
+AreLegal s [] = Unit {0}
+AreLegal s (e ∷ es) = IsLegal s e × AreLegal (after s e) es
+
+-- groups of entries, none of them empty, legal entry by entry from the state on
+abbrev pub IsHistory : ServerState → List (List Entry) → Type 0
+IsHistory s [] = Unit {0}
+IsHistory s (group ∷ groups) = (0 < length group) × AreLegal s group × IsHistory (after_all s group) groups
+
+-- the state after whole groups
+abbrev pub after_groups : ServerState → List (List Entry) → ServerState
+after_groups s [] = s
+after_groups s (group ∷ groups) = after_groups (after_all s group) groups
+
+-- a legal entry leaves a state within the limits within them
+abbrev pub KeepsLimits : Type 0
+KeepsLimits = (s : ServerState) (e : Entry) → IsWithinLimits s → IsLegal s e → IsWithinLimits (after s e)
+
+-- where a number of a session is finished twice, the session was closed in between
+abbrev pub FinishesOnce : Type 0
+FinishesOnce = (s : ServerState) (groups : List (List Entry)) → IsHistory s groups
+    → (before between behind : List Entry) (session number : ℕ) (first second : Request) (one other : Answer)
+    → flat_map (λ group. group) groups ≡ before ++ Finished session number first one ∷ between ++ Finished session number second other ∷ behind
+    → Contains between (Closed session)
+
+-- two histories one after the other are one, and a history is two where it is cut between groups
+abbrev pub JoinsAndCuts : Type 0
+JoinsAndCuts = (s : ServerState) (front rest : List (List Entry))
+    → (IsHistory s front → IsHistory (after_groups s front) rest → IsHistory s (front ++ rest))
+    × (IsHistory s (front ++ rest) → IsHistory s front × IsHistory (after_groups s front) rest)

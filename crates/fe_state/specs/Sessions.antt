@@ -1,0 +1,44 @@
+-- Sessions. Each has a floor, its least usable number, and the answers kept for its numbers.
+use Rattle.std.specs.Prelude.{ℕ, ◌+◌, ◌≤◌, ◌<◌, nat_le, refl, Option, Some, None, if◌then◌else◌}
+use Rattle.std.specs.Ordering.{nat_cmp}
+use Rattle.std.specs.Coded.{Coded, code_by, coded×, coded_ℕ}
+use Rattle.std.specs.FinMap.{FinMap, code, empty, insert, retain_keys, contains_key}
+use Rattle.fe_state.specs.declared.kept.Kept.{Kept}
+use Rattle.fe_state.specs.contracts.kept.Kept.{the_row}
+
+-- a session: its floor, and what is kept for a number
+pub record Session : Type 0 where
+  pub floor : ℕ
+  pub kept : FinMap nat_cmp Kept
+
+-- a session is stored as the pair of its fields
+abbrev pub session_code : Coded Session
+session_code =
+    code_by (ℕ × FinMap nat_cmp Kept) (coded× coded_ℕ (code coded_ℕ the_row.coded)) (λ s. (s.floor, s.kept)) (λ p. record { floor = p.0; kept = p.1 }) (λ _. refl)
+
+-- a session that begins: every number from 1 on is new
+abbrev pub first_session : Session
+first_session = record { floor = 1; kept = empty }
+
+-- the numbers that a session may use are the 32 from its floor on
+pub record IsInWindow (floor number : ℕ) : Type 0 where
+  pub not_below : floor ≤ number
+  pub not_beyond : number < floor + 32
+
+-- a session with its floor raised: what was kept below the floor is dropped
+abbrev pub raised : Session → ℕ → Session
+raised s floor = record { floor = floor; kept = retain_keys s.kept (nat_le floor) }
+
+-- a session that keeps this for a number
+abbrev pub keeping : Session → ℕ → Kept → Session
+keeping s number kept = record { floor = s.floor; kept = insert s.kept number kept }
+
+-- the sessions with this one put in place of the one that was looked up, if it was there
+abbrev pub put_session : FinMap nat_cmp Session → ℕ → Option Session → FinMap nat_cmp Session
+put_session sessions session None = sessions
+put_session sessions session (Some s) = insert sessions session s
+
+-- a session that is attached begins, unless it is there
+abbrev pub opened : FinMap nat_cmp Session → ℕ → FinMap nat_cmp Session
+opened sessions session =
+    if contains_key sessions session then sessions else insert sessions session first_session

@@ -1,0 +1,109 @@
+-- The state of the server, what a request is answered in it, which entries are legal, and what they leave.
+use Rattle.std.specs.Prelude.{◌≡◌, ℕ, ◌+◌, ◌-◌, ◌^◌, ◌≤◌, ◌<◌, refl, List, [], ◌∷◌, Option, Some, None, IsSome, IsSomeAnd, MatchOption}
+use Rattle.std.specs.Option.{option_map}
+use Rattle.std.specs.Ordering.{nat_cmp}
+use Rattle.std.specs.Coded.{Coded, code_by, coded×, coded_ℕ}
+use Rattle.std.specs.FinMap.{FinMap, code, empty, get, remove, len}
+use Rattle.fe_state.specs.Directory.{Directory, IsDirectory, answer_in}
+use Rattle.fe_state.specs.Effect.{performed}
+use Rattle.fe_state.specs.Sessions.{Session, session_code, IsInWindow, raised, keeping, put_session, opened}
+use Rattle.fe_state.specs.declared.array.Array.{Array}
+use Rattle.fe_state.specs.contracts.array.Array.{the_row}
+use Rattle.fe_state.specs.declared.kept.Kept.{Kept}
+use Rattle.fe_state.specs.declared.answer.Answer.{Answer}
+use Rattle.fe_state.specs.declared.request.Request.{Request}
+use Rattle.fe_state.specs.declared.entry.Entry.{Entry}
+use Rattle.fe_state.specs.declared.entry.Entry.TheVariants.{Attached, Closed, Settled, Finished}
+
+-- the arrays by id, the sessions by number, the id that the next array gets, and the number of entries so far
+pub record ServerState : Type 0 where
+  pub arrays : FinMap nat_cmp Array
+  pub sessions : FinMap nat_cmp Session
+  pub next_id : ℕ
+  pub place : ℕ
+
+-- a state is stored as the tuple of its fields
+abbrev pub state_code : Coded ServerState
+state_code =
+    code_by (FinMap nat_cmp Array × (FinMap nat_cmp Session × (ℕ × ℕ))) (coded× (code coded_ℕ the_row.coded) (coded× (code coded_ℕ session_code) (coded× coded_ℕ coded_ℕ))) (λ s. (s.arrays, (s.sessions, (s.next_id, s.place)))) (λ p. record { arrays = p.0; sessions = p.1.0; next_id = p.1.1.0; place = p.1.1.1 }) (λ _. refl)
+
+-- the state before the first entry
+abbrev pub first_state : ServerState
+first_state = record { arrays = empty; sessions = empty; next_id = 1; place = 0 }
+
+-- the arrays of a state, with the id that the next one gets
+abbrev pub directory_of : ServerState → Directory
+directory_of s = record { arrays = s.arrays; next_id = s.next_id }
+
+-- what a request is answered; None where it has to wait
+abbrev pub reply : ServerState → Request → Option Answer
+reply s request = answer_in (directory_of s) request
+
+-- a session may be attached with its own floor, or, while there are fewer than 64, begin with floor 1
+abbrev pub MayAttach : FinMap nat_cmp Session → ℕ → Option Session → Type 0
+MayAttach sessions floor here = MatchOption here ((floor ≡ 1) × (len sessions < 64)) (λ s. floor ≡ s.floor)
+
+-- a floor may rise by 32 at the most, and to 2^63 - 32
+pub record MayRise (old new : ℕ) : Type 0 where
+  pub no_lower : old ≤ new
+  pub within_window : new ≤ old + 32
+  pub within_limit : new ≤ 2 ^ 63 - 32
+
+-- a number is usable if it is in the window and nothing is kept for it
+pub record IsUsable (s : Session) (number : ℕ) : Type 0 where
+  pub in_window : IsInWindow s.floor number
+  pub not_kept : get s.kept number ≡ None
+
+-- what each kind of entry asks of the state before it
+abbrev pub IsAllowed : ServerState → Entry → Type 0
+IsAllowed s (Attached session floor) = MayAttach s.sessions floor (get s.sessions session)
+IsAllowed s (Closed session) = IsSome (get s.sessions session)
+IsAllowed s (Settled session floor) = IsSomeAnd (get s.sessions session) (λ x. MayRise x.floor floor)
+IsAllowed s (Finished session number request answer) =
+    IsSomeAnd (get s.sessions session) (λ x. IsUsable x number) × (reply s request ≡ Some answer)
+
+-- an entry that may come next; there is no place after 2^63 - 1
+pub record IsLegal (s : ServerState) (e : Entry) : Type 0 where
+  pub has_place : s.place < 2 ^ 63 - 1
+  pub allowed : IsAllowed s e
+
+-- the sessions after an entry at this place
+abbrev pub sessions_after : FinMap nat_cmp Session → ℕ → Entry → FinMap nat_cmp Session
+sessions_after sessions place (Attached session floor) = opened sessions session
+sessions_after sessions place (Closed session) = remove sessions session
+sessions_after sessions place (Settled session floor) =
+    put_session sessions session (option_map (λ s. raised s floor) (get sessions session))
+sessions_after sessions place (Finished session number request answer) =
+    put_session sessions session (option_map (λ s. keeping s number (record { request = request; answer = answer; place = place })) (get sessions session))
+
+-- the directory after an entry: only a request that finishes changes it
+abbrev pub directory_after : Directory → Entry → Directory
+directory_after d (Attached session floor) = d
+directory_after d (Closed session) = d
+directory_after d (Settled session floor) = d
+directory_after d (Finished session number request answer) = performed d request
+
+-- the state that a legal entry leaves
+abbrev pub after : ServerState → Entry → ServerState
+after s e =
+    let d = directory_after (directory_of s) e in
+    record { arrays = d.arrays; sessions = sessions_after s.sessions s.place e; next_id = d.next_id; place = s.place + 1 }
+
+-- the state after entries, the first of them first
+abbrev pub after_all : ServerState → List Entry → ServerState
+after_all s [] = s
+after_all s (e ∷ es) = after_all (after s e) es
+
+-- a session whose floor and kept numbers are within the limits, at this place of the history
+pub record IsSession (place : ℕ) (s : Session) : Type 0 where
+  pub floor : 1 ≤ s.floor
+  pub most : s.floor ≤ 2 ^ 63 - 32
+  pub kept : (number : ℕ) (k : Kept) → get s.kept number ≡ Some k → IsInWindow s.floor number × (k.place < place)
+
+-- a state within the limits, which all states of the server are: it has exactly one image
+pub record IsWithinLimits (s : ServerState) : Type 0 where
+  pub place : s.place < 2 ^ 63
+  pub directory : IsDirectory (directory_of s)
+  pub next_id : s.next_id ≤ s.place + 1
+  pub few_sessions : len s.sessions ≤ 64
+  pub each : (session : ℕ) (x : Session) → get s.sessions session ≡ Some x → IsSession s.place x

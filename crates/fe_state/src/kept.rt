@@ -1,0 +1,11 @@
+use crate::answer::Answer;
+use crate::request::Request;
+
+/// What is kept of a request that completed: its content, its answer, and the place of its entry.
+#[derive(Clone, Copy, Debug, PartialEq, Eq)]
+pub struct Kept {
+    pub request: Request,
+    pub answer: Answer,
+    /// The number of entries before the request's own.
+    pub place: u64,
+}

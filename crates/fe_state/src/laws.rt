@@ -1,0 +1,16 @@
+ghost use Rattle.fe_state.specs.History.{KeepsLimits, FinishesOnce, JoinsAndCuts};
+
+/// A legal entry keeps the state within the limits.
+pub fn limits_are_kept()
+    ensures { KeepsLimits }
+{}
+
+/// A request number takes effect at most once between the opening and the end of its session.
+pub fn numbers_finish_once()
+    ensures { FinishesOnce }
+{}
+
+/// A history cut after any whole group is a history, and two histories one after the other are one.
+pub fn histories_join_and_cut()
+    ensures { JoinsAndCuts }
+{}
