@@ -9,8 +9,9 @@ use Rattle.std.proofs.lemmas.Bool.Decides.{nat_tests}
 use Rattle.fe_state.proofs.Maps.{get_inserted, get_beside, get_removed, get_left, get_retained, same_or_other}
 use Rattle.fe_state.proofs.Limits.{performed_kept, performed_next}
 use Rattle.fe_state.specs.Directory.{Directory, IsDirectory}
-use Rattle.fe_state.specs.Sessions.{Session, IsInWindow, raised, keeping, put_session, opened, first_session}
-use Rattle.fe_state.specs.State.{ServerState, IsWithinLimits, IsSession, IsLegal, IsUsable, MayRise, MayAttach, after, sessions_after, directory_of, directory_after}
+use Rattle.fe_state.specs.Sessions.{MayRise, Session, IsInWindow, raised, keeping, put_session, opened, first_session}
+use Rattle.fe_state.specs.State.{ServerState, IsWithinLimits, IsSession, IsLegal, after, directory_of, directory_after}
+use Rattle.fe_state.specs.SessionEffect.{IsUsable, MayAttach, sessions_after}
 use Rattle.fe_state.specs.declared.kept.Kept.{Kept}
 use Rattle.fe_state.specs.declared.entry.Entry.{Entry}
 use Rattle.fe_state.specs.declared.entry.Entry.TheVariants.{Attached, Closed, Settled, Finished}
@@ -52,31 +53,34 @@ risen place x floor h up = record {
     by false number is k e =
         let gone : get (retain_keys x.kept (nat_le floor)) number ≡ None = get_retained x.kept (nat_le floor) number ∙ ap (λ b. cond b (get x.kept number) None) is in cc
 
--- a session that keeps an answer
-kept_one : (place : ℕ) (x : Session) (number : ℕ) (k : Kept) → IsSession place x → IsInWindow x.floor number → k.place ≡ place → IsSession (place + 1) (keeping x number k)
-kept_one place x number k h window here = record {
+-- a session that keeps an answer of an earlier place
+pub keeping_within : (place : ℕ) (x : Session) (number : ℕ) (k : Kept) → IsSession place x → IsInWindow x.floor number → k.place < place → IsSession place (keeping x number k)
+keeping_within place x number k h window earlier = record {
   floor = h.floor;
   most = h.most;
   kept = λ q j e. elim (same_or_other q number) [
     | inl is ↦ let new : get (insert x.kept number k) q ≡ Some k = rw (is, get_inserted) refl in
         let some : Some j ≡ Some k = sym e ∙ new in
         let same : j ≡ k = cc in
-        (rw is window, rw (same, here) (omega arith))
-    | inr ne ↦ let old = h.kept q j (sym (get_beside x.kept number k q ne) ∙ e) in (old.0, omega (arith, old.1))
+        (rw is window, rw same earlier)
+    | inr ne ↦ h.kept q j (sym (get_beside x.kept number k q ne) ∙ e)
   ];
 }
 
--- what holds of each session, where one of them is changed
+-- what holds of each session, where one is put at a number
+pub insert_each : (P : Session → Type 0) (sessions : FinMap nat_cmp Session) (other : ℕ) (y : Session) → ((q : ℕ) (x : Session) → get sessions q ≡ Some x → P x) → P y → (q : ℕ) (x : Session) → get (insert sessions other y) q ≡ Some x → P x
+insert_each P sessions other y each new q x e =
+    elim (same_or_other q other) [
+      | inl at ↦ let now : get (insert sessions other y) q ≡ Some y = rw (at, get_inserted) refl in
+          let some : Some x ≡ Some y = sym e ∙ now in
+          let same : x ≡ y = cc in
+          subst P (sym same) new
+      | inr ne ↦ each q x (sym (get_beside sessions other y q ne) ∙ e)
+    ]
+
 put_each : (P : Session → Type 0) (sessions : FinMap nat_cmp Session) (other : ℕ) (f : Session → Session) (here : Option Session) → get sessions other ≡ here → ((q : ℕ) (x : Session) → get sessions q ≡ Some x → P x) → ((x : Session) → here ≡ Some x → P (f x)) → (q : ℕ) (x : Session) → get (put_session sessions other (option_map f here)) q ≡ Some x → P x
 put_each P sessions other f None is each new q x e = each q x e
-put_each P sessions other f (Some y) is each new q x e =
-    elim (same_or_other q other) [
-      | inl at ↦ let now : get (insert sessions other (f y)) q ≡ Some (f y) = rw (at, get_inserted) refl in
-          let some : Some x ≡ Some (f y) = sym e ∙ now in
-          let same : x ≡ f y = cc in
-          subst P (sym same) (new y refl)
-      | inr ne ↦ each q x (sym (get_beside sessions other (f y) q ne) ∙ e)
-    ]
+put_each P sessions other f (Some y) is each new q x e = insert_each P sessions other (f y) each (new y refl) q x e
 
 put_few : (sessions : FinMap nat_cmp Session) (other : ℕ) (f : Session → Session) (here : Option Session) → get sessions other ≡ here → len sessions ≤ 64 → len (put_session sessions other (option_map f here)) ≤ 64
 put_few sessions other f None is few = few
@@ -121,11 +125,11 @@ sessions_kept s (Settled session floor) h legal = record {
     rises x p = rw p at legal.allowed
 sessions_kept s (Finished session number request answer) h legal = record {
   few = put_few s.sessions session _ (get s.sessions session) refl h.few;
-  each = put_each (IsSession (s.place + 1)) s.sessions session _ (get s.sessions session) refl (λ q x p. later s.place x (h.each q x p)) (λ x p. kept_one s.place x number _ (h.each session x p) (usable x p).in_window refl);
+  each = put_each (IsSession (s.place + 1)) s.sessions session _ (get s.sessions session) refl (λ q x p. later s.place x (h.each q x p)) (λ x p. keeping_within (s.place + 1) x number _ (later s.place x (h.each session x p)) (usable x p).in_window (omega arith));
 }
   where
     usable : (x : Session) → get s.sessions session ≡ Some x → IsUsable x number
-    usable x p = rw p at legal.allowed.0
+    usable x p = rw p at legal.allowed
 
 directory_kept : (d : Directory) (e : Entry) → IsDirectory d → IsDirectory (directory_after d e)
 directory_kept d (Attached session floor) h = h

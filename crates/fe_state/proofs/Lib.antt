@@ -1,6 +1,14 @@
+pub mod DirectoryLemmas
+pub mod Empty
 pub mod Histories
-pub mod Maps
 pub mod LegalLimits
 pub mod Limits
+pub mod Loads
+pub mod Maps
+pub mod SessionLemmas
 pub mod Spent
+pub mod TableCopyLemmas
+pub mod TableLemmas
 pub mod Totals
+pub mod Undone
+pub mod Worked

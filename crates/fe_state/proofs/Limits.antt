@@ -106,14 +106,14 @@ replace_kept d id a b h here name size = record {
     twice : (i j : ℕ) (x y : Array) → WasThere d i x → WasThere d j y → x.name ≡ y.name → i ≡ j
     twice i j x y p q same = h.names i j p.0 q.0 p.1 q.1 (sym p.2 ∙ same ∙ q.2)
 
--- so does an operation on a word
-put_kept : (d : Directory) (id index : ℕ) (w : Word) (here : Option Array) → IsDirectory d → get d.arrays id ≡ here → IsDirectory (record { arrays = put_word d.arrays id index w here; next_id = d.next_id })
-put_kept d id index w None h e = h
-put_kept d id index w (Some a) h e = replace_kept d id a (with_word a index w) h e refl (length-set a.words index w)
+-- so does a word that is put in the place of another
+pub put_word_kept : (d : Directory) (id index : ℕ) (w : Word) (here : Option Array) → IsDirectory d → get d.arrays id ≡ here → IsDirectory (record { arrays = put_word d.arrays id index w here; next_id = d.next_id })
+put_word_kept d id index w None h e = h
+put_word_kept d id index w (Some a) h e = replace_kept d id a (with_word a index w) h e refl (length-set a.words index w)
 
 operated_kept : (d : Directory) (id index : ℕ) (after : Option (Word × Reply)) → IsDirectory d → IsDirectory (record { arrays = operated d.arrays id index after; next_id = d.next_id })
 operated_kept d id index None h = h
-operated_kept d id index (Some after) h = put_kept d id index after.0 (get d.arrays id) h refl
+operated_kept d id index (Some after) h = put_word_kept d id index after.0 (get d.arrays id) h refl
 
 -- what has no name among the entries is named otherwise
 unnamed : (name : List ℕ) (es : List (ℕ × Array)) (q : ℕ) (a : Array) → find (λ e. bytes_eq e.1.name name) es ≡ None → map.find nat_cmp q es ≡ Some a → a.name ≢ name

@@ -8,8 +8,9 @@ use Rattle.std.specs.Ordering.{nat_cmp}
 use Rattle.std.specs.FinMap.{FinMap, get, insert, contains_key}
 use Rattle.fe_state.proofs.Maps.{get_inserted, get_beside, get_left, get_retained, same_or_other}
 use Rattle.std.proofs.lemmas.Bool.Decides.{nat_tests}
-use Rattle.fe_state.specs.Sessions.{Session, raised, keeping, put_session, opened, first_session}
-use Rattle.fe_state.specs.State.{ServerState, IsLegal, IsUsable, MayRise, after, after_all}
+use Rattle.fe_state.specs.Sessions.{MayRise, Session, raised, keeping, put_session, opened, first_session}
+use Rattle.fe_state.specs.State.{ServerState, IsLegal, after, after_all}
+use Rattle.fe_state.specs.SessionEffect.{IsUsable}
 use Rattle.fe_state.specs.History.{AreLegal, IsHistory}
 use Rattle.fe_state.specs.declared.kept.Kept.{Kept}
 use Rattle.fe_state.specs.declared.answer.Answer.{Answer}
@@ -90,7 +91,7 @@ spent_after s (Finished other m request answer) session n h legal =
 
 -- a number that was finished is spent
 finished_spent : (s : ServerState) (session n : ℕ) (request : Request) (answer : Answer) → IsLegal s (Finished session n request answer) → IsSpent (after s (Finished session n request answer)) session n
-finished_spent s session n request answer legal = by (get s.sessions session) refl legal.allowed.0
+finished_spent s session n request answer legal = by (get s.sessions session) refl legal.allowed
   where
     by : (here : Option Session) → get s.sessions session ≡ here → IsSomeAnd here (λ x. IsUsable x n) → IsSpentIn (get (put_session s.sessions session (option_map (λ x. keeping x n (record { request = request; answer = answer; place = s.place })) here)) session) n
     by None e k = absurd k
@@ -98,7 +99,7 @@ finished_spent s session n request answer legal = by (get s.sessions session) re
 
 -- and can't be finished
 spent_not_finished : (s : ServerState) (session n : ℕ) (request : Request) (answer : Answer) → IsSpent s session n → IsLegal s (Finished session n request answer) → ⊥
-spent_not_finished s session n request answer h legal = by (get s.sessions session) h legal.allowed.0
+spent_not_finished s session n request answer h legal = by (get s.sessions session) h legal.allowed
   where
     none : (kept : Option Kept) → IsSome kept → kept ≡ None → ⊥
     none kept is e = cc

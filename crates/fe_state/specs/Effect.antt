@@ -45,7 +45,12 @@ performed d (Remove id) = record { arrays = remove d.arrays id; next_id = d.next
 performed d (Access id index op) =
     record { arrays = operated d.arrays id index (option_and_then (table op) (word_in (get d.arrays id) index)); next_id = d.next_id }
 
--- a creation is answered with a new array
-abbrev pub IsNewArray : Option Answer → Type 0
-IsNewArray (Some (answer.Array id size)) = Unit {0}
+-- an answer that is a new array
+abbrev pub IsNewArray : Answer → Type 0
+IsNewArray (answer.Array id size) = Unit {0}
 IsNewArray _ = ⊥
+
+-- a request that makes an array
+abbrev pub CreatesArray : Directory → Request → Type 0
+CreatesArray d (Create name size tag) = IsNewArray (creation d name size)
+CreatesArray d _ = ⊥

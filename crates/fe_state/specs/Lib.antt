@@ -1,8 +1,15 @@
+pub mod Change
 pub mod Directory
 pub mod Effect
+pub mod Examples
 pub mod History
 pub mod Name
 pub mod Padding
+pub mod SessionEffect
 pub mod Sessions
 pub mod State
+pub mod Table
+pub mod TableLends
 pub mod Total
+pub mod Undo
+pub mod Window

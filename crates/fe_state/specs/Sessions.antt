@@ -1,8 +1,8 @@
 -- Sessions. Each has a floor, its least usable number, and the answers kept for its numbers.
-use Rattle.std.specs.Prelude.{ℕ, ◌+◌, ◌≤◌, ◌<◌, nat_le, refl, Option, Some, None, if◌then◌else◌}
+use Rattle.std.specs.Prelude.{ℕ, ◌+◌, ◌-◌, ◌^◌, ◌≤◌, ◌<◌, nat_le, refl, Option, Some, None, if◌then◌else◌}
 use Rattle.std.specs.Ordering.{nat_cmp}
 use Rattle.std.specs.Coded.{Coded, code_by, coded×, coded_ℕ}
-use Rattle.std.specs.FinMap.{FinMap, code, empty, insert, retain_keys, contains_key}
+use Rattle.std.specs.FinMap.{FinMap, code, empty, get, insert, retain_keys, contains_key}
 use Rattle.fe_state.specs.declared.kept.Kept.{Kept}
 use Rattle.fe_state.specs.contracts.kept.Kept.{the_row}
 
@@ -25,6 +25,12 @@ pub record IsInWindow (floor number : ℕ) : Type 0 where
   pub not_below : floor ≤ number
   pub not_beyond : number < floor + 32
 
+-- a floor may rise by 32 at the most, and to 2^63 - 32
+pub record MayRise (old new : ℕ) : Type 0 where
+  pub no_lower : old ≤ new
+  pub within_window : new ≤ old + 32
+  pub within_limit : new ≤ 2 ^ 63 - 32
+
 -- a session with its floor raised: what was kept below the floor is dropped
 abbrev pub raised : Session → ℕ → Session
 raised s floor = record { floor = floor; kept = retain_keys s.kept (nat_le floor) }
@@ -42,3 +48,8 @@ put_session sessions session (Some s) = insert sessions session s
 abbrev pub opened : FinMap nat_cmp Session → ℕ → FinMap nat_cmp Session
 opened sessions session =
     if contains_key sessions session then sessions else insert sessions session first_session
+
+-- what is kept for a number of a session that was looked up
+abbrev pub kept_in : Option Session → ℕ → Option Kept
+kept_in None number = None
+kept_in (Some s) number = get s.kept number

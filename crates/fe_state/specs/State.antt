@@ -1,17 +1,19 @@
 -- The state of the server, what a request is answered in it, which entries are legal, and what they leave.
-use Rattle.std.specs.Prelude.{◌≡◌, ℕ, ◌+◌, ◌-◌, ◌^◌, ◌≤◌, ◌<◌, refl, List, [], ◌∷◌, Option, Some, None, IsSome, IsSomeAnd, MatchOption}
-use Rattle.std.specs.Option.{option_map}
+use Rattle.std.specs.Prelude.{◌≡◌, ℕ, ◌+◌, ◌-◌, ◌^◌, ◌≤◌, ◌<◌, refl, List, [], ◌∷◌, Option, Some}
 use Rattle.std.specs.Ordering.{nat_cmp}
 use Rattle.std.specs.Coded.{Coded, code_by, coded×, coded_ℕ}
-use Rattle.std.specs.FinMap.{FinMap, code, empty, get, remove, len}
+use Rattle.std.specs.FinMap.{FinMap, code, empty, get, len}
 use Rattle.fe_state.specs.Directory.{Directory, IsDirectory, answer_in}
 use Rattle.fe_state.specs.Effect.{performed}
-use Rattle.fe_state.specs.Sessions.{Session, session_code, IsInWindow, raised, keeping, put_session, opened}
+use Rattle.fe_state.specs.Sessions.{Session, session_code, IsInWindow}
+use Rattle.fe_state.specs.SessionEffect.{SessionsAllow, sessions_after}
 use Rattle.fe_state.specs.declared.array.Array.{Array}
 use Rattle.fe_state.specs.contracts.array.Array.{the_row}
 use Rattle.fe_state.specs.declared.kept.Kept.{Kept}
 use Rattle.fe_state.specs.declared.answer.Answer.{Answer}
+use Rattle.fe_state.specs.declared.answer.Answer.TheVariants as answer
 use Rattle.fe_state.specs.declared.request.Request.{Request}
+use Rattle.fe_state.specs.declared.request.Request.TheVariants.{Create}
 use Rattle.fe_state.specs.declared.entry.Entry.{Entry}
 use Rattle.fe_state.specs.declared.entry.Entry.TheVariants.{Attached, Closed, Settled, Finished}
 
@@ -35,46 +37,30 @@ first_state = record { arrays = empty; sessions = empty; next_id = 1; place = 0 
 abbrev pub directory_of : ServerState → Directory
 directory_of s = record { arrays = s.arrays; next_id = s.next_id }
 
+-- a state with other arrays
+abbrev pub with_arrays : ServerState → FinMap nat_cmp Array → ServerState
+with_arrays s arrays = record { arrays = arrays; sessions = s.sessions; next_id = s.next_id; place = s.place }
+
+-- a state with other sessions
+abbrev pub with_sessions : ServerState → FinMap nat_cmp Session → ServerState
+with_sessions s sessions = record { arrays = s.arrays; sessions = sessions; next_id = s.next_id; place = s.place }
+
 -- what a request is answered; None where it has to wait
 abbrev pub reply : ServerState → Request → Option Answer
 reply s request = answer_in (directory_of s) request
 
--- a session may be attached with its own floor, or, while there are fewer than 64, begin with floor 1
-abbrev pub MayAttach : FinMap nat_cmp Session → ℕ → Option Session → Type 0
-MayAttach sessions floor here = MatchOption here ((floor ≡ 1) × (len sessions < 64)) (λ s. floor ≡ s.floor)
-
--- a floor may rise by 32 at the most, and to 2^63 - 32
-pub record MayRise (old new : ℕ) : Type 0 where
-  pub no_lower : old ≤ new
-  pub within_window : new ≤ old + 32
-  pub within_limit : new ≤ 2 ^ 63 - 32
-
--- a number is usable if it is in the window and nothing is kept for it
-pub record IsUsable (s : Session) (number : ℕ) : Type 0 where
-  pub in_window : IsInWindow s.floor number
-  pub not_kept : get s.kept number ≡ None
-
--- what each kind of entry asks of the state before it
-abbrev pub IsAllowed : ServerState → Entry → Type 0
-IsAllowed s (Attached session floor) = MayAttach s.sessions floor (get s.sessions session)
-IsAllowed s (Closed session) = IsSome (get s.sessions session)
-IsAllowed s (Settled session floor) = IsSomeAnd (get s.sessions session) (λ x. MayRise x.floor floor)
-IsAllowed s (Finished session number request answer) =
-    IsSomeAnd (get s.sessions session) (λ x. IsUsable x number) × (reply s request ≡ Some answer)
+-- what a request that finished was answered is the reply to it; the other entries have no answer
+abbrev pub IsAnswered : Directory → Entry → Type 0
+IsAnswered d (Attached session floor) = Unit {0}
+IsAnswered d (Closed session) = Unit {0}
+IsAnswered d (Settled session floor) = Unit {0}
+IsAnswered d (Finished session number request answer) = answer_in d request ≡ Some answer
 
 -- an entry that may come next; there is no place after 2^63 - 1
 pub record IsLegal (s : ServerState) (e : Entry) : Type 0 where
   pub has_place : s.place < 2 ^ 63 - 1
-  pub allowed : IsAllowed s e
-
--- the sessions after an entry at this place
-abbrev pub sessions_after : FinMap nat_cmp Session → ℕ → Entry → FinMap nat_cmp Session
-sessions_after sessions place (Attached session floor) = opened sessions session
-sessions_after sessions place (Closed session) = remove sessions session
-sessions_after sessions place (Settled session floor) =
-    put_session sessions session (option_map (λ s. raised s floor) (get sessions session))
-sessions_after sessions place (Finished session number request answer) =
-    put_session sessions session (option_map (λ s. keeping s number (record { request = request; answer = answer; place = place })) (get sessions session))
+  pub allowed : SessionsAllow s.sessions e
+  pub answered : IsAnswered (directory_of s) e
 
 -- the directory after an entry: only a request that finishes changes it
 abbrev pub directory_after : Directory → Entry → Directory
@@ -107,3 +93,13 @@ pub record IsWithinLimits (s : ServerState) : Type 0 where
   pub next_id : s.next_id ≤ s.place + 1
   pub few_sessions : len s.sessions ≤ 64
   pub each : (session : ℕ) (x : Session) → get s.sessions session ≡ Some x → IsSession s.place x
+
+-- an entry that makes an array: a request for one that was answered with its id
+abbrev pub MakesArray : Entry → Type 0
+MakesArray (Finished session number (Create name size tag) (answer.Array id words)) = Unit {0}
+MakesArray _ = ⊥
+
+-- what holds of the request of an entry that has one; there is one
+abbrev pub OnFinished : Entry → (Request → Type 0) → Type 0
+OnFinished (Finished session number request answer) P = P request
+OnFinished _ P = ⊥

@@ -1,9 +1,20 @@
+use crate::copied::Copied;
 use crate::name::Name;
 use crate::words::Words;
+use std::alloc::{AllocError, Global};
 
 /// An array: its name, and its words.
 #[derive(Debug, Drop)]
 pub struct Array {
     pub name: Name,
     pub words: Words,
+}
+
+impl Copied for Array {
+    fn copied(&self, alloc: Global) -> Result<Self, AllocError> {
+        Ok(Array {
+            name: self.name,
+            words: self.words.copied(alloc)?,
+        })
+    }
 }

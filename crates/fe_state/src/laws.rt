@@ -1,4 +1,5 @@
 ghost use Rattle.fe_state.specs.History.{KeepsLimits, FinishesOnce, JoinsAndCuts};
+ghost use Rattle.fe_state.specs.Examples.{ExampleAnswers, ExampleEffects, ExampleEntries};
 
 /// A legal entry keeps the state within the limits.
 pub fn limits_are_kept()
@@ -13,4 +14,11 @@ pub fn numbers_finish_once()
 /// A history cut after any whole group is a history, and two histories one after the other are one.
 pub fn histories_join_and_cut()
     ensures { JoinsAndCuts }
+{}
+
+/// The definitions give the worked examples of `docs/model.md`.
+pub fn examples_hold()
+    ensures answers { ExampleAnswers }
+    ensures effects { ExampleEffects }
+    ensures entries { ExampleEntries }
 {}

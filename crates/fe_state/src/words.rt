@@ -1,6 +1,7 @@
-ghost use Rattle.std.specs.Prelude.{◌≡◌, replicate, length, slice_get, slice_set, ◌<◌, IfOk};
+ghost use Rattle.std.specs.Prelude.{◌≡◌, ◌<◌, replicate, length, slice_get, slice_set, IfOk};
 ghost use Rattle.fe_words.specs.Table.{word};
 
+use crate::copied::Copied;
 use fe_words::{Tag, Word};
 use std::alloc::{AllocError, Global};
 use std::marker::Model;
@@ -12,10 +13,53 @@ pub struct Words {
 }
 
 impl Model for Words {
-    ghost use Rattle.std.specs.Prelude.{List};
+    ghost use Rattle.std.specs.Prelude.{List, ◌<◌, ◌^◌, vec_len};
     ghost use Rattle.fe_words.specs.declared.word.Word.{Word};
 
     ghost Value = { List Word };
 
     ghost view = { λ a. a.items.items };
+
+    ghost invariant = { λ a. vec_len a.items < 2 ^ 32 };
+}
+
+impl Words {
+    /// New words of value 0 with the tag. The one error is that memory is short.
+    pub fn new(alloc: Global, length: u32, tag: Tag) -> Result<Words, AllocError>
+        ensures { IfOk result (λ words. words ≡ replicate length (word 0 tag)) }
+    {
+        let word = Word { value: 0, tag };
+        Ok(Words {
+            items: vec![in alloc; word; length as usize]?,
+        })
+    }
+
+    /// How many words there are.
+    pub fn len(&self) -> u32
+        ensures { result ≡ length self.now }
+    {
+        self.items.len() as u32
+    }
+
+    /// The word at an index.
+    pub fn get(&self, index: u32) -> Option<Word>
+        ensures { result ≡ slice_get self.now index }
+    {
+        self.items.get(index as usize).copied()
+    }
+
+    /// Puts a word in the place of the one at an index.
+    pub fn set(&mut self, index: u32, word: Word)
+        requires { index < length self.old }
+        ensures { self.new ≡ slice_set self.old index word }
+    {
+        self.items[index as usize] = word;
+    }
+}
+
+impl Copied for Words {
+    fn copied(&self, alloc: Global) -> Result<Self, AllocError> {
+        let items = Vec::from_slice(alloc, self.items.as_slice())?;
+        Ok(Words { items })
+    }
 }

@@ -1,0 +1,56 @@
+-- The worked examples, each computed from what a finite map has after a change.
+use Rattle.std.proofs.Common.{◌≡◌, ℕ, List, [], ◌∷◌, length, Option, Some, None, refl, sym, ap, ◌∙◌, arith, rules}
+use Rattle.std.specs.Prelude.{codes}
+use Rattle.std.specs.Ordering.{nat_cmp}
+use Rattle.std.specs.Cmp.{nat_cmp_total}
+use Rattle.std.specs.FinMap.{FinMap, empty, entries, get, insert, len, gets, get-entries, entries-insert, len-entries, len-empty, get-empty}
+use Rattle.fe_state.proofs.Maps.{get_inserted, get_beside, get_removed, get_retained}
+use Rattle.fe_state.specs.Examples.{ExampleAnswers, ExampleEffects, ExampleEntries, cells, one_array, attached, no_array_a}
+use Rattle.fe_state.specs.Sessions.{Session}
+use Rattle.fe_state.specs.declared.array.Array.{Array}
+
+none_long : {X : Type 0} (es : List X) → length es ≡ 0 → es ≡ []
+none_long [] e = refl
+none_long (x ∷ es) e = absurd (omega arith)
+
+no_entries : entries (empty {X = Array} {R = nat_cmp}) ≡ []
+no_entries = none_long _ (sym (len-entries empty) ∙ len-empty nat_cmp Array)
+
+one_entry : entries one_array.arrays ≡ (1, cells) ∷ []
+one_entry = rw (entries-insert nat_cmp_total, no_entries) refl
+
+pub answers : ExampleAnswers
+answers = record {
+  value = simp (get-entries, one_entry);
+  done = simp (get-entries, one_entry);
+  waits = simp (get-entries, one_entry);
+  made = simp (len-entries, one_entry);
+  found = simp one_entry;
+  removed = simp (get-entries, one_entry);
+  no_array = simp (get-entries, one_entry);
+  bad_index = simp (get-entries, one_entry);
+  bad_name = refl;
+  bad_length = refl;
+  name_taken = simp one_entry;
+  word_limit = simp (len-entries, one_entry);
+  array_limit = λ d full free. rw (free, full) refl;
+}
+
+pub effects : ExampleEffects
+effects = record {
+  made = simp (len-entries, one_entry);
+  written = simp (get-entries, one_entry);
+  taken = simp (get-entries, one_entry);
+  waiting = simp (get-entries, one_entry);
+}
+
+pub steps : ExampleEntries
+steps = record {
+  first = simp (get-empty {X = Session} nat_cmp);
+  again = simp get_inserted;
+  finished = simp get_inserted;
+  kept = get_inserted _ _ _;
+  settled = simp get_inserted;
+  dropped = get_retained _ _ _;
+  closed = get_removed _ _;
+}

@@ -1,0 +1,35 @@
+-- What a request changed of a directory, and the directory before it.
+use Rattle.std.specs.Prelude.{◌≡◌, ℕ, ◌+◌, ◌-◌, ◌≤◌, ◌<◌, List, length, Option, None, IsSome, slice_set}
+use Rattle.std.specs.FinMap.{FinMap, get, insert, remove, len}
+use Rattle.std.specs.Ordering.{nat_cmp}
+use Rattle.fe_state.specs.Directory.{Directory, IsArray, named, word_in, word_count}
+use Rattle.fe_state.specs.Effect.{put_word}
+use Rattle.fe_state.specs.declared.array.Array.{Array}
+use Rattle.fe_state.specs.declared.change.Change.{Change}
+use Rattle.fe_state.specs.declared.change.Change.TheVariants.{Nothing, Created, Removed, Wrote}
+
+-- the directory before a change, given the one after it
+abbrev pub restored : Change → Directory → Directory
+restored Nothing d = d
+restored Created d = record { arrays = remove d.arrays (d.next_id - 1); next_id = d.next_id - 1 }
+restored (Removed id a) d = record { arrays = insert d.arrays id a; next_id = d.next_id }
+restored (Wrote id index w) d = record { arrays = put_word d.arrays id index w (get d.arrays id); next_id = d.next_id }
+
+-- an array that may come to a directory under an id: it has room there, and the id and the name are free
+pub record MayCome (d : Directory) (id : ℕ) (a : Array) : Type 0 where
+  pub array : IsArray d id a
+  pub id_free : get d.arrays id ≡ None
+  pub name_free : named d.arrays a.name ≡ None
+  pub few_arrays : len d.arrays < 64
+  pub few_words : word_count d.arrays + length a.words ≤ 65536
+
+-- a directory that a change may have left: what it changed is there to be changed back
+abbrev pub CanRestore : Change → Directory → Type 0
+CanRestore Nothing d = Unit {0}
+CanRestore Created d = IsSome (get d.arrays (d.next_id - 1))
+CanRestore (Removed id a) d = MayCome d id a
+CanRestore (Wrote id index w) d = IsSome (word_in (get d.arrays id) index)
+
+-- what an array shows of itself in a list of them: its id, its name and its length
+abbrev pub shown : ℕ × Array → ℕ × List ℕ × ℕ
+shown e = (e.0, e.1.name, length e.1.words)

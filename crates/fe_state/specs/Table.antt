@@ -1,0 +1,33 @@
+-- A table: a finite map that is kept as the list of its entries in the order of their keys.
+use Rattle.std.specs.Prelude.{◌≡◌, ℕ, ◌<◌, ◌≤◌, Bool, List, length, slice_index_or, nat_le, T}
+use Rattle.std.specs.Ordering.{nat_cmp}
+use Rattle.std.specs.FinMap.{is_sorted}
+use Rattle.std.specs.Borrow.{Bor}
+
+-- an entry, where the value is seen through a reference
+abbrev pub shown_entry : {X : Type 0} → ℕ × Bor X → ℕ × X
+shown_entry e = (e.0, e.1.now)
+
+-- whether a key is no less than another
+abbrev pub at_least : ℕ → ℕ → Bool
+at_least least key = nat_le least key
+
+-- what is always true of the entries of a table with this room, whose memory holds so many
+pub record IsTable {X : Type 0} (room : ℕ) (entries : List (ℕ × X)) (capacity : ℕ) : Type 0 where
+  -- the keys rise, so no two are equal
+  pub ascending : T (is_sorted nat_cmp entries)
+  -- there are no more entries than the room
+  pub few : length entries ≤ room
+  -- and the memory of the whole room is there
+  pub reserved : room ≤ capacity
+
+-- the entry at this place has the key
+pub record IsAt {X : Type 0} (entries : List (ℕ × X)) (key place : ℕ) : Type 0 where
+  pub in_range : place < length entries
+  pub has_key : (e : ℕ × X) → (slice_index_or entries place e).0 ≡ key
+
+-- the key would go to this place: smaller keys stand before it, and greater keys from it on
+pub record IsGapFor {X : Type 0} (entries : List (ℕ × X)) (key place : ℕ) : Type 0 where
+  pub in_range : place ≤ length entries
+  pub smaller_before : (i : ℕ) (e : ℕ × X) → i < place → (slice_index_or entries i e).0 < key
+  pub greater_after : (i : ℕ) (e : ℕ × X) → place ≤ i → i < length entries → key < (slice_index_or entries i e).0

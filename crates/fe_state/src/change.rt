@@ -1,0 +1,14 @@
+use crate::array::Array;
+use fe_words::Word;
+
+/// What a request changed of the arrays, with what it takes to bring the arrays before it back.
+#[derive(Debug, Drop)]
+pub enum Change {
+    Nothing,
+    /// The array made last is new.
+    Created,
+    /// The array is gone.
+    Removed { id: u64, array: Array },
+    /// An array's word at the index was this one.
+    Wrote { array: u64, index: u32, word: Word },
+}

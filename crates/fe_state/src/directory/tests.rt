@@ -1,0 +1,188 @@
+use super::*;
+use std::process::Abort;
+
+fn name(rt: &impl Abort, bytes: &[u8]) -> Name {
+    Name::new(bytes).expect(rt, "a name")
+}
+
+fn create(rt: &impl Abort, bytes: &[u8], length: u32, tag: Tag) -> Request {
+    Request::Create {
+        name: name(rt, bytes),
+        length,
+        tag,
+    }
+}
+
+fn access(index: u32, op: Op) -> Request {
+    Request::Access {
+        array: 1,
+        index,
+        op,
+    }
+}
+
+fn perform(rt: &impl Abort, directory: &mut Directory, request: Request) {
+    assert!(rt; directory.next_id() < 9223372036854775808);
+    let _ = directory.perform(request).expect(rt, "memory");
+}
+
+fn perform_and_restore(rt: &impl Abort, directory: &mut Directory, request: Request) {
+    assert!(rt; directory.next_id() < 9223372036854775808);
+    let change = directory.perform(request).expect(rt, "memory");
+    directory.restore(change);
+}
+
+/// One array, `cells`, of two empty words.
+fn cells(rt: &impl Abort, alloc: Global) -> Directory {
+    let mut directory = Directory::new(alloc).expect(rt, "memory");
+    let request = create(rt, b"cells", 2, Tag::Empty);
+    perform(rt, &mut directory, request);
+    directory
+}
+
+fn check_cells(rt: &impl Abort, directory: &Directory) {
+    let empty = Word {
+        value: 0,
+        tag: Tag::Empty,
+    };
+    assert_eq!(rt; directory.array_at(0), Some((1, name(rt, b"cells"), 2)));
+    assert_eq!(rt; directory.array_at(1), None);
+    assert_eq!(rt; directory.word(1, 0), Some(empty));
+    assert_eq!(rt; directory.word(1, 1), Some(empty));
+    assert_eq!(rt; directory.word(1, 2), None);
+    assert_eq!(rt; directory.next_id(), 2);
+}
+
+#[test]
+fn answers(rt: HostRuntime) {
+    let directory = cells(&rt, rt.alloc());
+    check_cells(&rt, &directory);
+    let missing = name(&rt, b"w");
+    let rows = [
+        (create(&rt, b"Cells", 1, Tag::Full), Some(Answer::BadName)),
+        (create(&rt, b"w", 0, Tag::Full), Some(Answer::BadLength)),
+        (create(&rt, b"w", 65537, Tag::Full), Some(Answer::BadLength)),
+        (create(&rt, b"cells", 1, Tag::Full), Some(Answer::NameTaken)),
+        (create(&rt, b"w", 65536, Tag::Full), Some(Answer::WordLimit)),
+        (
+            create(&rt, b"w", 65534, Tag::Full),
+            Some(Answer::Array {
+                id: 2,
+                length: 65534,
+            }),
+        ),
+        (
+            Request::Find {
+                name: name(&rt, b"cells"),
+            },
+            Some(Answer::Array { id: 1, length: 2 }),
+        ),
+        (Request::Find { name: missing }, Some(Answer::NoArray)),
+        (
+            Request::Find {
+                name: name(&rt, b""),
+            },
+            Some(Answer::BadName),
+        ),
+        (Request::Remove { array: 1 }, Some(Answer::Done)),
+        (Request::Remove { array: 2 }, Some(Answer::NoArray)),
+        (access(0, Op::ReadXx), Some(Answer::Value(0))),
+        (access(1, Op::WriteEf(42)), Some(Answer::Done)),
+        (access(0, Op::ReadFe), None),
+        (access(2, Op::ReadFe), Some(Answer::BadIndex)),
+        (
+            Request::Access {
+                array: 2,
+                index: 0,
+                op: Op::ReadFe,
+            },
+            Some(Answer::NoArray),
+        ),
+    ];
+    for (request, answer) in rows {
+        assert_eq!(rt; directory.answer_to(&request), answer);
+    }
+}
+
+#[test]
+fn array_limit(rt: HostRuntime) {
+    let mut directory = Directory::starting(rt.alloc(), 7).expect(&rt, "memory");
+    for k in 0u8..64 {
+        let request = create(&rt, &[b'a' + k / 8, b'a' + k % 8], 1, Tag::Full);
+        perform(&rt, &mut directory, request);
+    }
+    let more = create(&rt, b"cells", 1, Tag::Full);
+    assert_eq!(rt; directory.answer_to(&more), Some(Answer::ArrayLimit));
+    assert_eq!(rt; directory.next_id(), 71);
+}
+
+#[test]
+fn changes_and_the_way_back(rt: HostRuntime) {
+    let mut directory = cells(&rt, rt.alloc());
+    let requests = [
+        create(&rt, b"w", 3, Tag::Full),
+        create(&rt, b"cells", 3, Tag::Full),
+        Request::Find {
+            name: name(&rt, b"cells"),
+        },
+        Request::Remove { array: 1 },
+        Request::Remove { array: 2 },
+        access(0, Op::WriteEf(42)),
+        access(0, Op::ReadFe),
+        access(2, Op::ReadFe),
+    ];
+    for request in requests {
+        perform_and_restore(&rt, &mut directory, request);
+        check_cells(&rt, &directory);
+    }
+    perform(&rt, &mut directory, access(0, Op::WriteEf(42)));
+    let written = Word {
+        value: 42,
+        tag: Tag::Full,
+    };
+    assert_eq!(rt; directory.word(1, 0), Some(written));
+    perform(&rt, &mut directory, Request::Remove { array: 1 });
+    assert_eq!(rt; directory.array_at(0), None);
+    assert_eq!(rt; directory.next_id(), 2);
+}
+
+/// Loads an array, where a request could create one and the id is free.
+fn load(rt: &impl Abort, directory: &mut Directory, id: u64, name: Name, length: u32) {
+    let Some(Answer::NoArray) = directory.answer_to(&Request::Remove { array: id }) else {
+        panic!(rt; "the id is taken");
+    };
+    assert!(rt; 0 < id);
+    assert!(rt; id < directory.next_id());
+    let tag = Tag::Empty;
+    let Some(Answer::Array { .. }) = directory.answer_to(&Request::Create { name, length, tag })
+    else {
+        panic!(rt; "no array may come");
+    };
+    directory.load_array(id, name, length).expect(rt, "memory");
+}
+
+#[test]
+fn loads_and_copies(rt: HostRuntime) {
+    let mut directory = Directory::starting(rt.alloc(), 9).expect(&rt, "memory");
+    let cells = name(&rt, b"cells");
+    load(&rt, &mut directory, 4, cells, 2);
+    let word = Word {
+        value: 5,
+        tag: Tag::Full,
+    };
+    if directory.word(4, 1).is_some() {
+        directory.load_word(4, 1, word);
+    }
+    let copy = directory.copied(rt.alloc()).expect(&rt, "memory");
+    perform(&rt, &mut directory, Request::Remove { array: 4 });
+    assert_eq!(rt; copy.array_at(0), Some((4, cells, 2)));
+    assert_eq!(rt;
+        copy.word(4, 0),
+        Some(Word {
+            value: 0,
+            tag: Tag::Empty
+        })
+    );
+    assert_eq!(rt; copy.word(4, 1), Some(word));
+    assert_eq!(rt; copy.next_id(), 9);
+}

@@ -1,0 +1,133 @@
+ghost use Rattle.std.specs.Prelude.{◌≡◌, ◌↔◌, ℕ, ◌-◌, ◌%◌, ◌^◌, ◌≤◌, IsTrue};
+ghost use Rattle.std.specs.FinMap as map;
+ghost use Rattle.fe_state.specs.declared.kept.Kept.{Kept};
+ghost use Rattle.fe_state.specs.Sessions.{first_session, IsInWindow, MayRise, raised, keeping};
+
+use crate::kept::Kept;
+use std::marker::Model;
+
+#[cfg(test)]
+mod tests;
+
+/// How many numbers a session may use, from its floor on.
+pub const WINDOW: u64 = 32;
+
+/// A session: its floor, which is its least usable number, and what is kept for the 32 numbers
+/// from the floor on. It takes no memory.
+#[derive(Debug, Drop)]
+pub struct Session {
+    floor: u64,
+    /// What is kept for a number stands in the cell of the number's remainder by 32.
+    cells: [Option<Kept>; 32],
+}
+
+impl Model for Session {
+    ghost use Rattle.fe_state.specs.Sessions.{Session, session_code};
+    ghost use Rattle.fe_state.specs.Window.{window_of, IsRing};
+
+    ghost Value = { Session };
+
+    ghost coded = { session_code };
+
+    ghost view = { λ a. record { floor = a.floor; kept = window_of a.cells a.floor } };
+
+    ghost invariant = { λ a. IsRing a.floor a.cells };
+}
+
+impl Session {
+    /// A session that begins: every number from 1 on is new.
+    pub fn new() -> Session
+        ensures { result ≡ first_session }
+    {
+        Session::starting(1)
+    }
+
+    /// A session with this floor, 1 to 2^63 - 32, for which nothing is kept.
+    pub fn starting(floor: u64) -> Session
+        requires least { 1 ≤ floor }
+        requires most { floor ≤ 2 ^ 63 - 32 }
+        ensures floor { result.floor ≡ floor }
+        ensures kept { result.kept ≡ map.empty }
+    {
+        Session {
+            floor,
+            cells: [None; 32],
+        }
+    }
+
+    /// The least usable number, 1 to 2^63 - 32.
+    pub fn floor(&self) -> u64
+        ensures floor { result ≡ self.now.floor }
+        ensures least { 1 ≤ self.now.floor }
+        ensures most { self.now.floor ≤ 2 ^ 63 - 32 }
+    {
+        self.floor
+    }
+
+    /// Whether the number is one of the 32 from the floor on.
+    pub fn is_in_window(&self, number: u64) -> bool
+        ensures { IsTrue result ↔ IsInWindow self.now.floor number }
+    {
+        (self.floor..self.floor + WINDOW).contains(&number)
+    }
+
+    /// What is kept for the number, if anything is. Nothing is kept outside the window.
+    pub fn kept(&self, number: u64) -> Option<Kept>
+        ensures kept { result ≡ map.get self.now.kept number }
+        ensures in_window { (n : ℕ) (k : Kept) → map.get self.now.kept n ≡ Some k → IsInWindow self.now.floor n }
+        ensures few { map.len self.now.kept ≤ 32 }
+    {
+        if self.is_in_window(number) {
+            self.cells[cell_of(number)]
+        } else {
+            None
+        }
+    }
+
+    /// Keeps this for a number of the window, in place of what was kept for it.
+    pub fn keep(&mut self, number: u64, kept: Kept)
+        requires { IsInWindow self.old.floor number }
+        ensures { self.new ≡ keeping self.old number kept }
+    {
+        self.cells[cell_of(number)] = Some(kept);
+    }
+
+    /// Keeps nothing more for the number.
+    pub fn forget(&mut self, number: u64)
+        ensures floor { self.new.floor ≡ self.old.floor }
+        ensures kept { self.new.kept ≡ map.remove self.old.kept number }
+    {
+        if self.is_in_window(number) {
+            self.cells[cell_of(number)] = None;
+        }
+    }
+
+    /// Raises the floor, by 32 at the most, and drops what was kept below it.
+    pub fn raise(&mut self, floor: u64)
+        requires { MayRise self.old.floor floor }
+        ensures { self.new ≡ raised self.old floor }
+    {
+        for number in self.floor..floor {
+            self.forget(number);
+        }
+        self.floor = floor;
+    }
+
+    /// The same session once more. It takes no memory.
+    pub fn copied(&self) -> Session
+        ensures { result ≡ self.now }
+    {
+        let mut cells = [None; 32];
+        cells.copy_from_slice(&self.cells);
+        Session {
+            floor: self.floor,
+            cells,
+        }
+    }
+}
+
+fn cell_of(number: u64) -> usize
+    ensures { result ≡ number % 32 }
+{
+    (number % WINDOW) as usize
+}

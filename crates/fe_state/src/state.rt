@@ -1,0 +1,271 @@
+ghost use Rattle.std.specs.Prelude.{◌≡◌, ℕ, ◌+◌, ◌-◌, ◌^◌, ◌<◌, ◌≤◌, ◌↔◌, length, map, slice_get, None, IfOk, OnOk, OnErr, IsOk, IsSome, IsSomeAnd, IsTrue};
+ghost use Rattle.std.specs.Option.{option_map};
+ghost use Rattle.std.specs.FinMap.{get, keys, entries, len, empty, insert};
+ghost use Rattle.fe_state.specs.Change.{MayCome, restored, CanRestore, shown};
+ghost use Rattle.fe_state.specs.Directory.{word_in};
+ghost use Rattle.fe_state.specs.Effect.{CreatesArray, new_array, put_word};
+ghost use Rattle.fe_state.specs.Sessions.{kept_in, IsInWindow, keeping, put_session};
+ghost use Rattle.fe_state.specs.State.{first_state, reply, IsLegal, IsAnswered, after, directory_of, directory_after, with_arrays, with_sessions, IsWithinLimits, MakesArray, OnFinished};
+ghost use Rattle.fe_words.specs.declared.word.Tag.TheVariants.{Empty};
+ghost use Rattle.fe_state.specs.Undo.{undone, CanUndo};
+
+use crate::answer::Answer;
+use crate::change::Change;
+use crate::copied::Copied;
+use crate::directory::Directory;
+use crate::entry::Entry;
+use crate::kept::Kept;
+use crate::name::Name;
+use crate::request::Request;
+use crate::session::Session;
+use crate::sessions;
+use crate::sessions::Sessions;
+use crate::table::Table;
+use crate::undo::Undo;
+use fe_words::Word;
+use std::alloc::{AllocError, Global};
+use std::marker::Model;
+
+/// The greatest place: no entry follows there.
+pub const GREATEST_PLACE: u64 = 9223372036854775807;
+
+/// An entry that may not come next.
+#[derive(Clone, Copy, Debug, PartialEq, Eq)]
+pub struct Illegal;
+
+/// The arrays and sessions after the entries so far.
+///
+/// It makes room for 64 sessions and for the ids and names of 64 arrays when it is made. After
+/// that the words of a new array alone take memory.
+#[derive(Drop)]
+pub struct State {
+    directory: Directory,
+    sessions: Sessions,
+    place: u64,
+    alloc: Global,
+}
+
+impl Model for State {
+    ghost use Rattle.fe_state.specs.State.{ServerState, state_code, IsWithinLimits};
+
+    ghost Value = { ServerState };
+
+    ghost coded = { state_code };
+
+    ghost view = { λ a. record { arrays = a.directory.arrays; sessions = a.sessions; next_id = a.directory.next_id; place = a.place } };
+
+    ghost invariant = { λ a. IsWithinLimits (record { arrays = a.directory.arrays; sessions = a.sessions; next_id = a.directory.next_id; place = a.place }) };
+}
+
+impl State {
+    /// The state before the first entry. The one error is that memory is short.
+    pub fn new(alloc: Global) -> Result<State, AllocError>
+        ensures { IfOk result (λ state. state ≡ first_state) }
+    {
+        State::starting(alloc, 0, 1)
+    }
+
+    /// A state with nothing in it yet, at a place of the history. The one error is that memory is short.
+    pub fn starting(alloc: Global, place: u64, next_id: u64) -> Result<State, AllocError>
+        requires place { place < 2 ^ 63 }
+        requires least { 1 ≤ next_id }
+        requires most { next_id ≤ place + 1 }
+        ensures { IfOk result (λ state. state ≡ record { arrays = empty; sessions = empty; next_id = next_id; place = place }) }
+    {
+        let directory = Directory::starting(alloc, next_id)?;
+        let sessions = Table::new(alloc)?;
+        Ok(State {
+            directory,
+            sessions,
+            place,
+            alloc,
+        })
+    }
+
+    /// The same state again, in memory of its own. The one error is that memory is short.
+    pub fn copy(&self) -> Result<State, AllocError>
+        ensures { IfOk result (λ state. state ≡ self.now) }
+    {
+        let directory = self.directory.copied(self.alloc)?;
+        let sessions = self.sessions.copied(self.alloc)?;
+        Ok(State {
+            directory,
+            sessions,
+            place: self.place,
+            alloc: self.alloc,
+        })
+    }
+
+    /// What a request is answered, or `None` where it has to wait.
+    pub fn answer_to(&self, request: &Request) -> Option<Answer>
+        ensures { result ≡ reply self.now request.now }
+    {
+        self.directory.answer_to(request)
+    }
+
+    /// Whether an entry may come next. It is `Illegal` exactly where the entry is not legal here.
+    pub fn check(&self, entry: &Entry) -> Result<(), Illegal>
+        ensures { IsOk result ↔ IsLegal self.now entry.now }
+    {
+        if self.place < GREATEST_PLACE
+            && sessions::allow(&self.sessions, entry)
+            && is_answered(&self.directory, entry)
+        {
+            Ok(())
+        } else {
+            Err(Illegal)
+        }
+    }
+
+    /// Carries out a legal entry, and gives what brings the state before it back. The one error is
+    /// that memory is short, for the words of a new array.
+    pub fn apply(&mut self, entry: Entry) -> Result<Undo, AllocError>
+        requires { IsLegal self.old entry }
+        ensures ok { OnOk result (self.new ≡ after self.old entry) }
+        ensures undoable { IfOk result (λ undo. CanUndo undo self.new) }
+        ensures undone { IfOk result (λ undo. undone undo self.new ≡ self.old) }
+        ensures err { OnErr result (self.new ≡ self.old) }
+        ensures memory { OnErr result (MakesArray entry) }
+    {
+        let change = enact(&mut self.directory, &entry)?;
+        let (session, sessions) = sessions::record_entry(&mut self.sessions, self.place, &entry);
+        self.place += 1;
+        Ok(Undo {
+            session,
+            sessions,
+            change,
+        })
+    }
+
+    /// Brings the state before the entry back whose `apply` gave the undo. It takes no memory.
+    pub fn undo(&mut self, undo: Undo)
+        requires { CanUndo undo self.old }
+        ensures { self.new ≡ undone undo self.old }
+    {
+        let Undo {
+            session,
+            sessions,
+            change,
+        } = undo;
+        self.directory.restore(change);
+        sessions::restore(&mut self.sessions, session, sessions);
+        self.place -= 1;
+    }
+
+    /// The word at an index of an array.
+    pub fn word(&self, array: u64, index: u32) -> Option<Word>
+        ensures { result ≡ word_in (get self.now.arrays array) index }
+    {
+        self.directory.word(array, index)
+    }
+
+    /// What is kept for a number of a session.
+    pub fn kept(&self, session: u64, number: u64) -> Option<Kept>
+        ensures { result ≡ kept_in (get self.now.sessions session) number }
+    {
+        self.sessions.get(session)?.kept(number)
+    }
+
+    /// The least usable number of a session.
+    pub fn floor(&self, session: u64) -> Option<u64>
+        ensures { result ≡ option_map (λ x. x.floor) (get self.now.sessions session) }
+    {
+        Some(self.sessions.get(session)?.floor())
+    }
+
+    /// The number of entries so far, at most 2^63 - 1.
+    pub fn place(&self) -> u64
+        ensures place { result ≡ self.now.place }
+        ensures limits { IsWithinLimits self.now }
+    {
+        self.place
+    }
+
+    /// The id that the next array gets.
+    pub fn next_id(&self) -> u64
+        ensures { result ≡ self.now.next_id }
+    {
+        self.directory.next_id()
+    }
+
+    /// The id, name and length of an array, by its place in the order of ids, counted from zero.
+    pub fn array_at(&self, k: usize) -> Option<(u64, Name, u32)>
+        ensures { result ≡ slice_get (map shown (entries self.now.arrays)) k }
+    {
+        self.directory.array_at(k)
+    }
+
+    /// The number of a session, by its place in ascending order, counted from zero.
+    pub fn session_at(&self, k: usize) -> Option<u64>
+        ensures { result ≡ slice_get (keys self.now.sessions) k }
+    {
+        let (session, _) = self.sessions.at(k)?;
+        Some(session)
+    }
+
+    /// Adds an array of an image, its words empty and of value 0. The one error is that memory is short.
+    pub fn load_array(&mut self, id: u64, name: Name, length: u32) -> Result<(), AllocError>
+        requires { MayCome (directory_of self.old) id (new_array name length Empty) }
+        ensures ok { OnOk result (self.new ≡ with_arrays self.old (insert self.old.arrays id (new_array name length Empty))) }
+        ensures err { OnErr result (self.new ≡ self.old) }
+    {
+        self.directory.load_array(id, name, length)?;
+        Ok(())
+    }
+
+    /// Puts a word of an image at an index of an array. It takes no memory.
+    pub fn load_word(&mut self, array: u64, index: u32, word: Word)
+        requires { IsSome (word_in (get self.old.arrays array) index) }
+        ensures { self.new ≡ with_arrays self.old (put_word self.old.arrays array index word (get self.old.arrays array)) }
+    {
+        self.directory.load_word(array, index, word);
+    }
+
+    /// Adds a session of an image, with a floor of 1 to 2^63 - 32 and nothing kept. It takes no memory.
+    pub fn load_session(&mut self, session: u64, floor: u64)
+        requires new { get self.old.sessions session ≡ None }
+        requires few { len self.old.sessions < 64 }
+        requires least { 1 ≤ floor }
+        requires most { floor ≤ 2 ^ 63 - 32 }
+        ensures { self.new ≡ with_sessions self.old (insert self.old.sessions session (record { floor = floor; kept = empty })) }
+    {
+        self.sessions.insert(session, Session::starting(floor));
+    }
+
+    /// Keeps what an image has for a number of a session. It takes no memory.
+    pub fn load_kept(&mut self, session: u64, number: u64, kept: Kept)
+        requires window { IsSomeAnd (get self.old.sessions session) (λ x. IsInWindow x.floor number) }
+        requires place { kept.place < self.old.place }
+        ensures { self.new ≡ with_sessions self.old (put_session self.old.sessions session (option_map (λ x. keeping x number kept) (get self.old.sessions session))) }
+    {
+        self.sessions.get_mut(session).keep(number, kept);
+    }
+}
+
+fn is_answered(directory: &Directory, entry: &Entry) -> bool
+    ensures { IsTrue result ↔ IsAnswered directory.now entry.now }
+{
+    match entry {
+        Entry::Finished {
+            request,
+            answer,
+            ..
+        } => directory.answer_to(request) == Some(*answer),
+        _ => true,
+    }
+}
+
+/// Carries out the request of an entry, if it has one.
+fn enact(directory: &mut Directory, entry: &Entry) -> Result<Change, AllocError>
+    requires { directory.old.next_id < 2 ^ 63 }
+    ensures ok { OnOk result (directory.new ≡ directory_after directory.old entry.now) }
+    ensures undoable { IfOk result (λ change. CanRestore change directory.new) }
+    ensures restored { IfOk result (λ change. restored change directory.new ≡ directory.old) }
+    ensures err { OnErr result (directory.new ≡ directory.old) }
+    ensures memory { OnErr result (OnFinished entry.now (CreatesArray directory.old)) }
+{
+    match entry {
+        Entry::Finished { request, .. } => directory.perform(*request),
+        _ => Ok(Change::Nothing),
+    }
+}
