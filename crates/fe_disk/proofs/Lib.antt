@@ -1,0 +1,6 @@
+mod Gates
+pub mod Images
+pub mod Moments
+mod Outcomes
+mod Stops
+mod Tears

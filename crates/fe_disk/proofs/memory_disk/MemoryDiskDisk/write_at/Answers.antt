@@ -1,0 +1,13 @@
+use Rattle.std.proofs.Common.{arith}
+use Rattle.fe_disk.proofs.Stops.{put_stop, put_time, put_honest}
+use Rattle.fe_disk.proofs.memory_disk.MemoryDiskDisk.write_at.Goals as goal
+
+pub returns-clause-stop : goal.returns-clause-stop
+returns-clause-stop c = put_stop c.put.result c.args.self.now c.put.new.self c.args.at c.args.bytes.now c.requires c.put.ensures.ok c.put.ensures.err
+
+pub returns-clause-time : goal.returns-clause-time
+returns-clause-time c = put_time c.put.result c.args.self.now c.put.new.self c.args.at c.args.bytes.now c.requires c.put.ensures.ok c.put.ensures.err
+
+pub returns-clause-honesty : goal.returns-clause-honesty
+returns-clause-honesty c =
+    (λ _. c.put.ensures.honest, put_honest c.put.result c.args.self.now c.put.new.self c.args.at c.args.bytes.now c.requires c.put.ensures.ok c.put.ensures.err (λ i. omega (arith, c.type_inv.bytes i)))

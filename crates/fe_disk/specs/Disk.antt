@@ -1,0 +1,50 @@
+-- What the calls of a disk do to its bytes, and what a stop leaves of them.
+use Rattle.std.specs.Prelude.{◌≡◌, ◌⊎◌, ℕ, ◌+◌, ◌-◌, ◌^◌, ◌<◌, ◌≤◌, List, ◌++◌, length, take, drop, slice_index}
+
+-- an image of a disk: so many bytes
+pub record IsImage (size : ℕ) (image : List ℕ) : Type 0 where
+  pub whole : length image ≡ size
+  pub bytes : (i : ℕ) → slice_index image i < 2 ^ 8
+
+-- the n bytes from `at` on
+abbrev pub bytes_at : List ℕ → ℕ → ℕ → List ℕ
+bytes_at image at n = take n (drop at image)
+
+-- the image with these bytes in the place of those from `at` on
+abbrev pub after_write : List ℕ → ℕ → List ℕ → List ℕ
+after_write image at bytes = take at image ++ (bytes ++ drop (at + length bytes) image)
+
+-- any bytes at the n places from `at` on, and the same byte at each other place
+pub record IsTorn (at n : ℕ) (old new : List ℕ) : Type 0 where
+  pub whole : length new ≡ length old
+  pub below : (i : ℕ) → i < at → slice_index new i ≡ slice_index old i
+  pub above : (i : ℕ) → at + n ≤ i → slice_index new i ≡ slice_index old i
+
+-- each image that may be left after a call is one that might have been left before it, changed by that step
+abbrev pub Follows : (List ℕ → List ℕ → Type 0) → (List ℕ → Type 0) → (List ℕ → Type 0) → Type 0
+Follows step old new = (image : List ℕ) → new image → (was : List ℕ) × old was × step was image
+
+-- a call adds no image to those that may be left
+abbrev pub AddsNone : (List ℕ → Type 0) → (List ℕ → Type 0) → Type 0
+AddsNone old new = (image : List ℕ) → new image → old image
+
+-- this image may be left and no other
+abbrev pub LeavesJust : List ℕ → (List ℕ → Type 0) → Type 0
+LeavesJust image may_leave = (left : List ℕ) → may_leave left → left ≡ image
+
+-- Time goes on through a call: what a stop since a moment before it may have left is what it might have left then already, or what it may leave now.
+pub record Elapses (before now : ℕ) (past since : ℕ → List ℕ → Type 0) (may_leave : List ℕ → Type 0) : Type 0 where
+  pub later : before ≤ now
+  pub nothing_else : (t : ℕ) (image : List ℕ) → t ≤ before → since t image → past t image ⊎ may_leave image
+  pub keeps : (t : ℕ) (image : List ℕ) → t ≤ before → past t image → since t image
+
+-- A count of faults rose in a call. At the top of a `u64` it stands still, and that counts as a rise.
+abbrev pub Rises : ℕ → ℕ → Type 0
+Rises before now = (before < now) ⊎ ((before ≡ 2 ^ 64 - 1) × (now ≡ before))
+
+-- A stop at any moment of a run of calls, from `old` to `new`, leaves an image that has P.
+pub record LeavesOnly {D : Type 0} (moment : D → ℕ) (left_since : D → ℕ → List ℕ → Type 0) (old new : D) (P : List ℕ → Type 0) : Type 0 where
+  pub later : moment old ≤ moment new
+  pub each : (image : List ℕ) → left_since new (moment old) image → P image
+  -- for a run that began earlier
+  pub before : (t : ℕ) (image : List ℕ) → t ≤ moment old → left_since new t image → left_since old t image ⊎ P image

@@ -1,0 +1,92 @@
+-- What a `MemoryDisk` is, and which images its record of calls says that a stop may leave.
+use Rattle.std.specs.Prelude.{◌≡◌, ◌⊎◌, ℕ, ◌+◌, ◌-◌, ◌^◌, ◌<◌, ◌≤◌, min, List, [], ◌∷◌, length, slice_index}
+use Rattle.fe_disk.specs.Disk.{IsImage, bytes_at, after_write}
+use Rattle.fe_disk.specs.declared.memory_disk.Torn.{Torn}
+use Rattle.fe_disk.specs.declared.memory_disk.Torn.TheVariants.{Kept, Lost, Byte}
+
+-- a call that succeeded: a write, by its place and the bytes that were there before it, or a sync
+pub data Event : Type 0 where
+  Write : (at : ℕ) → (before : List ℕ) → Event
+  Sync : Event
+
+-- what a disk in memory is: its bytes, the calls since it was made with the last of them first, and its count of faults
+pub record MemoryState : Type 0 where
+  pub image : List ℕ
+  pub events : List Event
+  pub failures : ℕ
+
+-- the image before a call, from the one after it
+abbrev pub image_before : Event → List ℕ → List ℕ
+image_before (Write at before) image = after_write image at before
+image_before Sync image = image
+
+-- the place lies in the range of no write since the last sync
+abbrev pub IsSettledAt : List Event → ℕ → Type 0
+IsSettledAt [] i = Unit {0}
+IsSettledAt (Sync ∷ earlier) i = Unit {0}
+IsSettledAt (Write at before ∷ earlier) i = ((i < at) ⊎ (at + length before ≤ i)) × IsSettledAt earlier i
+
+-- A stop leaves any bytes in the ranges written since the last sync, and those that a read gives elsewhere.
+pub record MayLeave (size : ℕ) (image : List ℕ) (events : List Event) (left : List ℕ) : Type 0 where
+  pub bytes : IsImage size left
+  pub elsewhere : (i : ℕ) → IsSettledAt events i → slice_index left i ≡ slice_index image i
+
+-- A stop left it when t of the calls, or more, had been made.
+abbrev pub LeftSince : ℕ → List ℕ → List Event → ℕ → List ℕ → Type 0
+LeftSince size image [] t left = (t ≤ 0) × MayLeave size image [] left
+LeftSince size image (event ∷ earlier) t left =
+    ((t ≤ length (event ∷ earlier)) × MayLeave size image (event ∷ earlier) left) ⊎ LeftSince size (image_before event image) earlier t left
+
+-- the bytes of the disk are bytes, which is all that its honesty takes
+abbrev pub IsHonest : MemoryState → Type 0
+IsHonest disk = IsImage (length disk.image) disk.image
+
+-- a stop now may leave this image
+abbrev pub LeavesNow : MemoryState → List ℕ → Type 0
+LeavesNow disk = MayLeave (length disk.image) disk.image disk.events
+
+-- a stop after t of the calls, or later, may have left this image
+abbrev pub LeavesSince : MemoryState → ℕ → List ℕ → Type 0
+LeavesSince disk = LeftSince (length disk.image) disk.image disk.events
+
+-- the image at the last sync
+abbrev pub synced_image : List ℕ → List Event → List ℕ
+synced_image image [] = image
+synced_image image (Sync ∷ earlier) = image
+synced_image image (Write at before ∷ earlier) = synced_image (after_write image at before) earlier
+
+-- the ranges written since the last sync have this byte throughout
+pub record IsFilled (byte : ℕ) (image : List ℕ) (events : List Event) (left : List ℕ) : Type 0 where
+  pub whole : length left ≡ length image
+  pub elsewhere : (i : ℕ) → IsSettledAt events i → slice_index left i ≡ slice_index image i
+  pub filled : (i : ℕ) → i < length image → (IsSettledAt events i → ⊥) → slice_index left i ≡ byte
+
+-- which image a stop leaves that does this to the ranges written since the last sync
+abbrev pub IsLeftBy : Torn → List ℕ → List Event → List ℕ → Type 0
+IsLeftBy Kept image events left = left ≡ image
+IsLeftBy Lost image events left = left ≡ synced_image image events
+IsLeftBy (Byte byte) image events left = IsFilled byte image events left
+
+-- a new disk: zeros, with no call and no fault
+pub record IsBlank (size : ℕ) (disk : MemoryState) : Type 0 where
+  pub whole : length disk.image ≡ size
+  pub zeros : (i : ℕ) → slice_index disk.image i ≡ 0
+  pub events : disk.events ≡ []
+  pub failures : disk.failures ≡ 0
+
+-- the disk after a write that succeeds, which keeps the bytes that it replaced
+abbrev pub disk_after_write : MemoryState → ℕ → List ℕ → MemoryState
+disk_after_write disk at bytes =
+    record {
+      image = after_write disk.image at bytes;
+      events = Write at (bytes_at disk.image at (length bytes)) ∷ disk.events;
+      failures = disk.failures;
+    }
+
+-- the disk after a sync that succeeds
+abbrev pub disk_after_sync : MemoryState → MemoryState
+disk_after_sync disk = record { image = disk.image; events = Sync ∷ disk.events; failures = disk.failures }
+
+-- the disk after a call that fails: the fault is counted, and nothing else is done
+abbrev pub disk_after_fault : MemoryState → MemoryState
+disk_after_fault disk = record { image = disk.image; events = disk.events; failures = min (disk.failures + 1) (2 ^ 64 - 1) }

@@ -1,0 +1,166 @@
+//! A disk that fails from some call on, so that each call of a run can be the one at which it stops.
+ghost use Rattle.std.specs.Prelude.{◌≡◌, ◌⊎◌, ◌↔◌, ◌+◌, ◌-◌, ◌^◌, ◌<◌, ◌≤◌, length, is_err, if◌then◌else◌, IsErr, OnOk};
+ghost use Rattle.fe_disk.specs.Disk.{bytes_at, after_write, IsTorn, Follows, AddsNone, LeavesJust, Elapses, Rises};
+
+use crate::{DeviceFault, Disk};
+
+/// Passes so many device calls on to its disk, and fails each one after without touching the disk.
+///
+/// What a read gives and what a stop may leave are the disk's. Its count of faults starts with the
+/// disk's; at `u64::MAX` it fails each call too.
+#[derive(Drop)]
+pub struct Fuse<D> {
+    inner: D,
+    calls_left: u64,
+    failures: u64,
+}
+
+impl<D: Disk> Fuse<D> {
+    ghost use Rattle.fe_disk.specs.Fuse.{disk_of, calls_left, fault_count};
+
+    /// A fuse that passes so many calls.
+    pub fn new(inner: D, calls: u64) -> Fuse<D>
+        ensures disk { disk_of result ≡ inner }
+        ensures calls { calls_left result ≡ calls }
+        ensures failures { fault_count result ≡ D.failures inner }
+    {
+        let failures = inner.failures();
+        Fuse {
+            inner,
+            calls_left: calls,
+            failures,
+        }
+    }
+
+    /// The disk, as the calls that were passed left it.
+    pub fn into_inner(self) -> D
+        ensures { result ≡ disk_of self }
+    {
+        let Fuse {
+            inner,
+            calls_left: _,
+            failures: _,
+        } = self;
+        inner
+    }
+}
+
+// Spends a call. It is a fault where none is left, or where the count of faults is at its top.
+fn spend(calls_left: &mut u64, failures: &mut u64) -> Result<(), DeviceFault>
+    ensures spent { calls_left.new ≡ calls_left.old - 1 }
+    ensures refused { IsErr result ↔ ((calls_left.old ≡ 0) ⊎ (failures.old ≡ 2 ^ 64 - 1)) }
+    ensures fault { IsErr result ↔ Rises failures.old failures.new }
+    ensures still { OnOk result (failures.new ≡ failures.old) }
+    ensures room { OnOk result (failures.new < 2 ^ 64 - 1) }
+{
+    let is_blown = *calls_left == 0;
+    *calls_left = calls_left.saturating_sub(1);
+    if is_blown || *failures == u64::MAX {
+        *failures = failures.saturating_add(1);
+        return Err(DeviceFault);
+    }
+    Ok(())
+}
+
+// Counts a fault of the disk.
+fn count(failures: &mut u64, outcome: Result<(), DeviceFault>) -> Result<(), DeviceFault>
+    requires { failures.old < 2 ^ 64 - 1 }
+    ensures same { result ≡ outcome }
+    ensures counted { failures.new ≡ (if is_err outcome then failures.old + 1 else failures.old) }
+{
+    if outcome.is_err() {
+        *failures += 1;
+    }
+    outcome
+}
+
+impl<D: Disk> Disk for Fuse<D> {
+    ghost use Rattle.std.specs.Prelude.{◌≡◌, ◌↔◌, ◌+◌, ◌≤◌, length, IsErr, OnOk};
+    ghost use Rattle.fe_disk.specs.Disk.{bytes_at, after_write, IsTorn, Follows, AddsNone, LeavesJust, Elapses, Rises};
+    ghost use Rattle.fe_disk.specs.Fuse.{disk_of, fault_count, Burns};
+
+    ghost size = { λ fuse. D.size (disk_of fuse) };
+
+    ghost failures = { fault_count };
+
+    ghost honest = { λ fuse. D.honest (disk_of fuse) };
+
+    ghost seen = { λ fuse. D.seen (disk_of fuse) };
+
+    ghost may_leave = { λ fuse. D.may_leave (disk_of fuse) };
+
+    ghost moment = { λ fuse. D.moment (disk_of fuse) };
+
+    ghost left_since = { λ fuse. D.left_since (disk_of fuse) };
+
+    ghost seen_is_image = { λ fuse. D.seen_is_image (disk_of fuse) };
+
+    ghost left_is_image = { λ fuse. D.left_is_image (disk_of fuse) };
+
+    ghost seen_may_stay = { λ fuse. D.seen_may_stay (disk_of fuse) };
+
+    ghost counts_now = { λ fuse. D.counts_now (disk_of fuse) };
+
+    ghost only_now = { λ fuse. D.only_now (disk_of fuse) };
+
+    fn size(&self) -> usize {
+        self.inner.size()
+    }
+
+    fn failures(&self) -> u64 {
+        self.failures
+    }
+
+    fn read_at(&mut self, at: usize, buffer: &mut [u8]) -> Result<(), DeviceFault>
+        requires { at + length buffer.old ≤ D.size (disk_of self.old) }
+        ensures read { D.honest (disk_of self.old) → OnOk result (buffer.new ≡ bytes_at (D.seen (disk_of self.old)) at (length buffer.old)) }
+        ensures same { D.honest (disk_of self.old) → D.seen (disk_of self.new) ≡ D.seen (disk_of self.old) }
+        ensures stop { D.honest (disk_of self.old) → AddsNone (D.may_leave (disk_of self.old)) (D.may_leave (disk_of self.new)) }
+        ensures time { D.honest (disk_of self.old) → Elapses (D.moment (disk_of self.old)) (D.moment (disk_of self.new)) (D.left_since (disk_of self.old)) (D.left_since (disk_of self.new)) (D.may_leave (disk_of self.new)) }
+
+        ensures fault { IsErr result ↔ Rises (fault_count self.old) (fault_count self.new) }
+        ensures still { OnOk result (fault_count self.new ≡ fault_count self.old) }
+        ensures honesty { D.honest (disk_of self.new) ↔ D.honest (disk_of self.old) }
+        ensures size { D.size (disk_of self.new) ≡ D.size (disk_of self.old) }
+        ensures fuse { Burns D.failures result self.old self.new }
+    {
+        spend(&mut self.calls_left, &mut self.failures)?;
+        let outcome = self.inner.read_at(at, buffer);
+        count(&mut self.failures, outcome)
+    }
+
+    fn write_at(&mut self, at: usize, bytes: &[u8]) -> Result<(), DeviceFault>
+        requires { at + length bytes.now ≤ D.size (disk_of self.old) }
+        ensures written { D.honest (disk_of self.old) → OnOk result (D.seen (disk_of self.new) ≡ after_write (D.seen (disk_of self.old)) at bytes.now) }
+        ensures torn { D.honest (disk_of self.old) → IsTorn at (length bytes.now) (D.seen (disk_of self.old)) (D.seen (disk_of self.new)) }
+        ensures stop { D.honest (disk_of self.old) → Follows (IsTorn at (length bytes.now)) (D.may_leave (disk_of self.old)) (D.may_leave (disk_of self.new)) }
+        ensures time { D.honest (disk_of self.old) → Elapses (D.moment (disk_of self.old)) (D.moment (disk_of self.new)) (D.left_since (disk_of self.old)) (D.left_since (disk_of self.new)) (D.may_leave (disk_of self.new)) }
+
+        ensures fault { IsErr result ↔ Rises (fault_count self.old) (fault_count self.new) }
+        ensures still { OnOk result (fault_count self.new ≡ fault_count self.old) }
+        ensures honesty { D.honest (disk_of self.new) ↔ D.honest (disk_of self.old) }
+        ensures size { D.size (disk_of self.new) ≡ D.size (disk_of self.old) }
+        ensures fuse { Burns D.failures result self.old self.new }
+    {
+        spend(&mut self.calls_left, &mut self.failures)?;
+        let outcome = self.inner.write_at(at, bytes);
+        count(&mut self.failures, outcome)
+    }
+
+    fn sync(&mut self) -> Result<(), DeviceFault>
+        ensures durable { D.honest (disk_of self.old) → OnOk result (LeavesJust (D.seen (disk_of self.new)) (D.may_leave (disk_of self.new))) }
+        ensures same { D.honest (disk_of self.old) → D.seen (disk_of self.new) ≡ D.seen (disk_of self.old) }
+        ensures stop { D.honest (disk_of self.old) → AddsNone (D.may_leave (disk_of self.old)) (D.may_leave (disk_of self.new)) }
+        ensures time { D.honest (disk_of self.old) → Elapses (D.moment (disk_of self.old)) (D.moment (disk_of self.new)) (D.left_since (disk_of self.old)) (D.left_since (disk_of self.new)) (D.may_leave (disk_of self.new)) }
+
+        ensures fault { IsErr result ↔ Rises (fault_count self.old) (fault_count self.new) }
+        ensures still { OnOk result (fault_count self.new ≡ fault_count self.old) }
+        ensures honesty { D.honest (disk_of self.new) ↔ D.honest (disk_of self.old) }
+        ensures size { D.size (disk_of self.new) ≡ D.size (disk_of self.old) }
+        ensures fuse { Burns D.failures result self.old self.new }
+    {
+        spend(&mut self.calls_left, &mut self.failures)?;
+        let outcome = self.inner.sync();
+        count(&mut self.failures, outcome)
+    }
+}

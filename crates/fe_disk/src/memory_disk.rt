@@ -1,0 +1,215 @@
+//! A disk in memory that keeps the record of its calls, so that each stop it allows can be made.
+ghost use Rattle.std.specs.Prelude.{◌≡◌, ◌+◌, ◌-◌, ◌^◌, ◌≤◌, ◌↔◌, [], length, IfOk, IsErr, OnOk, OnErr};
+ghost use Rattle.fe_disk.specs.Disk.{bytes_at, after_write, IsTorn, Follows, AddsNone, LeavesJust, Elapses, Rises};
+ghost use Rattle.fe_disk.specs.Memory.{IsHonest, LeavesNow, LeavesSince, IsLeftBy, IsBlank, disk_after_write, disk_after_sync, disk_after_fault};
+ghost use Rattle.fe_disk.specs.MemoryLaws.{seen_may_stay_law, left_is_image_law, counts_now_law, only_now_law};
+
+use crate::record::{Call, record_sync, record_write, replace, torn_copy};
+use crate::{DeviceFault, Disk};
+use std::alloc::{AllocError, Global};
+use std::marker::Model;
+
+/// What a stop does to the ranges that were written since the last sync that succeeded.
+#[derive(Clone, Copy, Debug, PartialEq, Eq)]
+pub enum Torn {
+    /// They are as written.
+    Kept,
+    /// They are as they were at that sync.
+    Lost,
+    /// Each of their bytes is this one.
+    Byte(u8),
+}
+
+/// A disk in memory. It records each write and sync that succeeds and forgets none, so its record
+/// grows without end. Where the record finds no memory, the call fails before anything of it is done.
+#[derive(Drop)]
+pub struct MemoryDisk {
+    alloc: Global,
+    bytes: Vec<u8>,
+    calls: Vec<Call>,
+    failures: u64,
+}
+
+impl Model for MemoryDisk {
+    ghost use Rattle.fe_disk.specs.Memory.{MemoryState};
+
+    ghost Value = { MemoryState };
+
+    ghost use Rattle.fe_disk.specs.MemoryFields.{state_of, IsRecord};
+
+    ghost view = { state_of };
+
+    ghost invariant = { IsRecord };
+}
+
+impl MemoryDisk {
+    /// A disk of so many bytes, all of them zero.
+    pub fn new(alloc: Global, size: usize) -> Result<MemoryDisk, AllocError>
+        ensures blank { IfOk result (IsBlank size) }
+        ensures honest { IfOk result IsHonest }
+        ensures durable { IfOk result (λ disk. LeavesJust disk.image (LeavesNow disk)) }
+    {
+        Ok(MemoryDisk {
+            alloc,
+            bytes: vec![in alloc; 0; size]?,
+            calls: Vec::new(alloc),
+            failures: 0,
+        })
+    }
+
+    /// The disk that a stop at this moment leaves, with this done to the ranges that were written
+    /// since the last sync that succeeded. It is a disk of its own, with no calls and no faults.
+    pub fn stopped(&self, torn: Torn) -> Result<MemoryDisk, AllocError>
+        ensures left { IfOk result (λ disk. IsLeftBy torn self.now.image self.now.events disk.image) }
+
+        // It is one of the images that the model allows now.
+        ensures allowed { IfOk result (λ disk. LeavesNow self.now disk.image) }
+
+        ensures size { IfOk result (λ disk. length disk.image ≡ length self.now.image) }
+        ensures calls { IfOk result (λ disk. disk.events ≡ []) }
+        ensures failures { IfOk result (λ disk. disk.failures ≡ 0) }
+        ensures honest { IfOk result IsHonest }
+        ensures durable { IfOk result (λ disk. LeavesJust disk.image (LeavesNow disk)) }
+    {
+        Ok(MemoryDisk {
+            alloc: self.alloc,
+            bytes: torn_copy(self.alloc, torn, &self.calls, &self.bytes)?,
+            calls: Vec::new(self.alloc),
+            failures: 0,
+        })
+    }
+
+    fn get(&mut self, at: usize, buffer: &mut [u8]) -> Result<(), DeviceFault>
+        requires { at + length buffer.old ≤ length self.old.image }
+        ensures ok { OnOk result (self.new ≡ self.old) }
+        ensures read { OnOk result (buffer.new ≡ bytes_at self.old.image at (length buffer.old)) }
+        ensures err { OnErr result (self.new ≡ disk_after_fault self.old) }
+        ensures only_at_top { IsErr result ↔ (self.old.failures ≡ 2 ^ 64 - 1) }
+    {
+        if self.failures == u64::MAX {
+            return Err(DeviceFault);
+        }
+        buffer.copy_from_slice(&self.bytes[at..at + buffer.len()]);
+        Ok(())
+    }
+
+    fn put(&mut self, at: usize, bytes: &[u8]) -> Result<(), DeviceFault>
+        requires { at + length bytes.now ≤ length self.old.image }
+        ensures ok { OnOk result (self.new ≡ disk_after_write self.old at bytes.now) }
+        ensures err { OnErr result (self.new ≡ disk_after_fault self.old) }
+        ensures fault { IsErr result ↔ Rises self.old.failures self.new.failures }
+        ensures honest { IsHonest self.old }
+    {
+        if self.failures == u64::MAX
+            || record_write(self.alloc, &mut self.calls, &self.bytes, at, bytes.len()).is_err()
+        {
+            self.failures = self.failures.saturating_add(1);
+            return Err(DeviceFault);
+        }
+        replace(&mut self.bytes, at, bytes);
+        Ok(())
+    }
+
+    fn settle(&mut self) -> Result<(), DeviceFault>
+        ensures ok { OnOk result (self.new ≡ disk_after_sync self.old) }
+        ensures err { OnErr result (self.new ≡ disk_after_fault self.old) }
+        ensures fault { IsErr result ↔ Rises self.old.failures self.new.failures }
+    {
+        if self.failures == u64::MAX || record_sync(&mut self.calls).is_err() {
+            self.failures = self.failures.saturating_add(1);
+            return Err(DeviceFault);
+        }
+        Ok(())
+    }
+}
+
+impl Disk for MemoryDisk {
+    ghost size = { λ disk. length disk.image };
+
+    ghost failures = { λ disk. disk.failures };
+
+    ghost honest = { IsHonest };
+
+    ghost seen = { λ disk. disk.image };
+
+    ghost may_leave = { LeavesNow };
+
+    ghost moment = { λ disk. length disk.events };
+
+    ghost left_since = { LeavesSince };
+
+    ghost seen_is_image = { λ disk honest. honest };
+
+    ghost left_is_image = { λ disk t image honest left. left_is_image_law (length disk.image) disk.image disk.events t image left };
+
+    ghost seen_may_stay = { λ disk honest. seen_may_stay_law disk.image disk.events honest };
+
+    ghost counts_now = { λ disk t image honest now may. counts_now_law (length disk.image) disk.image disk.events t image now may };
+
+    ghost only_now = { λ disk image honest left. only_now_law (length disk.image) disk.image disk.events image left };
+
+    fn size(&self) -> usize {
+        self.bytes.len()
+    }
+
+    fn failures(&self) -> u64 {
+        self.failures
+    }
+
+    fn read_at(&mut self, at: usize, buffer: &mut [u8]) -> Result<(), DeviceFault>
+        requires { at + length buffer.old ≤ length self.old.image }
+        ensures read { IsHonest self.old → OnOk result (buffer.new ≡ bytes_at self.old.image at (length buffer.old)) }
+        ensures same { IsHonest self.old → self.new.image ≡ self.old.image }
+        ensures stop { IsHonest self.old → AddsNone (LeavesNow self.old) (LeavesNow self.new) }
+        ensures time { IsHonest self.old → Elapses (length self.old.events) (length self.new.events) (LeavesSince self.old) (LeavesSince self.new) (LeavesNow self.new) }
+
+        ensures fault { IsErr result ↔ Rises self.old.failures self.new.failures }
+        ensures still { OnOk result (self.new.failures ≡ self.old.failures) }
+        ensures honesty { IsHonest self.new ↔ IsHonest self.old }
+        ensures size { length self.new.image ≡ length self.old.image }
+
+        // A read takes no memory, so it fails only once the count of faults is at its top.
+        ensures only_at_top { IsErr result ↔ (self.old.failures ≡ 2 ^ 64 - 1) }
+        ensures ok { OnOk result (self.new ≡ self.old) }
+        ensures err { OnErr result (self.new ≡ disk_after_fault self.old) }
+    {
+        self.get(at, buffer)
+    }
+
+    fn write_at(&mut self, at: usize, bytes: &[u8]) -> Result<(), DeviceFault>
+        requires { at + length bytes.now ≤ length self.old.image }
+        ensures written { IsHonest self.old → OnOk result (self.new.image ≡ after_write self.old.image at bytes.now) }
+        ensures torn { IsHonest self.old → IsTorn at (length bytes.now) self.old.image self.new.image }
+        ensures stop { IsHonest self.old → Follows (IsTorn at (length bytes.now)) (LeavesNow self.old) (LeavesNow self.new) }
+        ensures time { IsHonest self.old → Elapses (length self.old.events) (length self.new.events) (LeavesSince self.old) (LeavesSince self.new) (LeavesNow self.new) }
+
+        ensures fault { IsErr result ↔ Rises self.old.failures self.new.failures }
+        ensures still { OnOk result (self.new.failures ≡ self.old.failures) }
+        ensures honesty { IsHonest self.new ↔ IsHonest self.old }
+        ensures size { length self.new.image ≡ length self.old.image }
+
+        // The record has one write more, or nothing was done.
+        ensures ok { OnOk result (self.new ≡ disk_after_write self.old at bytes.now) }
+        ensures err { OnErr result (self.new ≡ disk_after_fault self.old) }
+    {
+        self.put(at, bytes)
+    }
+
+    fn sync(&mut self) -> Result<(), DeviceFault>
+        ensures durable { IsHonest self.old → OnOk result (LeavesJust self.new.image (LeavesNow self.new)) }
+        ensures same { IsHonest self.old → self.new.image ≡ self.old.image }
+        ensures stop { IsHonest self.old → AddsNone (LeavesNow self.old) (LeavesNow self.new) }
+        ensures time { IsHonest self.old → Elapses (length self.old.events) (length self.new.events) (LeavesSince self.old) (LeavesSince self.new) (LeavesNow self.new) }
+
+        ensures fault { IsErr result ↔ Rises self.old.failures self.new.failures }
+        ensures still { OnOk result (self.new.failures ≡ self.old.failures) }
+        ensures honesty { IsHonest self.new ↔ IsHonest self.old }
+        ensures size { length self.new.image ≡ length self.old.image }
+
+        // The record has one sync more, or nothing was done.
+        ensures ok { OnOk result (self.new ≡ disk_after_sync self.old) }
+        ensures err { OnErr result (self.new ≡ disk_after_fault self.old) }
+    {
+        self.settle()
+    }
+}

@@ -1,0 +1,84 @@
+use super::plain::{Plain, SIZE};
+use super::{read, write};
+use crate::{Disk, MemoryDisk, Torn};
+use std::test::Fail;
+
+const TORN: [Torn; 4] = [Torn::Kept, Torn::Lost, Torn::Byte(0x01), Torn::Byte(0x37)];
+
+enum Step {
+    Write(usize, &'static [u8]),
+    Sync,
+}
+
+const STEPS: [Step; 11] = [
+    Step::Sync,
+    Step::Write(0, &[1, 2, 3, 4]),
+    Step::Write(2, &[5, 6, 7]),
+    Step::Sync,
+    Step::Write(4, &[8, 9, 10, 11, 12]),
+    Step::Write(5, &[13]),
+    Step::Write(3, &[14, 15]),
+    Step::Write(15, &[16]),
+    Step::Write(16, &[]),
+    Step::Sync,
+    Step::Write(0, &[17; 16]),
+];
+
+// After each call, a stop leaves what the table says, and what it leaves is on the disk.
+#[test]
+fn stops_as_the_table_says(rt: HostRuntime) -> Result<(), Fail> {
+    let mut disk = MemoryDisk::new(rt.alloc(), SIZE)?;
+    let mut plain = Plain::new();
+    for (k, step) in STEPS.iter().enumerate() {
+        match step {
+            Step::Write(at, bytes) => {
+                write(&rt, &mut disk, *at, bytes)?;
+                plain.write(*at, bytes);
+            }
+            Step::Sync => {
+                disk.sync()?;
+                plain.sync();
+            }
+        }
+        for torn in TORN {
+            let mut left = disk.stopped(torn)?;
+            let mut found = [0; SIZE];
+            read(&rt, &mut left, 0, &mut found)?;
+            assert_eq!(rt; found, plain.left(torn), "after step {k}");
+            let mut again = left.stopped(Torn::Byte(0x55))?;
+            read(&rt, &mut again, 0, &mut found)?;
+            assert_eq!(rt; found, plain.left(torn), "after step {k}");
+        }
+    }
+    assert_eq!(rt; disk.failures(), 0);
+    Ok(())
+}
+
+// A write or a sync whose record finds no memory is a device fault that leaves the disk as it was.
+// `rt try --test --fail-alloc 1..` takes each allocation away in turn.
+#[test]
+fn faults_where_memory_ends(rt: HostRuntime) -> Result<(), Fail> {
+    let mut disk = MemoryDisk::new(rt.alloc(), SIZE)?;
+    let mut found = [0; 2];
+    let mut faults = 0;
+    for byte in 1..20 {
+        read(&rt, &mut disk, 7, &mut found)?;
+        let before = found;
+        let want = match write(&rt, &mut disk, 7, &[byte, byte]) {
+            Ok(()) => [byte, byte],
+            Err(_) => {
+                faults = 1;
+                before
+            }
+        };
+        assert_eq!(rt; disk.failures(), faults);
+        read(&rt, &mut disk, 7, &mut found)?;
+        assert_eq!(rt; found, want);
+        if disk.sync().is_err() {
+            faults = 1;
+        }
+        assert_eq!(rt; disk.failures(), faults);
+    }
+    assert!(rt; MemoryDisk::new(rt.alloc(), usize::MAX / 2).is_err());
+    Ok(())
+}

@@ -1,0 +1,12 @@
+pub mod AmongLemmas
+pub mod PlacesLemmas
+pub mod WithCount
+pub mod ChainLemmas
+pub mod ChangeLemmas
+pub mod FreeLemmas
+pub mod ListLemmas
+pub mod PoolLemmas
+pub mod RelinkLemmas
+pub mod ReturnLemmas
+pub mod RunLemmas
+pub mod WalkLemmas

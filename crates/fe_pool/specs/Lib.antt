@@ -1,0 +1,5 @@
+pub mod Columns
+pub mod Places
+pub mod Pool
+pub mod Runs
+pub mod Walk

@@ -1,0 +1,42 @@
+-- How a node in the vector shows in the columns. No public clause cites this module.
+use Rattle.std.specs.Prelude.{ℕ, List, map, Option, Some, None}
+use Rattle.fe_pool.specs.Columns.{Link, Columns}
+use Rattle.fe_pool.specs.declared.family.Family.{Family}
+use Rattle.fe_pool.specs.declared.family.Family.TheVariants.{OfWord, OfSession}
+use Rattle.fe_pool.specs.declared.places.Entry.{Entry}
+use Rattle.fe_pool.specs.declared.places.Place.{Place}
+use Rattle.fe_pool.specs.declared.places.Place.TheVariants.{Free, Taken}
+
+module _ {T : Type 0} where
+  -- the item of a taken node
+  abbrev pub item_of : Place T → Option T
+  item_of (Free _) = None
+  item_of (Taken entry) = Some entry.item
+
+  -- the free node that follows a free one
+  abbrev pub follower_of : Place T → Option ℕ
+  follower_of (Free follower) = follower
+  follower_of (Taken _) = None
+
+  -- the neighbours of a taken node
+  abbrev pub word_link_of : Place T → Link
+  word_link_of (Free _) = None
+  word_link_of (Taken entry) = entry.of_word
+
+  abbrev pub session_link_of : Place T → Link
+  session_link_of (Free _) = None
+  session_link_of (Taken entry) = entry.of_session
+
+  -- what a taken node holds, with other neighbours in one family
+  abbrev pub with_link : Entry T → Family → Link → Entry T
+  with_link entry OfWord to = record entry { of_word = to }
+  with_link entry OfSession to = record entry { of_session = to }
+
+  -- the columns that the vector shows
+  abbrev pub columns_of : List (Place T) → Columns T
+  columns_of places = record {
+    items = map item_of places;
+    followers = map follower_of places;
+    of_word = map word_link_of places;
+    of_session = map session_link_of places;
+  }

@@ -1,0 +1,99 @@
+-- How a list stands in the neighbours of its nodes, and how all lists are read from them. No public
+-- clause cites this module.
+use Rattle.std.specs.Prelude.{◌≡◌, ℕ, zero, suc, ◌<◌, ◌^◌, ◌⊎◌, List, [], ◌∷◌, length, map, Option, Some, None, slice_index_or, slice_set}
+use Rattle.std.specs.List.{range_with_len}
+use Rattle.fe_pool.specs.declared.neighbours.Neighbours.{Neighbours}
+use Rattle.fe_pool.specs.Pool.{Contents, first_or}
+use Rattle.fe_pool.specs.Columns.{Link, Columns, link_at, IsLoose}
+
+-- the node stands in the list
+abbrev pub IsAmong : ℕ → List ℕ → Type 0
+IsAmong node [] = ⊥
+IsAmong node (x ∷ xs) = (node ≡ x) ⊎ IsAmong node xs
+
+-- no node stands twice in the list
+abbrev pub AllDifferent : List ℕ → Type 0
+AllDifferent [] = Unit {0}
+AllDifferent (x ∷ xs) = (IsAmong x xs → ⊥) × AllDifferent xs
+
+abbrev pub previous_of : Link → Option ℕ
+previous_of None = None
+previous_of (Some neighbours) = neighbours.previous
+
+abbrev pub next_of : Link → Option ℕ
+next_of None = None
+next_of (Some neighbours) = neighbours.next
+
+-- the neighbours of each node of the list are those that the list gives it, between `before` and
+-- `after`
+abbrev pub IsRun : List Link → Option ℕ → List ℕ → Option ℕ → Type 0
+IsRun links before [] after = Unit {0}
+IsRun links before (node ∷ nodes) after = (link_at links node ≡ Some (record { previous = before; next = first_or after nodes }))
+    × IsRun links (Some node) nodes after
+
+-- the list has its two ends
+abbrev pub IsWhole : List Link → List ℕ → Type 0
+IsWhole links nodes = IsRun links None nodes None
+
+-- each node that has neighbours stands on a whole list
+abbrev pub AllListed : List Link → Type 0
+AllListed links = (node : ℕ) (neighbours : Neighbours) → link_at links node ≡ Some neighbours → (nodes : List ℕ) × IsWhole links nodes × IsAmong node nodes
+
+-- the nodes that follow one another from a node on, at most so many
+abbrev pub run_from : List Link → ℕ → Option ℕ → List ℕ
+run_from links zero at = []
+run_from links (suc steps) None = []
+run_from links (suc steps) (Some node) = node ∷ run_from links steps (next_of (link_at links node))
+
+-- the list from the node on, where nothing is before it
+abbrev pub list_after : List Link → ℕ → Option ℕ → List ℕ
+list_after links node None = run_from links (length links) (Some node)
+list_after links node (Some _) = []
+
+-- the list that begins at a node with these neighbours
+abbrev pub list_begun : List Link → ℕ → Link → List ℕ
+list_begun links node None = []
+list_begun links node (Some neighbours) = list_after links node neighbours.previous
+
+-- the lists that the neighbours make, each by its first node
+unfoldable pub lists : List Link → List (List ℕ)
+lists links =
+    map (λ node. list_begun links node (link_at links node)) (range_with_len 0 (length links))
+
+-- the neighbours once the node `at`, if there is one, is followed by `next`
+abbrev pub with_next : List Link → Option ℕ → Option ℕ → List Link
+with_next links None next = links
+with_next links (Some at) next =
+    slice_set links at (Some (record { previous = previous_of (link_at links at); next = next }))
+
+-- the neighbours once the node `at`, if there is one, comes after `previous`
+abbrev pub with_previous : List Link → Option ℕ → Option ℕ → List Link
+with_previous links None previous = links
+with_previous links (Some at) previous =
+    slice_set links at (Some (record { previous = previous; next = next_of (link_at links at) }))
+
+-- the free nodes from `first` on are these
+abbrev pub IsFreeRun : List (Option ℕ) → Option ℕ → List ℕ → Type 0
+IsFreeRun followers first [] = first ≡ None
+IsFreeRun followers first (node ∷ nodes) = (first ≡ Some node) × IsFreeRun followers (slice_index_or followers node None) nodes
+
+-- what a contract sees of the columns
+abbrev pub contents : {T : Type 0} → Columns T → Contents T
+contents c = record { items = c.items; of_word = lists c.of_word; of_session = lists c.of_session }
+
+-- what is true of each pool: its columns are as long as one another, the free nodes from `first_free`
+-- on are those without an item, each once, a free node is on no list, and each node that has
+-- neighbours stands on a list that agrees with them
+pub record IsPool {T : Type 0} (c : Columns T) (first_free : Option ℕ) : Type 0 where
+  pub fits : length c.items < 2 ^ 32
+  pub followers_length : length c.followers ≡ length c.items
+  pub of_word_length : length c.of_word ≡ length c.items
+  pub of_session_length : length c.of_session ≡ length c.items
+  pub free : List ℕ
+  pub free_linked : IsFreeRun c.followers first_free free
+  pub free_different : AllDifferent free
+  pub free_listed : (node : ℕ) → node < length c.items → slice_index_or c.items node None ≡ None → IsAmong node free
+  pub free_empty : (node : ℕ) → IsAmong node free → (node < length c.items) × (slice_index_or c.items node None ≡ None)
+  pub loose : (node : ℕ) → slice_index_or c.items node None ≡ None → IsLoose c node
+  pub words : AllListed c.of_word
+  pub sessions : AllListed c.of_session

@@ -1,0 +1,175 @@
+ghost use Rattle.std.specs.Prelude.{◌≡◌, ◌↔◌, IsTrue, ℕ, ◌<◌, ◌^◌, IfOk, IsSome, Some, None, length, slice_index_or, slice_set, replicate, Option};
+ghost use Rattle.std.specs.Option.{ForSome};
+ghost use Rattle.fe_pool.specs.Columns.{links_of, with_links, link_at, before_each, IsLoose, IsLinked};
+ghost use Rattle.fe_pool.specs.Runs.{with_next, with_previous};
+
+use crate::family::Family;
+use crate::neighbours::Neighbours;
+use crate::node::Node;
+use std::alloc::{AllocError, Global};
+use std::marker::Model;
+use std::mem;
+
+// One node: free, with the free node that follows it, or taken.
+#[derive(Drop)]
+enum Place<T> {
+    Free(Option<Node>),
+    Taken(Entry<T>),
+}
+
+// What a taken node holds: its item, and its neighbours on its list of each family.
+#[derive(Drop)]
+struct Entry<T> {
+    item: T,
+    of_word: Option<Neighbours>,
+    of_session: Option<Neighbours>,
+}
+
+impl<T> Entry<T> {
+    ghost use Rattle.fe_pool.specs.Places.{with_link};
+
+    fn set_link(&mut self, family: Family, to: Option<Neighbours>)
+        ensures { self.new ≡ with_link self.old family to }
+    {
+        match family {
+            Family::OfWord => self.of_word = to,
+            Family::OfSession => self.of_session = to,
+        }
+    }
+}
+
+/// The one vector of a pool, read and written a node at a time.
+#[derive(Drop)]
+pub(crate) struct Places<T> {
+    places: Vec<Place<T>>,
+}
+
+impl<T> Model for Places<T> {
+    ghost use Rattle.fe_pool.specs.Columns.{Columns, columns_code};
+
+    ghost Value = { Columns T };
+
+    ghost coded = { columns_code T.code };
+
+    ghost use Rattle.fe_pool.specs.Places.{columns_of};
+
+    ghost view = { λ p. columns_of p.places.items };
+}
+
+impl<T: Drop> Places<T> {
+    // So many free nodes, each followed by the one before it.
+    pub(crate) fn with_count(alloc: Global, count: u32) -> Result<Places<T>, AllocError>
+        ensures items { IfOk result (λ p. p.items ≡ replicate count None) }
+        ensures of_word { IfOk result (λ p. p.of_word ≡ replicate count None) }
+        ensures of_session { IfOk result (λ p. p.of_session ≡ replicate count None) }
+        ensures followers { IfOk result (λ p. p.followers ≡ before_each count) }
+    {
+        let mut places = Vec::with_capacity(alloc, count as usize)?;
+        let mut before = None;
+        for place in 0..count {
+            places.push(Place::Free(before))?;
+            before = Some(Node::at(place));
+        }
+        Ok(Places { places })
+    }
+
+    pub(crate) fn count(&self) -> u32
+        requires { length self.now.items < 2 ^ 32 }
+        ensures { result ≡ length self.now.items }
+    {
+        self.places.len() as u32
+    }
+
+    // Puts an item into a free node, and returns the free node that followed it.
+    pub(crate) fn occupy(&mut self, node: Node, item: T) -> Option<Node>
+        requires within { node < length self.old.items }
+        requires free { slice_index_or self.old.items node None ≡ None }
+        ensures follower { result ≡ slice_index_or self.old.followers node None }
+        ensures after { self.new ≡ record self.old { items = slice_set self.old.items node (Some item); followers = slice_set self.old.followers node None } }
+    {
+        let entry = Entry {
+            item,
+            of_word: None,
+            of_session: None,
+        };
+        match mem::replace(&mut self.places[node.place()], Place::Taken(entry)) {
+            Place::Free(follower) => follower,
+            Place::Taken(_) => unreachable!(),
+        }
+    }
+
+    #[cfg(test)]
+    pub(crate) fn is_taken(&self, node: Node) -> bool
+        requires { node < length self.now.items }
+        ensures { IsTrue result ↔ IsSome (slice_index_or self.now.items node None) }
+    {
+        matches!(&self.places[node.place()], Place::Taken(_))
+    }
+
+    // Takes the item out of a node that is on no list, and makes it a free one.
+    pub(crate) fn vacate(&mut self, node: Node, follower: Option<Node>) -> T
+        requires taken { IsSome (slice_index_or self.old.items node None) }
+        requires loose { IsLoose self.old node }
+        ensures item { slice_index_or self.old.items node None ≡ Some result }
+        ensures after { self.new ≡ record self.old { items = slice_set self.old.items node None; followers = slice_set self.old.followers node follower } }
+    {
+        match mem::replace(&mut self.places[node.place()], Place::Free(follower)) {
+            Place::Taken(entry) => entry.item,
+            Place::Free(_) => unreachable!(),
+        }
+    }
+
+    pub(crate) fn item(&self, node: Node) -> &T
+        requires { IsSome (slice_index_or self.now.items node None) }
+        ensures { slice_index_or self.now.items node None ≡ Some result.now }
+    {
+        match &self.places[node.place()] {
+            Place::Taken(entry) => &entry.item,
+            Place::Free(_) => unreachable!(),
+        }
+    }
+
+    // The neighbours of a node on its list of a family, or `None` where it is on none.
+    pub(crate) fn neighbours(&self, family: Family, node: Node) -> Option<Neighbours>
+        requires { node < length self.now.items }
+        ensures { result ≡ link_at (links_of self.now family) node }
+    {
+        match (&self.places[node.place()], family) {
+            (Place::Taken(entry), Family::OfWord) => entry.of_word,
+            (Place::Taken(entry), Family::OfSession) => entry.of_session,
+            (Place::Free(_), _) => None,
+        }
+    }
+
+    pub(crate) fn set_neighbours(&mut self, family: Family, node: Node, to: Option<Neighbours>)
+        requires { IsSome (slice_index_or self.old.items node None) }
+        ensures { self.new ≡ with_links self.old family (slice_set (links_of self.old family) node to) }
+    {
+        match &mut self.places[node.place()] {
+            Place::Taken(entry) => entry.set_link(family, to),
+            Place::Free(_) => unreachable!(),
+        }
+    }
+
+    // Makes `next` the one behind the node `at`, where there is such a node.
+    pub(crate) fn set_next(&mut self, family: Family, at: Option<Node>, next: Option<Node>)
+        requires { ForSome at (IsLinked self.old family) }
+        ensures { self.new ≡ with_links self.old family (with_next (links_of self.old family) at next) }
+    {
+        if let Some(node) = at {
+            let Neighbours { previous, .. } = self.neighbours(family, node).unwrap();
+            self.set_neighbours(family, node, Some(Neighbours { previous, next }));
+        }
+    }
+
+    // Makes `previous` the one before the node `at`, where there is such a node.
+    pub(crate) fn set_previous(&mut self, family: Family, at: Option<Node>, previous: Option<Node>)
+        requires { ForSome at (IsLinked self.old family) }
+        ensures { self.new ≡ with_links self.old family (with_previous (links_of self.old family) at previous) }
+    {
+        if let Some(node) = at {
+            let Neighbours { next, .. } = self.neighbours(family, node).unwrap();
+            self.set_neighbours(family, node, Some(Neighbours { previous, next }));
+        }
+    }
+}

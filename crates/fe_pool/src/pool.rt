@@ -1,0 +1,171 @@
+ghost use Rattle.std.specs.Prelude.{◌≡◌, ◌<◌, ◌+◌, ◌↔◌, ℕ, [], ◌∷◌, ◌++◌, length, replicate, slice_set, Some, None, Option, IfOk, IsNone, IfSome, IsSome, OnSome, IfNone, Contains};
+ghost use Rattle.fe_pool.specs.Pool.{item_at, IsTaken, IsFree, list_of, lists_of, without, IsChain, IsOn, IsOff, KeepsOtherChains, KeepsOtherNodes, KeepsOtherFamily, IsNext, IsSound};
+
+#[cfg(test)]
+mod tests;
+
+use crate::chain::Chain;
+use crate::family::Family;
+use crate::neighbours::Neighbours;
+use crate::node::Node;
+use crate::places::Places;
+use std::alloc::{AllocError, Global};
+use std::marker::Model;
+
+/// Nodes that hold a `T` each while they are taken, and stand on at most one list of each family.
+///
+/// All memory is taken by `with_nodes`, and each call after it takes a bounded time.
+#[derive(Drop)]
+pub struct Pool<T> {
+    places: Places<T>,
+    first_free: Option<Node>,
+}
+
+impl<T> Model for Pool<T> {
+    ghost use Rattle.fe_pool.specs.Pool.{Contents, contents_code};
+
+    ghost Value = { Contents T };
+
+    ghost coded = { contents_code T.code };
+
+    ghost use Rattle.fe_pool.specs.Runs.{contents, IsPool};
+
+    ghost view = { λ p. contents p.places };
+
+    ghost invariant = { λ p. IsPool p.places p.first_free };
+}
+
+impl<T: Drop> Pool<T> {
+    /// A pool of so many nodes, all free.
+    pub fn with_nodes(alloc: Global, nodes: u32) -> Result<Pool<T>, AllocError>
+        ensures items { IfOk result (λ p. p.items ≡ replicate nodes None) }
+        ensures of_word { IfOk result (λ p. p.of_word ≡ replicate nodes []) }
+        ensures of_session { IfOk result (λ p. p.of_session ≡ replicate nodes []) }
+        ensures sound { IfOk result IsSound }
+    {
+        let places = Places::with_count(alloc, nodes)?;
+        let first_free = if nodes == 0 {
+            None
+        } else {
+            Some(Node::at(nodes - 1))
+        };
+        Ok(Pool { places, first_free })
+    }
+
+    /// How many nodes there are, free and taken.
+    pub fn capacity(&self) -> u32
+        ensures nodes { result ≡ length self.now.items }
+        ensures sound { IsSound self.now }
+    {
+        self.places.count()
+    }
+
+    /// Puts the item into a free node, which stands on no list, or drops it where no node is free.
+    pub fn take(&mut self, item: T) -> Option<Node>
+        ensures full { IsNone result ↔ ((node : ℕ) → ¬ (IsFree self.old node)) }
+        ensures was_free { IfSome result (IsFree self.old) }
+        ensures off { IfSome result (λ node. (family : _) → IsOff self.old family node) }
+        ensures taken { IfSome result (λ node. self.new ≡ record self.old { items = slice_set self.old.items node (Some item) }) }
+        ensures unchanged { IfNone result (self.new ≡ self.old) }
+        ensures sound { IsSound self.new }
+    {
+        let node = self.first_free?;
+        self.first_free = self.places.occupy(node, item);
+        Some(node)
+    }
+
+    /// Takes the item out of a node that stands on no list, which is free from then on.
+    pub fn give_back(&mut self, node: Node) -> T
+        requires taken { IsTaken self.old node }
+        requires off { (family : _) → IsOff self.old family node }
+        ensures item { item_at self.old node ≡ Some result }
+        ensures freed { self.new ≡ record self.old { items = slice_set self.old.items node None } }
+        ensures sound { IsSound self.new }
+    {
+        let item = self.places.vacate(node, self.first_free);
+        self.first_free = Some(node);
+        item
+    }
+
+    /// The item of a taken node.
+    pub fn get(&self, node: Node) -> &T
+        requires { IsTaken self.now node }
+        ensures { item_at self.now node ≡ Some result.now }
+    {
+        self.places.item(node)
+    }
+
+    /// The node behind this one on its list of the family, or `None` at the end.
+    pub fn next(&self, family: Family, node: Node) -> Option<Node>
+        requires { IsOn self.now family node }
+        ensures { IsNext self.now family node result }
+    {
+        self.places.neighbours(family, node).unwrap().next
+    }
+
+    /// Puts a taken node that stands on no list of the family at the end of the chain's list.
+    pub fn push_back(&mut self, family: Family, chain: &mut Chain, node: Node)
+        requires chain { IsChain self.old family chain.old }
+        requires taken { IsTaken self.old node }
+        requires off { IsOff self.old family node }
+        ensures list { list_of self.new family chain.new ≡ list_of self.old family chain.old ++ node ∷ [] }
+        ensures chain { IsChain self.new family chain.new }
+        ensures length { chain.new.length ≡ chain.old.length + 1 }
+
+        // Nothing else changes.
+        ensures other_chains { KeepsOtherChains self.old self.new family chain.old }
+        ensures other_nodes { KeepsOtherNodes self.old self.new family node }
+        ensures other_family { KeepsOtherFamily self.old self.new family }
+        ensures items { self.new.items ≡ self.old.items }
+        ensures sound { IsSound self.new }
+    {
+        let Chain {
+            first,
+            last,
+            length,
+        } = *chain;
+        let neighbours = Neighbours {
+            previous: last,
+            next: None,
+        };
+        self.places.set_neighbours(family, node, Some(neighbours));
+        self.places.set_next(family, last, Some(node));
+        *chain = Chain {
+            first: if first.is_none() { Some(node) } else { first },
+            last: Some(node),
+            length: length + 1,
+        };
+    }
+
+    /// Takes a node out of the chain's list, wherever on it the node stands.
+    pub fn unlink(&mut self, family: Family, chain: &mut Chain, node: Node)
+        requires chain { IsChain self.old family chain.old }
+        requires on { Contains (list_of self.old family chain.old) node }
+        ensures list { list_of self.new family chain.new ≡ without (list_of self.old family chain.old) node }
+        ensures chain { IsChain self.new family chain.new }
+        ensures length { chain.new.length + 1 ≡ chain.old.length }
+        ensures off { IsOff self.new family node }
+
+        // Nothing else changes.
+        ensures other_chains { KeepsOtherChains self.old self.new family chain.old }
+        ensures other_nodes { KeepsOtherNodes self.old self.new family node }
+        ensures other_family { KeepsOtherFamily self.old self.new family }
+        ensures items { self.new.items ≡ self.old.items }
+        ensures sound { IsSound self.new }
+    {
+        let Chain {
+            first,
+            last,
+            length,
+        } = *chain;
+        let Neighbours { previous, next } = self.places.neighbours(family, node).unwrap();
+        self.places.set_next(family, previous, next);
+        self.places.set_previous(family, next, previous);
+        self.places.set_neighbours(family, node, None);
+        *chain = Chain {
+            first: if previous.is_none() { next } else { first },
+            last: if next.is_none() { previous } else { last },
+            length: length - 1,
+        };
+    }
+}
