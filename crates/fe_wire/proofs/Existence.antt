@@ -1,0 +1,105 @@
+-- Each stream of bytes has a reading.
+use Rattle.std.proofs.Common.{◌≡◌, ◌≢◌, ℕ, zero, suc, ◌+◌, ◌≤◌, ◌⊎◌, List, [], ◌∷◌, ◌++◌, length, drop, Option, Some, None, refl, sym, ap, ◌∙◌, append_assoc, arith, inl, inr}
+use Rattle.std.specs.List.{flat_map}
+use Rattle.std.proofs.lemmas.Bool.{cases_lt, cases_eq}
+use Rattle.std.proofs.lemmas.Option.{none-some, same_Some}
+use Rattle.std.proofs.lemmas.List.{take-append-drop, length-drop}
+use Rattle.std.proofs.lemmas.List.Concat.{flat_map-cons}
+use Rattle.fe_wire.specs.declared.client_message.ClientMessage.{ClientMessage}
+use Rattle.fe_wire.specs.Spelling.{spelling, Fits}
+use Rattle.fe_wire.specs.Reading.{message_of}
+use Rattle.fe_wire.specs.Stream.{length_of_kind, length_field, kind_field, front_frame, IsWhole, IsBad, IsUnfinished}
+use Rattle.fe_wire.specs.Laws.{IsBytes, HasReading, EachHasReading}
+use Rattle.fe_wire.proofs.FieldLaws.{IsBytes-drop}
+use Rattle.fe_wire.proofs.FrameLaws.{body_field, reads_frame, reads_none}
+
+-- a message stands whole at the front
+record HasFront (bytes : List ℕ) : Type 0 where
+  message : ClientMessage
+  fits : Fits message
+  whole : IsWhole bytes
+  front : front_frame bytes ≡ spelling message
+
+abbrev Decided : List ℕ → Type 0
+Decided bytes = IsUnfinished bytes ⊎ (IsBad bytes ⊎ HasFront bytes)
+
+same_or_not : (o : Option ℕ) (n : ℕ) → (o ≡ Some n) ⊎ (o ≢ Some n)
+same_or_not None n = inr (none-some n)
+same_or_not (Some m) n = elim (cases_eq m n) [ inl e ↦ inl (ap (λ (k : ℕ). Some k) e) | inr ne ↦ inr (λ e. ne (same_Some m n e)) ]
+
+by_body : (bytes : List ℕ) (o : Option ClientMessage) → IsBytes bytes → IsWhole bytes → 1 ≤ length_field bytes → message_of (kind_field bytes) (body_field bytes) ≡ o → Decided bytes
+by_body bytes (Some m) fits whole low e =
+    let r = reads_frame bytes m fits whole low e in
+    inr (inr (record { message = m; fits = r.0; whole = whole; front = r.1 }))
+by_body bytes None fits whole low e = inr (inl (inr (inr (reads_none bytes fits whole low e))))
+
+by_kind : (bytes : List ℕ) → IsBytes bytes → 5 ≤ length bytes → 1 ≤ length_field bytes → length_field bytes ≤ 31 → Decided bytes
+by_kind bytes fits five low high =
+    elim (same_or_not (length_of_kind (kind_field bytes)) (length_field bytes)) [
+      | inr ne ↦ inr (inl (inr (inl (five, ne))))
+      | inl e ↦ elim (cases_lt (length bytes) (4 + length_field bytes)) [
+        | inl short ↦ inl (λ whole. omega arith, λ bad. elim bad [ inl h ↦ elim h.1 [ inl z ↦ omega arith | inr over ↦ omega arith ] | inr rest ↦ elim rest [ inl h ↦ h.1 e | inr h ↦ omega (arith, h.0) ] ])
+        | inr whole ↦ by_body bytes (message_of (kind_field bytes) (body_field bytes)) fits whole low refl
+      ]
+    ]
+
+by_length : (bytes : List ℕ) → IsBytes bytes → 4 ≤ length bytes → 1 ≤ length_field bytes → length_field bytes ≤ 31 → Decided bytes
+by_length bytes fits four low high =
+    elim (cases_lt (length bytes) 5) [
+      | inl short ↦ inl (λ whole. omega arith, λ bad. elim bad [ inl h ↦ elim h.1 [ inl z ↦ omega arith | inr over ↦ omega arith ] | inr rest ↦ elim rest [ inl h ↦ omega (arith, h.0) | inr h ↦ omega (arith, h.0) ] ])
+      | inr five ↦ by_kind bytes fits five low high
+    ]
+
+decided : (bytes : List ℕ) → IsBytes bytes → Decided bytes
+decided bytes fits =
+    elim (cases_lt (length bytes) 4) [
+      | inl short ↦ inl (λ whole. omega arith, λ bad. elim bad [ inl h ↦ omega (arith, h.0) | inr rest ↦ elim rest [ inl h ↦ omega (arith, h.0) | inr h ↦ omega (arith, h.0) ] ])
+      | inr four ↦ elim (cases_lt (length_field bytes) 1) [
+        | inl none ↦ let z : length_field bytes ≡ 0 = omega arith in inr (inl (inl (four, inl z)))
+        | inr low ↦ elim (cases_lt 31 (length_field bytes)) [
+          | inl over ↦ inr (inl (inl (four, inr over)))
+          | inr high ↦ by_length bytes fits four low high
+        ]
+      ]
+    ]
+
+begun : (bytes rest : List ℕ) (f : HasFront bytes) → rest ≡ drop (4 + length_field bytes) bytes → HasReading rest → HasReading bytes
+begun bytes rest f same r = record {
+  messages = f.message ∷ r.messages;
+  rest = r.rest;
+  is_stream = record {
+    parts = sym (take-append-drop (4 + length_field bytes) bytes)
+        ∙ ap (λ (t : List ℕ). t ++ drop (4 + length_field bytes) bytes) f.front
+        ∙ ap (λ (t : List ℕ). spelling f.message ++ t) (sym same ∙ r.is_stream.parts)
+        ∙ sym (append_assoc (spelling f.message) (flat_map spelling r.messages) r.rest)
+        ∙ ap (λ (t : List ℕ). t ++ r.rest) (sym (flat_map-cons spelling f.message r.messages));
+    each = (f.fits, r.is_stream.each);
+    end = r.is_stream.end;
+  };
+}
+
+-- the stream is its rest alone
+ended : (bytes : List ℕ) → IsUnfinished bytes ⊎ IsBad bytes → HasReading bytes
+ended bytes end = record { messages = []; rest = bytes; is_stream = record { parts = refl; each = tt; end = end } }
+
+within : (fuel : ℕ) (bytes : List ℕ) → length bytes ≤ fuel → IsBytes bytes → HasReading bytes
+within zero bytes le fits =
+    elim (decided bytes fits) [
+      | inl u ↦ ended bytes (inl u)
+      | inr d ↦ elim d [ inl b ↦ ended bytes (inr b) | inr f ↦ let w = f.whole in absurd (omega (arith, w, le)) ]
+    ]
+within (suc fuel) bytes le fits =
+    elim (decided bytes fits) [
+      | inl u ↦ ended bytes (inl u)
+      | inr d ↦ elim d [
+        | inl b ↦ ended bytes (inr b)
+        | inr f ↦
+            let rest : List ℕ = drop (4 + length_field bytes) bytes in
+            let w = f.whole in
+            let shorter : length rest ≤ fuel = omega (arith, length-drop (4 + length_field bytes) bytes, w, le) in
+            begun bytes rest f refl (within fuel rest shorter (IsBytes-drop (4 + length_field bytes) bytes fits))
+      ]
+    ]
+
+pub each_has_reading : EachHasReading
+each_has_reading bytes fits = within (length bytes) bytes (omega arith) fits

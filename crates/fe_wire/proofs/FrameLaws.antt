@@ -1,0 +1,127 @@
+-- The frame at the front of some bytes: what it spells, and that no other message is spelled there.
+use Rattle.std.proofs.Common.{◌≡◌, ℕ, suc, ◌+◌, ◌-◌, ◌<◌, ◌≤◌, List, ◌∷◌, ◌++◌, length, get_or, take, drop, Some, None, refl, sym, ap, ◌∙◌, arith, inl, inr}
+use Rattle.std.specs.Int.{w32, to_be_bytes, from_be_bytes}
+use Rattle.std.proofs.lemmas.Option.{none-some, same_Some}
+use Rattle.std.proofs.lemmas.List.{take_at, take-take, drop-take, drop_more, take-append-drop, take-append-le, length-append, length-take, length-take-le, length-drop, append_cancel_left, get_or_append_left}
+use Rattle.fe_wire.specs.declared.client_message.ClientMessage.{ClientMessage}
+use Rattle.fe_wire.specs.Spelling.{frame, spelling, Fits}
+use Rattle.fe_wire.specs.Reading.{message_of}
+use Rattle.fe_wire.specs.Stream.{length_of_kind, length_field, kind_field, front_frame, IsWhole, IsBad, IsUnfinished, HasBadBody}
+use Rattle.fe_wire.proofs.FieldLaws.{IsBytes, IsBytes-take, IsBytes-drop, wide32}
+use Rattle.fe_wire.proofs.MessageLaws.{IsRead, message_takes, message_again}
+
+-- what stands behind the kind, as long as the frame says
+abbrev pub body_field : List ℕ → List ℕ
+body_field bytes = take (4 + length_field bytes - 5) (drop 5 bytes)
+
+take-cons : (n : ℕ) (x : ℕ) (xs : List ℕ) → 1 ≤ n → take n (x ∷ xs) ≡ x ∷ take (n - 1) xs
+take-cons n x xs low =
+    let e : n ≡ suc (n - 1) = omega arith in
+    ap (λ (k : ℕ). take k (x ∷ xs)) e
+
+front_is : (bytes : List ℕ) → IsBytes bytes → IsWhole bytes → 1 ≤ length_field bytes → front_frame bytes ≡ frame (kind_field bytes) (body_field bytes)
+front_is bytes fits whole low =
+    let n : ℕ = length_field bytes in
+    let four : 4 < length bytes = omega arith in
+    let rest : drop 4 bytes ≡ kind_field bytes ∷ drop 5 bytes = drop_more bytes 4 0 four in
+    let same : n - 1 ≡ 4 + n - 5 = omega arith in
+    let behind : drop 4 (take (4 + n) bytes) ≡ kind_field bytes ∷ body_field bytes =
+    drop-take 4 n bytes ∙ ap (take n) rest ∙ take-cons n (kind_field bytes) (drop 5 bytes) low ∙ ap (λ (k : ℕ). kind_field bytes ∷ take k (drop 5 bytes)) same in
+    let long : length (body_field bytes) + 1 ≡ n = omega (arith, length-take (4 + n - 5) (drop 5 bytes), length-drop 5 bytes) in
+    let first : take 4 bytes ≡ to_be_bytes w32 (length (body_field bytes) + 1) =
+    sym (wide32.back (take 4 bytes) (length-take-le 4 bytes (omega arith)) (IsBytes-take 4 bytes fits)) ∙ ap (to_be_bytes w32) (sym long) in
+    sym (take-append-drop 4 (take (4 + n) bytes)) ∙ ap (λ (r : List ℕ). r ++ drop 4 (take (4 + n) bytes)) (take-take 4 (4 + n) bytes (omega arith) ∙ first) ∙ ap (λ (r : List ℕ). to_be_bytes w32 (length (body_field bytes) + 1) ++ r) behind
+
+-- a body that was read makes the frame whole
+pub reads_frame : (bytes : List ℕ) (m : ClientMessage) → IsBytes bytes → IsWhole bytes → 1 ≤ length_field bytes → message_of (kind_field bytes) (body_field bytes) ≡ Some m → Fits m × (front_frame bytes ≡ spelling m) × IsWhole bytes
+reads_frame bytes m fits whole low e =
+    let t = message_takes (kind_field bytes) (body_field bytes) m (IsBytes-take (4 + length_field bytes - 5) (drop 5 bytes) (IsBytes-drop 5 bytes fits)) e in
+    (t.0, front_is bytes fits whole low ∙ sym t.1, whole)
+
+-- a body that was not read makes the frame bad
+pub reads_none : (bytes : List ℕ) → IsBytes bytes → IsWhole bytes → 1 ≤ length_field bytes → message_of (kind_field bytes) (body_field bytes) ≡ None → HasBadBody bytes
+reads_none bytes fits whole low e = (
+  whole,
+  λ m m_fits same.
+      let r = message_again m m_fits in
+      let frames : frame (kind_field bytes) (body_field bytes) ≡ frame r.kind r.body = sym (front_is bytes fits whole low) ∙ same ∙ r.spelled in
+      let kinds : kind_field bytes ≡ r.kind = ap (λ (t : List ℕ). get_or t 4 0) frames in
+      let bodies : body_field bytes ≡ r.body = ap (drop 5) frames in
+      none-some m (sym e ∙ ap (λ (k : ℕ). message_of k (body_field bytes)) kinds ∙ ap (message_of r.kind) bodies ∙ r.read),
+)
+
+-- ---- a message's frame, and what comes behind
+
+pub record IsFront (m : ClientMessage) (bytes : List ℕ) : Type 0 where
+  pub read : IsRead m
+  pub long : length_field bytes ≡ length read.body + 1
+  pub kind : kind_field bytes ≡ read.kind
+  pub front : front_frame bytes ≡ spelling m
+  pub whole : IsWhole bytes
+
+pub spelled_front : (m : ClientMessage) (behind : List ℕ) → Fits m → IsFront m (spelling m ++ behind)
+spelled_front m behind fits =
+    let r = message_again m fits in
+    let text : List ℕ = frame r.kind r.body ++ behind in
+    let same : text ≡ spelling m ++ behind = ap (λ (t : List ℕ). t ++ behind) (sym r.spelled) in
+    let n : length_field text ≡ length r.body + 1 = wide32.again (length r.body + 1) (omega (arith, r.high)) in
+    let n' : length_field (spelling m ++ behind) ≡ length r.body + 1 = ap length_field (sym same) ∙ n in
+    let long : length (spelling m) ≡ 4 + length_field (spelling m ++ behind) = ap length r.spelled ∙ omega (arith, n') in
+    record {
+      read = r;
+      long = n';
+      kind = ap kind_field (sym same);
+      front = ap (λ (k : ℕ). take k (spelling m ++ behind)) (sym long) ∙ take_at (spelling m) behind (length (spelling m)) refl;
+      whole = omega (arith, long, length-append (spelling m) behind);
+    }
+
+-- no message's frame begins another's
+pub one_front : (a b : ClientMessage) (x y : List ℕ) → Fits a → Fits b → spelling a ++ x ≡ spelling b ++ y → (a ≡ b) × (x ≡ y)
+one_front a b x y a_fits b_fits same =
+    let f = spelled_front a x a_fits in
+    let g = spelled_front b y b_fits in
+    let spelled : spelling a ≡ spelling b = sym f.front ∙ ap front_frame same ∙ g.front in
+    let frames : frame f.read.kind f.read.body ≡ frame g.read.kind g.read.body = sym f.read.spelled ∙ spelled ∙ g.read.spelled in
+    let kinds : f.read.kind ≡ g.read.kind = ap (λ (t : List ℕ). get_or t 4 0) frames in
+    let bodies : f.read.body ≡ g.read.body = ap (drop 5) frames in
+    let read : Some a ≡ Some b = sym f.read.read ∙ ap (λ (k : ℕ). message_of k f.read.body) kinds ∙ ap (message_of g.read.kind) bodies ∙ g.read.read in
+    (same_Some a b read, append_cancel_left (spelling a) x y (same ∙ ap (λ (t : List ℕ). t ++ y) (sym spelled)))
+
+-- what begins with a message's frame is neither bad nor unfinished
+pub front_not_bad : (m : ClientMessage) (behind : List ℕ) → Fits m → IsBad (spelling m ++ behind) → ⊥
+front_not_bad m behind fits bad =
+    let f = spelled_front m behind fits in
+    elim bad [
+      | inl h ↦ elim h.1 [ inl z ↦ omega (arith, f.long, z) | inr over ↦ omega (arith, f.long, f.read.high, over) ]
+      | inr rest ↦ elim rest [
+        | inl h ↦ h.1 (ap length_of_kind f.kind ∙ f.read.long ∙ ap (λ (k : ℕ). Some k) (sym f.long))
+        | inr h ↦ h.1 m fits f.front
+      ]
+    ]
+
+pub front_not_unfinished : (m : ClientMessage) (behind : List ℕ) → Fits m → IsUnfinished (spelling m ++ behind) → ⊥
+front_not_unfinished m behind fits h = h.0 (spelled_front m behind fits).whole
+
+-- ---- bytes that come behind
+
+pub length_field-append : (r more : List ℕ) → 4 ≤ length r → length_field (r ++ more) ≡ length_field r
+length_field-append r more le = ap (from_be_bytes w32) (take-append-le 4 r more le)
+
+pub bad_more : (r more : List ℕ) → IsBad r → IsBad (r ++ more)
+bad_more r more bad =
+    let longer : length r ≤ length (r ++ more) = omega (arith, length-append r more) in
+    elim bad [
+      | inl h ↦
+          let n = length_field-append r more h.0 in
+          inl (omega (arith, h.0, longer), elim h.1 [ inl z ↦ inl (n ∙ z) | inr over ↦ inr (omega (arith, n, over)) ])
+      | inr rest ↦ elim rest [
+        | inl h ↦
+            let n = length_field-append r more (omega (arith, h.0)) in
+            let k : kind_field (r ++ more) ≡ kind_field r = get_or_append_left r more 0 4 (omega (arith, h.0)) in
+            inr (inl (omega (arith, h.0, longer), λ e. h.1 (ap length_of_kind (sym k) ∙ e ∙ ap (λ (x : ℕ). Some x) n)))
+        | inr h ↦
+            let n = length_field-append r more (omega (arith, h.0)) in
+            let front : front_frame (r ++ more) ≡ front_frame r = ap (λ (x : ℕ). take (4 + x) (r ++ more)) n ∙ take-append-le (4 + length_field r) r more h.0 in
+            inr (inr (omega (arith, n, h.0, longer), λ m fits e. h.1 m fits (sym front ∙ e)))
+      ]
+    ]

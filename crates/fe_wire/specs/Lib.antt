@@ -1,0 +1,6 @@
+pub mod Codes
+pub mod Spelling
+pub mod Stream
+pub mod Reading
+pub mod Place
+pub mod Laws

@@ -1,0 +1,18 @@
+use fe_state::Request;
+
+/// A message from a client.
+#[derive(Clone, Copy, Debug, PartialEq, Eq)]
+pub enum ClientMessage {
+    /// The connection wants this session.
+    Attach { session: u64 },
+    /// A request under a number of the session's window.
+    Call { number: u64, request: Request },
+    /// The waiting request of that number is taken back.
+    Cancel { number: u64 },
+    /// Numbers below this one aren't asked again.
+    Settle { floor: u64 },
+    /// The session is over.
+    Bye,
+    /// The connection wants a report of what waits.
+    Report,
+}

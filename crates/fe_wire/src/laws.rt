@@ -1,0 +1,24 @@
+//! Laws of the grammar, which hold of streams and messages apart from any decoder.
+
+ghost use Rattle.fe_wire.specs.Laws.{EachHasReading, HasOneReading, HasOneOutcome, HasOneSpelling};
+
+/// Two readings of one stream are one: its messages, and the rest behind them.
+pub fn one_reading()
+    ensures { HasOneReading }
+{}
+
+/// Each list of bytes has a reading, so that its messages and its rest are a function of it.
+pub fn has_reading()
+    ensures { EachHasReading }
+{}
+
+/// Two decoders that have read one stream have the same messages, and stand alike, however the
+/// stream was cut into pieces for each.
+pub fn one_outcome()
+    ensures { HasOneOutcome }
+{}
+
+/// No message's frame begins another's, and no two messages have one frame.
+pub fn one_spelling()
+    ensures { HasOneSpelling }
+{}

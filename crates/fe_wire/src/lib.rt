@@ -1,0 +1,29 @@
+//! Messages between clients and the server as frames of bytes.
+#![tactic(auto)]
+
+mod client_message;
+mod codes;
+mod decoder;
+mod fed;
+mod fields;
+mod frame;
+mod head;
+mod laws;
+mod messages;
+mod place;
+mod putting;
+mod replies;
+mod report_text;
+mod server_message;
+
+pub use client_message::ClientMessage;
+pub use decoder::Decoder;
+pub use fed::{BadFrame, Fed};
+pub use laws::{has_reading, one_outcome, one_reading, one_spelling};
+pub use putting::{put_message, put_reply};
+pub use replies::read_reply;
+pub use report_text::ReportText;
+pub use server_message::ServerMessage;
+
+#[cfg(test)]
+mod tests;

@@ -1,0 +1,97 @@
+ghost use Rattle.std.specs.Prelude.{◌≡◌, ◌+◌, ◌<◌, ◌≤◌, ◌++◌, ℕ, List, false, length, take, option_to_list, IsTrue};
+ghost use Rattle.fe_wire.specs.Stream.{IsUnfinished, length_field, fault_of};
+ghost use Rattle.fe_wire.specs.Place.{IsPlace, GoesOn, held_of, decoding, wanted_of};
+
+use crate::client_message::ClientMessage;
+use crate::fed::BadFrame;
+use crate::head::{Head, LENGTH_BYTES, head_of, length_field};
+
+/// The bytes of the longest frame from a client.
+pub const FRAME_BYTES: usize = 35;
+
+/// Where a decoder stands in its stream.
+#[derive(Clone, Copy, Debug)]
+pub struct Place {
+    /// Where the frame begins that the bytes held are of; 2^64 - 1 for places beyond.
+    pub offset: u64,
+    /// The bytes of that frame, at the front.
+    pub cells: [u8; FRAME_BYTES],
+    /// How many bytes are held.
+    pub len: usize,
+    /// That frame is bad, and nothing of it is held.
+    pub is_bad: bool,
+}
+
+fn wanted(held: &[u8]) -> usize
+    requires { IsUnfinished held.now }
+    ensures { result ≡ wanted_of held.now }
+{
+    if held.len() < LENGTH_BYTES {
+        LENGTH_BYTES
+    } else {
+        LENGTH_BYTES + length_field(held) as usize
+    }
+}
+
+impl Place {
+    /// Holds bytes of the piece as far as its frame is known to go, and says how many.
+    fn fill(&mut self, piece: &[u8]) -> usize
+        requires place { IsPlace self.old }
+        requires good { self.old.is_bad ≡ false }
+        requires more { 0 < length piece.now }
+        ensures some { 0 < result }
+        ensures within { result ≤ length piece.now }
+        ensures held { held_of self.new ≡ held_of self.old ++ take result piece.now }
+        ensures frame { length (held_of self.new) ≤ 4 + length_field (held_of self.new) }
+        ensures room { self.new.len ≤ 35 }
+        ensures cells { length self.new.cells ≡ 35 }
+        ensures offset { self.new.offset ≡ self.old.offset }
+        ensures is_bad { self.new.is_bad ≡ self.old.is_bad }
+    {
+        let wanted = wanted(&self.cells[..self.len]);
+        let count = piece.len().min(wanted - self.len);
+        self.cells[self.len..self.len + count].copy_from_slice(&piece[..count]);
+        self.len += count;
+        count
+    }
+
+    /// Reads on to the end of its frame, or of the piece, or to where the frame turns out bad: how
+    /// many bytes that took, and the message of the frame.
+    pub fn step(&mut self, piece: &[u8]) -> (usize, Option<ClientMessage>)
+        requires place { IsPlace self.old }
+        requires good { self.old.is_bad ≡ false }
+        requires more { 0 < length piece.now }
+        ensures place { IsPlace self.new }
+        ensures some { 0 < result.0 }
+        ensures within { result.0 ≤ length piece.now }
+        ensures reads { GoesOn self.old self.new (take result.0 piece.now) (option_to_list result.1) }
+    {
+        let count = self.fill(piece);
+        match head_of(&self.cells[..self.len]) {
+            Head::Unfinished => (count, None),
+            Head::Bad => {
+                self.is_bad = true;
+                self.len = 0;
+                (count, None)
+            }
+            Head::Whole(message) => {
+                self.offset = self.offset.saturating_add(self.len as u64);
+                self.len = 0;
+                (count, Some(message))
+            }
+        }
+    }
+
+    /// The bad frame, where one has come.
+    pub fn fault(&self) -> Option<BadFrame>
+        ensures { result ≡ fault_of (decoding self.now) }
+    {
+        if self.is_bad {
+            Some(BadFrame {
+                offset: self.offset,
+            })
+        } else {
+            None
+        }
+    }
+}
