@@ -1,8 +1,13 @@
 -- A state with nothing in it is within the limits.
-use Rattle.std.proofs.Common.{◌≡◌, ℕ, ◌+◌, ◌^◌, ◌<◌, ◌≤◌, List, [], ◌∷◌, length, Option, Some, None, refl, sym, ◌∙◌, ap, arith}
+use Rattle.std.proofs.Common.{◌≡◌, ℕ, ◌+◌, ◌^◌, ◌<◌, ◌≤◌, true, List, [], ◌∷◌, length, Option, Some, None, refl, sym, ◌∙◌, ap, arith}
 use Rattle.std.specs.Prelude.{sum_by}
 use Rattle.std.specs.Ordering.{nat_cmp}
 use Rattle.std.specs.FinMap.{FinMap, empty, entries, get, len, get-empty, len-empty, len-entries}
+use Rattle.std.proofs.lemmas.List.{length-replicate}
+use Rattle.fe_words.specs.declared.word.Tag.{Tag}
+use Rattle.fe_state.specs.Name.{is_plain}
+use Rattle.fe_state.specs.Change.{MayCome}
+use Rattle.fe_state.specs.Effect.{new_array}
 use Rattle.fe_state.specs.Directory.{Directory, IsDirectory, word_count}
 use Rattle.fe_state.specs.State.{ServerState, IsWithinLimits}
 use Rattle.fe_state.specs.Sessions.{Session}
@@ -34,4 +39,23 @@ empty_within place next_id fits least most = record {
   next_id = most;
   few_sessions = rw (len-empty nat_cmp Session) (omega arith);
   each = λ session x e. absurd (not_there session x e);
+}
+
+no_entries : entries (empty {X = Array} {R = nat_cmp}) ≡ []
+no_entries = none_long _ (sym (len-entries empty) ∙ len-empty nat_cmp Array)
+
+-- a first array may come
+pub comes_first : (next_id id : ℕ) (name : List ℕ) (size : ℕ) (tag : Tag) → 1 ≤ id → id < next_id → is_plain name ≡ true → 1 ≤ size → size ≤ 65536 → MayCome (record { arrays = empty; next_id = next_id }) id (new_array name size tag)
+comes_first next_id id name size tag made older plain least most = record {
+  array = record {
+    made = made;
+    older = older;
+    name = plain;
+    some_words = rw length-replicate least;
+    few_words = rw length-replicate most;
+  };
+  id_free = get-empty nat_cmp id;
+  name_free = rw no_entries refl;
+  few_arrays = rw (len-empty nat_cmp Array) (omega arith);
+  few_words = rw (no_words, length-replicate) (omega arith);
 }

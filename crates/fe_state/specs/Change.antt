@@ -1,7 +1,6 @@
 -- What a request changed of a directory, and the directory before it.
-use Rattle.std.specs.Prelude.{◌≡◌, ℕ, ◌+◌, ◌-◌, ◌≤◌, ◌<◌, List, length, Option, None, IsSome, slice_set}
-use Rattle.std.specs.FinMap.{FinMap, get, insert, remove, len}
-use Rattle.std.specs.Ordering.{nat_cmp}
+use Rattle.std.specs.Prelude.{◌≡◌, ℕ, ◌+◌, ◌-◌, ◌≤◌, ◌<◌, List, length, None, IsSome}
+use Rattle.std.specs.FinMap.{get, insert, remove, len}
 use Rattle.fe_state.specs.Directory.{Directory, IsArray, named, word_in, word_count}
 use Rattle.fe_state.specs.Effect.{put_word}
 use Rattle.fe_state.specs.declared.array.Array.{Array}

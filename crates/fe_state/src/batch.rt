@@ -57,6 +57,13 @@ impl Entries {
         let _named: Option<Request> = None;
         let _ = self.items.push(entry);
     }
+
+    /// Takes all entries out. The room stays.
+    pub fn clear(&mut self)
+        ensures { self.new ≡ [] }
+    {
+        self.items.clear();
+    }
 }
 
 /// Entries that follow one another in the history.

@@ -54,69 +54,6 @@ fn check_cells(rt: &impl Abort, directory: &Directory) {
 }
 
 #[test]
-fn answers(rt: HostRuntime) {
-    let directory = cells(&rt, rt.alloc());
-    check_cells(&rt, &directory);
-    let missing = name(&rt, b"w");
-    let rows = [
-        (create(&rt, b"Cells", 1, Tag::Full), Some(Answer::BadName)),
-        (create(&rt, b"w", 0, Tag::Full), Some(Answer::BadLength)),
-        (create(&rt, b"w", 65537, Tag::Full), Some(Answer::BadLength)),
-        (create(&rt, b"cells", 1, Tag::Full), Some(Answer::NameTaken)),
-        (create(&rt, b"w", 65536, Tag::Full), Some(Answer::WordLimit)),
-        (
-            create(&rt, b"w", 65534, Tag::Full),
-            Some(Answer::Array {
-                id: 2,
-                length: 65534,
-            }),
-        ),
-        (
-            Request::Find {
-                name: name(&rt, b"cells"),
-            },
-            Some(Answer::Array { id: 1, length: 2 }),
-        ),
-        (Request::Find { name: missing }, Some(Answer::NoArray)),
-        (
-            Request::Find {
-                name: name(&rt, b""),
-            },
-            Some(Answer::BadName),
-        ),
-        (Request::Remove { array: 1 }, Some(Answer::Done)),
-        (Request::Remove { array: 2 }, Some(Answer::NoArray)),
-        (access(0, Op::ReadXx), Some(Answer::Value(0))),
-        (access(1, Op::WriteEf(42)), Some(Answer::Done)),
-        (access(0, Op::ReadFe), None),
-        (access(2, Op::ReadFe), Some(Answer::BadIndex)),
-        (
-            Request::Access {
-                array: 2,
-                index: 0,
-                op: Op::ReadFe,
-            },
-            Some(Answer::NoArray),
-        ),
-    ];
-    for (request, answer) in rows {
-        assert_eq!(rt; directory.answer_to(&request), answer);
-    }
-}
-
-#[test]
-fn array_limit(rt: HostRuntime) {
-    let mut directory = Directory::starting(rt.alloc(), 7).expect(&rt, "memory");
-    for k in 0u8..64 {
-        let request = create(&rt, &[b'a' + k / 8, b'a' + k % 8], 1, Tag::Full);
-        perform(&rt, &mut directory, request);
-    }
-    let more = create(&rt, b"cells", 1, Tag::Full);
-    assert_eq!(rt; directory.answer_to(&more), Some(Answer::ArrayLimit));
-    assert_eq!(rt; directory.next_id(), 71);
-}
-
-#[test]
 fn changes_and_the_way_back(rt: HostRuntime) {
     let mut directory = cells(&rt, rt.alloc());
     let requests = [

@@ -1,11 +1,9 @@
-use Rattle.std.proofs.Common.{◌≡◌, ◌∙◌, Some, None, true, false, refl, ap, sym, arith}
+use Rattle.std.proofs.Common.{◌≡◌, ◌∙◌, true, false, refl, ap, sym, arith}
 use Rattle.fe_state.proofs.DirectoryLemmas.{there_within, found_at, passed_at, none_past}
 use Rattle.std.specs.Option.{option_map}
 use Rattle.std.specs.Str.{bytes_eq}
-use Rattle.std.specs.List.{slice_get}
 use Rattle.std.specs.FinMap.{entries, len-entries}
 use Rattle.fe_state.specs.Table.{shown_entry}
-use Rattle.fe_state.specs.Directory.{named}
 use Rattle.fe_state.proofs.directory.Directory.named.Goals as goal
 
 pub unwrap-id-requires : goal.unwrap-id-requires

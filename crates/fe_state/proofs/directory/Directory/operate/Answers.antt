@@ -1,5 +1,5 @@
 use Rattle.fe_state.proofs.DirectoryLemmas.{written_there, written_back}
-use Rattle.std.proofs.Common.{refl, ap, sym, ◌∙◌}
+use Rattle.std.proofs.Common.{refl, sym}
 use Rattle.fe_state.proofs.directory.Directory.operate.Goals as goal
 
 pub returns-in-Some-rule-clause-undoable : goal.returns-in-Some-rule-clause-undoable

@@ -1,4 +1,4 @@
-use Rattle.std.proofs.Common.{sym, refl, arith}
+use Rattle.std.proofs.Common.{sym, arith}
 use Rattle.fe_state.proofs.DirectoryLemmas.{go_kept, go_words, gone_may_come, put_again, not_taken}
 use Rattle.fe_state.proofs.directory.Directory.remove.Goals as goal
 

@@ -1,0 +1,4 @@
+pub mod Front
+pub mod Mail
+pub mod Refusal
+pub mod Words

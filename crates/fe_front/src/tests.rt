@@ -1,0 +1,195 @@
+ghost use Rattle.fe_front.specs.Front.{IsServed};
+
+use super::*;
+use fe_state::{Answer, Name, Request};
+use fe_words::{Op, Tag};
+use std::process::Abort;
+
+const REFUSALS: [(Refusal, u8, &'static str); 10] = [
+    (Refusal::NotAttached, 1, "not-attached"),
+    (Refusal::SessionLimit, 2, "session-limit"),
+    (Refusal::BelowFloor, 3, "below-floor"),
+    (Refusal::BeyondWindow, 4, "beyond-window"),
+    (Refusal::NumberUsed, 5, "number-used"),
+    (Refusal::StillWaiting, 6, "still-waiting"),
+    (Refusal::Closing, 7, "closing"),
+    (Refusal::NoMemory, 8, "no-memory"),
+    (Refusal::Spent, 9, "spent"),
+    (Refusal::NotWaiting, 10, "not-waiting"),
+];
+
+#[test]
+fn refusals_have_codes_and_names(rt: HostRuntime) {
+    for (refusal, code, name) in REFUSALS {
+        assert_eq!(rt; refusal.code(), code);
+        assert_eq!(rt; refusal.name(), name);
+    }
+}
+
+fn create(rt: &impl Abort, name: &str, length: u32, tag: Tag) -> Request
+    ensures { IsServed result }
+{
+    let name = Name::new(name.as_bytes());
+    assert!(rt; name.is_some());
+    Request::Create {
+        name: name.unwrap(),
+        length,
+        tag,
+    }
+}
+
+fn access(index: u32, op: Op) -> Request
+    ensures { IsServed result }
+{
+    Request::Access {
+        array: 1,
+        index,
+        op,
+    }
+}
+
+fn attach(rt: &impl Abort, front: &mut Front, conn: u64, session: u64) -> Result<(), Refusal> {
+    assert!(rt; front.room());
+    front.attach(conn, session)
+}
+
+fn call(
+    rt: &impl Abort,
+    front: &mut Front,
+    number: u64,
+    request: Request,
+) -> Result<Outcome, Refusal>
+    requires { IsServed request }
+{
+    assert!(rt; front.room());
+    front.call(1, number, request)
+}
+
+fn post_all(rt: &impl Abort, front: &mut Front) {
+    let batch = front.cut();
+    assert!(rt; batch.is_some());
+    assert!(rt; front.cut().is_none(), "a batch is out");
+    assert!(rt; front.post(batch.unwrap()).is_ok());
+}
+
+fn answer(rt: &impl Abort, front: &mut Front) -> (u64, Answer, u64) {
+    match front.take_mail(1) {
+        Some(
+            Mail::Answer {
+                session,
+                number,
+                answer,
+                place,
+            },
+        ) => {
+            assert_eq!(rt; session, 7);
+            (number, answer, place)
+        }
+        _ => panic!(rt; "no answer is in the box"),
+    }
+}
+
+#[test]
+fn first_path(rt: HostRuntime) -> Result<(), Refusal> {
+    let done = Ok(Outcome::Completed { entries: 1 });
+    let mut front = Front::new(rt.alloc()).map_err(|_| Refusal::NoMemory)?;
+    front.connect(1)?;
+    assert_eq!(rt; attach(&rt, &mut front, 1, 7), Ok(()));
+    assert!(rt;
+        front.take_mail(1).is_none(),
+        "nothing is mailed before the post"
+    );
+    post_all(&rt, &mut front);
+    assert!(rt;
+        matches!(
+            front.take_mail(1),
+            Some(Mail::Welcome {
+                session: 7,
+                floor: 1
+            })
+        )
+    );
+    assert!(rt; front.cut().is_none(), "nothing is pending");
+    assert_eq!(rt;
+        call(&rt, &mut front, 1, create(&rt, "cells", 2, Tag::Empty)),
+        done
+    );
+    assert_eq!(rt; call(&rt, &mut front, 2, access(0, Op::WriteEf(42))), done);
+    post_all(&rt, &mut front);
+    assert_eq!(rt;
+        answer(&rt, &mut front),
+        (1, Answer::Array { id: 1, length: 2 }, 1)
+    );
+    assert_eq!(rt; answer(&rt, &mut front), (2, Answer::Done, 2));
+    assert_eq!(rt; call(&rt, &mut front, 3, access(0, Op::ReadFe)), done);
+    assert_eq!(rt; call(&rt, &mut front, 4, access(0, Op::ReadXx)), done);
+    assert_eq!(rt; call(&rt, &mut front, 5, access(2, Op::ReadXx)), done);
+    assert_eq!(rt;
+        call(&rt, &mut front, 6, access(1, Op::ReadFe)),
+        Ok(Outcome::Waits)
+    );
+    post_all(&rt, &mut front);
+    assert_eq!(rt; answer(&rt, &mut front), (3, Answer::Value(42), 3));
+    assert_eq!(rt; answer(&rt, &mut front), (4, Answer::Value(42), 4));
+    assert_eq!(rt; answer(&rt, &mut front), (5, Answer::BadIndex, 5));
+    assert!(rt; front.take_mail(1).is_none());
+    Ok(())
+}
+
+fn find() -> Request
+    ensures { IsServed result }
+{
+    let name = Name::new(b"a").unwrap();
+    Request::Find { name }
+}
+
+#[test]
+fn refused_calls(rt: HostRuntime) -> Result<(), Refusal> {
+    let mut front = Front::new(rt.alloc()).map_err(|_| Refusal::NoMemory)?;
+    front.connect(1)?;
+    assert_eq!(rt; call(&rt, &mut front, 1, find()), Err(Refusal::NotAttached));
+    assert_eq!(rt; attach(&rt, &mut front, 2, 7), Err(Refusal::NotAttached));
+    assert_eq!(rt; attach(&rt, &mut front, 1, 7), Ok(()));
+    assert_eq!(rt; attach(&rt, &mut front, 1, 8), Err(Refusal::SessionLimit));
+    assert_eq!(rt; call(&rt, &mut front, 0, find()), Err(Refusal::BelowFloor));
+    assert_eq!(rt;
+        call(&rt, &mut front, 2, find()),
+        Err(Refusal::BeyondWindow)
+    );
+    assert_eq!(rt;
+        call(&rt, &mut front, 1, find()),
+        Ok(Outcome::Completed { entries: 1 })
+    );
+    assert_eq!(rt; call(&rt, &mut front, 1, find()), Err(Refusal::BelowFloor));
+    Ok(())
+}
+
+#[test]
+fn full_box(rt: HostRuntime) -> Result<(), Refusal> {
+    let mut front = Front::new(rt.alloc()).map_err(|_| Refusal::NoMemory)?;
+    front.connect(1)?;
+    for number in 0..130 {
+        front.mail_refusal(1, number, Refusal::Spent);
+        front.mail_refusal(2, number, Refusal::Spent);
+    }
+    for number in 0..128 {
+        match front.take_mail(1) {
+            Some(Mail::Refused { number: told, .. }) => assert_eq!(rt; told, number),
+            _ => panic!(rt; "no refusal is in the box"),
+        }
+    }
+    assert!(rt; front.take_mail(1).is_none());
+    assert!(rt; front.take_mail(2).is_none());
+    Ok(())
+}
+
+#[test]
+fn report_text_comes_back(rt: HostRuntime) -> Result<(), std::alloc::AllocError> {
+    let text = String::from_str(rt.alloc(), "waiting 0\n")?;
+    assert!(rt; text.len() == 10);
+    let report = ReportText::new(text);
+    assert_eq!(rt; report.as_str(), "waiting 0\n");
+    assert_eq!(rt; report.into_string().as_str(), "waiting 0\n");
+    other_words_stay();
+    Ok(())
+}
