@@ -1,0 +1,66 @@
+-- The messages that the desk takes, one behind the other.
+use Rattle.std.proofs.Common.{◌≡◌, ℕ, ◌+◌, ◌-◌, ◌^◌, ◌<◌, min, false, List, [], ◌∷◌, ◌++◌, length, get_or, drop, refl, sym, ap, ◌∙◌, subst, inl, arith}
+use Rattle.std.proofs.lemmas.List.{drop_more, append_cancel_left}
+use Rattle.fe_wire.specs.Spelling.{spelling, Fits, reply_spelling, ReplyFits}
+use Rattle.fe_wire.specs.Stream.{Decoding, HasRead}
+use Rattle.fe_wire.proofs.StreamLaws.{one_outcome, reads_message, nothing_unfinished}
+use Rattle.fe_front.specs.Front.{FrontState}
+use Rattle.std.specs.List.{flat_map, AllByRecursion}
+use Rattle.std.proofs.lemmas.List.Concat.{flat_map-append}
+use Rattle.fe_wire.specs.declared.server_message.ServerMessage.{ServerMessage}
+use Rattle.fe_wire.specs.declared.client_message.ClientMessage.{ClientMessage}
+use Rattle.fe_server.specs.Desk.{Takes, TakesAll, roomy, emptied, posted_all, mails_of_desk, replies_of, IsBetween, IsAnswered}
+use Rattle.fe_server.specs.Run.{Runs}
+
+-- the message at the place is the first of those that are left
+pub takes_next : (f room h g : FrontState) (xs : List ClientMessage) (k : ℕ) (m : ClientMessage) → k < length xs → m ≡ get_or xs k m → room ≡ roomy f → Takes room m h → TakesAll h (drop (k + 1) xs) g → TakesAll f (drop k xs) g
+takes_next f room h g xs k m lt is same takes rest =
+    let front : drop k xs ≡ m ∷ drop (k + 1) xs = drop_more xs k m lt ∙ ap (λ (x : ClientMessage). x ∷ drop (k + 1) xs) (sym is) in
+    subst (λ (ys : List ClientMessage). TakesAll f ys g) (sym front) (h, subst (λ (r : FrontState). Takes r m h) same takes, rest)
+
+-- a decoder that has read nothing is between frames
+pub at_start : (d : Decoding) → HasRead d [] [] → IsBetween d
+at_start d h =
+    let ideal : Decoding = record { offset = 0; held = []; is_bad = false } in
+    let reads : HasRead ideal [] [] = record { rest = []; is_stream = record { parts = refl; each = tt; end = inl nothing_unfinished }; offset = refl; stands = (nothing_unfinished, refl) } in
+    let same : d ≡ ideal = (one_outcome [] [] [] d ideal h reads).1 in
+    record { before = []; earlier = []; read = h; held = ap (λ (x : Decoding). x.held) same; good = ap (λ (x : Decoding). x.is_bad) same }
+
+-- what a decoder between frames reads in the frame of one message
+pub record ReadsOne (e : Decoding) (messages : List ClientMessage) (m : ClientMessage) : Type 0 where
+  pub one : messages ≡ m ∷ []
+  pub between : IsBetween e
+
+pub reads_one : (d e : Decoding) (piece : List ℕ) (messages : List ClientMessage) (m : ClientMessage) → (b : IsBetween d) → HasRead e (b.before ++ piece) (b.earlier ++ messages) → Fits m → piece ≡ spelling m → ReadsOne e messages m
+reads_one d e piece messages m b reads fits spelled =
+    let ideal : Decoding = record { offset = min (d.offset + length piece) (2 ^ 64 - 1); held = []; is_bad = false } in
+    let all : piece ≡ d.held ++ piece = ap (λ (t : List ℕ). t ++ piece) (sym b.held) in
+    let is : HasRead ideal (b.before ++ piece) (b.earlier ++ m ∷ []) = reads_message d ideal b.before piece piece b.earlier m b.good refl refl refl all fits spelled b.read in
+    let same = one_outcome (b.before ++ piece) (b.earlier ++ messages) (b.earlier ++ m ∷ []) e ideal reads is in
+    record {
+      one = append_cancel_left b.earlier messages (m ∷ []) same.0;
+      between = record { before = b.before ++ piece; earlier = b.earlier ++ messages; read = reads; held = ap (λ (x : Decoding). x.held) same.1; good = ap (λ (x : Decoding). x.is_bad) same.1 };
+    }
+
+all_append : (xs ys : List ServerMessage) → AllByRecursion ReplyFits xs → AllByRecursion ReplyFits ys → AllByRecursion ReplyFits (xs ++ ys)
+all_append [] ys f g = g
+all_append (x ∷ xs) ys f g = (f.0, all_append xs ys f.1 g)
+
+-- what a line did, and the frames that were written for it
+pub record LineRuns (old : FrontState) (m : ClientMessage) (new : FrontState) (frames : List ℕ) : Type 0 where
+  pub replies : List ServerMessage
+  pub runs : Runs old m new replies
+  pub spelled : frames ≡ flat_map reply_spelling replies
+  pub fits : AllByRecursion ReplyFits replies
+
+pub line_runs : (old mid new : FrontState) (m : ClientMessage) (start first frames : List ℕ) → start ≡ [] → IsAnswered old m mid start first → new ≡ emptied (posted_all mid) → frames ≡ first ++ flat_map reply_spelling (replies_of (mails_of_desk (posted_all mid))) → AllByRecursion ReplyFits (replies_of (mails_of_desk (posted_all mid))) → LineRuns old m new frames
+line_runs old mid new m start first frames nothing a front written fits =
+    let here : List ServerMessage = replies_of (mails_of_desk a.taken) in
+    let later : List ServerMessage = replies_of (mails_of_desk (posted_all mid)) in
+    let begins : first ≡ flat_map reply_spelling here = a.written ∙ ap (λ (t : List ℕ). t ++ flat_map reply_spelling here) nothing in
+    record {
+      replies = here ++ later;
+      runs = record { taken = a.taken; takes = a.takes; after = front ∙ ap (λ (f : FrontState). emptied (posted_all f)) a.front; told = ap (λ (f : FrontState). here ++ replies_of (mails_of_desk (posted_all f))) a.front };
+      spelled = written ∙ ap (λ (t : List ℕ). t ++ flat_map reply_spelling later) begins ∙ sym (flat_map-append reply_spelling here later);
+      fits = all_append here later a.fits fits;
+    }

@@ -1,0 +1,11 @@
+-- The statuses that a program ends with.
+use Rattle.std.specs.Prelude.{ℕ}
+use Rattle.fe_server.specs.declared.fault.Fault.{Fault}
+use Rattle.fe_server.specs.declared.fault.Fault.TheVariants as fault
+
+-- 2 where the input or the output is at fault, else 3
+abbrev pub status_of : Fault → ℕ
+status_of (fault.Line number) = 2
+status_of fault.Input = 2
+status_of fault.Memory = 3
+status_of fault.Strange = 3

@@ -1,0 +1,46 @@
+-- Replies as text.
+use Rattle.std.specs.Prelude.{ℕ, List, [], ◌++◌, codes, ◌==◌, if◌then◌else◌}
+use Rattle.std.specs.Fmt.{decimal}
+use Rattle.fe_state.specs.declared.answer.Answer.{Answer}
+use Rattle.fe_state.specs.declared.answer.Answer.TheVariants.{Value, Done, Array, NoArray, BadIndex, NameTaken, ArrayLimit, WordLimit, BadName, BadLength}
+use Rattle.fe_wire.specs.declared.server_message.ServerMessage.{ServerMessage}
+use Rattle.fe_wire.specs.declared.server_message.ServerMessage.TheVariants as server
+
+unfoldable pub answer_text : Answer → List ℕ
+answer_text (Value value) = codes "value " ++ decimal value
+answer_text Done = codes "done"
+answer_text (Array id length) = codes "array " ++ (decimal id ++ (codes " " ++ decimal length))
+answer_text NoArray = codes "no-array"
+answer_text BadIndex = codes "bad-index"
+answer_text NameTaken = codes "name-taken"
+answer_text ArrayLimit = codes "array-limit"
+answer_text WordLimit = codes "word-limit"
+answer_text BadName = codes "bad-name"
+answer_text BadLength = codes "bad-length"
+
+-- the name of the refusal of each code in frames
+unfoldable pub refusal_text : ℕ → List ℕ
+refusal_text code =
+    if code == 1 then codes "not-attached"
+    else if code == 2 then codes "session-limit"
+    else if code == 3 then codes "below-floor"
+    else if code == 4 then codes "beyond-window"
+    else if code == 5 then codes "number-used"
+    else if code == 6 then codes "still-waiting"
+    else if code == 7 then codes "closing"
+    else if code == 8 then codes "no-memory"
+    else if code == 9 then codes "spent"
+    else codes "not-waiting"
+
+-- The line for a reply to a connection, with its line feed. A reply of a kind that isn't open has none.
+unfoldable pub printed : ℕ → ServerMessage → List ℕ
+printed conn (server.Welcome session floor) =
+    codes "c" ++ (decimal conn ++ (codes " welcome " ++ (decimal session ++ (codes " " ++ (decimal floor ++ codes "\n")))))
+printed conn (server.Answer number answer) =
+    codes "c" ++ (decimal conn ++ (codes " " ++ (decimal number ++ (codes " " ++ (answer_text answer ++ codes "\n")))))
+printed conn (server.Refused number code) =
+    codes "c" ++ (decimal conn ++ (codes " refused " ++ (decimal number ++ (codes " " ++ (refusal_text code ++ codes "\n")))))
+printed conn (server.Withdrawn number) = []
+printed conn (server.Settled floor) = []
+printed conn (server.Goodbye session) = []
+printed conn (server.Report text) = []

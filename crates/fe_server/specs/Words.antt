@@ -1,0 +1,35 @@
+-- The words of a line, and what each may say.
+use Rattle.std.specs.Prelude.{ℕ, ◌+◌, ◌-◌, ◌^◌, List, length, take, drop, position, codes, Option, Some, None, nat_lt, nat_le, ◌==◌, ◌&&◌, if◌then◌else◌}
+use Rattle.std.specs.Option.{option_map}
+use Rattle.std.specs.Fmt.{decimal}
+use Rattle.std.specs.Str.{bytes_eq}
+use Rattle.std.specs.Str.Parse.{digits_value}
+use Rattle.fe_words.specs.declared.word.Tag.{Tag}
+use Rattle.fe_words.specs.declared.word.Tag.TheVariants.{Full, Empty}
+
+infixl 10 ◌>>=◌
+abbrev pub ◌>>=◌ : {A B : Type 0} → Option A → (A → Option B) → Option B
+(Some x) >>= f = f x
+None >>= f = None
+
+-- The word before the first space, and what stands behind that space. Nothing where there is no space.
+unfoldable pub words_at : List ℕ → Option (List ℕ × List ℕ)
+words_at line = option_map (λ at. (take at line, drop (at + 1) line)) (position (λ byte. byte == 32) line)
+
+-- The number below 2 ^ 64 that the word is the decimal digits of.
+unfoldable pub number_of : List ℕ → Option ℕ
+number_of word =
+    if nat_lt (digits_value 10 word) (2 ^ 64) && bytes_eq word (decimal (digits_value 10 word)) then Some (digits_value 10 word) else None
+
+-- the same of a number below 2 ^ 32
+unfoldable pub small_number_of : List ℕ → Option ℕ
+small_number_of word = do
+  number ← number_of word
+  if nat_lt (2 ^ 32 - 1) number then None else Some number
+
+-- the word as a name, 1 to 16 bytes of any kind
+unfoldable pub name_in : List ℕ → Option (List ℕ)
+name_in word = if nat_lt 0 (length word) && nat_le (length word) 16 then Some word else None
+
+unfoldable pub tag_named : List ℕ → Option Tag
+tag_named word = if bytes_eq word (codes "full") then Some Full else if bytes_eq word (codes "empty") then Some Empty else None

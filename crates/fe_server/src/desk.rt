@@ -1,0 +1,186 @@
+ghost use Rattle.std.specs.Prelude.{◌≡◌, [], ◌++◌, None, IsTrue, IfOk, OnOk};
+ghost use Rattle.std.specs.List.{flat_map, AllByRecursion};
+ghost use Rattle.fe_front.specs.Front.{first_front, connected, has_room};
+ghost use Rattle.fe_wire.specs.Spelling.{spelling, Fits, reply_spelling, ReplyFits};
+ghost use Rattle.fe_server.specs.Desk.{replies_of, mails_of_desk, emptied, posted_all, roomy, Takes, TakesAll, IsBetween, IsAnswered};
+ghost use Rattle.fe_wire.specs.declared.client_message.ClientMessage.{ClientMessage as Message};
+
+use crate::fault::Fault;
+use crate::replies::reply_of;
+use fe_front::Front;
+use fe_state::Request;
+use fe_wire::{ClientMessage, Decoder, put_reply};
+use std::alloc::Global;
+
+/// The connection of the desk.
+pub(crate) const CONN: u64 = 1;
+
+/// A front with one connection: the frames that come from it, and those that go to it.
+#[derive(Drop)]
+pub(crate) struct Desk {
+    pub front: Front,
+    pub decoder: Decoder,
+    /// The frames of the replies.
+    pub written: Vec<u8>,
+    alloc: Global,
+}
+
+impl Desk {
+    /// A front with nothing in it, and its connection.
+    pub fn new(alloc: Global) -> Result<Desk, Fault>
+        ensures front { IfOk result (λ desk. desk.front ≡ connected first_front 1) }
+        ensures decoder { IfOk result (λ desk. IsBetween desk.decoder) }
+        ensures written { IfOk result (λ desk. desk.written.items ≡ []) }
+    {
+        let mut front = Front::new(alloc).map_err(|_| Fault::Memory)?;
+        front.connect(CONN).map_err(|_| Fault::Memory)?;
+        Ok(Desk {
+            front,
+            decoder: Decoder::new(),
+            written: Vec::new(alloc),
+            alloc,
+        })
+    }
+
+    /// Takes the next bytes of the connection's stream, gives each message that is whole now to the
+    /// front, and writes the mails.
+    pub fn bytes(&mut self, piece: &[u8]) -> Result<(), Fault>
+        requires { self.old.front.out ≡ None }
+        ensures out { self.new.front.out ≡ None }
+        // Between two frames, the frame of one message is answered, and no more.
+        ensures answered { OnOk result (IsBetween self.old.decoder → (message : Message) → Fits message → piece.now ≡ spelling message
+            → IsAnswered self.old.front message self.new.front self.old.written.items self.new.written.items × IsBetween self.new.decoder) }
+    {
+        let _named: Option<Request> = None;
+        let Ok(fed) = self.decoder.feed(self.alloc, piece) else {
+            return Err(Fault::Memory);
+        };
+        if fed.fault.is_some() {
+            return Err(Fault::Strange);
+        }
+        self.take_all(fed.messages.as_slice())?;
+        self.write_mails()?;
+        Ok(())
+    }
+
+    fn take_all(&mut self, messages: &[ClientMessage]) -> Result<(), Fault>
+        requires { self.old.front.out ≡ None }
+        ensures taken { OnOk result (TakesAll self.old.front messages.now self.new.front) }
+        ensures out { self.new.front.out ≡ None }
+        ensures written { self.new.written.items ≡ self.old.written.items }
+        ensures decoder { self.new.decoder ≡ self.old.decoder }
+    {
+        let _named: Option<Request> = None;
+        for k in 0..messages.len() {
+            self.make_room();
+            self.take(messages[k])?;
+        }
+        Ok(())
+    }
+
+    /// Gives a message to the front, and mails its refusal if it is refused.
+    fn take(&mut self, message: ClientMessage) -> Result<(), Fault>
+        requires room { IsTrue (has_room self.old.front.pending) }
+        requires out { self.old.front.out ≡ None }
+        ensures taken { OnOk result (Takes self.old.front message self.new.front) }
+        ensures out { self.new.front.out ≡ None }
+        ensures written { self.new.written.items ≡ self.old.written.items }
+        ensures decoder { self.new.decoder ≡ self.old.decoder }
+    {
+        match message {
+            ClientMessage::Attach { session } => {
+                if let Err(refusal) = self.front.attach(CONN, session) {
+                    self.front.mail_refusal(CONN, session, refusal);
+                }
+                Ok(())
+            }
+            ClientMessage::Call { number, request } => self.take_call(number, request),
+            ClientMessage::Cancel { .. } => Err(Fault::Strange),
+            ClientMessage::Settle { .. } => Err(Fault::Strange),
+            ClientMessage::Bye => Err(Fault::Strange),
+            ClientMessage::Report => Err(Fault::Strange),
+        }
+    }
+
+    fn take_call(&mut self, number: u64, request: Request) -> Result<(), Fault>
+        requires room { IsTrue (has_room self.old.front.pending) }
+        requires out { self.old.front.out ≡ None }
+        ensures taken { OnOk result (Takes self.old.front (ClientMessage.Call number request) self.new.front) }
+        ensures out { self.new.front.out ≡ None }
+        ensures written { self.new.written.items ≡ self.old.written.items }
+        ensures decoder { self.new.decoder ≡ self.old.decoder }
+    {
+        if let Request::Remove { .. } = request {
+            return Err(Fault::Strange);
+        }
+        if let Err(refusal) = self.front.call(CONN, number, request) {
+            self.front.mail_refusal(CONN, number, refusal);
+        }
+        Ok(())
+    }
+
+    /// Posts what is pending, where the front has no room for a message.
+    fn make_room(&mut self)
+        requires { self.old.front.out ≡ None }
+        ensures front { self.new.front ≡ roomy self.old.front }
+        ensures room { IsTrue (has_room self.new.front.pending) }
+        ensures out { self.new.front.out ≡ None }
+        ensures written { self.new.written.items ≡ self.old.written.items }
+        ensures decoder { self.new.decoder ≡ self.old.decoder }
+    {
+        if !self.front.room() {
+            self.post();
+        }
+    }
+
+    /// Cuts what is pending and posts it.
+    fn post(&mut self)
+        requires { self.old.front.out ≡ None }
+        ensures front { self.new.front ≡ posted_all self.old.front }
+        ensures pending { self.new.front.pending ≡ [] }
+        ensures out { self.new.front.out ≡ None }
+        ensures written { self.new.written.items ≡ self.old.written.items }
+        ensures decoder { self.new.decoder ≡ self.old.decoder }
+    {
+        let _named: Option<Request> = None;
+        if let Some(batch) = self.front.cut() {
+            // The batch that was cut is the one that is out.
+            let _ = self.front.post(batch);
+        }
+    }
+
+    /// Cuts what is pending, posts it, and writes the mails of it.
+    pub fn commit(&mut self) -> Result<(), Fault>
+        requires { self.old.front.out ≡ None }
+        ensures front { OnOk result (self.new.front ≡ emptied (posted_all self.old.front)) }
+        ensures written { OnOk result (self.new.written.items ≡ self.old.written.items
+            ++ flat_map reply_spelling (replies_of (mails_of_desk (posted_all self.old.front)))) }
+        ensures fits { OnOk result (AllByRecursion ReplyFits (replies_of (mails_of_desk (posted_all self.old.front)))) }
+        ensures decoder { self.new.decoder ≡ self.old.decoder }
+        ensures out { self.new.front.out ≡ None }
+    {
+        self.post();
+        self.write_mails()
+    }
+
+    /// Takes each mail of the connection, and writes the frame of its reply.
+    fn write_mails(&mut self) -> Result<(), Fault>
+        ensures front { OnOk result (self.new.front ≡ emptied self.old.front) }
+        ensures written { OnOk result (self.new.written.items ≡ self.old.written.items
+            ++ flat_map reply_spelling (replies_of (mails_of_desk self.old.front))) }
+        ensures fits { OnOk result (AllByRecursion ReplyFits (replies_of (mails_of_desk self.old.front))) }
+        ensures decoder { self.new.decoder ≡ self.old.decoder }
+        ensures out { self.new.front.out ≡ self.old.front.out }
+    {
+        let _named: Option<Request> = None;
+        while let Some(mail) = self.front.take_mail(CONN) {
+            match reply_of(&mail) {
+                Some(reply) => {
+                    put_reply(&mut self.written, &reply).map_err(|_| Fault::Memory)?;
+                }
+                None => return Err(Fault::Strange),
+            }
+        }
+        Ok(())
+    }
+}

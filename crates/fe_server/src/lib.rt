@@ -1,0 +1,21 @@
+//! Runs schedules: each line goes as a frame to a front in memory, and the frames of the replies are printed.
+#![tactic(auto)]
+
+mod bounded;
+mod desk;
+mod fault;
+mod frames;
+mod line;
+mod printing;
+mod replies;
+mod request;
+mod schedule;
+mod word;
+
+pub use fault::Fault;
+pub use line::{Line, parse};
+pub use printing::printed;
+pub use schedule::run_schedule;
+
+#[cfg(test)]
+mod tests;

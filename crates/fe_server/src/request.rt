@@ -1,0 +1,105 @@
+//! The requests of a line.
+
+ghost use Rattle.std.specs.Prelude.{◌≡◌, IfSome};
+ghost use Rattle.fe_server.specs.Requests.{op_named, writing_op_named, create_in, access_in, writing_access_in, request_in, IsOpenRequest, RequestFits};
+
+use crate::word::{name_in, number_of, says, small_number_of, tag_named, word_at};
+use fe_state::Request;
+use fe_words::Op;
+
+/// The operation of that name, if it has no operand.
+#[tactic(auto, unfolding(crate::specs::Requests::op_named))]
+fn op_named(word: &[u8]) -> Option<Op>
+    ensures { result ≡ op_named word.now }
+{
+    if says(word, "readfe") {
+        Some(Op::ReadFe)
+    } else if says(word, "readff") {
+        Some(Op::ReadFf)
+    } else if says(word, "readxx") {
+        Some(Op::ReadXx)
+    } else if says(word, "purge") {
+        Some(Op::Purge)
+    } else {
+        None
+    }
+}
+
+/// The operation of that name with this operand.
+#[tactic(auto, unfolding(crate::specs::Requests::writing_op_named))]
+fn writing_op_named(word: &[u8], operand: u64) -> Option<Op>
+    ensures { result ≡ writing_op_named word.now operand }
+{
+    if says(word, "writeef") {
+        Some(Op::WriteEf(operand))
+    } else if says(word, "writeff") {
+        Some(Op::WriteFf(operand))
+    } else if says(word, "writexf") {
+        Some(Op::WriteXf(operand))
+    } else if says(word, "int_fetch_add") {
+        Some(Op::IntFetchAdd(operand))
+    } else {
+        None
+    }
+}
+
+/// `NAME LENGTH full|empty`.
+#[tactic(auto, unfolding(crate::specs::Requests::create_in))]
+fn create_in(words: &[u8]) -> Option<Request>
+    ensures request { result ≡ create_in words.now }
+    ensures open { IfSome result IsOpenRequest }
+    ensures fits { IfSome result RequestFits }
+{
+    let (name, words) = word_at(words)?;
+    let (length, tag) = word_at(words)?;
+    let name = name_in(name)?;
+    let length = small_number_of(length)?;
+    let tag = tag_named(tag)?;
+    Some(Request::Create { name, length, tag })
+}
+
+/// `A I`.
+#[tactic(auto, unfolding(crate::specs::Requests::access_in))]
+fn access_in(op: Op, words: &[u8]) -> Option<Request>
+    ensures request { result ≡ access_in op words.now }
+    ensures open { IfSome result IsOpenRequest }
+    ensures fits { IfSome result RequestFits }
+{
+    let (array, index) = word_at(words)?;
+    let array = number_of(array)?;
+    let index = small_number_of(index)?;
+    Some(Request::Access { array, index, op })
+}
+
+/// `A I V`.
+#[tactic(auto, unfolding(crate::specs::Requests::writing_access_in))]
+fn writing_access_in(name: &[u8], words: &[u8]) -> Option<Request>
+    ensures request { result ≡ writing_access_in name.now words.now }
+    ensures open { IfSome result IsOpenRequest }
+    ensures fits { IfSome result RequestFits }
+{
+    let (array, words) = word_at(words)?;
+    let (index, operand) = word_at(words)?;
+    let array = number_of(array)?;
+    let index = small_number_of(index)?;
+    let operand = number_of(operand)?;
+    let op = writing_op_named(name, operand)?;
+    Some(Request::Access { array, index, op })
+}
+
+/// `create NAME LENGTH full|empty`, `OP A I` or `OP A I V`.
+#[tactic(auto, unfolding(crate::specs::Requests::request_in, crate::specs::Requests::access_named))]
+pub(crate) fn request_in(words: &[u8]) -> Option<Request>
+    ensures request { result ≡ request_in words.now }
+    ensures open { IfSome result IsOpenRequest }
+    ensures fits { IfSome result RequestFits }
+{
+    let (kind, words) = word_at(words)?;
+    if says(kind, "create") {
+        return create_in(words);
+    }
+    match op_named(kind) {
+        Some(op) => access_in(op, words),
+        None => writing_access_in(kind, words),
+    }
+}
