@@ -1,15 +1,18 @@
 -- The messages that the desk takes, one behind the other.
-use Rattle.std.proofs.Common.{◌≡◌, ℕ, ◌+◌, ◌-◌, ◌^◌, ◌<◌, min, false, List, [], ◌∷◌, ◌++◌, length, get_or, drop, refl, sym, ap, ◌∙◌, subst, inl, arith}
+use Rattle.std.proofs.Common.{◌≡◌, ℕ, ◌+◌, ◌-◌, ◌^◌, ◌<◌, min, false, List, [], ◌∷◌, ◌++◌, length, get_or, drop, refl, sym, ap, ◌∙◌, subst, inl, arith, Result, Ok, Err, OnOk, IfErr, MatchResult, Bool, Option, Some, None, IsSome, if◌then◌else◌, rules}
 use Rattle.std.proofs.lemmas.List.{drop_more, append_cancel_left}
 use Rattle.fe_wire.specs.Spelling.{spelling, Fits, reply_spelling, ReplyFits}
-use Rattle.fe_wire.specs.Stream.{Decoding, HasRead}
+use Rattle.fe_wire.specs.Stream.{Decoding, HasRead, fault_of}
 use Rattle.fe_wire.proofs.StreamLaws.{one_outcome, reads_message, nothing_unfinished}
+use Rattle.fe_wire.specs.declared.fed.BadFrame.{BadFrame}
 use Rattle.fe_front.specs.Front.{FrontState}
 use Rattle.std.specs.List.{flat_map, AllByRecursion}
 use Rattle.std.proofs.lemmas.List.Concat.{flat_map-append}
 use Rattle.fe_wire.specs.declared.server_message.ServerMessage.{ServerMessage}
 use Rattle.fe_wire.specs.declared.client_message.ClientMessage.{ClientMessage}
-use Rattle.fe_server.specs.Desk.{Takes, TakesAll, roomy, emptied, posted_all, mails_of_desk, replies_of, IsBetween, IsAnswered}
+use Rattle.fe_server.specs.declared.fault.Fault.{Fault}
+use Rattle.fe_server.specs.declared.fault.Fault.TheVariants as fault
+use Rattle.fe_server.specs.Desk.{Takes, TakesAll, IsReading, roomy, emptied, posted_all, mails_of_desk, replies_of, IsBetween, IsAnswered}
 use Rattle.fe_server.specs.Run.{Runs}
 
 -- the message at the place is the first of those that are left
@@ -24,22 +27,22 @@ at_start d h =
     let ideal : Decoding = record { offset = 0; held = []; is_bad = false } in
     let reads : HasRead ideal [] [] = record { rest = []; is_stream = record { parts = refl; each = tt; end = inl nothing_unfinished }; offset = refl; stands = (nothing_unfinished, refl) } in
     let same : d ≡ ideal = (one_outcome [] [] [] d ideal h reads).1 in
-    record { before = []; earlier = []; read = h; held = ap (λ (x : Decoding). x.held) same; good = ap (λ (x : Decoding). x.is_bad) same }
+    record { reads = record { before = []; earlier = []; read = h }; held = ap (λ (x : Decoding). x.held) same; good = ap (λ (x : Decoding). x.is_bad) same }
 
 -- what a decoder between frames reads in the frame of one message
 pub record ReadsOne (e : Decoding) (messages : List ClientMessage) (m : ClientMessage) : Type 0 where
   pub one : messages ≡ m ∷ []
   pub between : IsBetween e
 
-pub reads_one : (d e : Decoding) (piece : List ℕ) (messages : List ClientMessage) (m : ClientMessage) → (b : IsBetween d) → HasRead e (b.before ++ piece) (b.earlier ++ messages) → Fits m → piece ≡ spelling m → ReadsOne e messages m
+pub reads_one : (d e : Decoding) (piece : List ℕ) (messages : List ClientMessage) (m : ClientMessage) → (b : IsBetween d) → HasRead e (b.reads.before ++ piece) (b.reads.earlier ++ messages) → Fits m → piece ≡ spelling m → ReadsOne e messages m
 reads_one d e piece messages m b reads fits spelled =
     let ideal : Decoding = record { offset = min (d.offset + length piece) (2 ^ 64 - 1); held = []; is_bad = false } in
     let all : piece ≡ d.held ++ piece = ap (λ (t : List ℕ). t ++ piece) (sym b.held) in
-    let is : HasRead ideal (b.before ++ piece) (b.earlier ++ m ∷ []) = reads_message d ideal b.before piece piece b.earlier m b.good refl refl refl all fits spelled b.read in
-    let same = one_outcome (b.before ++ piece) (b.earlier ++ messages) (b.earlier ++ m ∷ []) e ideal reads is in
+    let is : HasRead ideal (b.reads.before ++ piece) (b.reads.earlier ++ m ∷ []) = reads_message d ideal b.reads.before piece piece b.reads.earlier m b.good refl refl refl all fits spelled b.reads.read in
+    let same = one_outcome (b.reads.before ++ piece) (b.reads.earlier ++ messages) (b.reads.earlier ++ m ∷ []) e ideal reads is in
     record {
-      one = append_cancel_left b.earlier messages (m ∷ []) same.0;
-      between = record { before = b.before ++ piece; earlier = b.earlier ++ messages; read = reads; held = ap (λ (x : Decoding). x.held) same.1; good = ap (λ (x : Decoding). x.is_bad) same.1 };
+      one = append_cancel_left b.reads.earlier messages (m ∷ []) same.0;
+      between = record { reads = record { before = b.reads.before ++ piece; earlier = b.reads.earlier ++ messages; read = reads }; held = ap (λ (x : Decoding). x.held) same.1; good = ap (λ (x : Decoding). x.is_bad) same.1 };
     }
 
 all_append : (xs ys : List ServerMessage) → AllByRecursion ReplyFits xs → AllByRecursion ReplyFits ys → AllByRecursion ReplyFits (xs ++ ys)
@@ -64,3 +67,30 @@ line_runs old mid new m start first frames nothing a front written fits =
       spelled = written ∙ ap (λ (t : List ℕ). t ++ flat_map reply_spelling later) begins ∙ sym (flat_map-append reply_spelling here later);
       fits = all_append here later a.fits fits;
     }
+
+-- a message that was taken is answered once its mails are written
+pub answers : {A : Type 0} (r : Result A Fault) (old taken new : FrontState) (m : ClientMessage) (before after : List ℕ) (d : Decoding) → TakesAll old (m ∷ []) taken → OnOk r (new ≡ emptied taken)
+    → OnOk r (after ≡ before ++ flat_map reply_spelling (replies_of (mails_of_desk taken))) → OnOk r (AllByRecursion ReplyFits (replies_of (mails_of_desk taken)))
+    → IfErr r (λ f. f ≡ fault.Memory) → IsBetween d → MatchResult r (λ _. IsAnswered old m new before after × IsBetween d) (λ f. f ≡ fault.Memory)
+answers (Ok u) old taken new m before after d t front written fits err between =
+    (record { taken = taken; takes = subst (λ (f : FrontState). Takes (roomy old) m f) (sym t.2) t.1; front = front; written = written; fits = fits }, between)
+answers (Err e) old taken new m before after d t front written fits err between = err
+
+-- a decoder that reads on is reading
+pub reads_on : (d e : Decoding) (piece : List ℕ) (messages : List ClientMessage) → IsReading d → ((before : List ℕ) (earlier : List ClientMessage) → HasRead d before earlier → HasRead e (before ++ piece) (earlier ++ messages)) → IsReading e
+reads_on d e piece messages r on = record { before = r.before ++ piece; earlier = r.earlier ++ messages; read = on r.before r.earlier r.read }
+
+later_fit : (xs ys : List ClientMessage) → AllByRecursion Fits (xs ++ ys) → AllByRecursion Fits ys
+later_fit [] ys all = all
+later_fit (x ∷ xs) ys all = later_fit xs ys all.1
+
+-- each message that was read fits
+pub each_fits : (d e : Decoding) (piece : List ℕ) (messages : List ClientMessage) → IsReading d → ((before : List ℕ) (earlier : List ClientMessage) → HasRead d before earlier → HasRead e (before ++ piece) (earlier ++ messages)) → AllByRecursion Fits messages
+each_fits d e piece messages r on = later_fit r.earlier messages (on r.before r.earlier r.read).is_stream.each
+
+-- between two frames a decoder tells no fault
+pub no_fault : (d : Decoding) → IsBetween d → fault_of d ≡ None
+no_fault d b = ap (λ (bad : Bool). told bad d.offset) b.good
+  where
+    told : Bool → ℕ → Option BadFrame
+    told bad offset = if bad then Some (record { offset = offset }) else None

@@ -1,3 +1,5 @@
 pub mod Numbers
 pub mod FrameLemmas
 pub mod DeskLemmas
+pub mod LineLemmas
+pub mod RunLemmas

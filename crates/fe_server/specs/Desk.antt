@@ -74,11 +74,15 @@ abbrev pub TakesAll : FrontState → List ClientMessage → FrontState → Type 
 TakesAll f [] g = g ≡ f
 TakesAll f (m ∷ ms) g = (h : FrontState) × Takes (roomy f) m h × TakesAll h ms g
 
--- The decoder has read whole frames, and nothing of the next.
-pub record IsBetween (decoder : Decoding) : Type 0 where
+-- The decoder has read some stream.
+pub record IsReading (decoder : Decoding) : Type 0 where
   pub before : List ℕ
   pub earlier : List ClientMessage
   pub read : HasRead decoder before earlier
+
+-- The decoder has read whole frames, and nothing of the next.
+pub record IsBetween (decoder : Decoding) : Type 0 where
+  pub reads : IsReading decoder
   pub held : decoder.held ≡ []
   pub good : decoder.is_bad ≡ false
 

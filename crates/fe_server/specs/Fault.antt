@@ -9,3 +9,10 @@ status_of (fault.Line number) = 2
 status_of fault.Input = 2
 status_of fault.Memory = 3
 status_of fault.Strange = 3
+
+-- a fault of what stands outside: a stream, or memory
+abbrev pub IsOutside : Fault → Type 0
+IsOutside (fault.Line number) = ⊥
+IsOutside fault.Input = Unit {0}
+IsOutside fault.Memory = Unit {0}
+IsOutside fault.Strange = ⊥

@@ -3,6 +3,8 @@ pub mod Words
 pub mod Requests
 pub mod Line
 pub mod Printed
+pub mod RefusalNames
 pub mod Frames
 pub mod Desk
+pub mod Lines
 pub mod Run

@@ -1,8 +1,8 @@
-ghost use Rattle.std.specs.Prelude.{◌≡◌, [], ◌++◌, None, IsTrue, IfOk, OnOk};
+ghost use Rattle.std.specs.Prelude.{◌≡◌, [], ◌++◌, None, IsTrue, IfOk, IfErr, OnOk, MatchResult};
 ghost use Rattle.std.specs.List.{flat_map, AllByRecursion};
 ghost use Rattle.fe_front.specs.Front.{first_front, connected, has_room};
 ghost use Rattle.fe_wire.specs.Spelling.{spelling, Fits, reply_spelling, ReplyFits};
-ghost use Rattle.fe_server.specs.Desk.{replies_of, mails_of_desk, emptied, posted_all, roomy, Takes, TakesAll, IsBetween, IsAnswered};
+ghost use Rattle.fe_server.specs.Desk.{replies_of, mails_of_desk, emptied, posted_all, roomy, Takes, TakesAll, IsReading, IsBetween, IsAnswered};
 ghost use Rattle.fe_wire.specs.declared.client_message.ClientMessage.{ClientMessage as Message};
 
 use crate::fault::Fault;
@@ -31,6 +31,7 @@ impl Desk {
         ensures front { IfOk result (λ desk. desk.front ≡ connected first_front 1) }
         ensures decoder { IfOk result (λ desk. IsBetween desk.decoder) }
         ensures written { IfOk result (λ desk. desk.written.items ≡ []) }
+        ensures err { IfErr result (λ fault. fault ≡ Fault.Memory) }
     {
         let mut front = Front::new(alloc).map_err(|_| Fault::Memory)?;
         front.connect(CONN).map_err(|_| Fault::Memory)?;
@@ -43,13 +44,16 @@ impl Desk {
     }
 
     /// Takes the next bytes of the connection's stream, gives each message that is whole now to the
-    /// front, and writes the mails.
+    /// front, and writes the mails. `Strange` where the stream has a bad frame.
     pub fn bytes(&mut self, piece: &[u8]) -> Result<(), Fault>
-        requires { self.old.front.out ≡ None }
+        requires out { self.old.front.out ≡ None }
+        requires reading { IsReading self.old.decoder }
         ensures out { self.new.front.out ≡ None }
-        // Between two frames, the frame of one message is answered, and no more.
-        ensures answered { OnOk result (IsBetween self.old.decoder → (message : Message) → Fits message → piece.now ≡ spelling message
-            → IsAnswered self.old.front message self.new.front self.old.written.items self.new.written.items × IsBetween self.new.decoder) }
+        ensures reading { IsReading self.new.decoder }
+        // Between two frames, the frame of one message is answered, and no more; only memory may be short.
+        ensures answered { IsBetween self.old.decoder → (message : Message) → Fits message → piece.now ≡ spelling message
+            → MatchResult result (λ _. IsAnswered self.old.front message self.new.front self.old.written.items self.new.written.items × IsBetween self.new.decoder)
+            (λ fault. fault ≡ Fault.Memory) }
     {
         let _named: Option<Request> = None;
         let Ok(fed) = self.decoder.feed(self.alloc, piece) else {
@@ -58,14 +62,14 @@ impl Desk {
         if fed.fault.is_some() {
             return Err(Fault::Strange);
         }
-        self.take_all(fed.messages.as_slice())?;
-        self.write_mails()?;
-        Ok(())
+        self.take_all(fed.messages.as_slice());
+        self.write_mails()
     }
 
-    fn take_all(&mut self, messages: &[ClientMessage]) -> Result<(), Fault>
-        requires { self.old.front.out ≡ None }
-        ensures taken { OnOk result (TakesAll self.old.front messages.now self.new.front) }
+    fn take_all(&mut self, messages: &[ClientMessage])
+        requires out { self.old.front.out ≡ None }
+        requires fits { AllByRecursion Fits messages.now }
+        ensures taken { TakesAll self.old.front messages.now self.new.front }
         ensures out { self.new.front.out ≡ None }
         ensures written { self.new.written.items ≡ self.old.written.items }
         ensures decoder { self.new.decoder ≡ self.old.decoder }
@@ -73,16 +77,16 @@ impl Desk {
         let _named: Option<Request> = None;
         for k in 0..messages.len() {
             self.make_room();
-            self.take(messages[k])?;
+            self.take(messages[k]);
         }
-        Ok(())
     }
 
     /// Gives a message to the front, and mails its refusal if it is refused.
-    fn take(&mut self, message: ClientMessage) -> Result<(), Fault>
+    fn take(&mut self, message: ClientMessage)
         requires room { IsTrue (has_room self.old.front.pending) }
         requires out { self.old.front.out ≡ None }
-        ensures taken { OnOk result (Takes self.old.front message self.new.front) }
+        requires fits { Fits message }
+        ensures taken { Takes self.old.front message self.new.front }
         ensures out { self.new.front.out ≡ None }
         ensures written { self.new.written.items ≡ self.old.written.items }
         ensures decoder { self.new.decoder ≡ self.old.decoder }
@@ -92,31 +96,14 @@ impl Desk {
                 if let Err(refusal) = self.front.attach(CONN, session) {
                     self.front.mail_refusal(CONN, session, refusal);
                 }
-                Ok(())
             }
-            ClientMessage::Call { number, request } => self.take_call(number, request),
-            ClientMessage::Cancel { .. } => Err(Fault::Strange),
-            ClientMessage::Settle { .. } => Err(Fault::Strange),
-            ClientMessage::Bye => Err(Fault::Strange),
-            ClientMessage::Report => Err(Fault::Strange),
+            ClientMessage::Call { number, request } => {
+                if let Err(refusal) = self.front.call(CONN, number, request) {
+                    self.front.mail_refusal(CONN, number, refusal);
+                }
+            }
+            _ => unreachable!("no frame of another kind is read"),
         }
-    }
-
-    fn take_call(&mut self, number: u64, request: Request) -> Result<(), Fault>
-        requires room { IsTrue (has_room self.old.front.pending) }
-        requires out { self.old.front.out ≡ None }
-        ensures taken { OnOk result (Takes self.old.front (ClientMessage.Call number request) self.new.front) }
-        ensures out { self.new.front.out ≡ None }
-        ensures written { self.new.written.items ≡ self.old.written.items }
-        ensures decoder { self.new.decoder ≡ self.old.decoder }
-    {
-        if let Request::Remove { .. } = request {
-            return Err(Fault::Strange);
-        }
-        if let Err(refusal) = self.front.call(CONN, number, request) {
-            self.front.mail_refusal(CONN, number, refusal);
-        }
-        Ok(())
     }
 
     /// Posts what is pending, where the front has no room for a message.
@@ -156,6 +143,7 @@ impl Desk {
         ensures written { OnOk result (self.new.written.items ≡ self.old.written.items
             ++ flat_map reply_spelling (replies_of (mails_of_desk (posted_all self.old.front)))) }
         ensures fits { OnOk result (AllByRecursion ReplyFits (replies_of (mails_of_desk (posted_all self.old.front)))) }
+        ensures err { IfErr result (λ fault. fault ≡ Fault.Memory) }
         ensures decoder { self.new.decoder ≡ self.old.decoder }
         ensures out { self.new.front.out ≡ None }
     {
@@ -163,22 +151,21 @@ impl Desk {
         self.write_mails()
     }
 
-    /// Takes each mail of the connection, and writes the frame of its reply.
+    /// Takes each mail of the connection, and writes the frame of its reply. A mail that no reply of an open
+    /// kind tells is dropped.
     fn write_mails(&mut self) -> Result<(), Fault>
         ensures front { OnOk result (self.new.front ≡ emptied self.old.front) }
         ensures written { OnOk result (self.new.written.items ≡ self.old.written.items
             ++ flat_map reply_spelling (replies_of (mails_of_desk self.old.front))) }
         ensures fits { OnOk result (AllByRecursion ReplyFits (replies_of (mails_of_desk self.old.front))) }
+        ensures err { IfErr result (λ fault. fault ≡ Fault.Memory) }
         ensures decoder { self.new.decoder ≡ self.old.decoder }
         ensures out { self.new.front.out ≡ self.old.front.out }
     {
         let _named: Option<Request> = None;
         while let Some(mail) = self.front.take_mail(CONN) {
-            match reply_of(&mail) {
-                Some(reply) => {
-                    put_reply(&mut self.written, &reply).map_err(|_| Fault::Memory)?;
-                }
-                None => return Err(Fault::Strange),
+            if let Some(reply) = reply_of(&mail) {
+                put_reply(&mut self.written, &reply).map_err(|_| Fault::Memory)?;
             }
         }
         Ok(())

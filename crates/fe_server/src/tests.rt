@@ -14,6 +14,10 @@ const FIRST_PATH: &[u8] =
 const FIRST_ANSWERS: &[u8] =
     b"c1 welcome 7 1\nc1 1 array 1 2\nc1 2 done\nc1 3 value 42\nc1 4 value 42\n";
 
+/// What the first path prints where its array finds no memory.
+const NO_MEMORY: &[u8] =
+    b"c1 welcome 7 1\nc1 refused 1 no-memory\nc1 refused 2 beyond-window\nc1 refused 3 beyond-window\nc1 refused 4 beyond-window\n";
+
 /// The client's frames of the first path.
 const FRAMES: &[u8] = &[
     0, 0, 0, 9, 1, 0, 0, 0, 0, 0, 0, 0, 7, // attach
@@ -222,6 +226,22 @@ fn frames_in_pieces(rt: HostRuntime) -> Result<(), Fail> {
     assert_eq!(rt; cut.written.as_slice(), REPLIES);
     let mut strange = Desk::new(rt.alloc())?;
     assert_eq!(rt; strange.bytes(&[0, 0, 0, 0]), Err(Fault::Strange));
+    Ok(())
+}
+
+/// One refused allocation ends the run as `Memory`, or refuses the call that wants it; the calls behind
+/// that one are refused then, since their numbers come too soon. `rt try --test --fail-alloc N`, for N
+/// from 1 on, takes each allocation away in turn.
+#[test]
+fn refused_memory(rt: HostRuntime) -> Result<(), Fail> {
+    let (written, result) = run(rt.alloc(), FIRST_PATH);
+    let refused = NO_MEMORY.starts_with(written.as_slice());
+    let wanted = if refused { NO_MEMORY } else { FIRST_ANSWERS };
+    assert!(rt; wanted.starts_with(written.as_slice()));
+    match result {
+        Ok(()) => assert_eq!(rt; written.as_slice(), wanted),
+        Err(fault) => assert_eq!(rt; fault, Fault::Memory),
+    }
     Ok(())
 }
 

@@ -1,6 +1,9 @@
 //! The program `femem`. `femem run` runs a schedule from standard input to standard output.
 #![tactic(auto)]
 
+ghost use Rattle.std.specs.Prelude.{◌≡◌};
+ghost use Rattle.fe_server.specs.Fault.{status_of};
+
 use clap::error::ErrorKind;
 use clap::{Command, Error};
 use fe_server::{Fault, run_schedule};
@@ -32,7 +35,9 @@ fn run<R: Runtime + AllocGlobal>(rt: &R) -> u8 {
 }
 
 /// Tells a fault on standard error, and gives its status.
-fn end(rt: &impl Eprint, fault: Fault) -> u8 {
+fn end(rt: &impl Eprint, fault: Fault) -> u8
+    ensures { result ≡ status_of fault }
+{
     let _ = rt.eprintln(fault);
     fault.status()
 }

@@ -7,5 +7,5 @@ loop-k-preserved c = record {
   out = search rules;
   written = search rules;
   decoder = search rules;
-  taken = λ g t. c.loop-k.invariant.taken g (takes_next _ _ _ g c.args.messages.now c.loop-k.k c.index-messages-k.result (omega arith) c.index-messages-k.is c.make_room.ensures.front c.in_ok-take.ensures.taken t);
+  taken = λ g t. c.loop-k.invariant.taken g (takes_next _ _ _ g c.args.messages.now c.loop-k.k c.index-messages-k.result (omega arith) c.index-messages-k.is c.make_room.ensures.front c.take.ensures.taken t);
 }
