@@ -32,6 +32,17 @@ same_parts stream (m ∷ ms) (n ∷ ns) x y p fits_a end_x q fits_b end_y =
 pub one_reading : HasOneReading
 one_reading stream a b x y p q = same_parts stream a b x y p.parts p.each p.end q.parts q.each q.end
 
+-- Messages that a stream begins with are no more than it has.
+pub begins_within : (stream : List ℕ) (a b : List ClientMessage) (x y : List ℕ) → stream ≡ flat_map spelling a ++ x → AllByRecursion Fits a → IsUnfinished x ⊎ IsBad x → stream ≡ flat_map spelling b ++ y → AllByRecursion Fits b → length b ≤ length a
+begins_within stream a [] x y p fits_a end_x q fits_b = omega arith
+begins_within stream [] (n ∷ ns) x y p fits_a end_x q fits_b = absurd (not_rest n ns y x fits_b.0 (sym p ∙ q) end_x)
+begins_within stream (m ∷ ms) (n ∷ ns) x y p fits_a end_x q fits_b =
+    let left : flat_map spelling (m ∷ ms) ++ x ≡ spelling m ++ (flat_map spelling ms ++ x) = ap (λ (t : List ℕ). t ++ x) (flat_map-cons spelling m ms) ∙ append_assoc (spelling m) (flat_map spelling ms) x in
+    let right : flat_map spelling (n ∷ ns) ++ y ≡ spelling n ++ (flat_map spelling ns ++ y) = ap (λ (t : List ℕ). t ++ y) (flat_map-cons spelling n ns) ∙ append_assoc (spelling n) (flat_map spelling ns) y in
+    let one = one_front m n (flat_map spelling ms ++ x) (flat_map spelling ns ++ y) fits_a.0 fits_b.0 (sym left ∙ sym p ∙ q ∙ right) in
+    let others = begins_within (flat_map spelling ms ++ x) ms ns x y refl fits_a.1 end_x one.1 fits_b.1 in
+    omega (arith, others)
+
 same_stand : (a b : Bool) (x y r s : List ℕ) → r ≡ s → StandsAt a x r → StandsAt b y s → (a ≡ b) × (x ≡ y)
 same_stand false false x y r s e p q = (refl, p.1 ∙ e ∙ sym q.1)
 same_stand true true x y r s e p q = (refl, p.1 ∙ sym q.1)

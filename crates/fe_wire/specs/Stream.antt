@@ -75,6 +75,12 @@ pub record HasRead (decoder : Decoding) (stream : List ℕ) (messages : List Cli
   pub offset : decoder.offset ≡ min (length (flat_map spelling messages)) (2 ^ 64 - 1)
   pub stands : StandsAt decoder.is_bad decoder.held rest
 
+-- Whatever was read before, the stream has a message more with this piece behind it.
+abbrev pub CompletesMessage : Decoding → List ℕ → Type 0
+CompletesMessage decoder piece =
+    (before : List ℕ) (earlier messages : List ClientMessage) (rest : List ℕ) → HasRead decoder before earlier
+    → IsStream (before ++ piece) messages rest → length earlier < length messages
+
 -- the fault that a decoder tells: where the bad frame begins
 abbrev pub fault_of : Decoding → Option BadFrame
 fault_of decoder = if decoder.is_bad then Some (record { offset = decoder.offset }) else None

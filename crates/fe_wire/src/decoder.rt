@@ -1,6 +1,6 @@
 ghost use Rattle.std.specs.Prelude.{◌≡◌, ◌≤◌, ◌++◌, ℕ, List, [], true, length, IfOk, OnOk, OnErr, IsOkAnd};
-ghost use Rattle.fe_wire.specs.Place.{IsPlace, GoesOn};
-ghost use Rattle.fe_wire.specs.Stream.{HasRead, fault_of};
+ghost use Rattle.fe_wire.specs.Place.{IsPlace, GoesOn, decoding};
+ghost use Rattle.fe_wire.specs.Stream.{HasRead, CompletesMessage, fault_of};
 ghost use Rattle.fe_wire.specs.declared.client_message.ClientMessage.{ClientMessage as Message};
 
 use crate::client_message::ClientMessage;
@@ -53,6 +53,8 @@ impl Decoder {
         ensures stopped { self.old.is_bad ≡ true → IsOkAnd result (λ fed. fed.messages.items ≡ []) }
         ensures still { self.old.is_bad ≡ true → self.new ≡ self.old }
         ensures err { OnErr result (self.new ≡ self.old) }
+        // Memory is wanted only where the piece completes a message.
+        ensures memory { OnErr result (CompletesMessage self.old piece.now) }
         ensures held { length self.new.held ≤ 34 }
     {
         if self.place.is_bad {
@@ -79,6 +81,7 @@ fn read_piece(
 ) -> Result<(Place, Vec<ClientMessage>), AllocError>
     requires { IsPlace start }
     ensures place { IfOk result (λ read. IsPlace read.0) }
+    ensures memory { OnErr result (CompletesMessage (decoding start) piece.now) }
     ensures reads { IfOk result (λ read. GoesOn start read.0 piece.now read.1.items) }
 {
     let _named: Option<Request> = None;

@@ -1,7 +1,6 @@
 //! The replies of the server, from their frames.
 
-ghost use Rattle.std.specs.Prelude.{◌≡◌, Some, IfOk, IfSome, OnErr};
-ghost use Rattle.fe_wire.specs.Stream.{kind_field};
+ghost use Rattle.std.specs.Prelude.{◌≡◌, Some, IfOk, IfSome, IsOk};
 ghost use Rattle.fe_wire.specs.Spelling.{reply_spelling, ReplyFits};
 ghost use Rattle.fe_wire.specs.Reading.{welcome_of, answered_of, refused_of, reply_of, reply_at};
 ghost use Rattle.fe_wire.specs.declared.server_message.ServerMessage.{ServerMessage as Reply};
@@ -75,8 +74,8 @@ pub fn read_reply(alloc: Global, frame: &[u8]) -> Result<Option<ServerMessage>, 
     ensures found { IfOk result (λ reply. IfSome reply (λ m. ReplyFits m × (frame.now ≡ reply_spelling m))) }
     // What is spelled so is read, so that `None` comes only outside the grammar.
     ensures only { (m : Reply) → ReplyFits m → frame.now ≡ reply_spelling m → IfOk result (λ reply. reply ≡ Some m) }
-    // Memory is wanted for reports alone.
-    ensures memory { OnErr result (kind_field frame.now ≡ 71) }
+    // Memory is wanted for a report's text alone, and that kind isn't open.
+    ensures memory { IsOk result }
 {
     let _ = alloc;
     Ok(reply_at(frame))

@@ -1,7 +1,7 @@
 use Rattle.std.proofs.Common.{[], ◌∷◌, length, sym, ◌∙◌}
 use Rattle.std.proofs.lemmas.List.{append-nil, take_rest}
 use Rattle.std.proofs.lemmas.Bool.{eqb-true}
-use Rattle.fe_wire.proofs.Pieces.{begins, goes_on, ends, ends_bad}
+use Rattle.fe_wire.proofs.Pieces.{begins, goes_on, completes, on_err, ends, ends_bad}
 use Rattle.fe_wire.proofs.decoder.read_piece.Goals as goal
 use Rattle.fe_wire.proofs.decoder.read_piece.Goals.{then-loop-rest-test+else-not-place, else-loop-rest-test}
 
@@ -17,6 +17,11 @@ pub loop-rest-preserved : goal.loop-rest-preserved
 loop-rest-preserved c =
     goes_on c.args.start c.loop-rest.place c.step-count.new.self c.args.piece.now c.loop-rest.rest.now _ c.loop-rest.messages.items [] c.loop-rest.messages.items c.step-count.result.0
     c.loop-rest.invariant c.step-count.ensures.place (rw c.in_default.is at c.step-count.ensures.reads) (take_rest c.loop-rest.rest.now c.step-count.result.0) (sym (append-nil c.loop-rest.messages.items))
+
+pub returns-in_err-push-clause-memory : goal.returns-in_err-push-clause-memory
+returns-in_err-push-clause-memory c =
+    on_err c.from_residual.result
+        (completes c.args.start c.loop-rest.place c.step-count.new.self c.args.piece.now c.loop-rest.rest.now c.loop-rest.messages.items c.in-Some.message c.step-count.result.0 c.loop-rest.invariant (rw c.in-Some.is at c.step-count.ensures.reads))
 
 pub returns-clause-reads : goal.returns-clause-reads
 returns-clause-reads c =
