@@ -41,16 +41,16 @@ on_err (Err e) p = p
 pub completes : (start place new : Place) (piece rest : List ℕ) (messages : List ClientMessage) (m : ClientMessage) (n : ℕ) → IsReadTo start place piece rest messages → GoesOn place new (take n rest) (m ∷ []) → CompletesMessage (decoding start) piece
 completes start place new piece rest messages m n h step =
     λ before earlier all end old stream.
-        let to = step (before ++ h.done) (earlier ++ messages) (h.reads before earlier old) in
-        let known : List ClientMessage = (earlier ++ messages) ++ m ∷ [] in
-        let cut : before ++ piece ≡ ((before ++ h.done) ++ take n rest) ++ drop n rest =
-        ap (λ (t : List ℕ). before ++ t) (h.parts ∙ ap (λ (t : List ℕ). h.done ++ t) (sym (take-append-drop n rest)))
-            ∙ sym (append_assoc before h.done (take n rest ++ drop n rest))
-            ∙ sym (append_assoc (before ++ h.done) (take n rest) (drop n rest)) in
-        let parts : before ++ piece ≡ flat_map spelling known ++ (to.rest ++ drop n rest) =
-        cut ∙ ap (λ (t : List ℕ). t ++ drop n rest) to.is_stream.parts ∙ append_assoc (flat_map spelling known) to.rest (drop n rest) in
-        let within = begins_within (before ++ piece) all known end (to.rest ++ drop n rest) stream.parts stream.each stream.end parts to.is_stream.each in
-        omega (arith, within, length-append (earlier ++ messages) (m ∷ []), length-append earlier messages)
+    let to = step (before ++ h.done) (earlier ++ messages) (h.reads before earlier old) in
+    let known : List ClientMessage = (earlier ++ messages) ++ m ∷ [] in
+    let cut : before ++ piece ≡ ((before ++ h.done) ++ take n rest) ++ drop n rest =
+    ap (λ (t : List ℕ). before ++ t) (h.parts ∙ ap (λ (t : List ℕ). h.done ++ t) (sym (take-append-drop n rest)))
+    ∙ sym (append_assoc before h.done (take n rest ++ drop n rest))
+    ∙ sym (append_assoc (before ++ h.done) (take n rest) (drop n rest)) in
+    let parts : before ++ piece ≡ flat_map spelling known ++ (to.rest ++ drop n rest) =
+    cut ∙ ap (λ (t : List ℕ). t ++ drop n rest) to.is_stream.parts ∙ append_assoc (flat_map spelling known) to.rest (drop n rest) in
+    let within = begins_within (before ++ piece) all known end (to.rest ++ drop n rest) stream.parts stream.each stream.end parts to.is_stream.each in
+    omega (arith, within, length-append (earlier ++ messages) (m ∷ []), length-append earlier messages)
 
 pub ends : (start place : Place) (piece rest : List ℕ) (messages : List ClientMessage) → IsReadTo start place piece rest messages → length rest ≡ 0 → GoesOn start place piece messages
 ends start place piece rest messages h empty =

@@ -1,7 +1,7 @@
 //! Messages become bytes.
 
 ghost use Rattle.std.specs.Prelude.{◌≡◌, ◌+◌, ◌<◌, ◌++◌, length, OnOk, OnErr, vec_len, vec_capacity};
-ghost use Rattle.fe_wire.specs.Spelling.{spelling, reply_spelling, IsOpen, IsOpenReply};
+ghost use Rattle.fe_wire.specs.Spelling.{spelling, reply_spelling, Fits, ReplyFits, IsOpen, IsOpenReply};
 
 use crate::client_message::ClientMessage;
 use crate::codes::{answer_code, answer_length, answer_number, op_code, operand_of, tag_code};
@@ -19,19 +19,21 @@ fn attach_frame(session: u64) -> Frame
     frame
 }
 
-fn create_frame(number: u64, name: &Name, length: u32, tag: Tag) -> Frame
-    ensures { result ≡ spelling (ClientMessage.Call number (Request.Create name.now length tag)) }
+fn create_frame(number: u64, name: &Name, words: u32, tag: Tag) -> Frame
+    ensures spelled { result ≡ spelling (ClientMessage.Call number (Request.Create name.now words tag)) }
+    ensures fits { Fits (ClientMessage.Call number (Request.Create name.now words tag)) }
 {
     let mut frame = Frame::new(31, 2);
     frame.put_u64(number);
     frame.put_name(name);
-    frame.put_u32(length);
+    frame.put_u32(words);
     frame.put_u8(tag_code(tag));
     frame
 }
 
 fn access_frame(number: u64, array: u64, index: u32, op: Op) -> Frame
-    ensures { result ≡ spelling (ClientMessage.Call number (Request.Access array index op)) }
+    ensures spelled { result ≡ spelling (ClientMessage.Call number (Request.Access array index op)) }
+    ensures fits { Fits (ClientMessage.Call number (Request.Access array index op)) }
 {
     let mut frame = Frame::new(30, 5);
     frame.put_u64(number);
@@ -44,7 +46,8 @@ fn access_frame(number: u64, array: u64, index: u32, op: Op) -> Frame
 
 fn frame_of(message: &ClientMessage) -> Frame
     requires { IsOpen message.now }
-    ensures { result ≡ spelling message.now }
+    ensures spelled { result ≡ spelling message.now }
+    ensures fits { Fits message.now }
 {
     match message {
         ClientMessage::Attach { session } => attach_frame(*session),
@@ -68,6 +71,8 @@ pub fn put_message(out: &mut Vec<u8>, message: &ClientMessage) -> Result<(), All
     ensures ok { OnOk result (out.new.items ≡ out.old.items ++ spelling message.now) }
     ensures err { OnErr result (out.new.items ≡ out.old.items) }
     ensures full { OnErr result (vec_capacity out.old < vec_len out.old + length (spelling message.now)) }
+    // What is put is in the grammar, so that it is read again.
+    ensures fits { Fits message.now }
 {
     out.extend_from_slice(frame_of(message).bytes())
 }
@@ -82,7 +87,8 @@ fn welcome_frame(session: u64, floor: u64) -> Frame
 }
 
 fn answer_frame(number: u64, answer: Answer) -> Frame
-    ensures { result ≡ reply_spelling (ServerMessage.Answer number answer) }
+    ensures spelled { result ≡ reply_spelling (ServerMessage.Answer number answer) }
+    ensures fits { ReplyFits (ServerMessage.Answer number answer) }
 {
     let mut frame = Frame::new(22, 66);
     frame.put_u64(number);
@@ -103,7 +109,8 @@ fn refused_frame(number: u64, code: u8) -> Frame
 
 fn reply_frame(message: &ServerMessage) -> Frame
     requires { IsOpenReply message.now }
-    ensures { result ≡ reply_spelling message.now }
+    ensures spelled { result ≡ reply_spelling message.now }
+    ensures fits { ReplyFits message.now }
 {
     match message {
         ServerMessage::Welcome { session, floor } => welcome_frame(*session, *floor),
@@ -124,6 +131,8 @@ pub fn put_reply(out: &mut Vec<u8>, message: &ServerMessage) -> Result<(), Alloc
     ensures ok { OnOk result (out.new.items ≡ out.old.items ++ reply_spelling message.now) }
     ensures err { OnErr result (out.new.items ≡ out.old.items) }
     ensures full { OnErr result (vec_capacity out.old < vec_len out.old + length (reply_spelling message.now)) }
+    // What is put is in the grammar, so that it is read again.
+    ensures fits { ReplyFits message.now }
 {
     out.extend_from_slice(reply_frame(message).bytes())
 }

@@ -21,7 +21,7 @@ loop-rest-preserved c =
 pub returns-in_err-push-clause-memory : goal.returns-in_err-push-clause-memory
 returns-in_err-push-clause-memory c =
     on_err c.from_residual.result
-        (completes c.args.start c.loop-rest.place c.step-count.new.self c.args.piece.now c.loop-rest.rest.now c.loop-rest.messages.items c.in-Some.message c.step-count.result.0 c.loop-rest.invariant (rw c.in-Some.is at c.step-count.ensures.reads))
+    (completes c.args.start c.loop-rest.place c.step-count.new.self c.args.piece.now c.loop-rest.rest.now c.loop-rest.messages.items c.in-Some.message c.step-count.result.0 c.loop-rest.invariant (rw c.in-Some.is at c.step-count.ensures.reads))
 
 pub returns-clause-reads : goal.returns-clause-reads
 returns-clause-reads c =

@@ -5,8 +5,8 @@ use Rattle.fe_wire.specs.Spelling.{name_field}
 use Rattle.fe_wire.proofs.MessageLaws.{create_built}
 use Rattle.fe_wire.proofs.putting.create_frame.Goals as goal
 
-pub returns : goal.returns
-returns c =
-    let built : c.put_u8.new.self ≡ (to_be_bytes w32 31 ++ 2 ∷ []) ++ to_be_bytes w64 c.args.number ++ name_field c.args.name.now ++ to_be_bytes w32 c.args.length ++ tag_code c.args.tag ∷ [] =
+pub returns-clause-spelled : goal.returns-clause-spelled
+returns-clause-spelled c =
+    let built : c.put_u8.new.self ≡ (to_be_bytes w32 31 ++ 2 ∷ []) ++ to_be_bytes w64 c.args.number ++ name_field c.args.name.now ++ to_be_bytes w32 c.args.words ++ tag_code c.args.tag ∷ [] =
     rw (c.put_u8.ensures, c.tag_code.ensures, c.put_u32.ensures, c.put_name.ensures.field, c.put_u64.ensures, c.new-frame.ensures) refl in
-    built ∙ create_built c.args.number c.args.name.now c.args.length c.args.tag c.put_name.ensures.short
+    built ∙ create_built c.args.number c.args.name.now c.args.words c.args.tag c.put_name.ensures.short
