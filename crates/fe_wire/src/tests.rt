@@ -347,3 +347,50 @@ fn report_texts(rt: HostRuntime) -> Result<(), Fail> {
     assert_eq!(rt; text.into_string().as_str(), "waiting 0\n");
     Ok(())
 }
+
+/// Feeds the piece, and once more where memory was refused.
+fn fed_at_last(decoder: &mut Decoder, alloc: Global, piece: &[u8]) -> Result<Fed, AllocError> {
+    match decoder.feed(alloc, piece) {
+        Ok(fed) => Ok(fed),
+        Err(_) => decoder.feed(alloc, piece),
+    }
+}
+
+/// One refused allocation, wherever it comes, shows in no answer. No memory is wanted before a
+/// message is whole.
+#[test]
+fn refused_memory_leaves_the_stream(rt: HostRuntime) -> Result<(), Fail> {
+    let wanted = first_path().ok_or("five bytes")?;
+    let mut decoder = Decoder::new();
+    for (frame, message) in FRAMES.iter().zip(wanted) {
+        let (front, back) = frame.split_at(frame.len() / 2);
+        let fed = decoder.feed(rt.alloc(), front)?;
+        assert_eq!(rt; fed.messages.len(), 0);
+        let fed = fed_at_last(&mut decoder, rt.alloc(), back)?;
+        assert_eq!(rt; fed.messages.as_slice(), [message].as_slice());
+        assert_eq!(rt; fed.fault, None);
+    }
+    let fed = decoder.feed(rt.alloc(), &[0, 0, 0, 0])?;
+    assert_eq!(rt; fed.fault, Some(BadFrame { offset: 150 }));
+    Ok(())
+}
+
+#[test]
+fn refused_memory_puts_nothing(rt: HostRuntime) -> Result<(), Fail> {
+    let message = access(2, Op::WriteEf(42));
+    let mut out = Vec::new(rt.alloc());
+    if put_message(&mut out, &message).is_err() {
+        assert_eq!(rt; out.len(), 0);
+        put_message(&mut out, &message)?;
+    }
+    assert_eq!(rt; out.as_slice(), FRAMES[2]);
+    let (number, answer) = (2, Answer::Done);
+    let reply = ServerMessage::Answer { number, answer };
+    let mut out = Vec::new(rt.alloc());
+    if put_reply(&mut out, &reply).is_err() {
+        assert_eq!(rt; out.len(), 0);
+        put_reply(&mut out, &reply)?;
+    }
+    assert_eq!(rt; out.as_slice(), REPLIES[2]);
+    Ok(())
+}
