@@ -1,5 +1,5 @@
 -- A front stays one where the batch that is out is posted.
-use Rattle.std.proofs.Common.{◌≡◌, ℕ, ◌+◌, ◌≤◌, ◌∙◌, Option, Some, None, length, sym, arith}
+use Rattle.std.proofs.Common.{◌≡◌, ℕ, ◌+◌, ◌∙◌, Option, Some, None, length, sym, arith}
 use Rattle.std.specs.Prelude.{IfSome}
 use Rattle.fe_state.specs.declared.batch.Batch.{Batch}
 use Rattle.fe_front.specs.Front.{FrontState, IsFront, IsOut, out_length}

@@ -10,7 +10,7 @@ use Rattle.fe_state.specs.declared.entry.Entry.{Entry}
 use Rattle.fe_state.specs.declared.entry.Entry.TheVariants.{Attached, Finished}
 use Rattle.fe_state.specs.contracts.entry.Entry.{the_row as entry_row}
 use Rattle.fe_state.specs.declared.request.Request.{Request}
-use Rattle.fe_state.specs.declared.request.Request.TheVariants.{Create, Find, Remove, Access}
+use Rattle.fe_state.specs.declared.request.Request.TheVariants.{Remove, Access}
 use Rattle.fe_front.specs.Mail.{mails_of}
 use Rattle.fe_front.specs.declared.connection.Connection.{Connection}
 use Rattle.fe_front.specs.contracts.connection.Connection.{the_row as connection_row}

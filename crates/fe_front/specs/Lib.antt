@@ -1,4 +1,5 @@
 pub mod Front
+pub mod FrontFields
 pub mod Mail
 pub mod Refusal
 pub mod Words

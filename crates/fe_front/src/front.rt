@@ -45,16 +45,16 @@ pub struct Front {
 }
 
 impl Model for Front {
-    ghost use Rattle.std.specs.Prelude.{◌≡◌, [], Some, None};
     ghost use Rattle.fe_front.specs.Front.{FrontState, IsFront, front_code};
+    ghost use Rattle.fe_front.specs.FrontFields.{state_of, HasSpare};
 
     ghost Value = { FrontState };
 
     ghost coded = { front_code };
 
-    ghost view = { λ a. record { directory = a.directory; place = a.place; last = a.last; waiting = a.waiting.items; connection = a.connection; durable = a.durable; pending = a.pending; out = a.out } };
+    ghost view = { state_of };
 
-    ghost invariant = { λ a. IsFront (record { directory = a.directory; place = a.place; last = a.last; waiting = a.waiting.items; connection = a.connection; durable = a.durable; pending = a.pending; out = a.out }) × (a.out ≡ None → a.spare ≡ Some []) };
+    ghost invariant = { λ a. IsFront (state_of a) × HasSpare a };
 }
 
 impl Front {

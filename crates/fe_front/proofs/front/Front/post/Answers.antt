@@ -1,4 +1,4 @@
-use Rattle.std.proofs.Common.{◌≡◌, ℕ, Some, length, arith, rules, sym, ap, subst}
+use Rattle.std.proofs.Common.{Some, sym, ap, subst}
 use Rattle.fe_front.specs.Front.{FrontState, IsOut}
 use Rattle.fe_front.proofs.FrontLemmas.{posted_front}
 use Rattle.fe_front.proofs.front.Front.post.Goals.{in-Some, in_default}

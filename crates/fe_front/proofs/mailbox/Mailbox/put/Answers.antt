@@ -1,4 +1,4 @@
-use Rattle.std.proofs.Common.{◌≡◌, ◌<◌, length, arith, sym, ap, ◌∙◌, rules}
+use Rattle.std.proofs.Common.{◌≡◌, ◌<◌, length, arith, sym}
 use Rattle.fe_front.proofs.BoxLemmas.{put_room, put_full}
 use Rattle.fe_front.proofs.mailbox.Mailbox.put.Goals as goal
 

@@ -1,6 +1,4 @@
-use Rattle.std.proofs.Common.{◌≡◌, ◌+◌, ◌≤◌, [], ◌++◌, length, take, drop, arith, sym, ap, ◌∙◌, rules, refl}
-use Rattle.std.proofs.lemmas.List.{take_all}
-use Rattle.fe_front.specs.Mail.{mails_of}
+use Rattle.std.proofs.Common.{◌+◌, arith, sym, ◌∙◌}
 use Rattle.fe_front.proofs.BoxLemmas.{boxed_first, boxed_passed, nothing_left}
 use Rattle.fe_front.proofs.mailbox.Mailbox.put_all.Goals.{then-session_of-session, else-session_of-session}
 use Rattle.fe_front.proofs.mailbox.Mailbox.put_all.Goals as goal
