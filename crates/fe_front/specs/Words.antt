@@ -1,14 +1,21 @@
--- What an operation on one word does to the others.
+-- What a request does to the words that it isn't about.
 use Rattle.std.specs.Prelude.{◌≡◌, ℕ}
 use Rattle.std.specs.FinMap.{get}
-use Rattle.fe_words.specs.declared.op.Op.{Op}
 use Rattle.fe_state.specs.Directory.{Directory, word_in}
 use Rattle.fe_state.specs.Effect.{performed}
-use Rattle.fe_state.specs.declared.request.Request.TheVariants.{Access}
+use Rattle.fe_state.specs.declared.request.Request.{Request}
+use Rattle.fe_state.specs.declared.request.Request.TheVariants.{Create, Find, Remove, Access}
 
--- every word but the one at the index of the array is as before
+-- a word that a request is about: the one that it names, or each one of the array that it makes or removes
+abbrev pub IsOwnWord : Directory → Request → ℕ → ℕ → Type 0
+IsOwnWord d (Create name size tag) a i = a ≡ d.next_id
+IsOwnWord d (Find name) a i = ⊥
+IsOwnWord d (Remove id) a i = a ≡ id
+IsOwnWord d (Access id index op) a i = (a ≡ id) × (i ≡ index)
+
+-- every other word is as before
 abbrev pub KeepsOtherWords : Type 0
 KeepsOtherWords =
-    (d : Directory) (array index : ℕ) (op : Op) (a i : ℕ)
-    → ¬ ((a ≡ array) × (i ≡ index))
-    → word_in (get (performed d (Access array index op)).arrays a) i ≡ word_in (get d.arrays a) i
+    (d : Directory) (request : Request) (a i : ℕ)
+    → ¬ IsOwnWord d request a i
+    → word_in (get (performed d request).arrays a) i ≡ word_in (get d.arrays a) i

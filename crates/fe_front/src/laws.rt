@@ -1,6 +1,6 @@
 ghost use Rattle.fe_front.specs.Words.{KeepsOtherWords};
 
-/// An operation on a word leaves every other word of every array as it was.
+/// A request leaves every word that it isn't about as it was, in every array.
 pub fn other_words_stay()
     ensures { KeepsOtherWords }
 {}
