@@ -91,7 +91,7 @@ fn answer(rt: &impl Abort, front: &mut Front) -> (u64, Answer, u64) {
 
 #[test]
 fn first_path(rt: HostRuntime) -> Result<(), Refusal> {
-    let done = Ok(Outcome::Completed { entries: 1 });
+    let done = Outcome::Completed { entries: 1 };
     let mut front = Front::new(rt.alloc()).map_err(|_| Refusal::NoMemory)?;
     front.connect(1)?;
     assert_eq!(rt; attach(&rt, &mut front, 1, 7), Ok(()));
@@ -111,22 +111,22 @@ fn first_path(rt: HostRuntime) -> Result<(), Refusal> {
     );
     assert!(rt; front.cut().is_none(), "nothing is pending");
     assert_eq!(rt;
-        call(&rt, &mut front, 1, create(&rt, "cells", 2, Tag::Empty)),
+        call(&rt, &mut front, 1, create(&rt, "cells", 2, Tag::Empty))?,
         done
     );
-    assert_eq!(rt; call(&rt, &mut front, 2, access(0, Op::WriteEf(42))), done);
+    assert_eq!(rt; call(&rt, &mut front, 2, access(0, Op::WriteEf(42)))?, done);
     post_all(&rt, &mut front);
     assert_eq!(rt;
         answer(&rt, &mut front),
         (1, Answer::Array { id: 1, length: 2 }, 1)
     );
     assert_eq!(rt; answer(&rt, &mut front), (2, Answer::Done, 2));
-    assert_eq!(rt; call(&rt, &mut front, 3, access(0, Op::ReadFe)), done);
-    assert_eq!(rt; call(&rt, &mut front, 4, access(0, Op::ReadXx)), done);
-    assert_eq!(rt; call(&rt, &mut front, 5, access(2, Op::ReadXx)), done);
+    assert_eq!(rt; call(&rt, &mut front, 3, access(0, Op::ReadFe))?, done);
+    assert_eq!(rt; call(&rt, &mut front, 4, access(0, Op::ReadXx))?, done);
+    assert_eq!(rt; call(&rt, &mut front, 5, access(2, Op::ReadXx))?, done);
     assert_eq!(rt;
-        call(&rt, &mut front, 6, access(1, Op::ReadFe)),
-        Ok(Outcome::Waits)
+        call(&rt, &mut front, 6, access(1, Op::ReadFe))?,
+        Outcome::Waits
     );
     post_all(&rt, &mut front);
     assert_eq!(rt; answer(&rt, &mut front), (3, Answer::Value(42), 3));
@@ -161,6 +161,56 @@ fn refused_calls(rt: HostRuntime) -> Result<(), Refusal> {
         Ok(Outcome::Completed { entries: 1 })
     );
     assert_eq!(rt; call(&rt, &mut front, 1, find()), Err(Refusal::BelowFloor));
+    Ok(())
+}
+
+// Makes a call, and once more where it finds no memory.
+fn insist(
+    rt: &impl Abort,
+    front: &mut Front,
+    number: u64,
+    request: Request,
+) -> Result<Outcome, Refusal>
+    requires { IsServed request }
+{
+    let again = request;
+    match call(rt, front, number, request) {
+        Err(Refusal::NoMemory) => call(rt, front, number, again),
+        outcome => outcome,
+    }
+}
+
+// A call that finds no memory is refused as `NoMemory` and changes nothing, so that the same call works after it.
+// `rt try --test --fail-alloc N`, for N from 1 on, takes each allocation away in turn.
+#[test]
+fn refused_where_memory_ends(rt: HostRuntime) -> Result<(), Refusal> {
+    let done = Ok(Outcome::Completed { entries: 1 });
+    let mut front = match Front::new(rt.alloc()) {
+        Ok(front) => front,
+        Err(_) => Front::new(rt.alloc()).map_err(|_| Refusal::NoMemory)?,
+    };
+    if let Err(refusal) = front.connect(1) {
+        assert_eq!(rt; refusal, Refusal::NoMemory);
+        front.connect(1)?;
+    }
+    assert_eq!(rt; attach(&rt, &mut front, 1, 7), Ok(()));
+    let cells = create(&rt, "cells", 2, Tag::Empty);
+    assert_eq!(rt; insist(&rt, &mut front, 1, cells), done);
+    for number in 2..40 {
+        let reads = access(0, Op::ReadFe);
+        assert_eq!(rt; insist(&rt, &mut front, number, reads), Ok(Outcome::Waits));
+    }
+    assert_eq!(rt; call(&rt, &mut front, 40, access(0, Op::WriteEf(42))), done);
+    assert_eq!(rt; call(&rt, &mut front, 41, find()), done);
+    post_all(&rt, &mut front);
+    assert!(rt; matches!(front.take_mail(1), Some(Mail::Welcome { .. })));
+    assert_eq!(rt;
+        answer(&rt, &mut front),
+        (1, Answer::Array { id: 1, length: 2 }, 1)
+    );
+    assert_eq!(rt; answer(&rt, &mut front), (40, Answer::Done, 2));
+    assert_eq!(rt; answer(&rt, &mut front), (41, Answer::NoArray, 3));
+    assert!(rt; front.take_mail(1).is_none());
     Ok(())
 }
 
