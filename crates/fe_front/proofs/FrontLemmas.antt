@@ -15,7 +15,7 @@ out_long None batch h = absurd h
 out_long (Some o) batch h = sym h.1
 
 pub posted_front : (f : FrontState) (batch : Batch) (connection : Option Connection) → IsFront f → IsOut f.out batch
-    → IsFront (record { directory = f.directory; place = f.place; last = f.last; waiting = f.waiting; connection = connection; durable = batch.first + length batch.entries; pending = f.pending; out = None })
+    → IsFront (record f { connection = connection; durable = batch.first + length batch.entries; out = None })
 posted_front f batch connection h out =
     let mark : batch.first ≡ f.durable = out_first f.out batch f.durable out h.out_first in
     let long : out_length f.out ≡ length batch.entries = out_long f.out batch out in
