@@ -1,4 +1,4 @@
-ghost use Rattle.std.specs.Prelude.{◌≡◌, [], ◌++◌, None, IsTrue, IfOk, IfErr, OnOk, MatchResult};
+ghost use Rattle.std.specs.Prelude.{◌≡◌, [], ◌++◌, None, true, IsTrue, IfOk, IfErr, OnOk, MatchResult};
 ghost use Rattle.std.specs.List.{flat_map, AllByRecursion};
 ghost use Rattle.fe_front.specs.Front.{first_front, connected, has_room};
 ghost use Rattle.fe_wire.specs.Spelling.{spelling, Fits, reply_spelling, ReplyFits};
@@ -50,6 +50,7 @@ impl Desk {
         requires reading { IsReading self.old.decoder }
         ensures out { self.new.front.out ≡ None }
         ensures reading { IsReading self.new.decoder }
+        ensures strange { IfErr result (λ fault. fault ≡ Fault.Strange → self.new.decoder.is_bad ≡ true) }
         // Between two frames, the frame of one message is answered, and no more; only memory may be short.
         ensures answered { IsBetween self.old.decoder → (message : Message) → Fits message → piece.now ≡ spelling message
             → MatchResult result (λ _. IsAnswered self.old.front message self.new.front self.old.written.items self.new.written.items × IsBetween self.new.decoder)

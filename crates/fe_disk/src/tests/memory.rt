@@ -55,7 +55,7 @@ fn stops_as_the_table_says(rt: HostRuntime) -> Result<(), Fail> {
 }
 
 // A write or a sync whose record finds no memory is a device fault that leaves the disk as it was.
-// `rt try --test --fail-alloc 1..` takes each allocation away in turn.
+// `rt try --test --fail-alloc N`, for N from 1 on, takes each allocation away in turn.
 #[test]
 fn faults_where_memory_ends(rt: HostRuntime) -> Result<(), Fail> {
     let mut disk = MemoryDisk::new(rt.alloc(), SIZE)?;
