@@ -16,7 +16,8 @@ use Rattle.std.proofs.lemmas.Slice.Eq.{bytes_eq-Decides}
 use Rattle.std.proofs.Math.Seq.{drop-nil}
 use Rattle.fe_words.specs.declared.word.Word.{Word}
 use Rattle.fe_state.proofs.Maps.{get_inserted, get_beside, get_removed, get_left, same_or_other}
-use Rattle.fe_state.proofs.Limits.{replace_kept, creation_passed}
+use Rattle.fe_state.proofs.Empty.{empty_directory, no_words}
+use Rattle.fe_state.proofs.Limits.{array_in, creation_passed, remove_kept, size_of, unnamed}
 use Rattle.fe_state.proofs.Totals.{total_added, total_removed, total_replaced}
 use Rattle.fe_state.specs.Directory.{Directory, IsDirectory, IsArray, answer_in, creation, word_count, word_in}
 use Rattle.fe_state.specs.Effect.{with_word, put_word}
@@ -25,10 +26,6 @@ use Rattle.fe_state.specs.declared.array.Array.{Array}
 use Rattle.fe_state.specs.declared.answer.Answer.{Answer}
 use Rattle.fe_state.specs.declared.answer.Answer.TheVariants as answer
 use Rattle.fe_state.specs.declared.request.Request.TheVariants.{Remove}
-
--- how many words an array has
-abbrev size_of : Array → ℕ
-size_of a = length a.words
 
 module _ {X : Type 0} where
   -- what was put and taken again leaves the map before it
@@ -115,54 +112,10 @@ none_named name (e ∷ es) h other =
         let more : nat_cmp q e.0 ≡ Greater = sym (nat_cmp_is q e.0 Greater (below_found e.0 q a es (first _ _ h) is)) in
         rw more is
 
--- a name that is not found is no array's
-unnamed : (name : List ℕ) (es : List (ℕ × Array)) (q : ℕ) (a : Array) → find (λ e. bytes_eq e.1.name name) es ≡ None → map.find nat_cmp q es ≡ Some a → a.name ≢ name
-unnamed name [] q a none here same = cc
-unnamed name (e ∷ es) q a none here same = by (bytes_eq e.1.name name) (eq_by_cmp nat_cmp q e.0) refl none here (λ n f. unnamed name es q a n f same)
-  where
-    by : (b t : Bool) → bytes_eq e.1.name name ≡ b → cond b (Some e) (find (λ p. bytes_eq p.1.name name) es) ≡ None → cond t (Some e.1) (map.find nat_cmp q es) ≡ Some a → (find (λ p. bytes_eq p.1.name name) es ≡ None → map.find nat_cmp q es ≡ Some a → ⊥) → ⊥
-    by true t is n f rest = cc
-    by false true is n f rest =
-        let one : e.1 ≡ a = cc in
-        let equal = (bytes_eq-Decides e.1.name name).1 (ap (λ (x : Array). x.name) one ∙ same) in cc
-    by false false is n f rest = rest n f
-
 -- ---- the limits
 
--- what an array has to be depends on the id that comes next, and on no other array
-array_in : (d : Directory) (arrays : FinMap nat_cmp Array) (next_id id : ℕ) (a : Array) → id < next_id → IsArray d id a → IsArray (record { arrays = arrays; next_id = next_id }) id a
-array_in d arrays next_id id a up h = record {
-  made = h.made;
-  older = up;
-  name = h.name;
-  some_words = h.some_words;
-  few_words = h.few_words;
-}
-
 pub first_kept : (arrays : FinMap nat_cmp Array) (next_id : ℕ) → arrays ≡ empty → 1 ≤ next_id → IsDirectory (record { arrays = arrays; next_id = next_id }) × (0 ≡ word_count arrays)
-first_kept arrays next_id is h = rw is (
-  record {
-    next_id = h;
-    few_arrays = rw (len-empty nat_cmp Array) (omega arith);
-    each = λ q a e. none q a e;
-    names = λ i j a b p q same. none i a p;
-    words = rw counted (omega arith);
-  },
-  sym counted,
-)
-  where
-    none : {P : Type 0} (q : ℕ) (a : Array) → get (empty {X = Array} {R = nat_cmp}) q ≡ Some a → P
-    none q a e = let gone = get-empty {X = Array} nat_cmp q in cc
-
-    no_entries : entries (empty {X = Array} {R = nat_cmp}) ≡ []
-    no_entries = none_of _ (sym (len-entries empty) ∙ len-empty nat_cmp Array)
-      where
-        none_of : (es : List (ℕ × Array)) → length es ≡ 0 → es ≡ []
-        none_of [] e = refl
-        none_of (e ∷ es) is = absurd (omega arith)
-
-    counted : word_count empty ≡ 0
-    counted = rw no_entries refl
+first_kept arrays next_id is h = rw is (empty_directory next_id h, sym no_words)
 
 -- an array that comes
 pub come_kept : (d : Directory) (id : ℕ) (a : Array) → IsDirectory d → MayCome d id a → IsDirectory (record { arrays = insert d.arrays id a; next_id = d.next_id })
@@ -203,16 +156,6 @@ here_before m k q a h =
       | inr ne ↦ (ne, sym (get_left m k q ne) ∙ h)
     ]
 
--- an array that goes
-pub go_kept : (d : Directory) (id : ℕ) (a : Array) → IsDirectory d → get d.arrays id ≡ Some a → IsDirectory (record { arrays = remove d.arrays id; next_id = d.next_id })
-go_kept d id a h is = record {
-  next_id = h.next_id;
-  few_arrays = rw (len-remove nat_cmp_total, ap is_some is) (omega (arith, h.few_arrays));
-  each = λ q x e. let k = h.each q x (here_before d.arrays id q x e).1 in array_in d _ _ q x k.older k;
-  names = λ i j x y p q same. h.names i j x y (here_before d.arrays id i x p).1 (here_before d.arrays id j y q).1 same;
-  words = omega (arith, go_words d.arrays id a is, h.words);
-}
-
 -- an array that went may come again
 pub gone_may_come : (d : Directory) (id : ℕ) (a : Array) → IsDirectory d → get d.arrays id ≡ Some a → MayCome (record { arrays = remove d.arrays id; next_id = d.next_id }) id a
 gone_may_come d id a h is = record {
@@ -239,7 +182,7 @@ raise_kept d next_id h up = record {
 -- the array made last goes, and its id with it
 pub last_kept : (d : Directory) (a : Array) → IsDirectory d → get d.arrays (d.next_id - 1) ≡ Some a → IsDirectory (record { arrays = remove d.arrays (d.next_id - 1); next_id = d.next_id - 1 })
 last_kept d a h is =
-    let k = go_kept d (d.next_id - 1) a h is in
+    let k = remove_kept d (d.next_id - 1) h in
     let last = h.each (d.next_id - 1) a is in
     record {
       next_id = last.made;
@@ -251,10 +194,6 @@ last_kept d a h is =
   where
     below : (q : ℕ) → q ≢ d.next_id - 1 → q < d.next_id → q < d.next_id - 1
     below q ne lt = omega arith
-
--- an array's word changes
-pub put_kept : (d : Directory) (id index : ℕ) (w : Word) (a : Array) → IsDirectory d → get d.arrays id ≡ Some a → IsDirectory (record { arrays = insert d.arrays id (with_word a index w); next_id = d.next_id })
-put_kept d id index w a h is = replace_kept d id a (with_word a index w) h is refl (length-set a.words index w)
 
 -- ---- a creation
 

@@ -17,8 +17,11 @@ none_long : {X : Type 0} (es : List X) → length es ≡ 0 → es ≡ []
 none_long [] e = refl
 none_long (x ∷ es) e = absurd (omega arith)
 
-no_words : word_count empty ≡ 0
-no_words = ap (λ es. sum_by (λ e. length e.1.words) es) (none_long (entries (empty {X = Array} {R = nat_cmp})) (sym (len-entries empty) ∙ len-empty nat_cmp Array))
+pub no_entries : entries (empty {X = Array} {R = nat_cmp}) ≡ []
+no_entries = none_long _ (sym (len-entries empty) ∙ len-empty nat_cmp Array)
+
+pub no_words : word_count empty ≡ 0
+no_words = rw no_entries refl
 
 none_some : {X : Type 0} (x : X) → None ≡ Some x → ⊥
 none_some x e = cc
@@ -26,23 +29,23 @@ none_some x e = cc
 pub not_there : {X : Type 0} (k : ℕ) (x : X) → get (empty {X = X} {R = nat_cmp}) k ≡ Some x → ⊥
 not_there {X} k x e = let none : get (empty {X = X} {R = nat_cmp}) k ≡ None = get-empty nat_cmp k in let same : None ≡ Some x = sym none ∙ e in none_some x same
 
+pub empty_directory : (next_id : ℕ) → 1 ≤ next_id → IsDirectory (record { arrays = empty; next_id = next_id })
+empty_directory next_id least = record {
+  next_id = least;
+  few_arrays = rw (len-empty nat_cmp Array) (omega arith);
+  each = λ id a e. absurd (not_there id a e);
+  names = λ i j a b p q same. absurd (not_there i a p);
+  words = rw no_words (omega arith);
+}
+
 pub empty_within : (place next_id : ℕ) → place < 2 ^ 63 → 1 ≤ next_id → next_id ≤ place + 1 → IsWithinLimits (record { arrays = empty; sessions = empty; next_id = next_id; place = place })
 empty_within place next_id fits least most = record {
   place = fits;
-  directory = record {
-    next_id = least;
-    few_arrays = rw (len-empty nat_cmp Array) (omega arith);
-    each = λ id a e. absurd (not_there id a e);
-    names = λ i j a b p q same. absurd (not_there i a p);
-    words = rw no_words (omega arith);
-  };
+  directory = empty_directory next_id least;
   next_id = most;
   few_sessions = rw (len-empty nat_cmp Session) (omega arith);
   each = λ session x e. absurd (not_there session x e);
 }
-
-no_entries : entries (empty {X = Array} {R = nat_cmp}) ≡ []
-no_entries = none_long _ (sym (len-entries empty) ∙ len-empty nat_cmp Array)
 
 -- a first array may come
 pub comes_first : (next_id id : ℕ) (name : List ℕ) (size : ℕ) (tag : Tag) → 1 ≤ id → id < next_id → is_plain name ≡ true → 1 ≤ size → size ≤ 65536 → MayCome (record { arrays = empty; next_id = next_id }) id (new_array name size tag)

@@ -26,17 +26,17 @@ use Rattle.fe_state.specs.declared.request.Request.{Request}
 use Rattle.fe_state.specs.declared.request.Request.TheVariants.{Create, Find, Remove, Access}
 
 -- what an array has to be depends on the id that comes next, and on no other array
-array_in : (d : Directory) (arrays : FinMap nat_cmp Array) (next_id id : ℕ) (a : Array) → d.next_id ≤ next_id → IsArray d id a → IsArray (record { arrays = arrays; next_id = next_id }) id a
-array_in d arrays next_id id a up h = record {
+pub array_in : (d : Directory) (arrays : FinMap nat_cmp Array) (next_id id : ℕ) (a : Array) → id < next_id → IsArray d id a → IsArray (record { arrays = arrays; next_id = next_id }) id a
+array_in d arrays next_id id a older h = record {
   made = h.made;
-  older = omega (arith, h.older);
+  older = older;
   name = h.name;
   some_words = h.some_words;
   few_words = h.few_words;
 }
 
 -- how many words an array has
-abbrev size_of : Array → ℕ
+abbrev pub size_of : Array → ℕ
 size_of a = length a.words
 
 removed_here : (m : FinMap nat_cmp Array) (k q : ℕ) (a : Array) → get (remove m k) q ≡ Some a → get m q ≡ Some a
@@ -63,7 +63,7 @@ pub remove_kept : (d : Directory) (id : ℕ) → IsDirectory d → IsDirectory (
 remove_kept d id h = record {
   next_id = h.next_id;
   few_arrays = grind (arith, len-remove nat_cmp_total d.arrays id, h.few_arrays);
-  each = λ q a e. array_in d _ _ q a (omega arith) (h.each q a (removed_here d.arrays id q a e));
+  each = λ q a e. let k = h.each q a (removed_here d.arrays id q a e) in array_in d _ _ q a k.older k;
   names = λ i j a b p q same. h.names i j a b (removed_here d.arrays id i a p) (removed_here d.arrays id j b q) same;
   words = omega (arith, total_after_removal d.arrays id, h.words);
 }
@@ -116,7 +116,7 @@ operated_kept d id index None h = h
 operated_kept d id index (Some after) h = put_word_kept d id index after.0 (get d.arrays id) h refl
 
 -- what has no name among the entries is named otherwise
-unnamed : (name : List ℕ) (es : List (ℕ × Array)) (q : ℕ) (a : Array) → find (λ e. bytes_eq e.1.name name) es ≡ None → map.find nat_cmp q es ≡ Some a → a.name ≢ name
+pub unnamed : (name : List ℕ) (es : List (ℕ × Array)) (q : ℕ) (a : Array) → find (λ e. bytes_eq e.1.name name) es ≡ None → map.find nat_cmp q es ≡ Some a → a.name ≢ name
 unnamed name [] q a none here same = cc
 unnamed name (e ∷ es) q a none here same = by (bytes_eq e.1.name name) (eq_by_cmp nat_cmp q e.0) refl none here (λ n f. unnamed name es q a n f same)
   where
@@ -204,7 +204,7 @@ create_kept d name size tag h c = record {
     each q a e =
         elim (before q a e) [
           | inl new ↦ rw (new.0, new.1) new_one
-          | inr old ↦ array_in d _ _ q a (omega arith) (h.each q a old)
+          | inr old ↦ let k = h.each q a old in array_in d _ _ q a (omega (arith, k.older)) k
         ]
 
     other_name : (q : ℕ) (a : Array) → get d.arrays q ≡ Some a → a.name ≢ name

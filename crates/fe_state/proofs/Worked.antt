@@ -4,17 +4,11 @@ use Rattle.std.specs.Prelude.{codes}
 use Rattle.std.specs.Ordering.{nat_cmp}
 use Rattle.std.specs.Cmp.{nat_cmp_total}
 use Rattle.std.specs.FinMap.{FinMap, empty, entries, get, insert, len, gets, get-entries, entries-insert, len-entries, len-empty, get-empty}
+use Rattle.fe_state.proofs.Empty.{no_entries}
 use Rattle.fe_state.proofs.Maps.{get_inserted, get_beside, get_removed, get_retained}
 use Rattle.fe_state.specs.Examples.{ExampleAnswers, ExampleEffects, ExampleEntries, cells, one_array, attached, no_array_a}
 use Rattle.fe_state.specs.Sessions.{Session}
 use Rattle.fe_state.specs.declared.array.Array.{Array}
-
-none_long : {X : Type 0} (es : List X) → length es ≡ 0 → es ≡ []
-none_long [] e = refl
-none_long (x ∷ es) e = absurd (omega arith)
-
-no_entries : entries (empty {X = Array} {R = nat_cmp}) ≡ []
-no_entries = none_long _ (sym (len-entries empty) ∙ len-empty nat_cmp Array)
 
 one_entry : entries one_array.arrays ≡ (1, cells) ∷ []
 one_entry = rw (entries-insert nat_cmp_total, no_entries) refl

@@ -1,5 +1,6 @@
 use Rattle.std.proofs.Common.{sym, arith}
-use Rattle.fe_state.proofs.DirectoryLemmas.{go_kept, go_words, gone_may_come, put_again, not_taken}
+use Rattle.fe_state.proofs.DirectoryLemmas.{go_words, gone_may_come, put_again, not_taken}
+use Rattle.fe_state.proofs.Limits.{remove_kept}
 use Rattle.fe_state.proofs.directory.Directory.remove.Goals as goal
 
 pub overflow_sub-self : goal.overflow_sub-self
@@ -8,7 +9,7 @@ overflow_sub-self c = omega (arith, go_words _ _ _ (sym c.in-Some.ensures.value)
 pub invariant_of-self : goal.invariant_of-self
 invariant_of-self c =
     let there = sym c.in-Some.ensures.value in
-    rw c.remove.ensures.removed (go_kept _ _ _ c.self.invariant.0 there, omega (arith, go_words _ _ _ there, c.self.invariant.1, c.len.ensures))
+    rw c.remove.ensures.removed (remove_kept _ _ c.self.invariant.0, omega (arith, go_words _ _ _ there, c.self.invariant.1, c.len.ensures))
 
 pub returns-in-Some-clause-undoable : goal.returns-in-Some-clause-undoable
 returns-in-Some-clause-undoable c = rw c.remove.ensures.removed (gone_may_come _ _ _ c.self.invariant.0 (sym c.in-Some.ensures.value))
