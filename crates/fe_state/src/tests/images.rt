@@ -1,0 +1,50 @@
+use super::undo::check_same;
+use super::*;
+use fe_words::Word;
+
+/// Keeps an answer for the number 6 of session 7, whose floor is 5.
+fn keep_done(rt: &impl Abort, state: &mut State) {
+    let _named: Option<Request> = None;
+    let request = Request::Remove { array: 1 };
+    let kept = Kept {
+        request,
+        answer: Answer::Done,
+        place: 9,
+    };
+    assert_eq!(rt; state.floor(7), Some(5));
+    assert!(rt; 9 < state.place());
+    state.load_kept(7, 6, kept);
+}
+
+fn check_loaded(rt: &impl Abort, state: &State) {
+    assert_eq!(rt; state.array_at(0), Some((2, name(rt, b"cells"), 2)));
+    for (index, value) in [(0, Some(0)), (1, Some(9)), (2, None)] {
+        assert_eq!(rt; state.word(2, index).map(|word| word.value), value);
+    }
+    assert_eq!(rt; state.session_at(0), Some(7));
+    assert_eq!(rt; state.floor(7), Some(5));
+    for number in 0..40 {
+        assert_eq!(rt; state.kept(7, number).is_some(), number == 6);
+    }
+}
+
+#[test]
+fn loads(rt: HostRuntime) -> Result<(), Fail> {
+    let _named: Option<Request> = None;
+    let mut state = State::starting(rt.alloc(), 10, 3)?;
+    state.load_session(7, 5);
+    let cells = name(&rt, b"cells");
+    assert!(rt; cells.is_plain());
+    state.load_array(2, cells, 2)?;
+    let word = Word {
+        value: 9,
+        tag: Tag::Full,
+    };
+    assert!(rt; state.word(2, 1).is_some());
+    state.load_word(2, 1, word);
+    keep_done(&rt, &mut state);
+    check_loaded(&rt, &state);
+    let copy = state.copy()?;
+    check_same(&rt, &copy, &state);
+    Ok(())
+}
