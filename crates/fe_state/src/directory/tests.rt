@@ -1,5 +1,6 @@
 use super::*;
 use std::process::Abort;
+use std::test::Fail;
 
 fn name(rt: &impl Abort, bytes: &[u8]) -> Name {
     Name::new(bytes).expect(rt, "a name")
@@ -21,23 +22,29 @@ fn access(index: u32, op: Op) -> Request {
     }
 }
 
-fn perform(rt: &impl Abort, directory: &mut Directory, request: Request) {
+fn perform(rt: &impl Abort, directory: &mut Directory, request: Request) -> Result<(), AllocError> {
     assert!(rt; directory.next_id() < 9223372036854775808);
-    let _ = directory.perform(request).expect(rt, "memory");
+    let _ = directory.perform(request)?;
+    Ok(())
 }
 
-fn perform_and_restore(rt: &impl Abort, directory: &mut Directory, request: Request) {
+fn perform_and_restore(
+    rt: &impl Abort,
+    directory: &mut Directory,
+    request: Request,
+) -> Result<(), AllocError> {
     assert!(rt; directory.next_id() < 9223372036854775808);
-    let change = directory.perform(request).expect(rt, "memory");
+    let change = directory.perform(request)?;
     directory.restore(change);
+    Ok(())
 }
 
 /// One array, `cells`, of two empty words.
-fn cells(rt: &impl Abort, alloc: Global) -> Directory {
-    let mut directory = Directory::new(alloc).expect(rt, "memory");
+fn cells(rt: &impl Abort, alloc: Global) -> Result<Directory, AllocError> {
+    let mut directory = Directory::new(alloc)?;
     let request = create(rt, b"cells", 2, Tag::Empty);
-    perform(rt, &mut directory, request);
-    directory
+    perform(rt, &mut directory, request)?;
+    Ok(directory)
 }
 
 fn check_cells(rt: &impl Abort, directory: &Directory) {
@@ -54,8 +61,8 @@ fn check_cells(rt: &impl Abort, directory: &Directory) {
 }
 
 #[test]
-fn changes_and_the_way_back(rt: HostRuntime) {
-    let mut directory = cells(&rt, rt.alloc());
+fn changes_and_the_way_back(rt: HostRuntime) -> Result<(), Fail> {
+    let mut directory = cells(&rt, rt.alloc())?;
     let requests = [
         create(&rt, b"w", 3, Tag::Full),
         create(&rt, b"cells", 3, Tag::Full),
@@ -69,22 +76,29 @@ fn changes_and_the_way_back(rt: HostRuntime) {
         access(2, Op::ReadFe),
     ];
     for request in requests {
-        perform_and_restore(&rt, &mut directory, request);
+        perform_and_restore(&rt, &mut directory, request)?;
         check_cells(&rt, &directory);
     }
-    perform(&rt, &mut directory, access(0, Op::WriteEf(42)));
+    perform(&rt, &mut directory, access(0, Op::WriteEf(42)))?;
     let written = Word {
         value: 42,
         tag: Tag::Full,
     };
     assert_eq!(rt; directory.word(1, 0), Some(written));
-    perform(&rt, &mut directory, Request::Remove { array: 1 });
+    perform(&rt, &mut directory, Request::Remove { array: 1 })?;
     assert_eq!(rt; directory.array_at(0), None);
     assert_eq!(rt; directory.next_id(), 2);
+    Ok(())
 }
 
 /// Loads an array, where a request could create one and the id is free.
-fn load(rt: &impl Abort, directory: &mut Directory, id: u64, name: Name, length: u32) {
+fn load(
+    rt: &impl Abort,
+    directory: &mut Directory,
+    id: u64,
+    name: Name,
+    length: u32,
+) -> Result<(), AllocError> {
     let Some(Answer::NoArray) = directory.answer_to(&Request::Remove { array: id }) else {
         panic!(rt; "the id is taken");
     };
@@ -95,14 +109,14 @@ fn load(rt: &impl Abort, directory: &mut Directory, id: u64, name: Name, length:
     else {
         panic!(rt; "no array may come");
     };
-    directory.load_array(id, name, length).expect(rt, "memory");
+    directory.load_array(id, name, length)
 }
 
 #[test]
-fn loads_and_copies(rt: HostRuntime) {
-    let mut directory = Directory::starting(rt.alloc(), 9).expect(&rt, "memory");
+fn loads_and_copies(rt: HostRuntime) -> Result<(), Fail> {
+    let mut directory = Directory::starting(rt.alloc(), 9)?;
     let cells = name(&rt, b"cells");
-    load(&rt, &mut directory, 4, cells, 2);
+    load(&rt, &mut directory, 4, cells, 2)?;
     let word = Word {
         value: 5,
         tag: Tag::Full,
@@ -110,8 +124,8 @@ fn loads_and_copies(rt: HostRuntime) {
     if directory.word(4, 1).is_some() {
         directory.load_word(4, 1, word);
     }
-    let copy = directory.copied(rt.alloc()).expect(&rt, "memory");
-    perform(&rt, &mut directory, Request::Remove { array: 4 });
+    let copy = directory.copied(rt.alloc())?;
+    perform(&rt, &mut directory, Request::Remove { array: 4 })?;
     assert_eq!(rt; copy.array_at(0), Some((4, cells, 2)));
     assert_eq!(rt;
         copy.word(4, 0),
@@ -122,4 +136,5 @@ fn loads_and_copies(rt: HostRuntime) {
     );
     assert_eq!(rt; copy.word(4, 1), Some(word));
     assert_eq!(rt; copy.next_id(), 9);
+    Ok(())
 }

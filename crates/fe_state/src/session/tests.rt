@@ -1,6 +1,7 @@
 use super::*;
 use crate::answer::Answer;
 use crate::request::Request;
+use std::process::Abort;
 
 const LAST_FLOOR: u64 = 9_223_372_036_854_775_776;
 
@@ -88,6 +89,21 @@ fn forgets_one(rt: HostRuntime) {
     assert_eq!(rt; session.kept(4), None);
 }
 
+// Keeps all 32 answers from the floor on, and raises it, which has to leave so many.
+fn check_raise(rt: &impl Abort, floor: u64, raised: u64, left: u64) {
+    assert!(rt; floor >= 1 && floor <= raised && raised <= LAST_FLOOR && raised - floor <= 32);
+    let mut session = Session::starting(floor);
+    keep_all(&mut session, floor);
+    assert_eq!(rt; kept_from(&session, floor), 32);
+    let before = session.copied();
+    assert!(rt; session.floor() <= raised && raised - session.floor() <= 32);
+    session.raise(raised);
+    assert_eq!(rt; kept_from(&session, floor), left);
+    assert_eq!(rt; kept_from(&session, raised), left);
+    assert_eq!(rt; before.floor(), floor);
+    assert_eq!(rt; kept_from(&before, floor), 32);
+}
+
 #[test]
 fn whole_windows(rt: HostRuntime) {
     for (floor, raised, left) in [
@@ -97,16 +113,6 @@ fn whole_windows(rt: HostRuntime) {
         (1, 33, 0),
         (LAST_FLOOR - 7, LAST_FLOOR, 25),
     ] {
-        assert!(rt; floor >= 1 && floor <= raised && raised <= LAST_FLOOR && raised - floor <= 32);
-        let mut session = Session::starting(floor);
-        keep_all(&mut session, floor);
-        assert_eq!(rt; kept_from(&session, floor), 32);
-        let before = session.copied();
-        assert!(rt; session.floor() <= raised && raised - session.floor() <= 32);
-        session.raise(raised);
-        assert_eq!(rt; kept_from(&session, floor), left);
-        assert_eq!(rt; kept_from(&session, raised), left);
-        assert_eq!(rt; before.floor(), floor);
-        assert_eq!(rt; kept_from(&before, floor), 32);
+        check_raise(&rt, floor, raised, left);
     }
 }
