@@ -112,29 +112,33 @@ fn load(
     directory.load_array(id, name, length)
 }
 
+/// The array 4, `cells`, of two words, the second of them this one; the next id is 9.
+fn loaded(rt: &impl Abort, alloc: Global, word: Word) -> Result<Directory, AllocError> {
+    let mut directory = Directory::starting(alloc, 9)?;
+    let cells = name(rt, b"cells");
+    load(rt, &mut directory, 4, cells, 2)?;
+    assert!(rt; directory.word(4, 1).is_some());
+    directory.load_word(4, 1, word);
+    Ok(directory)
+}
+
 #[test]
 fn loads_and_copies(rt: HostRuntime) -> Result<(), Fail> {
-    let mut directory = Directory::starting(rt.alloc(), 9)?;
-    let cells = name(&rt, b"cells");
-    load(&rt, &mut directory, 4, cells, 2)?;
-    let word = Word {
+    let empty = Word {
+        value: 0,
+        tag: Tag::Empty,
+    };
+    let full = Word {
         value: 5,
         tag: Tag::Full,
     };
-    if directory.word(4, 1).is_some() {
-        directory.load_word(4, 1, word);
-    }
+    let mut directory = loaded(&rt, rt.alloc(), full)?;
     let copy = directory.copied(rt.alloc())?;
     perform(&rt, &mut directory, Request::Remove { array: 4 })?;
-    assert_eq!(rt; copy.array_at(0), Some((4, cells, 2)));
-    assert_eq!(rt;
-        copy.word(4, 0),
-        Some(Word {
-            value: 0,
-            tag: Tag::Empty
-        })
-    );
-    assert_eq!(rt; copy.word(4, 1), Some(word));
+    assert_eq!(rt; copy.array_at(0), Some((4, name(&rt, b"cells"), 2)));
+    for (index, word) in [(0, Some(empty)), (1, Some(full)), (2, None)] {
+        assert_eq!(rt; copy.word(4, index), word);
+    }
     assert_eq!(rt; copy.next_id(), 9);
     Ok(())
 }

@@ -2,6 +2,16 @@ use super::undo::check_same;
 use super::*;
 use fe_words::Word;
 
+/// Fills the second word of the array 2.
+fn fill(rt: &impl Abort, state: &mut State) {
+    let word = Word {
+        value: 9,
+        tag: Tag::Full,
+    };
+    assert!(rt; state.word(2, 1).is_some());
+    state.load_word(2, 1, word);
+}
+
 /// Keeps an answer for the number 6 of session 7, whose floor is 5.
 fn keep_done(rt: &impl Abort, state: &mut State) {
     let _named: Option<Request> = None;
@@ -28,6 +38,12 @@ fn check_loaded(rt: &impl Abort, state: &State) {
     }
 }
 
+fn check_copy(rt: &impl Abort, state: &State) -> Result<(), AllocError> {
+    let copy = state.copy()?;
+    check_same(rt, &copy, state);
+    Ok(())
+}
+
 #[test]
 fn loads(rt: HostRuntime) -> Result<(), Fail> {
     let _named: Option<Request> = None;
@@ -36,15 +52,9 @@ fn loads(rt: HostRuntime) -> Result<(), Fail> {
     let cells = name(&rt, b"cells");
     assert!(rt; cells.is_plain());
     state.load_array(2, cells, 2)?;
-    let word = Word {
-        value: 9,
-        tag: Tag::Full,
-    };
-    assert!(rt; state.word(2, 1).is_some());
-    state.load_word(2, 1, word);
+    fill(&rt, &mut state);
     keep_done(&rt, &mut state);
     check_loaded(&rt, &state);
-    let copy = state.copy()?;
-    check_same(&rt, &copy, &state);
+    check_copy(&rt, &state)?;
     Ok(())
 }
