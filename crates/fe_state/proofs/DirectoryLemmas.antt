@@ -2,7 +2,7 @@
 use Rattle.std.proofs.Common.{◌≡◌, ◌≢◌, ℕ, ◌+◌, ◌-◌, ◌<◌, ◌≤◌, ◌⊎◌, inl, inr, Option, Some, None, Bool, true, false, T, cond, List, [], ◌∷◌, length, refl, sym, ap, ◌∙◌, arith, length-set, zero, suc, set, drop, add-one}
 use Rattle.std.specs.Prelude.{IsSome, is_some, ◌&&◌, slice_get}
 use Rattle.std.specs.Option.{option_map}
-use Rattle.std.specs.Ordering.{nat_cmp, eq_by_cmp, is_eq, is_lt}
+use Rattle.std.specs.Ordering.{nat_cmp, is_eq, is_lt}
 use Rattle.std.specs.declared.cmp.Ordering.{Ordering}
 use Rattle.std.specs.declared.cmp.Ordering.TheVariants.{Less, Equal, Greater}
 use Rattle.std.specs.Cmp.{nat_cmp_total, nat_cmp_is}
@@ -10,7 +10,7 @@ use Rattle.std.proofs.lemmas.Cmp.{ranked}
 use Rattle.std.specs.List.{find}
 use Rattle.std.specs.Str.{bytes_eq}
 use Rattle.std.specs.FinMap as map
-use Rattle.std.specs.FinMap.{FinMap, empty, entries, entries_sorted, get, insert, remove, is_sorted, get-entries, len-entries, len-empty, get-empty, same_map, nat_cmp-IsAntisymmetric, len-insert, len-remove}
+use Rattle.std.specs.FinMap.{FinMap, empty, entries, entries_sorted, get, insert, remove, is_sorted, get-entries, same_map, nat_cmp-IsAntisymmetric, len-insert, len-remove}
 use Rattle.std.specs.FinMap.Entries.{below_all}
 use Rattle.std.proofs.lemmas.Slice.Eq.{bytes_eq-Decides}
 use Rattle.std.proofs.Math.Seq.{drop-nil}

@@ -1,9 +1,8 @@
 -- What an image holds, put into a state, keeps it within the limits.
-use Rattle.std.proofs.Common.{◌≡◌, ℕ, ◌+◌, ◌-◌, ◌^◌, ◌<◌, ◌≤◌, Option, Some, None, refl, ap, arith}
+use Rattle.std.proofs.Common.{◌≡◌, ℕ, ◌-◌, ◌^◌, ◌<◌, ◌≤◌, Some, None, ap, arith}
 use Rattle.std.specs.Prelude.{is_some}
-use Rattle.std.specs.Ordering.{nat_cmp}
 use Rattle.std.specs.Cmp.{nat_cmp_total}
-use Rattle.std.specs.FinMap.{FinMap, get, insert, empty, len, len-insert}
+use Rattle.std.specs.FinMap.{get, insert, empty, len, len-insert}
 use Rattle.fe_state.proofs.Empty.{not_there}
 use Rattle.fe_state.proofs.LegalLimits.{insert_each, keeping_within}
 use Rattle.fe_state.specs.Directory.{Directory, IsDirectory}

@@ -1,15 +1,14 @@
 -- A session that is put back is as it was.
-use Rattle.std.proofs.Common.{◌≡◌, ◌≢◌, ℕ, ◌+◌, ◌-◌, ◌<◌, ◌≤◌, Option, Some, None, false, inl, inr, refl, sym, ap, ◌∙◌, arith}
-use Rattle.std.specs.Prelude.{IsSome, IsSomeAnd, is_some}
+use Rattle.std.proofs.Common.{◌≡◌, ℕ, ◌+◌, ◌-◌, ◌<◌, ◌≤◌, Option, Some, None, false, inl, inr, refl, sym, ap, ◌∙◌, arith}
+use Rattle.std.specs.Prelude.{IsSomeAnd, is_some}
 use Rattle.std.specs.Option.{option_map, option_copied}
 use Rattle.std.specs.Borrow.{Bor}
 use Rattle.std.specs.Ordering.{nat_cmp}
 use Rattle.std.specs.Cmp.{nat_cmp_total}
-use Rattle.std.specs.FinMap.{FinMap, get, insert, remove, len, contains_key, same_map, nat_cmp-IsAntisymmetric, len-remove, len-insert}
+use Rattle.std.specs.FinMap.{FinMap, get, insert, remove, len, same_map, nat_cmp-IsAntisymmetric, len-remove, len-insert}
 use Rattle.fe_state.proofs.Maps.{get_inserted, get_beside, get_removed, get_left, same_or_other}
-use Rattle.fe_state.specs.Sessions.{Session, raised, keeping, put_session}
-use Rattle.fe_state.specs.SessionEffect.{IsUsable}
-use Rattle.fe_state.specs.Undo.{put_back, forgetting, CanPutBack}
+use Rattle.fe_state.specs.Sessions.{Session, keeping, put_session}
+use Rattle.fe_state.specs.Undo.{put_back, forgetting}
 use Rattle.fe_state.specs.declared.kept.Kept.{Kept}
 use Rattle.fe_state.specs.declared.undo.SessionChange.TheVariants as change
 

@@ -1,14 +1,12 @@
 -- The worked examples, each computed from what a finite map has after a change.
-use Rattle.std.proofs.Common.{◌≡◌, ℕ, List, [], ◌∷◌, length, Option, Some, None, refl, sym, ap, ◌∙◌, arith, rules}
-use Rattle.std.specs.Prelude.{codes}
+use Rattle.std.proofs.Common.{◌≡◌, [], ◌∷◌, refl}
 use Rattle.std.specs.Ordering.{nat_cmp}
 use Rattle.std.specs.Cmp.{nat_cmp_total}
-use Rattle.std.specs.FinMap.{FinMap, empty, entries, get, insert, len, gets, get-entries, entries-insert, len-entries, len-empty, get-empty}
+use Rattle.std.specs.FinMap.{entries, get-entries, entries-insert, len-entries, get-empty}
 use Rattle.fe_state.proofs.Empty.{no_entries}
-use Rattle.fe_state.proofs.Maps.{get_inserted, get_beside, get_removed, get_retained}
-use Rattle.fe_state.specs.Examples.{ExampleAnswers, ExampleEffects, ExampleEntries, cells, one_array, attached, no_array_a}
+use Rattle.fe_state.proofs.Maps.{get_inserted, get_removed, get_retained}
+use Rattle.fe_state.specs.Examples.{ExampleAnswers, ExampleEffects, ExampleEntries, cells, one_array}
 use Rattle.fe_state.specs.Sessions.{Session}
-use Rattle.fe_state.specs.declared.array.Array.{Array}
 
 one_entry : entries one_array.arrays ≡ (1, cells) ∷ []
 one_entry = rw (entries-insert nat_cmp_total, no_entries) refl

@@ -1,14 +1,13 @@
 -- Worked examples of the definitions, computed by the checker.
-use Rattle.std.specs.Prelude.{◌≡◌, ◌<◌, ◌≤◌, ℕ, ◌+◌, List, [], ◌∷◌, length, Option, Some, None, codes}
-use Rattle.std.specs.Ordering.{nat_cmp}
-use Rattle.std.specs.FinMap.{FinMap, empty, get, insert, len}
+use Rattle.std.specs.Prelude.{◌≡◌, List, [], ◌∷◌, Some, None, codes}
+use Rattle.std.specs.FinMap.{empty, get, insert, len}
 use Rattle.fe_words.specs.Table.{word}
 use Rattle.fe_words.specs.declared.word.Word.{Word}
 use Rattle.fe_words.specs.declared.word.Tag.TheVariants.{Full, Empty}
-use Rattle.fe_words.specs.declared.op.Op.TheVariants.{ReadFe, ReadXx, WriteEf, Purge}
-use Rattle.fe_state.specs.Directory.{Directory, named, word_count, answer_in}
+use Rattle.fe_words.specs.declared.op.Op.TheVariants.{ReadFe, ReadXx, WriteEf}
+use Rattle.fe_state.specs.Directory.{Directory, named, answer_in}
 use Rattle.fe_state.specs.Effect.{performed}
-use Rattle.fe_state.specs.Sessions.{Session, first_session, raised, keeping}
+use Rattle.fe_state.specs.Sessions.{first_session, raised, keeping}
 use Rattle.fe_state.specs.State.{ServerState, first_state, after}
 use Rattle.fe_state.specs.declared.array.Array.{Array}
 use Rattle.fe_state.specs.declared.kept.Kept.{Kept}

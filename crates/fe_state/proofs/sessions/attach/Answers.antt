@@ -1,5 +1,4 @@
-use Rattle.std.proofs.Common.{◌≡◌, Option, Some, None, is_some, false, refl, sym, ◌∙◌}
-use Rattle.std.specs.FinMap.{get}
+use Rattle.std.proofs.Common.{sym, ◌∙◌}
 use Rattle.fe_state.proofs.Undone.{remove-insert, none_of}
 use Rattle.fe_state.proofs.sessions.attach.Goals as goal
 

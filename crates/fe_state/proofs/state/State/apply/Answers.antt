@@ -1,4 +1,3 @@
-use Rattle.std.proofs.Common.{subst}
 use Rattle.fe_state.specs.State.{ServerState, IsLegal}
 use Rattle.fe_state.proofs.LegalLimits.{limits_kept}
 use Rattle.fe_state.proofs.state.State.apply.Goals as goal

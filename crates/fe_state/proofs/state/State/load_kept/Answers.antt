@@ -1,4 +1,3 @@
-use Rattle.std.proofs.Common.{◌<◌}
 use Rattle.fe_state.specs.Sessions.{IsInWindow}
 use Rattle.fe_state.specs.State.{ServerState}
 use Rattle.fe_state.proofs.Undone.{at_some}

@@ -1,4 +1,3 @@
-use Rattle.std.proofs.Common.{◌≤◌, ◌-◌, ◌^◌, arith}
 use Rattle.fe_state.specs.State.{ServerState}
 use Rattle.fe_state.proofs.Loads.{session_within, nothing_kept}
 use Rattle.fe_state.proofs.state.State.load_session.Goals as goal
