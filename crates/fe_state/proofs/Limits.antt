@@ -229,13 +229,14 @@ created_kept d name size tag answer.ArrayLimit e h = h
 created_kept d name size tag answer.WordLimit e h = h
 created_kept d name size tag answer.BadName e h = h
 created_kept d name size tag answer.BadLength e h = h
+created_kept d name size tag answer.NotNow e h = h
 
 -- each request keeps a directory within the limits
 pub performed_kept : (d : Directory) (request : Request) → IsDirectory d → IsDirectory (performed d request)
 performed_kept d (Create name size tag) h = created_kept d name size tag (creation d name size) refl h
 performed_kept d (Find name) h = h
 performed_kept d (Remove id) h = remove_kept d id h
-performed_kept d (Access id index op) h = operated_kept d id index _ h
+performed_kept d (Access id index op no_wait) h = operated_kept d id index _ h
 
 -- and gives out one id at the most
 created_next : (d : Directory) (name : List ℕ) (size : ℕ) (tag : Tag) (given : Answer) → (created d name size tag given).next_id ≤ d.next_id + 1
@@ -249,9 +250,10 @@ created_next d name size tag answer.ArrayLimit = omega arith
 created_next d name size tag answer.WordLimit = omega arith
 created_next d name size tag answer.BadName = omega arith
 created_next d name size tag answer.BadLength = omega arith
+created_next d name size tag answer.NotNow = omega arith
 
 pub performed_next : (d : Directory) (request : Request) → (performed d request).next_id ≤ d.next_id + 1
 performed_next d (Create name size tag) = created_next d name size tag (creation d name size)
 performed_next d (Find name) = omega arith
 performed_next d (Remove id) = omega arith
-performed_next d (Access id index op) = omega arith
+performed_next d (Access id index op no_wait) = omega arith

@@ -16,6 +16,8 @@ answers = record {
   value = simp (get-entries, one_entry);
   done = simp (get-entries, one_entry);
   waits = simp (get-entries, one_entry);
+  not_now = simp (get-entries, one_entry);
+  now = simp (get-entries, one_entry);
   made = simp (len-entries, one_entry);
   found = simp one_entry;
   removed = simp (get-entries, one_entry);
@@ -34,6 +36,7 @@ effects = record {
   written = simp (get-entries, one_entry);
   taken = simp (get-entries, one_entry);
   waiting = simp (get-entries, one_entry);
+  not_now = simp (get-entries, one_entry);
 }
 
 pub steps : ExampleEntries

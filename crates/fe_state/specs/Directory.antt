@@ -1,5 +1,5 @@
 -- The directory of arrays, what a request is answered in it, and what the request leaves.
-use Rattle.std.specs.Prelude.{◌≡◌, ℕ, ◌+◌, ◌≤◌, ◌<◌, refl, not, ◌&&◌, nat_le, nat_lt, if◌then◌else◌, List, length, find, slice_get, Option, Some, None, is_some, IsTrue}
+use Rattle.std.specs.Prelude.{◌≡◌, ℕ, Bool, ◌+◌, ◌≤◌, ◌<◌, refl, not, ◌&&◌, nat_le, nat_lt, if◌then◌else◌, List, length, find, slice_get, Option, Some, None, is_some, IsTrue}
 use Rattle.std.specs.Option.{option_map}
 use Rattle.std.specs.Ordering.{nat_cmp}
 use Rattle.std.specs.Str.{bytes_eq}
@@ -76,12 +76,17 @@ abbrev pub access : Option Array → ℕ → Op → Option Answer
 access None index op = Some answer.NoArray
 access (Some a) index op = accessed (slice_get a.words index) op
 
+-- an access that must not wait is answered at once where it would have to
+abbrev pub at_once : Bool → Option Answer → Option Answer
+at_once no_wait None = if no_wait then Some answer.NotNow else None
+at_once no_wait (Some a) = Some a
+
 -- what a request is answered; None where it has to wait
 abbrev pub answer_in : Directory → Request → Option Answer
 answer_in d (Create name size tag) = Some (creation d name size)
 answer_in d (Find name) = Some (if not (is_plain name) then answer.BadName else found (named d.arrays name))
 answer_in d (Remove id) = Some (if contains_key d.arrays id then answer.Done else answer.NoArray)
-answer_in d (Access id index op) = access (get d.arrays id) index op
+answer_in d (Access id index op no_wait) = at_once no_wait (access (get d.arrays id) index op)
 
 -- an array that a directory may hold under an id
 pub record IsArray (d : Directory) (id : ℕ) (a : Array) : Type 0 where

@@ -4,6 +4,7 @@ use Rattle.std.specs.Ordering.{nat_cmp}
 use Rattle.std.specs.FinMap.{FinMap, get, insert, remove}
 use Rattle.fe_words.specs.Table.{word, table}
 use Rattle.fe_words.specs.declared.word.Word.{Word}
+use Rattle.fe_words.specs.declared.op.Op.{Op}
 use Rattle.fe_words.specs.declared.word.Tag.{Tag}
 use Rattle.fe_words.specs.declared.word.Reply.{Reply}
 use Rattle.fe_state.specs.Directory.{Directory, creation, word_in}
@@ -37,13 +38,17 @@ abbrev pub operated : FinMap nat_cmp Array → ℕ → ℕ → Option (Word × R
 operated arrays id index None = arrays
 operated arrays id index (Some after) = put_word arrays id index after.0 (get arrays id)
 
+-- an access leaves the word that the operation table says, whether it may wait or not
+abbrev pub operated_on : Directory → ℕ → ℕ → Op → Directory
+operated_on d id index op =
+    record { arrays = operated d.arrays id index (option_and_then (table op) (word_in (get d.arrays id) index)); next_id = d.next_id }
+
 -- the directory after a request
 abbrev pub performed : Directory → Request → Directory
 performed d (Create name size tag) = created d name size tag (creation d name size)
 performed d (Find name) = d
 performed d (Remove id) = record { arrays = remove d.arrays id; next_id = d.next_id }
-performed d (Access id index op) =
-    record { arrays = operated d.arrays id index (option_and_then (table op) (word_in (get d.arrays id) index)); next_id = d.next_id }
+performed d (Access id index op no_wait) = operated_on d id index op
 
 -- an answer that is a new array
 abbrev pub IsNewArray : Answer → Type 0

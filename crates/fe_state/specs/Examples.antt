@@ -1,5 +1,5 @@
 -- Worked examples of the definitions, computed by the checker.
-use Rattle.std.specs.Prelude.{◌≡◌, List, [], ◌∷◌, Some, None, codes}
+use Rattle.std.specs.Prelude.{◌≡◌, List, [], ◌∷◌, Some, None, true, false, codes}
 use Rattle.std.specs.FinMap.{empty, get, insert, len}
 use Rattle.fe_words.specs.Table.{word}
 use Rattle.fe_words.specs.declared.word.Word.{Word}
@@ -29,14 +29,16 @@ one_array = record { arrays = insert empty 1 cells; next_id = 2 }
 
 -- each answer, and an access that waits
 pub record ExampleAnswers : Type 0 where
-  pub value : answer_in one_array (Access 1 1 ReadFe) ≡ Some (answer.Value 5)
-  pub done : answer_in one_array (Access 1 0 (WriteEf 42)) ≡ Some answer.Done
-  pub waits : answer_in one_array (Access 1 0 ReadFe) ≡ None
+  pub value : answer_in one_array (Access 1 1 ReadFe false) ≡ Some (answer.Value 5)
+  pub done : answer_in one_array (Access 1 0 (WriteEf 42) false) ≡ Some answer.Done
+  pub waits : answer_in one_array (Access 1 0 ReadFe false) ≡ None
+  pub not_now : answer_in one_array (Access 1 0 ReadFe true) ≡ Some answer.NotNow
+  pub now : answer_in one_array (Access 1 1 ReadFe true) ≡ Some (answer.Value 5)
   pub made : answer_in one_array (Create (codes "w") 3 Full) ≡ Some (answer.Array 2 3)
   pub found : answer_in one_array (Find (codes "cells")) ≡ Some (answer.Array 1 2)
   pub removed : answer_in one_array (Remove 1) ≡ Some answer.Done
-  pub no_array : answer_in one_array (Access 2 0 ReadXx) ≡ Some answer.NoArray
-  pub bad_index : answer_in one_array (Access 1 2 ReadXx) ≡ Some answer.BadIndex
+  pub no_array : answer_in one_array (Access 2 0 ReadXx false) ≡ Some answer.NoArray
+  pub bad_index : answer_in one_array (Access 1 2 ReadXx false) ≡ Some answer.BadIndex
   pub bad_name : answer_in one_array (Create (codes "Cells") 1 Full) ≡ Some answer.BadName
   pub bad_length : answer_in one_array (Create (codes "w") 65537 Full) ≡ Some answer.BadLength
   pub name_taken : answer_in one_array (Create (codes "cells") 1 Full) ≡ Some answer.NameTaken
@@ -46,9 +48,10 @@ pub record ExampleAnswers : Type 0 where
 -- what requests leave of the directory
 pub record ExampleEffects : Type 0 where
   pub made : performed one_array (Create (codes "w") 1 Full) ≡ record { arrays = insert one_array.arrays 2 (record { name = codes "w"; words = word 0 Full ∷ [] }); next_id = 3 }
-  pub written : performed one_array (Access 1 0 (WriteEf 42)) ≡ record { arrays = insert one_array.arrays 1 (record { name = codes "cells"; words = word 42 Full ∷ word 5 Full ∷ [] }); next_id = 2 }
-  pub taken : performed one_array (Access 1 1 ReadFe) ≡ record { arrays = insert one_array.arrays 1 (record { name = codes "cells"; words = word 0 Empty ∷ word 5 Empty ∷ [] }); next_id = 2 }
-  pub waiting : performed one_array (Access 1 0 ReadFe) ≡ one_array
+  pub written : performed one_array (Access 1 0 (WriteEf 42) false) ≡ record { arrays = insert one_array.arrays 1 (record { name = codes "cells"; words = word 42 Full ∷ word 5 Full ∷ [] }); next_id = 2 }
+  pub taken : performed one_array (Access 1 1 ReadFe false) ≡ record { arrays = insert one_array.arrays 1 (record { name = codes "cells"; words = word 0 Empty ∷ word 5 Empty ∷ [] }); next_id = 2 }
+  pub waiting : performed one_array (Access 1 0 ReadFe false) ≡ one_array
+  pub not_now : performed one_array (Access 1 0 ReadFe true) ≡ one_array
 
 -- the state after session 7 is attached for the first time
 abbrev pub attached : ServerState

@@ -2,6 +2,7 @@ pub mod Change
 pub mod Directory
 pub mod Effect
 pub mod Examples
+pub mod Format
 pub mod History
 pub mod Name
 pub mod Padding

@@ -5,6 +5,6 @@ use Rattle.std.specs.List.{list_all}
 abbrev pub is_plain_byte : ℕ → Bool
 is_plain_byte b = (nat_le 97 b && nat_le b 122) || (nat_le 48 b && nat_le b 57) || b == 95
 
--- what an array may be named: 1 to 16 plain bytes
+-- what an array may be named: 1 to 32 plain bytes
 abbrev pub is_plain : List ℕ → Bool
-is_plain name = nat_le 1 (length name) && nat_le (length name) 16 && list_all is_plain_byte name
+is_plain name = nat_le 1 (length name) && nat_le (length name) 32 && list_all is_plain_byte name

@@ -7,7 +7,7 @@ abbrev pub padded : ℕ → List ℕ → List ℕ
 padded n bytes = bytes ++ replicate (n - length bytes) 0
 
 -- a front of the cells with zeros behind it gives the cells back
-pub padded-take : (n : ℕ) (cells : List ℕ) → (n ≤ 16) × (length cells ≡ 16) × (drop n cells ≡ replicate (16 - n) 0) → (length (take n cells) ≡ n) × (padded 16 (take n cells) ≡ cells)
+pub padded-take : (n : ℕ) (cells : List ℕ) → (n ≤ 32) × (length cells ≡ 32) × (drop n cells ≡ replicate (32 - n) 0) → (length (take n cells) ≡ n) × (padded 32 (take n cells) ≡ cells)
 padded-take n cells h =
     let long : length (take n cells) ≡ n = length-take-le n cells (omega (arith, h.0, h.1)) in
-    (long, ap (λ k. take n cells ++ replicate (16 - k) 0) long ∙ ap (λ r. take n cells ++ r) (sym h.2) ∙ take-append-drop n cells)
+    (long, ap (λ k. take n cells ++ replicate (32 - k) 0) long ∙ ap (λ r. take n cells ++ r) (sym h.2) ∙ take-append-drop n cells)

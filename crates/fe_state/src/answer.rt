@@ -16,8 +16,10 @@ pub enum Answer {
     ArrayLimit,
     /// All arrays together would have too many words.
     WordLimit,
-    /// The name is no name of 1 to 16 letters `a` to `z`, digits or underscores.
+    /// The name is no name of 1 to 32 letters `a` to `z`, digits or underscores.
     BadName,
     /// The length is not 1 to 65,536 words.
     BadLength,
+    /// The word is in the wrong state, and the request was not to wait.
+    NotNow,
 }

@@ -1,4 +1,6 @@
 ghost use Rattle.std.specs.Prelude.{◌≡◌, ◌+◌, ◌<◌, ◌≤◌, ◌↔◌, [], ◌∷◌, ◌++◌, length, IfOk, IsTrue};
+ghost use Rattle.std.specs.List.{list_all};
+ghost use Rattle.fe_state.specs.Format.{entry_fits_format_1};
 
 use crate::entry::Entry;
 use crate::request::Request;
@@ -84,6 +86,16 @@ impl Batch {
             first,
             entries: Entries::new(alloc)?,
         })
+    }
+
+    /// Whether store format 1 has a record for each entry.
+    pub fn fits_format_1(&self) -> bool
+        ensures { result ≡ list_all entry_fits_format_1 self.now.entries }
+    {
+        self.entries
+            .as_slice()
+            .iter()
+            .all(|entry| entry.fits_format_1())
     }
 
     /// Adds an entry at the end. It takes no memory.

@@ -3,8 +3,8 @@ ghost use Rattle.std.specs.Option.{option_map};
 ghost use Rattle.std.specs.Str.{bytes_eq};
 ghost use Rattle.std.specs.FinMap.{entries, get, insert, len, contains_key};
 ghost use Rattle.fe_words.specs.Table.{table};
-ghost use Rattle.fe_state.specs.Directory.{first_directory, named, creation, accessed, access, answer_of, answer_in, word_in};
-ghost use Rattle.fe_state.specs.Effect.{created, new_array, put_word, operated, performed, CreatesArray};
+ghost use Rattle.fe_state.specs.Directory.{first_directory, named, creation, accessed, access, at_once, answer_of, answer_in, word_in};
+ghost use Rattle.fe_state.specs.Effect.{created, new_array, put_word, operated_on, performed, CreatesArray};
 ghost use Rattle.fe_state.specs.Change.{restored, CanRestore, MayCome, shown};
 
 use crate::answer::Answer;
@@ -85,7 +85,12 @@ impl Directory {
             Request::Create { name, length, .. } => Some(self.creation(name, *length)),
             Request::Find { name } => Some(self.found(name)),
             Request::Remove { array } => Some(self.removal(*array)),
-            Request::Access { array, index, op } => self.access(*array, *index, *op),
+            Request::Access {
+                array,
+                index,
+                op,
+                no_wait,
+            } => at_once(*no_wait, self.access(*array, *index, *op)),
         }
     }
 
@@ -167,7 +172,12 @@ impl Directory {
             Request::Create { name, length, tag } => self.create(name, length, tag),
             Request::Find { .. } => Ok(Change::Nothing),
             Request::Remove { array } => Ok(self.remove(array)),
-            Request::Access { array, index, op } => Ok(self.operate(array, index, op)),
+            Request::Access {
+                array,
+                index,
+                op,
+                ..
+            } => Ok(self.operate(array, index, op)),
         }
     }
 
@@ -205,7 +215,7 @@ impl Directory {
     }
 
     fn operate(&mut self, id: u64, index: u32, op: Op) -> Change
-        ensures operated { self.new ≡ performed self.old (Request.Access id index op) }
+        ensures operated { self.new ≡ operated_on self.old id index op }
         ensures undoable { CanRestore result self.new }
         ensures undone { restored result self.new ≡ self.old }
     {
@@ -309,6 +319,15 @@ fn accessed(word: Option<Word>, op: Op) -> Option<Answer>
     match word {
         None => Some(Answer::BadIndex),
         Some(word) => op.rule(word).map(|after| answer_of(after.1)),
+    }
+}
+
+fn at_once(no_wait: bool, answer: Option<Answer>) -> Option<Answer>
+    ensures { result ≡ at_once no_wait answer }
+{
+    match (no_wait, answer) {
+        (true, None) => Some(Answer::NotNow),
+        (_, answer) => answer,
     }
 }
 

@@ -1,3 +1,6 @@
+ghost use Rattle.std.specs.Prelude.{◌≡◌};
+ghost use Rattle.fe_state.specs.Format.{request_fits_format_1, answer_fits_format_1, entry_fits_format_1};
+
 use crate::answer::Answer;
 use crate::request::Request;
 
@@ -25,4 +28,31 @@ pub enum Entry {
         request: Request,
         answer: Answer,
     },
+}
+
+impl Entry {
+    /// Whether store format 1 has a record for the entry. It has none for a request that must not
+    /// wait, the answer `NotNow`, or a name of more than 16 bytes.
+    pub fn fits_format_1(&self) -> bool
+        ensures { result ≡ entry_fits_format_1 self.now }
+    {
+        match self {
+            Entry::Finished {
+                request,
+                answer,
+                ..
+            } => request_fits(request) && *answer != Answer::NotNow,
+            _ => true,
+        }
+    }
+}
+
+fn request_fits(request: &Request) -> bool
+    ensures { result ≡ request_fits_format_1 request.now }
+{
+    match request {
+        Request::Create { name, .. } | Request::Find { name } => name.fits_format_1(),
+        Request::Remove { .. } => true,
+        Request::Access { no_wait, .. } => !*no_wait,
+    }
 }

@@ -1,13 +1,14 @@
 ghost use Rattle.std.specs.Prelude.{◌≡◌, ◌≤◌, ◌↔◌, length, IsSome, IfSome};
 ghost use Rattle.std.specs.List.{list_all};
+ghost use Rattle.fe_state.specs.Format.{name_fits_format_1};
 ghost use Rattle.fe_state.specs.Name.{is_plain, is_plain_byte};
 
 use std::marker::Model;
 
 /// How many bytes a name has at most.
-pub const NAME_BYTES: usize = 16;
+pub const NAME_BYTES: usize = 32;
 
-/// The name of an array as a client sent it: 0 to 16 bytes of any kind.
+/// The name of an array as a client sent it: 0 to 32 bytes of any kind.
 #[derive(Clone, Copy, Debug, PartialEq, Eq)]
 pub struct Name {
     len: u8,
@@ -22,9 +23,9 @@ impl Model for Name {
 
     ghost view = { λ a. take a.len a.cells };
 
-    ghost invariant = { λ a. (a.len ≤ 16) × (length a.cells ≡ 16) × (drop a.len a.cells ≡ replicate (16 - a.len) 0) };
+    ghost invariant = { λ a. (a.len ≤ 32) × (length a.cells ≡ 32) × (drop a.len a.cells ≡ replicate (32 - a.len) 0) };
 
-    ghost inverse = { λ bytes. record { len = length bytes; cells = padded 16 bytes } };
+    ghost inverse = { λ bytes. record { len = length bytes; cells = padded 32 bytes } };
 
     ghost inverse_ok = { λ a h i. record {
       len = (padded-take a.len a.cells h).0 i;
@@ -33,9 +34,9 @@ impl Model for Name {
 }
 
 impl Name {
-    /// The name of these bytes, or `None` where they are more than 16.
+    /// The name of these bytes, or `None` where they are more than 32.
     pub fn new(bytes: &[u8]) -> Option<Name>
-        ensures fits { IsSome result ↔ (length bytes.now ≤ 16) }
+        ensures fits { IsSome result ↔ (length bytes.now ≤ 32) }
         ensures value { IfSome result (λ name. name ≡ bytes.now) }
     {
         if bytes.len() > NAME_BYTES {
@@ -52,12 +53,19 @@ impl Name {
     /// The bytes as they were sent.
     pub fn bytes(&self) -> &[u8]
         ensures bytes { result.now ≡ self.now }
-        ensures length { length result.now ≤ 16 }
+        ensures length { length result.now ≤ 32 }
     {
         &self.cells[..usize::from(self.len)]
     }
 
-    /// Whether an array may have this name: 1 to 16 bytes, each of `a` to `z`, `0` to `9` or `_`.
+    /// Whether store format 1 has room for the name, which is so up to 16 bytes.
+    pub fn fits_format_1(&self) -> bool
+        ensures { result ≡ name_fits_format_1 self.now }
+    {
+        self.bytes().len() <= 16
+    }
+
+    /// Whether an array may have this name: 1 to 32 bytes, each of `a` to `z`, `0` to `9` or `_`.
     pub fn is_plain(&self) -> bool
         ensures { result ≡ is_plain self.now }
     {

@@ -5,11 +5,24 @@ use fe_words::{Op, Tag};
 #[derive(Clone, Copy, Debug, PartialEq, Eq)]
 pub enum Request {
     /// A new array of this many words, each of value 0 and with the tag.
-    Create { name: Name, length: u32, tag: Tag },
+    Create {
+        name: Name,
+        length: u32,
+        tag: Tag,
+    },
     /// The array of that name.
-    Find { name: Name },
+    Find {
+        name: Name,
+    },
     /// That the array be gone, with its words.
-    Remove { array: u64 },
-    /// An operation on one word.
-    Access { array: u64, index: u32, op: Op },
+    Remove {
+        array: u64,
+    },
+    /// An operation on one word. With `no_wait` it is answered `NotNow` where it would have to wait.
+    Access {
+        array: u64,
+        index: u32,
+        op: Op,
+        no_wait: bool,
+    },
 }
