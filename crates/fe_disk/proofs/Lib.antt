@@ -1,4 +1,3 @@
-mod Gates
 pub mod Images
 pub mod Moments
 mod Outcomes

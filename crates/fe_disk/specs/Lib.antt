@@ -5,4 +5,3 @@ pub mod Ranges
 pub mod Record
 pub mod MemoryFields
 pub mod Fuse
-pub mod Gate

@@ -9,6 +9,3 @@ mod record;
 pub use disk::{DeviceFault, Disk};
 pub use fuse::Fuse;
 pub use memory_disk::{MemoryDisk, Torn};
-
-#[cfg(test)]
-mod tests;

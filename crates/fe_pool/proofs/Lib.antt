@@ -9,4 +9,3 @@ pub mod PoolLemmas
 pub mod RelinkLemmas
 pub mod ReturnLemmas
 pub mod RunLemmas
-pub mod WalkLemmas

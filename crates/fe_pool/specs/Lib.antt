@@ -2,4 +2,3 @@ pub mod Columns
 pub mod Places
 pub mod Pool
 pub mod Runs
-pub mod Walk

@@ -1,9 +1,6 @@
 ghost use Rattle.std.specs.Prelude.{◌≡◌, ◌<◌, ◌+◌, ◌↔◌, ℕ, [], ◌∷◌, ◌++◌, length, replicate, slice_set, Some, None, Option, IfOk, IsNone, IfSome, IsSome, OnSome, IfNone, Contains};
 ghost use Rattle.fe_pool.specs.Pool.{item_at, IsTaken, IsFree, list_of, lists_of, without, IsChain, IsOn, IsOff, KeepsOtherChains, KeepsOtherNodes, KeepsOtherFamily, IsNext, IsSound};
 
-#[cfg(test)]
-mod tests;
-
 use crate::chain::Chain;
 use crate::family::Family;
 use crate::neighbours::Neighbours;

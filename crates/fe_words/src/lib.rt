@@ -6,6 +6,3 @@ mod word;
 
 pub use op::{Op, waits_where_unmet};
 pub use word::{Need, Reply, Tag, Word};
-
-#[cfg(test)]
-mod tests;

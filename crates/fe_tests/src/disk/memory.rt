@@ -1,6 +1,6 @@
 use super::plain::{Plain, SIZE};
 use super::{read, write};
-use crate::{Disk, MemoryDisk, Torn};
+use fe_disk::{Disk, MemoryDisk, Torn};
 use std::test::Fail;
 
 const TORN: [Torn; 4] = [Torn::Kept, Torn::Lost, Torn::Byte(0x01), Torn::Byte(0x37)];

@@ -1,4 +1,4 @@
-use crate::Torn;
+use fe_disk::Torn;
 
 pub const SIZE: usize = 16;
 

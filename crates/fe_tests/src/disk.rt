@@ -1,9 +1,9 @@
+//! What a stop leaves of a disk in memory, and a fuse at each call.
 mod fuse;
-mod gate;
 mod memory;
 mod plain;
 
-use crate::{DeviceFault, Disk};
+use fe_disk::{DeviceFault, Disk};
 use std::process::Abort;
 
 // Writes in the bytes of a disk that has them.
