@@ -1,14 +1,25 @@
-# `make run` runs the first schedule. `make test` is the gate: it proves every crate from nothing and runs every test.
-.PHONY: run test toolchain
+# `make run` proves the program and runs the first schedule. `make try` runs it before any proof. `make test` is the
+# gate: it proves every crate from nothing and runs every test.
+.PHONY: run try test toolchain
 
-run: toolchain
-	@echo "building femem; the first time this proves what it stands on, which takes some minutes"
-	@mkdir -p crates/femem/out
-	@cd crates/femem && rt run -- --help > out/build.log 2>&1 || { cat out/build.log >&2; exit 1; }
-	@echo "examples/first_path.txt:"
-	@cat examples/first_path.txt
+SCHEDULE := examples/first_path.txt
+PROGRAM := crates/femem/out/femem
+SOURCES := crates.txt $(shell find crates -name out -prune -o \( -name '*.rt' -o -name '*.antt' \) -print)
+
+run: $(PROGRAM)
+	@echo "$(SCHEDULE):"
+	@cat $(SCHEDULE)
 	@echo "its answers:"
-	@crates/femem/out/femem run < examples/first_path.txt
+	@$(PROGRAM) run < $(SCHEDULE)
+
+$(PROGRAM): $(SOURCES) | toolchain
+	@echo "the first time this proves all that femem stands on, which takes some minutes"
+	@scripts/prove femem
+	@touch $(PROGRAM)
+
+try: toolchain
+	@echo "this run proves nothing: 'make run' proves first"
+	@cd crates/femem && rt try -- run < ../../$(SCHEDULE)
 
 test: toolchain
 	@rt ci
