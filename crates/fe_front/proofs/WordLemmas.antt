@@ -64,4 +64,4 @@ pub performed_beside : (d : Directory) (request : Request) (a i : ℕ) → ¬ Is
 performed_beside d (Create name size tag) a i ne = ap (λ o. word_in o i) (created_beside d name size tag a ne)
 performed_beside d (Find name) a i ne = refl
 performed_beside d (Remove id) a i ne = ap (λ o. word_in o i) (removed_beside d.arrays id a ne)
-performed_beside d (Access id index op) a i ne = operated_beside d.arrays id index _ a i ne
+performed_beside d (Access id index op no_wait) a i ne = operated_beside d.arrays id index _ a i ne

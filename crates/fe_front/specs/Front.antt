@@ -133,7 +133,7 @@ finished f session number request answer =
 
 -- the requests that wait, with one more; only an operation on a word ever waits
 abbrev pub joined : List Waiting → ℕ → Request → List Waiting
-joined waiting number (Access array index op) =
+joined waiting number (Access array index op no_wait) =
     waiting ++ (record { number = number; array = array; index = index; op = op }) ∷ []
 joined waiting number _ = waiting
 

@@ -11,7 +11,7 @@ abbrev pub IsOwnWord : Directory → Request → ℕ → ℕ → Type 0
 IsOwnWord d (Create name size tag) a i = a ≡ d.next_id
 IsOwnWord d (Find name) a i = ⊥
 IsOwnWord d (Remove id) a i = a ≡ id
-IsOwnWord d (Access id index op) a i = (a ≡ id) × (i ≡ index)
+IsOwnWord d (Access id index op no_wait) a i = (a ≡ id) × (i ≡ index)
 
 -- every other word is as before
 abbrev pub KeepsOtherWords : Type 0

@@ -231,7 +231,13 @@ impl Front {
         ensures refusal { IfErr result (λ refusal. refusal ≡ Refusal.NoMemory) }
         ensures err { OnErr result (self.new ≡ self.old) }
     {
-        let Request::Access { array, index, op } = request else {
+        let Request::Access {
+            array,
+            index,
+            op,
+            ..
+        } = request
+        else {
             unreachable!();
         };
         let waiting = Waiting {

@@ -19,6 +19,3 @@ pub use mailbox::MAILS;
 pub use outcome::{Outcome, StrangeBatch};
 pub use refusal::Refusal;
 pub use report_text::{REPORT_BYTES, ReportText};
-
-#[cfg(test)]
-mod tests;

@@ -6,4 +6,6 @@
 #[cfg(test)]
 mod disk;
 #[cfg(test)]
+mod front;
+#[cfg(test)]
 mod words;

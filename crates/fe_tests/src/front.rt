@@ -1,6 +1,7 @@
+//! The front in its first form: want of memory, a full box, the names of refusals.
 ghost use Rattle.fe_front.specs.Front.{IsServed};
 
-use super::*;
+use fe_front::{Front, Mail, Outcome, Refusal, ReportText, other_words_stay};
 use fe_state::{Answer, Name, Request};
 use fe_words::{Op, Tag};
 use std::process::Abort;
@@ -45,6 +46,7 @@ fn access(index: u32, op: Op) -> Request
         array: 1,
         index,
         op,
+        no_wait: false,
     }
 }
 
@@ -89,79 +91,11 @@ fn answer(rt: &impl Abort, front: &mut Front) -> (u64, Answer, u64) {
     }
 }
 
-#[test]
-fn first_path(rt: HostRuntime) -> Result<(), Refusal> {
-    let done = Outcome::Completed { entries: 1 };
-    let mut front = Front::new(rt.alloc()).map_err(|_| Refusal::NoMemory)?;
-    front.connect(1)?;
-    assert_eq!(rt; attach(&rt, &mut front, 1, 7), Ok(()));
-    assert!(rt;
-        front.take_mail(1).is_none(),
-        "nothing is mailed before the post"
-    );
-    post_all(&rt, &mut front);
-    assert!(rt;
-        matches!(
-            front.take_mail(1),
-            Some(Mail::Welcome {
-                session: 7,
-                floor: 1
-            })
-        )
-    );
-    assert!(rt; front.cut().is_none(), "nothing is pending");
-    assert_eq!(rt;
-        call(&rt, &mut front, 1, create(&rt, "cells", 2, Tag::Empty))?,
-        done
-    );
-    assert_eq!(rt; call(&rt, &mut front, 2, access(0, Op::WriteEf(42)))?, done);
-    post_all(&rt, &mut front);
-    assert_eq!(rt;
-        answer(&rt, &mut front),
-        (1, Answer::Array { id: 1, length: 2 }, 1)
-    );
-    assert_eq!(rt; answer(&rt, &mut front), (2, Answer::Done, 2));
-    assert_eq!(rt; call(&rt, &mut front, 3, access(0, Op::ReadFe))?, done);
-    assert_eq!(rt; call(&rt, &mut front, 4, access(0, Op::ReadXx))?, done);
-    assert_eq!(rt; call(&rt, &mut front, 5, access(2, Op::ReadXx))?, done);
-    assert_eq!(rt;
-        call(&rt, &mut front, 6, access(1, Op::ReadFe))?,
-        Outcome::Waits
-    );
-    post_all(&rt, &mut front);
-    assert_eq!(rt; answer(&rt, &mut front), (3, Answer::Value(42), 3));
-    assert_eq!(rt; answer(&rt, &mut front), (4, Answer::Value(42), 4));
-    assert_eq!(rt; answer(&rt, &mut front), (5, Answer::BadIndex, 5));
-    assert!(rt; front.take_mail(1).is_none());
-    Ok(())
-}
-
 fn find() -> Request
     ensures { IsServed result }
 {
     let name = Name::new(b"a").unwrap();
     Request::Find { name }
-}
-
-#[test]
-fn refused_calls(rt: HostRuntime) -> Result<(), Refusal> {
-    let mut front = Front::new(rt.alloc()).map_err(|_| Refusal::NoMemory)?;
-    front.connect(1)?;
-    assert_eq!(rt; call(&rt, &mut front, 1, find()), Err(Refusal::NotAttached));
-    assert_eq!(rt; attach(&rt, &mut front, 2, 7), Err(Refusal::NotAttached));
-    assert_eq!(rt; attach(&rt, &mut front, 1, 7), Ok(()));
-    assert_eq!(rt; attach(&rt, &mut front, 1, 8), Err(Refusal::SessionLimit));
-    assert_eq!(rt; call(&rt, &mut front, 0, find()), Err(Refusal::BelowFloor));
-    assert_eq!(rt;
-        call(&rt, &mut front, 2, find()),
-        Err(Refusal::BeyondWindow)
-    );
-    assert_eq!(rt;
-        call(&rt, &mut front, 1, find()),
-        Ok(Outcome::Completed { entries: 1 })
-    );
-    assert_eq!(rt; call(&rt, &mut front, 1, find()), Err(Refusal::BelowFloor));
-    Ok(())
 }
 
 // Makes a call, and once more where it finds no memory.
