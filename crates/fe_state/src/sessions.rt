@@ -23,6 +23,8 @@ pub const SESSIONS: usize = 64;
 /// The greatest floor.
 pub const GREATEST_FLOOR: u64 = 9223372036854775776;
 
+// What moves a whole session, some 3 KB, is not inlined, so that a request which finishes pays for no such local.
+
 /// The sessions by number.
 pub type Sessions = Table<Session, SESSIONS>;
 
@@ -76,6 +78,7 @@ pub fn allow(sessions: &Sessions, entry: &Entry) -> bool
 }
 
 /// Opens a session that is not there, and says whether it did.
+#[inline(never)]
 fn open(sessions: &mut Sessions, session: u64) -> bool
     requires { get sessions.old session ≡ None → len sessions.old < 64 }
     ensures after { sessions.new ≡ opened sessions.old session }
@@ -108,7 +111,7 @@ fn attach(sessions: &mut Sessions, session: u64, change: Change, log: &mut UndoL
     });
 }
 
-#[cold]
+#[inline(never)]
 fn close(sessions: &mut Sessions, session: u64, change: Change, log: &mut UndoLog)
     requires room { length log.old.undos < log.old.room }
     requires present { IsSome (get sessions.old session) }
@@ -120,7 +123,7 @@ fn close(sessions: &mut Sessions, session: u64, change: Change, log: &mut UndoLo
     log.put_aside(session, before, change);
 }
 
-#[cold]
+#[inline(never)]
 fn settle(sessions: &mut Sessions, session: u64, floor: u64, change: Change, log: &mut UndoLog)
     requires room { length log.old.undos < log.old.room }
     requires rises { IsSomeAnd (get sessions.old session) (λ x. MayRise x.floor floor) }
@@ -214,7 +217,6 @@ pub fn advance(sessions: &mut Sessions, place: u64, entry: &Entry)
     }
 }
 
-// A function of its own, since the session that goes is moved through its locals.
 #[inline(never)]
 fn drop_session(sessions: &mut Sessions, session: u64)
     ensures { sessions.new ≡ remove sessions.old session }
