@@ -4,6 +4,7 @@ pub mod Histories
 pub mod LegalLimits
 pub mod Limits
 pub mod Loads
+pub mod LogLemmas
 pub mod Maps
 pub mod SessionLemmas
 pub mod Spent

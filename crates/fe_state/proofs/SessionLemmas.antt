@@ -1,5 +1,6 @@
 -- What the cells of a session hold for a number, and after a change.
-use Rattle.std.proofs.Common.{◌≡◌, ◌≢◌, ℕ, zero, suc, ◌+◌, ◌-◌, ◌%◌, ◌≤◌, ◌<◌, ◌⊎◌, inl, inr, nat_le, Bool, true, false, cond, List, length, Option, Some, None, slice_index_or, slice_set, replicate, refl, sym, ap, subst, ◌∙◌, arith}
+use Rattle.std.proofs.Common.{◌≡◌, ◌≢◌, ℕ, zero, suc, ◌+◌, ◌-◌, ◌%◌, ◌≤◌, ◌<◌, ◌⊎◌, inl, inr, nat_le, Bool, true, false, cond, List, length, Option, Some, None, slice_index_or, slice_set, replicate, refl, sym, ap, subst, ◌∙◌, arith, rules}
+use Rattle.std.specs.Prelude.{◌↔◌, IsTrue, not, is_some}
 use Rattle.std.proofs.lemmas.Bool.{cases_lt}
 use Rattle.std.proofs.lemmas.Bool.Decides.{nat_tests}
 use Rattle.std.proofs.lemmas.List.{get_or-set_same, get_or-set_other, get_or-replicate}
@@ -8,6 +9,7 @@ use Rattle.std.specs.FinMap.{FinMap, empty, get, insert, remove, retain_keys, le
 use Rattle.std.specs.Cmp.{nat_cmp_total}
 use Rattle.fe_state.specs.declared.kept.Kept.{Kept}
 use Rattle.fe_state.specs.Sessions.{Session, IsInWindow, raised, keeping}
+use Rattle.fe_state.specs.SessionEffect.{IsUsable}
 use Rattle.fe_state.specs.Window.{cell_of, with_cell, held, window_of}
 use Rattle.fe_state.proofs.Maps.{get_inserted, get_beside, get_removed, get_left, same_or_other, get_retained}
 
@@ -245,3 +247,10 @@ module _ (cells : List (Option Kept)) (floor : ℕ) (s : Session) (is : session_
       let moved : window_of cells new ≡ window_of cells floor =
       window_moved cells floor new (omega arith) (omega arith) (λ q below. ap (λ (m : FinMap nat_cmp Kept). get m q) left ∙ raised_below old.kept new q below) in
       ap (λ (m : FinMap nat_cmp Kept). let t : Session = record { floor = new; kept = m } in t) (moved ∙ left)
+
+-- a number of the window is usable where a look-up finds nothing
+pub usable_when : (s : Session) (number : ℕ) (none : Bool) (here : Option Kept) → IsInWindow s.floor number → get s.kept number ≡ here → is_some here ≡ not none → (IsTrue none) ↔ (IsUsable s number)
+usable_when s number true None within is found = (λ _. record { in_window = within; not_kept = is }, λ _. search rules)
+usable_when s number false None within is found = absurd (cc)
+usable_when s number true (Some k) within is found = absurd (cc)
+usable_when s number false (Some k) within is found = (λ t. absurd (search rules), λ u. let none = u.not_kept in absurd (cc))

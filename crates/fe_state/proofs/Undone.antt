@@ -1,5 +1,5 @@
 -- A session that is put back is as it was.
-use Rattle.std.proofs.Common.{◌≡◌, ℕ, ◌+◌, ◌-◌, ◌<◌, ◌≤◌, Option, Some, None, false, inl, inr, refl, sym, ap, ◌∙◌, arith}
+use Rattle.std.proofs.Common.{◌≡◌, ℕ, ◌+◌, ◌-◌, ◌<◌, ◌≤◌, Option, Some, None, false, List, inl, inr, refl, sym, ap, ◌∙◌, arith}
 use Rattle.std.specs.Prelude.{IsSomeAnd, is_some}
 use Rattle.std.specs.Option.{option_map, option_copied}
 use Rattle.std.specs.Borrow.{Bor}
@@ -8,7 +8,7 @@ use Rattle.std.specs.Cmp.{nat_cmp_total}
 use Rattle.std.specs.FinMap.{FinMap, get, insert, remove, len, same_map, nat_cmp-IsAntisymmetric, len-remove, len-insert}
 use Rattle.fe_state.proofs.Maps.{get_inserted, get_beside, get_removed, get_left, same_or_other}
 use Rattle.fe_state.specs.Sessions.{Session, keeping, put_session}
-use Rattle.fe_state.specs.Undo.{put_back, forgetting}
+use Rattle.fe_state.specs.UndoLog.{put_back, forgetting}
 use Rattle.fe_state.specs.declared.kept.Kept.{Kept}
 use Rattle.fe_state.specs.declared.undo.SessionChange.TheVariants as change
 
@@ -63,8 +63,9 @@ at_some P here x h e = rw e at h
 forgotten : (x : Session) (n : ℕ) (k : Kept) → get x.kept n ≡ None → forgetting n (keeping x n k) ≡ x
 forgotten x n k none = λ i. record { floor = x.floor; kept = remove-insert x.kept n k none i }
 
-pub put_back-keeping : (m : FinMap nat_cmp Session) (s n : ℕ) (x : Session) (k : Kept) → get m s ≡ Some x → get x.kept n ≡ None → put_back (change.Kept n) (insert m s (keeping x n k)) s ≡ m
-put_back-keeping m s n x k is none =
+-- what the sessions are once an answer that was kept is forgotten
+pub put_back-keeping : (m : FinMap nat_cmp Session) (aside : List Session) (s n : ℕ) (x : Session) (k : Kept) → get m s ≡ Some x → get x.kept n ≡ None → put_back (change.Kept n) aside (insert m s (keeping x n k)) s ≡ m
+put_back-keeping m aside s n x k is none =
     ap (λ here. put_session (insert m s (keeping x n k)) s (option_map (forgetting n) here)) (get_inserted m s (keeping x n k))
     ∙ ap (insert (insert m s (keeping x n k)) s) (forgotten x n k none)
     ∙ insert-insert m s x (keeping x n k) is

@@ -12,5 +12,5 @@ pub mod State
 pub mod Table
 pub mod TableLends
 pub mod Total
-pub mod Undo
+pub mod UndoLog
 pub mod Window

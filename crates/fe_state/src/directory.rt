@@ -158,26 +158,37 @@ impl Directory {
         None
     }
 
-    /// Does what a request asks, and says what it changed. Where the answer is a new array it takes
-    /// memory for the words; the one error is that this is short.
-    pub fn perform(&mut self, request: Request) -> Result<Change, AllocError>
+    /// Does what a request asks. Where the answer is a new array it takes memory for the words; the
+    /// one error is that this is short.
+    pub fn perform(&mut self, request: Request) -> Result<(), AllocError>
         requires { self.old.next_id < 2 ^ 63 }
         ensures performed { OnOk result (self.new ≡ performed self.old request) }
-        ensures undoable { IfOk result (λ change. CanRestore change self.new) }
-        ensures undone { IfOk result (λ change. restored change self.new ≡ self.old) }
         ensures unchanged { OnErr result (self.new ≡ self.old) }
         ensures memory { OnErr result (CreatesArray self.old request) }
     {
+        let _ = self.change(&request)?;
+        Ok(())
+    }
+
+    /// Does what a request asks, as `perform`, and says what it changed.
+    pub(crate) fn change(&mut self, request: &Request) -> Result<Change, AllocError>
+        requires { self.old.next_id < 2 ^ 63 }
+        ensures performed { OnOk result (self.new ≡ performed self.old request.now) }
+        ensures undoable { IfOk result (λ change. CanRestore change self.new) }
+        ensures undone { IfOk result (λ change. restored change self.new ≡ self.old) }
+        ensures unchanged { OnErr result (self.new ≡ self.old) }
+        ensures memory { OnErr result (CreatesArray self.old request.now) }
+    {
         match request {
-            Request::Create { name, length, tag } => self.create(name, length, tag),
+            Request::Create { name, length, tag } => self.create(*name, *length, *tag),
             Request::Find { .. } => Ok(Change::Nothing),
-            Request::Remove { array } => Ok(self.remove(array)),
+            Request::Remove { array } => Ok(self.remove(*array)),
             Request::Access {
                 array,
                 index,
                 op,
                 ..
-            } => Ok(self.operate(array, index, op)),
+            } => Ok(self.operate(*array, *index, *op)),
         }
     }
 
@@ -236,7 +247,7 @@ impl Directory {
     }
 
     /// Brings the arrays back as they were before a change. It takes no memory.
-    pub fn restore(&mut self, change: Change)
+    pub(crate) fn restore(&mut self, change: Change)
         requires { CanRestore change self.old }
         ensures { self.new ≡ restored change self.old }
     {
@@ -339,6 +350,3 @@ fn answer_of(reply: Reply) -> Answer
         Reply::Done => Answer::Done,
     }
 }
-
-#[cfg(test)]
-mod tests;

@@ -17,24 +17,16 @@ mod sessions;
 mod state;
 mod table;
 mod undo;
+mod undo_log;
 mod words;
 
 pub use answer::Answer;
-pub use array::Array;
 pub use batch::{BATCH_ENTRIES, Batch, Entries};
-pub use change::Change;
-pub use copied::Copied;
 pub use directory::Directory;
 pub use entry::Entry;
 pub use kept::Kept;
 pub use laws::{examples_hold, histories_join_and_cut, limits_are_kept, numbers_finish_once};
 pub use name::{NAME_BYTES, Name};
 pub use request::Request;
-pub use session::Session;
 pub use state::{GREATEST_PLACE, Illegal, State};
-pub use table::Table;
-pub use undo::Undo;
-pub use words::Words;
-
-#[cfg(test)]
-mod tests;
+pub use undo_log::UndoLog;

@@ -2,12 +2,10 @@ ghost use Rattle.std.specs.Prelude.{◌≡◌, ◌↔◌, ℕ, ◌-◌, ◌%◌,
 ghost use Rattle.std.specs.FinMap as map;
 ghost use Rattle.fe_state.specs.declared.kept.Kept.{Kept};
 ghost use Rattle.fe_state.specs.Sessions.{first_session, IsInWindow, MayRise, raised, keeping};
+ghost use Rattle.fe_state.specs.SessionEffect.{IsUsable};
 
 use crate::kept::Kept;
 use std::marker::Model;
-
-#[cfg(test)]
-mod tests;
 
 /// How many numbers a session may use, from its floor on.
 pub const WINDOW: u64 = 32;
@@ -82,6 +80,13 @@ impl Session {
         } else {
             None
         }
+    }
+
+    /// Whether a request may still finish under the number: it is in the window and nothing is kept for it.
+    pub fn is_usable(&self, number: u64) -> bool
+        ensures { IsTrue result ↔ IsUsable self.now number }
+    {
+        self.is_in_window(number) && self.cells[cell_of(number)].is_none()
     }
 
     /// Keeps this for a number of the window, in place of what was kept for it.

@@ -1,17 +1,20 @@
-ghost use Rattle.std.specs.Prelude.{◌≡◌, ◌↔◌, ◌≤◌, IsTrue, IsSome, IsSomeAnd};
+ghost use Rattle.std.specs.Prelude.{◌≡◌, ◌↔◌, ◌≤◌, ◌<◌, length, IsTrue, IsSome, IsSomeAnd, None};
+ghost use Rattle.std.specs.Bool.{OnTrue, OnFalse};
 ghost use Rattle.std.specs.Option.{option_map};
-ghost use Rattle.std.specs.FinMap.{get, remove, len};
-ghost use Rattle.fe_state.specs.Sessions.{IsInWindow, MayRise, raised, keeping, put_session, opened};
+ghost use Rattle.std.specs.FinMap.{get, insert, remove, len};
+ghost use Rattle.fe_state.specs.Sessions.{MayRise, first_session, raised, keeping, put_session, opened};
 ghost use Rattle.fe_state.specs.SessionEffect.{MayAttach, IsUsable, SessionsAllow, sessions_after};
-ghost use Rattle.fe_state.specs.Undo.{put_back, CanPutBack};
+ghost use Rattle.fe_state.specs.UndoLog.{put_back, CanPutBack, Remembers};
 
+use crate::change::Change;
 use crate::copied::Copied;
 use crate::entry::Entry;
 use crate::kept::Kept;
 use crate::request::Request;
 use crate::session::Session;
 use crate::table::Table;
-use crate::undo::SessionChange;
+use crate::undo::{SessionChange, Undo};
+use crate::undo_log::UndoLog;
 use std::alloc::{AllocError, Global};
 
 /// How many sessions there are at most.
@@ -20,6 +23,8 @@ pub const SESSIONS: usize = 64;
 /// The greatest floor.
 pub const GREATEST_FLOOR: u64 = 9223372036854775776;
 
+// What moves a whole session, some 3 KB, is not inlined, so that a request which finishes pays for no such local.
+
 /// The sessions by number.
 pub type Sessions = Table<Session, SESSIONS>;
 
@@ -27,12 +32,6 @@ fn may_rise(old: u64, new: u64) -> bool
     ensures { IsTrue result ↔ MayRise old new }
 {
     old <= new && new - old <= 32 && new <= GREATEST_FLOOR
-}
-
-fn is_usable(session: &Session, number: u64) -> bool
-    ensures { IsTrue result ↔ IsUsable session.now number }
-{
-    session.is_in_window(number) && session.kept(number).is_none()
 }
 
 fn may_attach(sessions: &Sessions, session: u64, floor: u64) -> bool
@@ -57,7 +56,7 @@ fn may_finish(sessions: &Sessions, session: u64, number: u64) -> bool
     ensures { IsTrue result ↔ IsSomeAnd (get sessions.now session) (λ x. IsUsable x number) }
 {
     match sessions.get(session) {
-        Some(here) => is_usable(here, number),
+        Some(here) => here.is_usable(number),
         None => false,
     }
 }
@@ -78,67 +77,103 @@ pub fn allow(sessions: &Sessions, entry: &Entry) -> bool
     }
 }
 
-fn attach(sessions: &mut Sessions, session: u64, floor: u64) -> SessionChange
-    requires { MayAttach sessions.old floor (get sessions.old session) }
+/// Opens a session that is not there, and says whether it did.
+#[inline(never)]
+fn open(sessions: &mut Sessions, session: u64) -> bool
+    requires { get sessions.old session ≡ None → len sessions.old < 64 }
     ensures after { sessions.new ≡ opened sessions.old session }
-    ensures undoable { CanPutBack result sessions.new session }
-    ensures undone { put_back result sessions.new session ≡ sessions.old }
+    ensures free { OnTrue result (get sessions.old session ≡ None) }
+    ensures added { OnTrue result (sessions.new ≡ insert sessions.old session first_session) }
+    ensures there { OnFalse result (sessions.new ≡ sessions.old) }
 {
-    if sessions.get(session).is_some() {
-        SessionChange::Same
-    } else {
+    let is_new = sessions.get(session).is_none();
+    if is_new {
         sessions.insert(session, Session::new());
-        SessionChange::Opened
     }
+    is_new
 }
 
-fn close(sessions: &mut Sessions, session: u64) -> SessionChange
+fn attach(sessions: &mut Sessions, session: u64, change: Change, log: &mut UndoLog)
+    requires room { length log.old.undos < log.old.room }
+    requires few { get sessions.old session ≡ None → len sessions.old < 64 }
+    ensures after { sessions.new ≡ opened sessions.old session }
+    ensures remembered { Remembers change log.old log.new sessions.old sessions.new }
+{
+    let session_change = if open(sessions, session) {
+        SessionChange::Opened
+    } else {
+        SessionChange::Same
+    };
+    log.add(Undo {
+        session,
+        session_change,
+        change,
+    });
+}
+
+#[inline(never)]
+fn close(sessions: &mut Sessions, session: u64, change: Change, log: &mut UndoLog)
+    requires room { length log.old.undos < log.old.room }
     requires present { IsSome (get sessions.old session) }
     requires few { len sessions.old ≤ 64 }
     ensures after { sessions.new ≡ remove sessions.old session }
-    ensures undoable { CanPutBack result sessions.new session }
-    ensures undone { put_back result sessions.new session ≡ sessions.old }
+    ensures remembered { Remembers change log.old log.new sessions.old sessions.new }
 {
-    match sessions.remove(session) {
-        Some(before) => SessionChange::Was(before),
-        None => SessionChange::Same,
-    }
+    let before = sessions.remove(session).unwrap();
+    log.put_aside(session, before, change);
 }
 
-fn settle(sessions: &mut Sessions, session: u64, floor: u64) -> SessionChange
-    requires { IsSomeAnd (get sessions.old session) (λ x. MayRise x.floor floor) }
+#[inline(never)]
+fn settle(sessions: &mut Sessions, session: u64, floor: u64, change: Change, log: &mut UndoLog)
+    requires room { length log.old.undos < log.old.room }
+    requires rises { IsSomeAnd (get sessions.old session) (λ x. MayRise x.floor floor) }
     ensures after { sessions.new ≡ put_session sessions.old session (option_map (λ s. raised s floor) (get sessions.old session)) }
-    ensures undoable { CanPutBack result sessions.new session }
-    ensures undone { put_back result sessions.new session ≡ sessions.old }
+    ensures remembered { Remembers change log.old log.new sessions.old sessions.new }
 {
     let here = sessions.get_mut(session);
-    let before = here.copied();
+    log.put_aside(session, here.copied(), change);
     here.raise(floor);
-    SessionChange::Was(before)
 }
 
-fn finish(sessions: &mut Sessions, session: u64, number: u64, kept: Kept) -> SessionChange
-    requires { IsSomeAnd (get sessions.old session) (λ x. IsUsable x number) }
+fn finish(
+    sessions: &mut Sessions,
+    session: u64,
+    number: u64,
+    kept: Kept,
+    change: Change,
+    log: &mut UndoLog,
+)
+    requires room { length log.old.undos < log.old.room }
+    requires usable { IsSomeAnd (get sessions.old session) (λ x. IsUsable x number) }
     ensures after { sessions.new ≡ put_session sessions.old session (option_map (λ s. keeping s number kept) (get sessions.old session)) }
-    ensures undoable { CanPutBack result sessions.new session }
-    ensures undone { put_back result sessions.new session ≡ sessions.old }
+    ensures remembered { Remembers change log.old log.new sessions.old sessions.new }
 {
     sessions.get_mut(session).keep(number, kept);
-    SessionChange::Kept(number)
+    log.add(Undo {
+        session,
+        session_change: SessionChange::Kept(number),
+        change,
+    });
 }
 
-/// Carries out an entry, and says of which session it is, and what it changed of it.
-pub fn record_entry(sessions: &mut Sessions, place: u64, entry: &Entry) -> (u64, SessionChange)
+/// Carries out an entry, and adds it to the log with its change of the arrays.
+pub fn record_entry(
+    sessions: &mut Sessions,
+    place: u64,
+    entry: &Entry,
+    change: Change,
+    log: &mut UndoLog,
+)
+    requires room { length log.old.undos < log.old.room }
     requires allowed { SessionsAllow sessions.old entry.now }
     requires few { len sessions.old ≤ 64 }
     ensures after { sessions.new ≡ sessions_after sessions.old place entry.now }
-    ensures undoable { CanPutBack result.1 sessions.new result.0 }
-    ensures undone { put_back result.1 sessions.new result.0 ≡ sessions.old }
+    ensures remembered { Remembers change log.old log.new sessions.old sessions.new }
 {
     match entry {
-        Entry::Attached { session, floor } => (*session, attach(sessions, *session, *floor)),
-        Entry::Closed { session } => (*session, close(sessions, *session)),
-        Entry::Settled { session, floor } => (*session, settle(sessions, *session, *floor)),
+        Entry::Attached { session, .. } => attach(sessions, *session, change, log),
+        Entry::Closed { session } => close(sessions, *session, change, log),
+        Entry::Settled { session, floor } => settle(sessions, *session, *floor, change, log),
         Entry::Finished {
             session,
             number,
@@ -150,26 +185,70 @@ pub fn record_entry(sessions: &mut Sessions, place: u64, entry: &Entry) -> (u64,
                 answer: *answer,
                 place,
             };
-            (*session, finish(sessions, *session, *number, kept))
+            finish(sessions, *session, *number, kept, change, log)
         }
     }
 }
 
-/// Brings the sessions before a change back.
-pub fn restore(sessions: &mut Sessions, session: u64, change: SessionChange)
-    requires { CanPutBack change sessions.old session }
-    ensures { sessions.new ≡ put_back change sessions.old session }
+/// Carries out an entry with no way back.
+pub fn advance(sessions: &mut Sessions, place: u64, entry: &Entry)
+    requires { SessionsAllow sessions.old entry.now }
+    ensures { sessions.new ≡ sessions_after sessions.old place entry.now }
 {
-    match change {
-        SessionChange::Same => {}
-        SessionChange::Opened => {
-            let _ = sessions.remove(session);
+    match entry {
+        Entry::Attached { session, .. } => {
+            let _ = open(sessions, *session);
         }
-        SessionChange::Was(before) => {
-            if sessions.get(session).is_some() {
-                let _ = sessions.replace(session, before);
-            } else {
-                sessions.insert(session, before);
+        Entry::Closed { session } => drop_session(sessions, *session),
+        Entry::Settled { session, floor } => sessions.get_mut(*session).raise(*floor),
+        Entry::Finished {
+            session,
+            number,
+            request,
+            answer,
+        } => {
+            let kept = Kept {
+                request: *request,
+                answer: *answer,
+                place,
+            };
+            sessions.get_mut(*session).keep(*number, kept);
+        }
+    }
+}
+
+#[inline(never)]
+fn drop_session(sessions: &mut Sessions, session: u64)
+    ensures { sessions.new ≡ remove sessions.old session }
+{
+    let _ = sessions.remove(session);
+}
+
+#[inline(never)]
+fn bring_back(sessions: &mut Sessions, session: u64, before: &Session)
+    requires { get sessions.old session ≡ None → len sessions.old < 64 }
+    ensures { sessions.new ≡ insert sessions.old session before.now }
+{
+    let copy = before.copied();
+    if sessions.get(session).is_some() {
+        let _ = sessions.replace(session, copy);
+    } else {
+        sessions.insert(session, copy);
+    }
+}
+
+/// Brings the sessions before the latest entry of a log back.
+pub fn restore(sessions: &mut Sessions, undo: &Undo, log: &UndoLog)
+    requires { CanPutBack undo.now.session_change log.now.aside sessions.old undo.now.session }
+    ensures { sessions.new ≡ put_back undo.now.session_change log.now.aside sessions.old undo.now.session }
+{
+    let session = undo.session;
+    match undo.session_change {
+        SessionChange::Same => {}
+        SessionChange::Opened => drop_session(sessions, session),
+        SessionChange::PutAside => {
+            if let Some(before) = log.latest_aside() {
+                bring_back(sessions, session, before);
             }
         }
         SessionChange::Kept(number) => sessions.get_mut(session).forget(number),

@@ -7,7 +7,7 @@ ghost use Rattle.fe_state.specs.Effect.{CreatesArray, new_array, put_word};
 ghost use Rattle.fe_state.specs.Sessions.{kept_in, IsInWindow, keeping, put_session};
 ghost use Rattle.fe_state.specs.State.{first_state, reply, IsLegal, IsAnswered, after, directory_of, directory_after, with_arrays, with_sessions, IsWithinLimits, MakesArray, OnFinished};
 ghost use Rattle.fe_words.specs.declared.word.Tag.TheVariants.{Empty};
-ghost use Rattle.fe_state.specs.Undo.{undone, CanUndo};
+ghost use Rattle.fe_state.specs.UndoLog.{empty_log, shortened, undone, rewound, IsLogOf};
 
 use crate::answer::Answer;
 use crate::change::Change;
@@ -21,7 +21,7 @@ use crate::session::Session;
 use crate::sessions;
 use crate::sessions::Sessions;
 use crate::table::Table;
-use crate::undo::Undo;
+use crate::undo_log::UndoLog;
 use fe_words::Word;
 use std::alloc::{AllocError, Global};
 use std::marker::Model;
@@ -117,39 +117,72 @@ impl State {
         }
     }
 
-    /// Carries out a legal entry, and gives what brings the state before it back. The one error is
-    /// that memory is short, for the words of a new array.
-    pub fn apply(&mut self, entry: Entry) -> Result<Undo, AllocError>
+    /// Carries out a legal entry, and adds it to a log that has room, so that it can be undone. The
+    /// one error is that memory is short, for the words of a new array.
+    pub fn apply(&mut self, entry: Entry, log: &mut UndoLog) -> Result<(), AllocError>
+        requires legal { IsLegal self.old entry }
+        requires room { length log.old.undos < log.old.room }
+        ensures ok { OnOk result (self.new ≡ after self.old entry) }
+        ensures err { OnErr result ((self.new ≡ self.old) × (log.new ≡ log.old)) }
+        ensures memory { OnErr result (MakesArray entry) }
+
+        // The log's latest entry leads back to the state before, and the rest of the log stays.
+        ensures undone { OnOk result (undone log.new self.new ≡ self.old) }
+        ensures rest { OnOk result (shortened log.new ≡ log.old) }
+        ensures length { OnOk result (length log.new.undos ≡ length log.old.undos + 1) }
+        ensures room { log.new.room ≡ log.old.room }
+
+        // So the log is the state's if it was, and leads back to where it led back to.
+        ensures log { IsLogOf log.old self.old → IsLogOf log.new self.new }
+        ensures beginning { rewound log.new self.new ≡ rewound log.old self.old }
+    {
+        let change = enact(&mut self.directory, &entry)?;
+        sessions::record_entry(&mut self.sessions, self.place, &entry, change, log);
+        self.place += 1;
+        Ok(())
+    }
+
+    /// Carries out a legal entry with no way back. The one error is that memory is short, for the
+    /// words of a new array.
+    pub fn advance(&mut self, entry: Entry) -> Result<(), AllocError>
         requires { IsLegal self.old entry }
         ensures ok { OnOk result (self.new ≡ after self.old entry) }
-        ensures undoable { IfOk result (λ undo. CanUndo undo self.new) }
-        ensures undone { IfOk result (λ undo. undone undo self.new ≡ self.old) }
         ensures err { OnErr result (self.new ≡ self.old) }
         ensures memory { OnErr result (MakesArray entry) }
     {
-        let change = enact(&mut self.directory, &entry)?;
-        let (session, sessions) = sessions::record_entry(&mut self.sessions, self.place, &entry);
+        let _ = enact(&mut self.directory, &entry)?;
+        sessions::advance(&mut self.sessions, self.place, &entry);
         self.place += 1;
-        Ok(Undo {
-            session,
-            sessions,
-            change,
-        })
+        Ok(())
     }
 
-    /// Brings the state before the entry back whose `apply` gave the undo. It takes no memory.
-    pub fn undo(&mut self, undo: Undo)
-        requires { CanUndo undo self.old }
-        ensures { self.new ≡ undone undo self.old }
+    /// Brings the state before the log's latest entry back, and takes that entry out of the log. With
+    /// an empty log nothing happens. It takes no memory.
+    pub fn undo(&mut self, log: &mut UndoLog)
+        requires { IsLogOf log.old self.old }
+        ensures undone { self.new ≡ undone log.old self.old }
+        ensures rest { log.new ≡ shortened log.old }
+        ensures log { IsLogOf log.new self.new }
+        ensures beginning { rewound log.new self.new ≡ rewound log.old self.old }
     {
-        let Undo {
-            session,
-            sessions,
-            change,
-        } = undo;
-        self.directory.restore(change);
-        sessions::restore(&mut self.sessions, session, sessions);
+        let Some(latest) = log.latest() else {
+            return;
+        };
+        sessions::restore(&mut self.sessions, latest, log);
+        self.directory.restore(log.take());
         self.place -= 1;
+    }
+
+    /// Brings the state at the beginning of the log back, and empties the log. It takes no memory.
+    pub fn rewind(&mut self, log: &mut UndoLog)
+        requires { IsLogOf log.old self.old }
+        ensures beginning { self.new ≡ rewound log.old self.old }
+        ensures empty { log.new ≡ empty_log log.old.room }
+    {
+        for _ in 0..log.len() {
+            self.undo(log);
+        }
+        log.clear();
     }
 
     /// The word at an index of an array.
@@ -265,7 +298,7 @@ fn enact(directory: &mut Directory, entry: &Entry) -> Result<Change, AllocError>
     ensures memory { OnErr result (OnFinished entry.now (CreatesArray directory.old)) }
 {
     match entry {
-        Entry::Finished { request, .. } => directory.perform(*request),
+        Entry::Finished { request, .. } => directory.change(request),
         _ => Ok(Change::Nothing),
     }
 }

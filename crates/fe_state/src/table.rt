@@ -142,6 +142,3 @@ impl<V: Copied + Drop, const ROOM: usize> Copied for Table<V, ROOM> {
         Ok(copy)
     }
 }
-
-#[cfg(test)]
-mod tests;

@@ -1,22 +1,21 @@
 use crate::change::Change;
-use crate::session::Session;
 
-/// What an entry changed of the state, with what it takes to bring the state before it back.
+/// What an entry changed of the state. Where that is a whole session, the log has it put aside.
 #[derive(Debug, Drop)]
 pub struct Undo {
-    pub(crate) session: u64,
-    pub(crate) sessions: SessionChange,
-    pub(crate) change: Change,
+    pub session: u64,
+    pub session_change: SessionChange,
+    pub change: Change,
 }
 
 /// What an entry changed of its session.
-#[derive(Debug, Drop)]
+#[derive(Clone, Copy, Debug)]
 pub enum SessionChange {
     Same,
     /// The session is new.
     Opened,
-    /// The session was so.
-    Was(Session),
+    /// The session was as the log has it, the latest of those put aside.
+    PutAside,
     /// The number has an answer that is new.
     Kept(u64),
 }
