@@ -1,3 +1,4 @@
+pub mod ArraysLemmas
 pub mod DirectoryLemmas
 pub mod Empty
 pub mod Histories
