@@ -10,6 +10,7 @@ pub mod SessionLemmas
 pub mod Spent
 pub mod TableCopyLemmas
 pub mod TableLemmas
+pub mod TablePlaces
 pub mod Totals
 pub mod Undone
 pub mod Worked

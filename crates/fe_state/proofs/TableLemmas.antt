@@ -165,10 +165,6 @@ module _ {X : Type 0} where
   get_where_key : (p : ℕ → Bool) (es : List (ℕ × X)) (q : ℕ) → T (is_sorted nat_cmp es) → get (from_sorted {R = nat_cmp} (where_key nat_cmp p es)) q ≡ cond (p q) (get (from_sorted {R = nat_cmp} es) q) None
   get_where_key p es q h = get-from_sorted nat_cmp _ q (is_sorted-where_key nat_cmp p es h) ∙ find-where_key nat_cmp p q (λ x t. ap p (sym (nat_cmp-IsAntisymmetric q x t))) es ∙ ap (λ x. cond (p q) x None) (sym (get-from_sorted nat_cmp es q h))
 
-  pub from_sorted-retain_keys : (p : ℕ → Bool) (es fs : List (ℕ × X)) (m : FinMap nat_cmp X) → T (is_sorted nat_cmp es) → from_sorted es ≡ m → fs ≡ where_key nat_cmp p es → from_sorted fs ≡ retain_keys m p
-  from_sorted-retain_keys p es fs m h seen is = same_map nat_cmp_total nat_cmp-IsAntisymmetric _ _ (λ q.
-      ap (λ l. get (from_sorted {R = nat_cmp} l) q) is ∙ get_where_key p es q h ∙ ap (λ n. cond (p q) (get n q) None) seen ∙ sym (get-retain_keys m p q (λ x t. ap p (sym (nat_cmp-IsAntisymmetric q x t)))))
-
   pub from_sorted-remove : (es fs : List (ℕ × X)) (k : ℕ) (m : FinMap nat_cmp X) → T (is_sorted nat_cmp es) → from_sorted es ≡ m → fs ≡ where_key nat_cmp (but k) es → from_sorted fs ≡ map_remove m k
   from_sorted-remove es fs k m h seen is = same_map nat_cmp_total nat_cmp-IsAntisymmetric _ _ (λ q.
       ap (λ l. get (from_sorted {R = nat_cmp} l) q) is ∙ get_where_key (but k) es q h ∙ turned (eq_by_cmp nat_cmp k q) _ _ ∙ ap (λ n. cond (eq_by_cmp nat_cmp k q) None (get n q)) seen
@@ -214,7 +210,7 @@ module _ {X : Type 0} where
       pub entries_removed : IsAt (entries m) k i → remove es i ≡ where_key nat_cmp (but k) es
       entries_removed a = remove-where_key es k i h (at_seen a)
 
-    -- an entry at its place
+    -- an entry at its place, and the map that a new value of it makes
     module _ (i : ℕ) (e : ℕ × X) (within : i < length es) (read : e ≡ get_or es i e) where
       pub at_itself : IsAt (entries m) e.0 i
       at_itself = subst (λ l. IsAt l e.0 i) (sym entries_seen) (record { in_range = within; has_key = λ d. ap (λ e. e.0) (get_or_default es i d e within ∙ sym read) })

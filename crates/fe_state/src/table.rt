@@ -2,7 +2,7 @@ ghost use Rattle.std.specs.Prelude.{◌≡◌, ◌<◌, ◌≤◌, IfOk, IfErr, 
 ghost use Rattle.std.specs.Option.{option_map};
 ghost use Rattle.std.specs.FinMap as map;
 ghost use Rattle.std.specs.Borrow.{sem};
-ghost use Rattle.fe_state.specs.Table.{shown_entry, at_least, IsAt, IsGapFor};
+ghost use Rattle.fe_state.specs.Table.{shown_entry, IsAt, IsGapFor};
 ghost use Rattle.fe_state.specs.TableLends.{lends_value, lends_place};
 
 use crate::copied::Copied;
@@ -77,8 +77,7 @@ impl<V, const ROOM: usize> Table<V, ROOM> {
         ensures value { map.get self.old key ≡ Some result.now }
     {
         let place = self.search(key).unwrap();
-        let entry = &mut self.entries[place];
-        &mut entry.1
+        self.at_mut(place)
     }
 
     /// The value at a place of the ascending order that is taken, to write.
@@ -132,13 +131,6 @@ impl<V: Drop, const ROOM: usize> Table<V, ROOM> {
     {
         let place = self.search(key).unwrap_err();
         self.entries.insert(place, (key, value)).unwrap();
-    }
-
-    /// Drops each key below `least`, with its value.
-    pub fn retain_from(&mut self, least: u64)
-        ensures retained { self.new ≡ map.retain_keys self.old (at_least least) }
-    {
-        self.entries.retain(|entry| entry.0 >= least);
     }
 }
 

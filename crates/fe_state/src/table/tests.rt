@@ -56,7 +56,7 @@ fn keeps_the_order_of_the_keys(rt: HostRuntime) -> Result<(), Fail> {
 }
 
 #[test]
-fn writes_takes_out_and_drops(rt: HostRuntime) -> Result<(), Fail> {
+fn writes_and_takes_out(rt: HostRuntime) -> Result<(), Fail> {
     let mut table: Table<u64, 3> = Table::new(rt.alloc())?;
     for (key, value) in [(1, 10), (2, 20), (3, 30)] {
         put(&rt, &mut table, key, value);
@@ -68,10 +68,10 @@ fn writes_takes_out_and_drops(rt: HostRuntime) -> Result<(), Fail> {
     assert_eq!(rt; table.remove(1), Some(10));
     assert_eq!(rt; table.remove(1), None);
     put(&rt, &mut table, 9, 90);
-    table.retain_from(3);
-    assert_eq!(rt; table.len(), 2);
-    assert_eq!(rt; table.at(0), Some((3, &31)));
-    assert_eq!(rt; table.at(1), Some((9, &90)));
+    assert_eq!(rt; table.len(), 3);
+    assert_eq!(rt; table.at(0), Some((2, &21)));
+    assert_eq!(rt; table.at(1), Some((3, &31)));
+    assert_eq!(rt; table.at(2), Some((9, &90)));
     Ok(())
 }
 
