@@ -1,3 +1,4 @@
+pub mod ArraysLemmas
 pub mod DirectoryLemmas
 pub mod Empty
 pub mod Histories
@@ -10,6 +11,7 @@ pub mod SessionLemmas
 pub mod Spent
 pub mod TableCopyLemmas
 pub mod TableLemmas
+pub mod TablePlaces
 pub mod Totals
 pub mod Undone
 pub mod Worked

@@ -15,7 +15,7 @@ module _ {X : Type 0} where
   not_there : {A : Type 0} (e : ℕ × X) → None ≡ Some e → A
   not_there e h = absurd (true≢false (ap is_some (sym h)))
 
-  is_some-slice_get : (es : List (ℕ × X)) (i : ℕ) → i < length es → is_some (slice_get es i) ≡ true
+  pub is_some-slice_get : (es : List (ℕ × X)) (i : ℕ) → i < length es → is_some (slice_get es i) ≡ true
   is_some-slice_get [] i lt = absurd (omega arith)
   is_some-slice_get (e ∷ es) zero lt = refl
   is_some-slice_get (e ∷ es) (suc i) lt = is_some-slice_get es i (omega arith)
@@ -24,13 +24,13 @@ module _ {X : Type 0} where
   is_some-shown None = refl
   is_some-shown (Some p) = refl
 
-  take-past : (es : List (ℕ × X)) (i : ℕ) → length es ≤ i → take i es ≡ es
+  pub take-past : (es : List (ℕ × X)) (i : ℕ) → length es ≤ i → take i es ≡ es
   take-past [] zero le = refl
   take-past [] (suc i) le = refl
   take-past (e ∷ es) zero le = absurd (omega arith)
   take-past (e ∷ es) (suc i) le = ap (λ l. e ∷ l) (take-past es i (omega arith))
 
-  take-push : (es : List (ℕ × X)) (i : ℕ) (e : ℕ × X) → slice_get es i ≡ Some e → take (suc i) es ≡ take i es ++ e ∷ []
+  pub take-push : (es : List (ℕ × X)) (i : ℕ) (e : ℕ × X) → slice_get es i ≡ Some e → take (suc i) es ≡ take i es ++ e ∷ []
   take-push [] i e h = not_there e h
   take-push (x ∷ es) zero e h = cc
   take-push (x ∷ es) (suc i) e h = ap (λ l. x ∷ l) (take-push es i e h)
@@ -43,7 +43,7 @@ module _ {X : Type 0} where
   below_slice_get k (x ∷ es) (suc i) e b h = below_slice_get k es i e (second _ _ b) h
 
   -- no key before the place of an entry is its key
-  find-take : (es : List (ℕ × X)) (i : ℕ) (e : ℕ × X) → T (is_sorted nat_cmp es) → slice_get es i ≡ Some e → find nat_cmp e.0 (take i es) ≡ None
+  pub find-take : (es : List (ℕ × X)) (i : ℕ) (e : ℕ × X) → T (is_sorted nat_cmp es) → slice_get es i ≡ Some e → find nat_cmp e.0 (take i es) ≡ None
   find-take [] i e s h = not_there e h
   find-take (x ∷ es) zero e s h = refl
   find-take (x ∷ es) (suc i) e s h =

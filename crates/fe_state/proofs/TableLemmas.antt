@@ -11,7 +11,9 @@ use Rattle.std.specs.List.Sorted.{IsSearchInRange, IsBinarySearchResult, IsNonDe
 use Rattle.std.specs.Ordering.{nat_cmp, eq_by_cmp, is_lt, is_eq, ordering_index}
 use Rattle.std.specs.declared.cmp.Ordering.{Ordering}
 use Rattle.std.specs.declared.cmp.Ordering.TheVariants.{Less, Equal, Greater}
-use Rattle.fe_state.specs.Table.{IsAt, IsGapFor}
+use Rattle.std.proofs.lemmas.List.{get_or_default}
+use Rattle.std.specs.Option.{option_map_or}
+use Rattle.fe_state.specs.Table.{IsAt, IsGapFor, put_at}
 
 pub first : (a b : Bool) → T (a && b) → T a
 first true b p = tt
@@ -136,6 +138,18 @@ module _ {X : Type 0} where
   remove-where_key (e ∷ es) k (suc i) h a =
       sym (ap (λ o. cond (not (is_eq o)) (e ∷ where_key nat_cmp (but k) es) (where_key nat_cmp (but k) es)) (above k e.0 (head_below e es k i h a)) ∙ ap (λ l. e ∷ l) (sym (remove-where_key es k i (second _ _ h) (is_at_tail e es k i a))))
 
+  -- ---- by place
+
+  pub slice_get-inside : (es : List (ℕ × X)) (i : ℕ) (e : ℕ × X) → i < length es → e ≡ get_or es i e → slice_get es i ≡ Some e
+  slice_get-inside [] i e lt read = absurd (omega arith)
+  slice_get-inside (x ∷ es) zero e lt read = ap Some (sym read)
+  slice_get-inside (x ∷ es) (suc i) e lt read = slice_get-inside es i e (omega arith) read
+
+  pub slice_get-past : (es : List (ℕ × X)) (i : ℕ) → length es ≤ i → slice_get es i ≡ None
+  slice_get-past [] i le = refl
+  slice_get-past (x ∷ es) zero le = absurd (omega arith)
+  slice_get-past (x ∷ es) (suc i) le = slice_get-past es i (omega arith)
+
   -- ---- the list as a map
 
   -- a list that is the entries of a map stands for that map, and its keys rise
@@ -150,10 +164,6 @@ module _ {X : Type 0} where
 
   get_where_key : (p : ℕ → Bool) (es : List (ℕ × X)) (q : ℕ) → T (is_sorted nat_cmp es) → get (from_sorted {R = nat_cmp} (where_key nat_cmp p es)) q ≡ cond (p q) (get (from_sorted {R = nat_cmp} es) q) None
   get_where_key p es q h = get-from_sorted nat_cmp _ q (is_sorted-where_key nat_cmp p es h) ∙ find-where_key nat_cmp p q (λ x t. ap p (sym (nat_cmp-IsAntisymmetric q x t))) es ∙ ap (λ x. cond (p q) x None) (sym (get-from_sorted nat_cmp es q h))
-
-  pub from_sorted-retain_keys : (p : ℕ → Bool) (es fs : List (ℕ × X)) (m : FinMap nat_cmp X) → T (is_sorted nat_cmp es) → from_sorted es ≡ m → fs ≡ where_key nat_cmp p es → from_sorted fs ≡ retain_keys m p
-  from_sorted-retain_keys p es fs m h seen is = same_map nat_cmp_total nat_cmp-IsAntisymmetric _ _ (λ q.
-      ap (λ l. get (from_sorted {R = nat_cmp} l) q) is ∙ get_where_key p es q h ∙ ap (λ n. cond (p q) (get n q) None) seen ∙ sym (get-retain_keys m p q (λ x t. ap p (sym (nat_cmp-IsAntisymmetric q x t)))))
 
   pub from_sorted-remove : (es fs : List (ℕ × X)) (k : ℕ) (m : FinMap nat_cmp X) → T (is_sorted nat_cmp es) → from_sorted es ≡ m → fs ≡ where_key nat_cmp (but k) es → from_sorted fs ≡ map_remove m k
   from_sorted-remove es fs k m h seen is = same_map nat_cmp_total nat_cmp-IsAntisymmetric _ _ (λ q.
@@ -200,6 +210,17 @@ module _ {X : Type 0} where
       pub entries_removed : IsAt (entries m) k i → remove es i ≡ where_key nat_cmp (but k) es
       entries_removed a = remove-where_key es k i h (at_seen a)
 
+    -- an entry at its place, and the map that a new value of it makes
+    module _ (i : ℕ) (e : ℕ × X) (within : i < length es) (read : e ≡ get_or es i e) where
+      pub at_itself : IsAt (entries m) e.0 i
+      at_itself = subst (λ l. IsAt l e.0 i) (sym entries_seen) (record { in_range = within; has_key = λ d. ap (λ e. e.0) (get_or_default es i d e within ∙ sym read) })
+
+      pub entry_itself : slice_get (entries m) i ≡ Some e
+      entry_itself = ap (λ l. slice_get l i) entries_seen ∙ slice_get-inside es i e within read
+
+      pub put_itself : (x : X) → put_at m i x ≡ map_insert m e.0 x
+      put_itself x = ap (λ o. option_map_or (λ e. map_insert m e.0 x) o m) entry_itself
+
     -- a search for a key that is there finds it, and one for a key that is not there its gap
     pub search_finds : (k : ℕ) (r : Result ℕ ℕ) → IfErr r (IsGapFor (entries m) k) → IsSome (get m k) → IsOk r
     search_finds k (Ok i) gap there = refl
@@ -213,6 +234,10 @@ module _ {X : Type 0} where
   pub from_sorted-nil : from_sorted {K = ℕ} {X = X} {R = nat_cmp} [] ≡ empty
   from_sorted-nil = same_map nat_cmp_total nat_cmp-IsAntisymmetric _ _ (λ q. get-from_sorted nat_cmp [] q tt ∙ sym (get-empty nat_cmp q))
 
+  -- and the other way round
+  pub entries-empty : entries {K = ℕ} {X = X} {R = nat_cmp} empty ≡ []
+  entries-empty = sym (ap entries from_sorted-nil) ∙ entries-from_sorted nat_cmp [] tt
+
   -- to remove a key that is not there changes nothing
   pub remove_absent : (m : FinMap nat_cmp X) (k : ℕ) → get m k ≡ None → m ≡ map_remove m k
   remove_absent m k none = same_map nat_cmp_total nat_cmp-IsAntisymmetric _ _ (λ q. same q (eq_by_cmp nat_cmp q k) refl ∙ sym (get-remove nat_cmp_total m k q))
@@ -220,15 +245,3 @@ module _ {X : Type 0} where
       same : (q : ℕ) (b : Bool) → eq_by_cmp nat_cmp q k ≡ b → get m q ≡ cond (eq_by_cmp nat_cmp q k) None (get m q)
       same q true e = ap (get m) (same_key q k e) ∙ none ∙ sym (ap (λ b. cond b None (get m q)) e)
       same q false e = sym (ap (λ b. cond b None (get m q)) e)
-
-  -- ---- by place
-
-  pub slice_get-inside : (es : List (ℕ × X)) (i : ℕ) (e : ℕ × X) → i < length es → e ≡ get_or es i e → slice_get es i ≡ Some e
-  slice_get-inside [] i e lt read = absurd (omega arith)
-  slice_get-inside (x ∷ es) zero e lt read = ap Some (sym read)
-  slice_get-inside (x ∷ es) (suc i) e lt read = slice_get-inside es i e (omega arith) read
-
-  pub slice_get-past : (es : List (ℕ × X)) (i : ℕ) → length es ≤ i → slice_get es i ≡ None
-  slice_get-past [] i le = refl
-  slice_get-past (x ∷ es) zero le = absurd (omega arith)
-  slice_get-past (x ∷ es) (suc i) le = slice_get-past es i (omega arith)

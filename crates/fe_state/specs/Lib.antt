@@ -1,3 +1,5 @@
+pub mod Arrays
+pub mod ArraysLends
 pub mod Change
 pub mod Directory
 pub mod Effect

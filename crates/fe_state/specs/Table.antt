@@ -1,16 +1,17 @@
 -- A table: a finite map that is kept as the list of its entries in the order of their keys.
-use Rattle.std.specs.Prelude.{◌≡◌, ℕ, ◌<◌, ◌≤◌, Bool, List, length, slice_index_or, nat_le, T}
+use Rattle.std.specs.Prelude.{◌≡◌, ℕ, ◌<◌, ◌≤◌, List, length, slice_get, slice_index_or, T}
 use Rattle.std.specs.Ordering.{nat_cmp}
-use Rattle.std.specs.FinMap.{is_sorted}
+use Rattle.std.specs.FinMap.{FinMap, is_sorted, insert, entries}
+use Rattle.std.specs.Option.{option_map_or}
 use Rattle.std.specs.Borrow.{Bor}
 
 -- an entry, where the value is seen through a reference
 abbrev pub shown_entry : {X : Type 0} → ℕ × Bor X → ℕ × X
 shown_entry e = (e.0, e.1.now)
 
--- whether a key is no less than another
-abbrev pub at_least : ℕ → ℕ → Bool
-at_least least key = nat_le least key
+-- the map, with another value for the key at a place of the ascending order
+abbrev pub put_at : {X : Type 0} → FinMap nat_cmp X → ℕ → X → FinMap nat_cmp X
+put_at m place x = option_map_or (λ e. insert m e.0 x) (slice_get (entries m) place) m
 
 -- what is always true of the entries of a table with this room, whose memory holds so many
 pub record IsTable {X : Type 0} (room : ℕ) (entries : List (ℕ × X)) (capacity : ℕ) : Type 0 where

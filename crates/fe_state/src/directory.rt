@@ -9,18 +9,15 @@ ghost use Rattle.fe_state.specs.Change.{restored, CanRestore, MayCome, shown};
 
 use crate::answer::Answer;
 use crate::array::Array;
+use crate::arrays::{ARRAYS, Arrays};
 use crate::change::Change;
 use crate::copied::Copied;
 use crate::name::Name;
 use crate::request::Request;
-use crate::table::Table;
 use crate::words::Words;
 use fe_words::{Op, Reply, Tag, Word};
 use std::alloc::{AllocError, Global};
 use std::marker::Model;
-
-/// How many arrays there are at most.
-const ARRAYS: usize = 64;
 
 /// How many words there are at most, in one array and in all together.
 const WORDS: u32 = 65536;
@@ -28,7 +25,7 @@ const WORDS: u32 = 65536;
 /// The arrays by id, with the id that the next one gets.
 #[derive(Drop)]
 pub struct Directory {
-    arrays: Table<Array, ARRAYS>,
+    arrays: Arrays,
     next_id: u64,
     /// The words of all arrays together.
     words: u32,
@@ -61,7 +58,7 @@ impl Directory {
         requires { 1 ≤ next_id }
         ensures { IfOk result (λ directory. directory ≡ record { arrays = first_directory.arrays; next_id = next_id }) }
     {
-        let arrays = Table::new(alloc)?;
+        let arrays = Arrays::new(alloc)?;
         Ok(Directory {
             arrays,
             next_id,

@@ -3,6 +3,7 @@
 
 mod answer;
 mod array;
+mod arrays;
 mod batch;
 mod change;
 mod copied;

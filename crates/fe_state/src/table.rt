@@ -2,8 +2,8 @@ ghost use Rattle.std.specs.Prelude.{◌≡◌, ◌<◌, ◌≤◌, IfOk, IfErr, 
 ghost use Rattle.std.specs.Option.{option_map};
 ghost use Rattle.std.specs.FinMap as map;
 ghost use Rattle.std.specs.Borrow.{sem};
-ghost use Rattle.fe_state.specs.Table.{shown_entry, at_least, IsAt, IsGapFor};
-ghost use Rattle.fe_state.specs.TableLends.{lends_value};
+ghost use Rattle.fe_state.specs.Table.{shown_entry, IsAt, IsGapFor};
+ghost use Rattle.fe_state.specs.TableLends.{lends_value, lends_place};
 
 use crate::copied::Copied;
 use std::alloc::{AllocError, Global};
@@ -77,6 +77,15 @@ impl<V, const ROOM: usize> Table<V, ROOM> {
         ensures value { map.get self.old key ≡ Some result.now }
     {
         let place = self.search(key).unwrap();
+        self.at_mut(place)
+    }
+
+    /// The value at a place of the ascending order that is taken, to write.
+    pub fn at_mut(&mut self, place: usize) -> &mut V
+        requires taken { place < map.len self.old }
+        ensures* writes_back { sem 𝓛 (lends_place V.row ROOM.row self.entry place result) }
+        ensures value { option_map (λ e. e.1) (slice_get (map.entries self.old) place) ≡ Some result.now }
+    {
         let entry = &mut self.entries[place];
         &mut entry.1
     }
@@ -122,13 +131,6 @@ impl<V: Drop, const ROOM: usize> Table<V, ROOM> {
     {
         let place = self.search(key).unwrap_err();
         self.entries.insert(place, (key, value)).unwrap();
-    }
-
-    /// Drops each key below `least`, with its value.
-    pub fn retain_from(&mut self, least: u64)
-        ensures retained { self.new ≡ map.retain_keys self.old (at_least least) }
-    {
-        self.entries.retain(|entry| entry.0 >= least);
     }
 }
 

@@ -1,29 +1,21 @@
-use Rattle.std.proofs.Common.{refl, arith}
-use Rattle.std.proofs.Math.ListN.{length-set}
-use Rattle.fe_state.proofs.TableLemmas.{place_below, get_found, search_finds, entries_written, from_sorted-entries, ascending_entries}
+use Rattle.std.proofs.Common.{refl, arith, rules}
+use Rattle.std.specs.FinMap.{len-entries, entries_sorted}
+use Rattle.fe_state.proofs.TableLemmas.{search_finds, from_sorted-entries}
+use Rattle.fe_state.proofs.TablePlaces.{put_here, get_lent}
 use Rattle.fe_state.proofs.table.Table.get_mut.Goals as goal
 
 pub unwrap-place-requires : goal.unwrap-place-requires
-unwrap-place-requires g c = search_finds _ _ c.self.invariant.ascending refl _ _ c.search.ensures.absent (rw c.self.view_is c.requires.present)
+unwrap-place-requires g c = search_finds _ c.args.self.now (entries_sorted c.args.self.now) (from_sorted-entries _ _ refl) _ _ c.search.ensures.absent c.requires.present
 
-pub index_mut-entry-requires : goal.index_mut-entry-requires
-index_mut-entry-requires g c =
-    let found = rw c.unwrap-place.ensures at c.search.ensures.found in
-    omega (arith, place_below _ _ c.self.invariant.ascending refl _ _ found, c.self.inside.entries.ok.0)
-
-pub invariant_of-self-lent : goal.invariant_of-self-lent
-invariant_of-self-lent g c = λ w.
-    let found = rw c.unwrap-place.ensures at c.search.ensures.found in
-    record {
-      ascending = ascending_entries _ _ (entries_written _ _ c.self.invariant.ascending refl _ _ _ w c.index_mut-entry.ensures.value found);
-      few = simp length-set c.self.invariant.few;
-      reserved = c.self.invariant.reserved;
-    }
+pub at_mut-requires : goal.at_mut-requires
+at_mut-requires g c =
+    let at = rw c.unwrap-place.ensures at c.search.ensures.found in
+    (search rules, omega (arith, len-entries c.args.self.now, at.in_range))
 
 pub returns : goal.returns
 returns g c =
-    let found = rw c.unwrap-place.ensures at c.search.ensures.found in
-    rw (← c.self.view_is) (
-      (refl, λ w. from_sorted-entries _ _ (entries_written _ _ c.self.invariant.ascending refl _ _ _ w c.index_mut-entry.ensures.value found)),
-      record { writes_back = tt; value = get_found _ _ c.self.invariant.ascending refl _ _ _ c.index_mut-entry.ensures.value found },
+    let at = rw c.unwrap-place.ensures at c.search.ensures.found in
+    (
+      (refl, λ w. (put_here _ _ _ at w).0),
+      record { writes_back = tt; value = get_lent _ _ _ at _ c.at_mut.ensures.value },
     )

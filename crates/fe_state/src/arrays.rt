@@ -1,0 +1,132 @@
+ghost use Rattle.std.specs.Prelude.{◌≡◌, ◌+◌, ◌<◌, ◌≤◌, IfOk, None, Some, IsSome, option_copied, slice_get};
+ghost use Rattle.std.specs.Option.{option_map};
+ghost use Rattle.std.specs.FinMap as map;
+ghost use Rattle.std.specs.Borrow.{sem};
+ghost use Rattle.indexmap.specs.IndexSet.{index_set_len, spare};
+ghost use Rattle.fe_state.specs.Arrays.{IsIndex};
+ghost use Rattle.fe_state.specs.ArraysLends.{lends_array};
+ghost use Rattle.fe_state.specs.Table.{shown_entry};
+
+use crate::array::Array;
+use crate::copied::Copied;
+use crate::table::Table;
+use indexmap::IndexSet;
+use std::alloc::{AllocError, Global};
+use std::marker::Model;
+
+/// How many arrays there are at most.
+pub const ARRAYS: usize = 64;
+
+/// The arrays by id, in order of creation.
+///
+/// Ids rise, so the table's ascending order is that of creation. The set keeps the ids in the same order and finds the
+/// place of one in constant time. An array that comes or goes has the ids put into the set again: it keeps its room
+/// when it is cleared, and not when one is taken out. `new` and `copied` alone take memory.
+#[derive(Drop)]
+pub struct Arrays {
+    ids: IndexSet<u64>,
+    table: Table<Array, ARRAYS>,
+}
+
+impl Model for Arrays {
+    ghost use Rattle.std.specs.FinMap.{FinMap, code};
+    ghost use Rattle.std.specs.Ordering.{nat_cmp};
+    ghost use Rattle.std.specs.Coded.{coded_ℕ};
+    ghost use Rattle.fe_state.specs.declared.array.Array as declared;
+    ghost use Rattle.fe_state.specs.contracts.array.Array.{the_row};
+    ghost use Rattle.fe_state.specs.Arrays.{IsIndex};
+
+    ghost Value = { FinMap nat_cmp declared.Array };
+
+    ghost coded = { code coded_ℕ the_row.coded };
+
+    ghost view = { λ a. a.table };
+
+    ghost invariant = { λ a. IsIndex a.ids a.table };
+}
+
+impl Arrays {
+    /// No array, with room for all. The one error is that memory is short.
+    pub fn new(alloc: Global) -> Result<Arrays, AllocError>
+        ensures empty { IfOk result (λ arrays. arrays ≡ map.empty) }
+    {
+        let ids = IndexSet::with_capacity(alloc, ARRAYS)?;
+        let table = Table::new(alloc)?;
+        Ok(Arrays { ids, table })
+    }
+
+    /// How many arrays there are.
+    pub fn len(&self) -> usize
+        ensures len { result ≡ map.len self.now }
+        ensures fits { result ≤ 64 }
+    {
+        self.table.len()
+    }
+
+    /// The array with an id.
+    pub fn get(&self, id: u64) -> Option<&Array>
+        ensures value { option_copied result ≡ map.get self.now id }
+    {
+        let place = self.ids.get_index_of(&id)?;
+        let (_, array) = self.table.at(place).unwrap();
+        Some(array)
+    }
+
+    /// The id at a place of the order of creation, counted from zero, with its array.
+    pub fn at(&self, place: usize) -> Option<(u64, &Array)>
+        ensures entry { option_map shown_entry result ≡ slice_get (map.entries self.now) place }
+    {
+        self.table.at(place)
+    }
+
+    /// The array with an id that is there, to write.
+    pub fn get_mut(&mut self, id: u64) -> &mut Array
+        requires present { IsSome (map.get self.old id) }
+        ensures* writes_back { sem 𝓛 (lends_array self.entry id result) }
+        ensures value { map.get self.old id ≡ Some result.now }
+    {
+        let place = self.ids.get_index_of(&id).unwrap();
+        self.table.at_mut(place)
+    }
+
+    /// Takes the array with an id out. The others keep their order.
+    pub fn remove(&mut self, id: u64) -> Option<Array>
+        ensures value { result ≡ map.get self.old id }
+        ensures removed { self.new ≡ map.remove self.old id }
+    {
+        let array = self.table.remove(id)?;
+        index(&self.table, &mut self.ids);
+        Some(array)
+    }
+
+    /// Puts an array at a new id, which comes to its place in the order.
+    pub fn insert(&mut self, id: u64, array: Array)
+        requires absent { map.get self.old id ≡ None }
+        requires room { map.len self.old < 64 }
+        ensures inserted { self.new ≡ map.insert self.old id array }
+    {
+        self.table.insert(id, array);
+        index(&self.table, &mut self.ids);
+    }
+}
+
+/// Puts the ids of a table into a set anew. It takes no memory.
+fn index(table: &Table<Array, ARRAYS>, ids: &mut IndexSet<u64>)
+    requires room { 64 ≤ index_set_len ids.old + spare ids.old }
+    ensures index { IsIndex ids.new table.now }
+{
+    ids.clear();
+    for place in 0..table.len() {
+        let (id, _) = table.at(place).unwrap();
+        ids.insert(id).unwrap();
+    }
+}
+
+impl Copied for Arrays {
+    fn copied(&self, alloc: Global) -> Result<Self, AllocError> {
+        let mut ids = IndexSet::with_capacity(alloc, ARRAYS)?;
+        let table = self.table.copied(alloc)?;
+        index(&table, &mut ids);
+        Ok(Arrays { ids, table })
+    }
+}
