@@ -1,14 +1,17 @@
 -- The frame at the front of some bytes: what it spells, and that no other message is spelled there.
-use Rattle.std.proofs.Common.{◌≡◌, ℕ, suc, ◌+◌, ◌-◌, ◌<◌, ◌≤◌, List, ◌∷◌, ◌++◌, length, get_or, take, drop, Some, None, refl, sym, ap, ◌∙◌, arith, inl, inr}
+use Rattle.std.proofs.Common.{◌≡◌, ℕ, suc, ◌+◌, ◌-◌, ◌<◌, ◌≤◌, List, ◌∷◌, ◌++◌, length, get_or, take, drop, Some, None, refl, sym, ap, ◌∙◌, arith, inl, inr, lit≤}
+use Rattle.std.specs.Prelude.{IfSome}
 use Rattle.std.specs.Int.{w32, to_be_bytes, from_be_bytes}
 use Rattle.std.proofs.lemmas.Option.{none-some, same_Some}
 use Rattle.std.proofs.lemmas.List.{take_at, take-take, drop-take, drop_more, take-append-drop, take-append-le, length-append, length-take, length-take-le, length-drop, append_cancel_left, get_or_append_left}
+use Rattle.fe_wire.specs.declared.version.Version.{Version}
+use Rattle.fe_wire.specs.declared.version.Version.TheVariants.{One, Two}
 use Rattle.fe_wire.specs.declared.client_message.ClientMessage.{ClientMessage}
-use Rattle.fe_wire.specs.Spelling.{frame, spelling, Fits}
+use Rattle.fe_wire.specs.Spelling.{frame, spelling, Fits, FitsIn}
 use Rattle.fe_wire.specs.Reading.{message_of}
-use Rattle.fe_wire.specs.Stream.{length_of_kind, length_field, kind_field, front_frame, IsWhole, IsBad, IsUnfinished, HasBadBody}
-use Rattle.fe_wire.proofs.FieldLaws.{IsBytes, IsBytes-take, IsBytes-drop, wide32}
-use Rattle.fe_wire.proofs.MessageLaws.{IsRead, message_takes, message_again}
+use Rattle.fe_wire.specs.Stream.{first_lengths, length_of_kind, longest, length_field, kind_field, front_frame, IsWhole, IsBad, IsUnfinished, HasBadBody}
+use Rattle.fe_wire.proofs.FieldLaws.{IsBytes, IsBytes-take, IsBytes-drop, wide32, row, some_at}
+use Rattle.fe_wire.proofs.MessageLaws.{IsRead, message_takes, message_again, has_kind}
 
 -- what stands behind the kind, as long as the frame says
 abbrev pub body_field : List ℕ → List ℕ
@@ -33,17 +36,18 @@ front_is bytes fits whole low =
     sym (take-append-drop 4 (take (4 + n) bytes)) ∙ ap (λ (r : List ℕ). r ++ drop 4 (take (4 + n) bytes)) (take-take 4 (4 + n) bytes (omega arith) ∙ first) ∙ ap (λ (r : List ℕ). to_be_bytes w32 (length (body_field bytes) + 1) ++ r) behind
 
 -- a body that was read makes the frame whole
-pub reads_frame : (bytes : List ℕ) (m : ClientMessage) → IsBytes bytes → IsWhole bytes → 1 ≤ length_field bytes → message_of (kind_field bytes) (body_field bytes) ≡ Some m → Fits m × (front_frame bytes ≡ spelling m) × IsWhole bytes
-reads_frame bytes m fits whole low e =
+pub reads_frame : (v : Version) (bytes : List ℕ) (m : ClientMessage) → IsBytes bytes → IsWhole bytes → 1 ≤ length_field bytes → length_of_kind v (kind_field bytes) ≡ Some (length_field bytes) → message_of (kind_field bytes) (body_field bytes) ≡ Some m → FitsIn v m × (front_frame bytes ≡ spelling m)
+reads_frame v bytes m fits whole low kind e =
     let t = message_takes (kind_field bytes) (body_field bytes) m (IsBytes-take (4 + length_field bytes - 5) (drop 5 bytes) (IsBytes-drop 5 bytes fits)) e in
-    (t.0, front_is bytes fits whole low ∙ sym t.1, whole)
+    let known : length_of_kind v (kind_field (spelling m)) ≡ Some (length_field bytes) = ap (λ (t : List ℕ). length_of_kind v (kind_field t)) t.1 ∙ kind in
+    ((t.0, has_kind v m (length_field bytes) known), front_is bytes fits whole low ∙ sym t.1)
 
 -- a body that was not read makes the frame bad
-pub reads_none : (bytes : List ℕ) → IsBytes bytes → IsWhole bytes → 1 ≤ length_field bytes → message_of (kind_field bytes) (body_field bytes) ≡ None → HasBadBody bytes
-reads_none bytes fits whole low e = (
+pub reads_none : (v : Version) (bytes : List ℕ) → IsBytes bytes → IsWhole bytes → 1 ≤ length_field bytes → message_of (kind_field bytes) (body_field bytes) ≡ None → HasBadBody v bytes
+reads_none v bytes fits whole low e = (
   whole,
-  λ m m_fits same.
-      let r = message_again m m_fits in
+  λ m known same.
+      let r = message_again m known.0 in
       let frames : frame (kind_field bytes) (body_field bytes) ≡ frame r.kind r.body = sym (front_is bytes fits whole low) ∙ same ∙ r.spelled in
       let kinds : kind_field bytes ≡ r.kind = ap (λ (t : List ℕ). get_or t 4 0) frames in
       let bodies : body_field bytes ≡ r.body = ap (drop 5) frames in
@@ -87,28 +91,41 @@ one_front a b x y a_fits b_fits same =
     let read : Some a ≡ Some b = sym f.read.read ∙ ap (λ (k : ℕ). message_of k f.read.body) kinds ∙ ap (message_of g.read.kind) bodies ∙ g.read.read in
     (same_Some a b read, append_cancel_left (spelling a) x y (same ∙ ap (λ (t : List ℕ). t ++ y) (sym spelled)))
 
+-- a kind's frames are no longer than the greatest length
+first_row : (limit kind : ℕ) → 31 ≤ limit → IfSome (first_lengths kind) (λ n. n ≤ limit)
+first_row limit kind le =
+    let P : ℕ → Type 0 = λ n. n ≤ limit in
+    row P kind 1 _ _ (λ e. omega arith) (row P kind 2 _ _ (λ e. omega arith) (row P kind 3 _ _ (λ e. omega arith)
+    (row P kind 4 _ _ (λ e. omega arith) (row P kind 5 _ _ (λ e. omega arith) (row P kind 6 _ _ (λ e. omega arith)
+    (row P kind 7 _ _ (λ e. omega arith) (row P kind 8 _ _ (λ e. omega arith) (row P kind 9 _ _ (λ e. omega arith) tt))))))))
+
+length_row : (v : Version) (kind : ℕ) → IfSome (length_of_kind v kind) (λ n. n ≤ longest v)
+length_row One kind = first_row 31 kind (lit≤ tt)
+length_row Two kind =
+    let P : ℕ → Type 0 = λ n. n ≤ 47 in
+    row P kind 11 _ _ (λ e. lit≤ tt) (row P kind 12 _ _ (λ e. lit≤ tt) (row P kind 13 _ _ (λ e. lit≤ tt) (first_row 47 kind (lit≤ tt))))
+
 -- what begins with a message's frame is neither bad nor unfinished
-pub front_not_bad : (m : ClientMessage) (behind : List ℕ) → Fits m → IsBad (spelling m ++ behind) → ⊥
-front_not_bad m behind fits bad =
-    let f = spelled_front m behind fits in
+pub front_not_bad : (v : Version) (m : ClientMessage) (behind : List ℕ) → FitsIn v m → IsBad v (spelling m ++ behind) → ⊥
+front_not_bad v m behind fits bad =
+    let f = spelled_front m behind fits.0 in
+    let known : length_of_kind v (kind_field (spelling m ++ behind)) ≡ Some (length_field (spelling m ++ behind)) = ap (length_of_kind v) f.kind ∙ f.read.long v fits.1 ∙ ap (λ (k : ℕ). Some k) (sym f.long) in
+    let within : length_field (spelling m ++ behind) ≤ longest v = some_at (λ n. n ≤ longest v) (length_of_kind v (kind_field (spelling m ++ behind))) (length_field (spelling m ++ behind)) known (length_row v (kind_field (spelling m ++ behind))) in
     elim bad [
-      | inl h ↦ elim h.1 [ inl z ↦ omega (arith, f.long, z) | inr over ↦ omega (arith, f.long, f.read.high, over) ]
-      | inr rest ↦ elim rest [
-        | inl h ↦ h.1 (ap length_of_kind f.kind ∙ f.read.long ∙ ap (λ (k : ℕ). Some k) (sym f.long))
-        | inr h ↦ h.1 m fits f.front
-      ]
+      | inl h ↦ elim h.1 [ inl z ↦ omega (arith, f.long, z) | inr over ↦ omega (arith, within, over) ]
+      | inr rest ↦ elim rest [ inl h ↦ h.1 known | inr h ↦ h.1 m fits f.front ]
     ]
 
-pub front_not_unfinished : (m : ClientMessage) (behind : List ℕ) → Fits m → IsUnfinished (spelling m ++ behind) → ⊥
-front_not_unfinished m behind fits h = h.0 (spelled_front m behind fits).whole
+pub front_not_unfinished : (v : Version) (m : ClientMessage) (behind : List ℕ) → Fits m → IsUnfinished v (spelling m ++ behind) → ⊥
+front_not_unfinished v m behind fits h = h.0 (spelled_front m behind fits).whole
 
 -- ---- bytes that come behind
 
 pub length_field-append : (r more : List ℕ) → 4 ≤ length r → length_field (r ++ more) ≡ length_field r
 length_field-append r more le = ap (from_be_bytes w32) (take-append-le 4 r more le)
 
-pub bad_more : (r more : List ℕ) → IsBad r → IsBad (r ++ more)
-bad_more r more bad =
+pub bad_more : (v : Version) (r more : List ℕ) → IsBad v r → IsBad v (r ++ more)
+bad_more v r more bad =
     let longer : length r ≤ length (r ++ more) = omega (arith, length-append r more) in
     elim bad [
       | inl h ↦
@@ -118,7 +135,7 @@ bad_more r more bad =
         | inl h ↦
             let n = length_field-append r more (omega (arith, h.0)) in
             let k : kind_field (r ++ more) ≡ kind_field r = get_or_append_left r more 0 4 (omega (arith, h.0)) in
-            inr (inl (omega (arith, h.0, longer), λ e. h.1 (ap length_of_kind (sym k) ∙ e ∙ ap (λ (x : ℕ). Some x) n)))
+            inr (inl (omega (arith, h.0, longer), λ e. h.1 (ap (length_of_kind v) (sym k) ∙ e ∙ ap (λ (x : ℕ). Some x) n)))
         | inr h ↦
             let n = length_field-append r more (omega (arith, h.0)) in
             let front : front_frame (r ++ more) ≡ front_frame r = ap (λ (x : ℕ). take (4 + x) (r ++ more)) n ∙ take-append-le (4 + length_field r) r more h.0 in

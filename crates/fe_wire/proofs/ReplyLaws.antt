@@ -1,16 +1,19 @@
 -- The two laws of replies: what is read is spelled so, and what is spelled so is read.
-use Rattle.std.proofs.Common.{◌≡◌, ℕ, ◌+◌, ◌^◌, ◌<◌, Bool, true, false, cond, ltb, eqb, List, [], ◌∷◌, ◌++◌, length, Option, Some, None, refl, sym, ap, subst, ◌∙◌, arith, lit<}
+use Rattle.std.proofs.Common.{◌≡◌, ◌≢◌, ℕ, ◌+◌, ◌^◌, ◌<◌, Bool, true, false, cond, ltb, leb, eqb, ◌&&◌, List, [], ◌∷◌, ◌++◌, length, Option, Some, None, refl, sym, ap, subst, ◌∙◌, arith, lit<}
 use Rattle.std.specs.Prelude.{IfSome}
 use Rattle.std.specs.Int.{w32, w64, to_be_bytes}
-use Rattle.std.proofs.lemmas.Bool.{ltb-false, le-ltb, eqb-true, eq-eqb}
+use Rattle.std.proofs.lemmas.Bool.{ltb-false, ltb-true, lt-ltb, le-ltb, leb-true, le-leb, eqb-true, eq-eqb, ne_eqb, and_parts}
+use Rattle.std.proofs.lemmas.Option.{cond_some}
+use Rattle.std.specs.Str.{IsUtf8, is_utf8}
+use Rattle.std.proofs.lemmas.Str.{IsUtf8-from_is_utf8, is_utf8-from_IsUtf8}
 use Rattle.fe_state.specs.declared.answer.Answer.{Answer}
 use Rattle.fe_state.specs.declared.answer.Answer.TheVariants as answers
 use Rattle.fe_wire.specs.declared.server_message.ServerMessage.{ServerMessage}
 use Rattle.fe_wire.specs.declared.server_message.ServerMessage.TheVariants.{Welcome, Answer as Answered, Withdrawn, Settled, Goodbye, Refused, Report}
 use Rattle.fe_wire.specs.Codes.{answer_code, answer_number, answer_length}
-use Rattle.fe_wire.specs.Spelling.{frame, reply_spelling, ReplyFits}
-use Rattle.fe_wire.specs.Reading.{◌>>=◌, number_at, byte_at, answer_of, ended, welcome_of, answered_of, refused_of, reply_of, reply_at}
-use Rattle.fe_wire.proofs.FieldLaws.{IsBytes, bind_some, bind_at, ended_takes, wide32, wide64, number_takes, number_again, byte_takes, row, some_at}
+use Rattle.fe_wire.specs.Spelling.{frame, reply_spelling, ReplyFits, IsReport}
+use Rattle.fe_wire.specs.Reading.{◌>>=◌, number_at, byte_at, answer_of, ended, number_of, two_numbers_of, made_of, made_of_two, answered_of, refused_of, report_of, reply_of, parts_of}
+use Rattle.fe_wire.proofs.FieldLaws.{IsBytes, bind_some, bind_at, ended_takes, wide32, wide64, number_takes, number_again, byte_takes, number_of_takes, number_of_again, two_numbers, two_numbers_of_takes, two_numbers_of_again, row, some_at}
 
 abbrev pub IsReplyOf : ℕ → List ℕ → ServerMessage → Type 0
 IsReplyOf kind body m = ReplyFits m × (reply_spelling m ≡ frame kind body)
@@ -33,7 +36,8 @@ answer_row code number size =
     (row P code 7 _ _ (λ e. row P number 0 _ _ (λ y. row P size 0 _ _ (λ z. (sym e, sym y, sym z)) tt) tt)
     (row P code 8 _ _ (λ e. row P number 0 _ _ (λ y. row P size 0 _ _ (λ z. (sym e, sym y, sym z)) tt) tt)
     (row P code 9 _ _ (λ e. row P number 0 _ _ (λ y. row P size 0 _ _ (λ z. (sym e, sym y, sym z)) tt) tt)
-    (row P code 10 _ _ (λ e. row P number 0 _ _ (λ y. row P size 0 _ _ (λ z. (sym e, sym y, sym z)) tt) tt) tt)))))))))
+    (row P code 10 _ _ (λ e. row P number 0 _ _ (λ y. row P size 0 _ _ (λ z. (sym e, sym y, sym z)) tt) tt)
+    (row P code 11 _ _ (λ e. row P number 0 _ _ (λ y. row P size 0 _ _ (λ z. (sym e, sym y, sym z)) tt) tt) tt))))))))))
 
 answer_takes : (code number size : ℕ) (a : Answer) → answer_of code number size ≡ Some a → IsRow code number size a
 answer_takes code number size a e = some_at (IsRow code number size) (answer_of code number size) a e (answer_row code number size)
@@ -50,33 +54,7 @@ answer_again answers.ArrayLimit = refl
 answer_again answers.WordLimit = refl
 answer_again answers.BadName = refl
 answer_again answers.BadLength = refl
-
--- ---- welcome
-
-abbrev welcomed : ℕ → ℕ × List ℕ → Option ServerMessage
-welcomed session floor = ended floor.1 (Welcome session floor.0)
-
-abbrev sessioned : ℕ × List ℕ → Option ServerMessage
-sessioned session = number_at w64 session.1 >>= welcomed session.0
-
-welcome_takes : (body : List ℕ) (m : ServerMessage) → IsBytes body → welcome_of body ≡ Some m → IsReplyOf 65 body m
-unfolding welcome_of
-welcome_takes body m fits e =
-    let a = bind_some (number_at w64 body) sessioned m e in
-    let b = bind_some (number_at w64 a.0.1) (welcomed a.0.0) m a.2 in
-    let k = ended_takes b.0.1 (Welcome a.0.0 b.0.0) m b.2 in
-    let t0 = number_takes w64 (2 ^ 64) wide64 body a.0.0 a.0.1 fits a.1 in
-    let t1 = number_takes w64 (2 ^ 64) wide64 a.0.1 b.0.0 b.0.1 t0.0.rest_fits b.1 in
-    let last : a.0.1 ≡ to_be_bytes w64 b.0.0 = t1.0.parts ∙ ap (λ (r : List ℕ). to_be_bytes w64 b.0.0 ++ r) k.0 in
-    let whole : body ≡ to_be_bytes w64 a.0.0 ++ to_be_bytes w64 b.0.0 = t0.0.parts ∙ ap (λ (r : List ℕ). to_be_bytes w64 a.0.0 ++ r) last in
-    subst (IsReplyOf 65 body) k.1 ((t0.1, t1.1), ap (frame 65) (sym whole))
-
-welcome_again : (session floor : ℕ) → ReplyFits (Welcome session floor) → welcome_of (to_be_bytes w64 session ++ to_be_bytes w64 floor) ≡ Some (Welcome session floor)
-unfolding welcome_of
-welcome_again session floor fits =
-    let last : List ℕ = to_be_bytes w64 floor in
-    bind_at (number_at w64 (to_be_bytes w64 session ++ last)) sessioned (session, last) (number_again w64 (2 ^ 64) wide64 session last fits.0)
-    ∙ bind_at (number_at w64 last) (welcomed session) (floor, []) (number_again w64 (2 ^ 64) wide64 floor [] fits.1)
+answer_again answers.NotNow = refl
 
 -- ---- answer
 
@@ -161,73 +139,153 @@ refused_again number code fits =
     bind_at (number_at w64 (to_be_bytes w64 number ++ code ∷ [])) refusing (number, code ∷ []) (number_again w64 (2 ^ 64) wide64 number (code ∷ []) fits.0)
     ∙ rest
 
--- ---- any kind
+-- ---- bodies of numbers
+
+made_takes : (kind : ℕ) (make : ℕ → ServerMessage) → ((n : ℕ) → n < 2 ^ 64 → ReplyFits (make n)) → ((n : ℕ) → reply_spelling (make n) ≡ frame kind (to_be_bytes w64 n)) → (body : List ℕ) (m : ServerMessage) → IsBytes body → made_of make body ≡ Some m → IsReplyOf kind body m
+made_takes kind make fitting spelled body m fits e =
+    let a = bind_some (number_of body) (λ n. Some (make n)) m e in
+    let t = number_of_takes body a.0 fits a.1 in
+    let same : make a.0 ≡ m = cc (a.2) in
+    subst (IsReplyOf kind body) same (fitting a.0 t.1, spelled a.0 ∙ ap (frame kind) (sym t.0))
+
+welcome_takes : (body : List ℕ) (m : ServerMessage) → IsBytes body → made_of_two (λ session floor. Welcome session floor) body ≡ Some m → IsReplyOf 65 body m
+welcome_takes body m fits e =
+    let a = bind_some (two_numbers_of body) (λ n. Some (Welcome n.0 n.1)) m e in
+    let t = two_numbers_of_takes body a.0.0 a.0.1 fits a.1 in
+    let same : Welcome a.0.0 a.0.1 ≡ m = cc (a.2) in
+    subst (IsReplyOf 65 body) same ((t.1, t.2), ap (frame 65) (sym t.0))
+
+made_again : (make : ℕ → ServerMessage) (n : ℕ) → n < 2 ^ 64 → made_of make (to_be_bytes w64 n) ≡ Some (make n)
+made_again make n lt = bind_at (number_of (to_be_bytes w64 n)) (λ k. Some (make k)) n (number_of_again n lt)
+
+welcome_again : (session floor : ℕ) → session < 2 ^ 64 → floor < 2 ^ 64 → made_of_two (λ n k. Welcome n k) (two_numbers session floor) ≡ Some (Welcome session floor)
+welcome_again session floor s_fits f_fits = bind_at (two_numbers_of (two_numbers session floor)) (λ p. Some (Welcome p.0 p.1)) (session, floor) (two_numbers_of_again session floor s_fits f_fits)
+
+-- ---- any kind but a report's
 
 if_each : (P : ServerMessage → Type 0) (o : Option ServerMessage) → ((x : ServerMessage) → o ≡ Some x → P x) → IfSome o P
 if_each P (Some x) h = h x refl
 if_each P None h = tt
 
-reply_takes : (kind : ℕ) (body : List ℕ) (m : ServerMessage) → IsBytes body → reply_of kind body ≡ Some m → IsReplyOf kind body m
+-- a row of the table of kinds
+given : (kind k : ℕ) (body : List ℕ) (o : Option ServerMessage) → ((x : ServerMessage) → o ≡ Some x → IsReplyOf k body x) → kind ≡ k → IfSome o (IsReplyOf kind body)
+given kind k body o h same = if_each (IsReplyOf kind body) o (λ x is. subst (λ (n : ℕ). IsReplyOf n body x) (sym same) (h x is))
+
+reply_row : (kind : ℕ) (body : List ℕ) → IsBytes body → IfSome (reply_of kind body) (IsReplyOf kind body)
 unfolding reply_of
-reply_takes kind body m fits e =
+reply_row kind body fits =
     let P : ServerMessage → Type 0 = IsReplyOf kind body in
-    let given : (k : ℕ) (o : Option ServerMessage) → ((x : ServerMessage) → o ≡ Some x → IsReplyOf k body x) → kind ≡ k → IfSome o P =
-    λ k o h same. if_each P o (λ x is. subst (λ (n : ℕ). IsReplyOf n body x) (sym same) (h x is)) in
-    some_at P _ m e
-    (row P kind 65 (welcome_of body) _ (given 65 (welcome_of body) (λ x is. welcome_takes body x fits is))
-    (row P kind 66 (answered_of body) _ (given 66 (answered_of body) (λ x is. answered_takes body x fits is))
-    (row P kind 70 (refused_of body) None (given 70 (refused_of body) (λ x is. refused_takes body x fits is)) tt)))
+    row P kind 65 _ _ (given kind 65 body (made_of_two (λ session floor. Welcome session floor) body) (λ x is. welcome_takes body x fits is))
+    (row P kind 66 _ _ (given kind 66 body (answered_of body) (λ x is. answered_takes body x fits is))
+    (row P kind 67 _ _ (given kind 67 body (made_of (λ number. Withdrawn number) body) (λ x is. made_takes 67 (λ number. Withdrawn number) (λ n lt. lt) (λ n. refl) body x fits is))
+    (row P kind 68 _ _ (given kind 68 body (made_of (λ floor. Settled floor) body) (λ x is. made_takes 68 (λ floor. Settled floor) (λ n lt. lt) (λ n. refl) body x fits is))
+    (row P kind 69 _ _ (given kind 69 body (made_of (λ session. Goodbye session) body) (λ x is. made_takes 69 (λ session. Goodbye session) (λ n lt. lt) (λ n. refl) body x fits is))
+    (row P kind 70 _ _ (given kind 70 body (refused_of body) (λ x is. refused_takes body x fits is)) tt)))))
+
+reply_takes : (kind : ℕ) (body : List ℕ) (m : ServerMessage) → IsBytes body → reply_of kind body ≡ Some m → IsReplyOf kind body m
+reply_takes kind body m fits e = some_at (IsReplyOf kind body) (reply_of kind body) m e (reply_row kind body fits)
+
+-- ---- any kind
+
+-- what a frame of this kind with this body spells, a report too
+abbrev pub any_reply_of : ℕ → List ℕ → Option ServerMessage
+any_reply_of kind body = cond (eqb kind 71) (report_of body) (reply_of kind body)
+
+pub report_kind : (kind : ℕ) (body : List ℕ) → kind ≡ 71 → any_reply_of kind body ≡ report_of body
+report_kind kind body e = rw (eq-eqb kind 71 e) refl
+
+pub other_kind : (kind : ℕ) (body : List ℕ) → kind ≢ 71 → any_reply_of kind body ≡ reply_of kind body
+other_kind kind body ne = rw (ne_eqb kind 71 ne) refl
+
+report_takes : (body : List ℕ) (m : ServerMessage) → report_of body ≡ Some m → IsReplyOf 71 body m
+report_takes body m e =
+    let g = cond_some (ltb 0 (length body) && leb (length body) 262144 && is_utf8 body) (Report body) m e in
+    let p = and_parts (ltb 0 (length body) && leb (length body) 262144) (is_utf8 body) g.0 in
+    let q = and_parts (ltb 0 (length body)) (leb (length body) 262144) p.0 in
+    subst (IsReplyOf 71 body) g.1 ((ltb-true _ _ q.0, leb-true _ _ q.1, IsUtf8-from_is_utf8 body p.1), refl)
+
+any_takes : (kind : ℕ) (body : List ℕ) (m : ServerMessage) → IsBytes body → any_reply_of kind body ≡ Some m → IsReplyOf kind body m
+any_takes kind body m fits e =
+    some_at (IsReplyOf kind body) (any_reply_of kind body) m e (row (IsReplyOf kind body) kind 71 (report_of body) (reply_of kind body) (given kind 71 body (report_of body) (λ x is. report_takes body x is)) (reply_row kind body fits))
+
+by_test : {A : Type 0} (a b : Bool) (x : A) → (b ≡ true → ⊥) → cond (a && b) (Some x) None ≡ None
+by_test a true x none = absurd (none refl)
+by_test true false x none = refl
+by_test false false x none = refl
+
+pub report_again : (text : List ℕ) → ReplyFits (Report text) → report_of text ≡ Some (Report text)
+report_again text fits = rw (lt-ltb 0 (length text) fits.0, le-leb (length text) 262144 fits.1, is_utf8-from_IsUtf8 text fits.2) refl
+
+-- bytes that are no text are no report
+pub no_report : (bytes : List ℕ) → ¬ (IsUtf8 bytes) → report_of bytes ≡ None
+no_report bytes none = by_test (ltb 0 (length bytes) && leb (length bytes) 262144) (is_utf8 bytes) (Report bytes) (λ e. none (IsUtf8-from_is_utf8 bytes e))
 
 -- what fits is read again
 record IsReadReply (m : ServerMessage) : Type 0 where
   kind : ℕ
   body : List ℕ
   spelled : reply_spelling m ≡ frame kind body
-  read : reply_of kind body ≡ Some m
+  read : any_reply_of kind body ≡ Some m
   short : length body + 1 < 2 ^ 32
 
 reply_again : (m : ServerMessage) → ReplyFits m → IsReadReply m
 unfolding reply_of
-reply_again (Welcome session floor) fits = record { kind = 65; body = to_be_bytes w64 session ++ to_be_bytes w64 floor; spelled = refl; read = welcome_again session floor fits; short = lit< tt }
+reply_again (Welcome session floor) fits = record { kind = 65; body = two_numbers session floor; spelled = refl; read = welcome_again session floor fits.0 fits.1; short = lit< tt }
 reply_again (Answered number answer) fits = record { kind = 66; body = answer_body number answer; spelled = refl; read = answered_again number answer fits; short = lit< tt }
+reply_again (Withdrawn number) fits = record { kind = 67; body = to_be_bytes w64 number; spelled = refl; read = made_again (λ n. Withdrawn n) number fits; short = lit< tt }
+reply_again (Settled floor) fits = record { kind = 68; body = to_be_bytes w64 floor; spelled = refl; read = made_again (λ n. Settled n) floor fits; short = lit< tt }
+reply_again (Goodbye session) fits = record { kind = 69; body = to_be_bytes w64 session; spelled = refl; read = made_again (λ n. Goodbye n) session fits; short = lit< tt }
 reply_again (Refused number code) fits = record { kind = 70; body = to_be_bytes w64 number ++ code ∷ []; spelled = refl; read = refused_again number code fits; short = lit< tt }
-reply_again (Withdrawn number) fits = absurd fits
-reply_again (Settled floor) fits = absurd fits
-reply_again (Goodbye session) fits = absurd fits
-reply_again (Report text) fits = absurd fits
+reply_again (Report text) fits = let few = fits.1 in record { kind = 71; body = text; spelled = refl; read = report_again text fits; short = omega arith }
 
 -- ---- whole frames
-
-abbrev kinded : ℕ × List ℕ → ℕ × List ℕ → Option ServerMessage
-kinded size kind = cond (eqb size.0 (length size.1)) (reply_of kind.0 kind.1) None
-
-abbrev lengthed : ℕ × List ℕ → Option ServerMessage
-lengthed size = byte_at size.1 >>= kinded size
 
 chosen : {A : Type 0} (b : Bool) (o : Option A) (y : A) → cond b o None ≡ Some y → (b ≡ true) × (o ≡ Some y)
 chosen true o y e = (refl, e)
 chosen false o y e = absurd cc
 
-pub reply_at_takes : (bytes : List ℕ) (m : ServerMessage) → IsBytes bytes → reply_at bytes ≡ Some m → ReplyFits m × (bytes ≡ reply_spelling m)
-unfolding reply_at
-reply_at_takes bytes m fits e =
-    let a = bind_some (number_at w32 bytes) lengthed m e in
-    let b = bind_some (byte_at a.0.1) (kinded a.0) m a.2 in
-    let g = chosen (eqb a.0.0 (length a.0.1)) (reply_of b.0.0 b.0.1) m b.2 in
+abbrev lengthed : ℕ × List ℕ → Option (ℕ × List ℕ)
+lengthed size = cond (eqb size.0 (length size.1)) (byte_at size.1) None
+
+parts_takes : (bytes : List ℕ) (kind : ℕ) (body : List ℕ) → IsBytes bytes → parts_of bytes ≡ Some (kind, body) → (bytes ≡ frame kind body) × IsBytes body
+unfolding parts_of
+parts_takes bytes kind body fits e =
+    let a = bind_some (number_at w32 bytes) lengthed (kind, body) e in
+    let g = chosen (eqb a.0.0 (length a.0.1)) (byte_at a.0.1) (kind, body) a.2 in
     let t0 = number_takes w32 (2 ^ 32) wide32 bytes a.0.0 a.0.1 fits a.1 in
-    let t1 = byte_takes a.0.1 b.0.0 b.0.1 t0.0.rest_fits b.1 in
-    let r = reply_takes b.0.0 b.0.1 m t1.rest_fits g.1 in
-    let long : a.0.0 ≡ length b.0.1 + 1 = eqb-true a.0.0 (length a.0.1) g.0 ∙ ap length t1.parts ∙ omega arith in
-    let whole : bytes ≡ frame b.0.0 b.0.1 = t0.0.parts ∙ ap (λ (n : ℕ). to_be_bytes w32 n ++ a.0.1) long ∙ ap (λ (t : List ℕ). to_be_bytes w32 (length b.0.1 + 1) ++ t) t1.parts in
-    (r.0, whole ∙ sym r.1)
+    let t1 = byte_takes a.0.1 kind body t0.0.rest_fits g.1 in
+    let long : a.0.0 ≡ length body + 1 = eqb-true a.0.0 (length a.0.1) g.0 ∙ ap length t1.parts ∙ omega arith in
+    (t0.0.parts ∙ ap (λ (n : ℕ). to_be_bytes w32 n ++ a.0.1) long ∙ ap (λ (t : List ℕ). to_be_bytes w32 (length body + 1) ++ t) t1.parts, t1.rest_fits)
+
+parts_again : (kind : ℕ) (body : List ℕ) → length body + 1 < 2 ^ 32 → parts_of (frame kind body) ≡ Some (kind, body)
+unfolding parts_of
+parts_again kind body short =
+    let rest : List ℕ = kind ∷ body in
+    let long : eqb (length body + 1) (length rest) ≡ true = eq-eqb _ _ (omega arith) in
+    bind_at (number_at w32 (frame kind body)) lengthed (length body + 1, rest) (number_again w32 (2 ^ 32) wide32 (length body + 1) rest short)
+    ∙ ap (λ (b : Bool). cond b (Some (kind, body)) None) long
+
+-- the reply that the bytes spell, all of them
+abbrev pub any_kind : ℕ × List ℕ → Option ServerMessage
+any_kind parts = any_reply_of parts.0 parts.1
+
+abbrev pub reply_at : List ℕ → Option ServerMessage
+reply_at bytes = parts_of bytes >>= any_kind
+
+pub reply_at_takes : (bytes : List ℕ) (m : ServerMessage) → IsBytes bytes → reply_at bytes ≡ Some m → ReplyFits m × (bytes ≡ reply_spelling m)
+reply_at_takes bytes m fits e =
+    let a = bind_some (parts_of bytes) any_kind m e in
+    let t = parts_takes bytes a.0.0 a.0.1 fits a.1 in
+    let r = any_takes a.0.0 a.0.1 m t.1 a.2 in
+    (r.0, t.0 ∙ sym r.1)
 
 pub reply_at_again : (bytes : List ℕ) (m : ServerMessage) → ReplyFits m → bytes ≡ reply_spelling m → reply_at bytes ≡ Some m
-unfolding reply_at
 reply_at_again bytes m fits same =
     let r = reply_again m fits in
-    let rest : List ℕ = r.kind ∷ r.body in
-    let long : eqb (length r.body + 1) (length rest) ≡ true = eq-eqb _ _ (omega arith) in
-    ap reply_at (same ∙ r.spelled)
-    ∙ bind_at (number_at w32 (to_be_bytes w32 (length r.body + 1) ++ rest)) lengthed (length r.body + 1, rest) (number_again w32 (2 ^ 32) wide32 (length r.body + 1) rest r.short)
-    ∙ ap (λ (b : Bool). cond b (reply_of r.kind r.body) None) long
-    ∙ r.read
+    ap reply_at (same ∙ r.spelled) ∙ bind_at (parts_of (frame r.kind r.body)) any_kind (r.kind, r.body) (parts_again r.kind r.body r.short) ∙ r.read
+
+-- the frame of a report
+pub report_at : (bytes : List ℕ) (kind : ℕ) (body : List ℕ) → IsBytes bytes → parts_of bytes ≡ Some (kind, body) → kind ≡ 71 → ReplyFits (Report body) → IsReport bytes
+report_at bytes kind body fits e is fitting =
+    let t = parts_takes bytes kind body fits e in
+    record { text = body; fits = fitting; spelled = t.0 ∙ ap (λ (k : ℕ). frame k body) is }

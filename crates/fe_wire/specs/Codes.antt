@@ -5,7 +5,7 @@ use Rattle.fe_words.specs.declared.word.Tag.TheVariants.{Full, Empty}
 use Rattle.fe_words.specs.declared.op.Op.{Op}
 use Rattle.fe_words.specs.declared.op.Op.TheVariants.{ReadFe, ReadFf, ReadXx, WriteEf, WriteFf, WriteXf, Purge, IntFetchAdd}
 use Rattle.fe_state.specs.declared.answer.Answer.{Answer}
-use Rattle.fe_state.specs.declared.answer.Answer.TheVariants.{Value, Done, Array, NoArray, BadIndex, NameTaken, ArrayLimit, WordLimit, BadName, BadLength}
+use Rattle.fe_state.specs.declared.answer.Answer.TheVariants.{Value, Done, Array, NoArray, BadIndex, NameTaken, ArrayLimit, WordLimit, BadName, BadLength, NotNow}
 
 abbrev pub tag_code : Tag → ℕ
 tag_code Empty = 0
@@ -44,6 +44,7 @@ answer_code ArrayLimit = 7
 answer_code WordLimit = 8
 answer_code BadName = 9
 answer_code BadLength = 10
+answer_code NotNow = 11
 
 -- the value or the id that an answer carries, zero where it has none
 abbrev pub answer_number : Answer → ℕ
@@ -57,6 +58,7 @@ answer_number ArrayLimit = 0
 answer_number WordLimit = 0
 answer_number BadName = 0
 answer_number BadLength = 0
+answer_number NotNow = 0
 
 -- the length of the array that an answer names, zero where it names none
 abbrev pub answer_length : Answer → ℕ
@@ -70,3 +72,4 @@ answer_length ArrayLimit = 0
 answer_length WordLimit = 0
 answer_length BadName = 0
 answer_length BadLength = 0
+answer_length NotNow = 0

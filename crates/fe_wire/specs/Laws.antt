@@ -2,15 +2,18 @@
 use Rattle.std.specs.Prelude.{◌≡◌, ℕ, ◌<◌, List, ◌++◌, slice_index}
 use Rattle.fe_wire.specs.declared.client_message.ClientMessage.{ClientMessage}
 use Rattle.fe_wire.specs.Spelling.{spelling, Fits}
-use Rattle.fe_wire.specs.Stream.{IsStream, Decoding, HasRead}
+use Rattle.fe_wire.specs.declared.version.Version.{Version}
+use Rattle.fe_wire.specs.Stream.{IsStream, Decoding, HasReadFrom}
 
--- Two readings of one stream are one.
+-- Two readings of one stream in one version are one.
 abbrev pub HasOneReading : Type 0
-HasOneReading = (stream : List ℕ) (a b : List ClientMessage) (x y : List ℕ) → IsStream stream a x → IsStream stream b y → (a ≡ b) × (x ≡ y)
+HasOneReading = (v : Version) (stream : List ℕ) (a b : List ClientMessage) (x y : List ℕ) → IsStream v stream a x → IsStream v stream b y → (a ≡ b) × (x ≡ y)
 
--- Two decoders that have read the same stream, in whatever pieces, have the same messages and stand alike.
+-- Two decoders of one version that have read the same stream from the same place, in whatever pieces, have the same
+-- messages and stand alike.
 abbrev pub HasOneOutcome : Type 0
-HasOneOutcome = (stream : List ℕ) (a b : List ClientMessage) (x y : Decoding) → HasRead x stream a → HasRead y stream b → (a ≡ b) × (x ≡ y)
+HasOneOutcome = (start : ℕ) (stream : List ℕ) (a b : List ClientMessage) (x y : Decoding) → x.version ≡ y.version
+    → HasReadFrom start x stream a → HasReadFrom start y stream b → (a ≡ b) × (x ≡ y)
 
 -- No message's frame begins another's, and no two messages have one frame.
 abbrev pub HasOneSpelling : Type 0
@@ -21,11 +24,11 @@ abbrev pub IsBytes : List ℕ → Type 0
 IsBytes bytes = (i : ℕ) → slice_index bytes i < 256
 
 -- what the stream is read as
-pub record HasReading (stream : List ℕ) : Type 0 where
+pub record HasReading (version : Version) (stream : List ℕ) : Type 0 where
   pub messages : List ClientMessage
   pub rest : List ℕ
-  pub is_stream : IsStream stream messages rest
+  pub is_stream : IsStream version stream messages rest
 
--- Each list of bytes has a reading.
+-- Each list of bytes has a reading in each version.
 abbrev pub EachHasReading : Type 0
-EachHasReading = (stream : List ℕ) → IsBytes stream → HasReading stream
+EachHasReading = (v : Version) (stream : List ℕ) → IsBytes stream → HasReading v stream

@@ -2,7 +2,8 @@
 use Rattle.std.specs.Prelude.{◌≡◌, ℕ, ◌+◌, ◌≤◌, Bool, true, false, List, [], ◌++◌, length, take, nat_lt, if◌then◌else◌}
 use Rattle.fe_wire.specs.declared.client_message.ClientMessage.{ClientMessage}
 use Rattle.fe_wire.specs.declared.place.Place.{Place}
-use Rattle.fe_wire.specs.Stream.{Decoding, HasRead, IsUnfinished, length_field}
+use Rattle.fe_wire.specs.declared.version.Version.{Version}
+use Rattle.fe_wire.specs.Stream.{Decoding, HasReadFrom, IsUnfinished, length_field}
 
 -- the bytes that are held
 abbrev pub held_of : Place → List ℕ
@@ -10,24 +11,24 @@ held_of p = take p.len p.cells
 
 -- what a decoder at this place keeps of its stream
 abbrev pub decoding : Place → Decoding
-decoding p = record { offset = p.offset; held = held_of p; is_bad = p.is_bad }
+decoding p = record { version = p.version; offset = p.offset; held = held_of p; is_bad = p.is_bad }
 
 -- an unfinished frame is held, and nothing of a bad one
-abbrev pub IsHeld : Bool → List ℕ → Type 0
-IsHeld false held = IsUnfinished held
-IsHeld true held = held ≡ []
+abbrev pub IsHeld : Version → Bool → List ℕ → Type 0
+IsHeld version false held = IsUnfinished version held
+IsHeld version true held = held ≡ []
 
 pub record IsPlace (p : Place) : Type 0 where
-  pub within : p.len ≤ 34
-  pub cells : length p.cells ≡ 35
-  pub held : IsHeld p.is_bad (held_of p)
+  pub within : p.len ≤ 50
+  pub cells : length p.cells ≡ 51
+  pub held : IsHeld p.version p.is_bad (held_of p)
 
 -- how many bytes may be held before they are looked at again, so that none of the next frame is held
 abbrev pub wanted_of : List ℕ → ℕ
 wanted_of held = if nat_lt (length held) 4 then 4 else 4 + length_field held
 
 -- Whatever was read before, with these bytes behind it this place is read to, and these messages.
-abbrev pub GoesOn : Place → Place → List ℕ → List ClientMessage → Type 0
-GoesOn old new bytes messages =
-    (before : List ℕ) (earlier : List ClientMessage) → HasRead (decoding old) before earlier
-    → HasRead (decoding new) (before ++ bytes) (earlier ++ messages)
+pub record GoesOn (old new : Place) (bytes : List ℕ) (messages : List ClientMessage) : Type 0 where
+  pub version : new.version ≡ old.version
+  pub reads : (start : ℕ) (before : List ℕ) (earlier : List ClientMessage) → HasReadFrom start (decoding old) before earlier
+      → HasReadFrom start (decoding new) (before ++ bytes) (earlier ++ messages)

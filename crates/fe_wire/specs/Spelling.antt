@@ -1,7 +1,10 @@
--- The one spelling of each message as bytes, and which messages have one.
-use Rattle.std.specs.Prelude.{ℕ, ◌+◌, ◌-◌, ◌<◌, ◌≤◌, ◌^◌, List, [], ◌∷◌, ◌++◌, length, replicate}
+-- The one spelling of each message as bytes, which messages have one, and which a version has.
+use Rattle.std.specs.Prelude.{◌≡◌, ℕ, ◌+◌, ◌-◌, ◌<◌, ◌≤◌, ◌^◌, Bool, true, false, List, [], ◌∷◌, ◌++◌, length, replicate, nat_lt, if◌then◌else◌}
 use Rattle.std.specs.Int.{w32, w64, to_be_bytes}
+use Rattle.std.specs.Str.{IsUtf8}
 use Rattle.fe_state.specs.declared.request.Request.TheVariants.{Create, Find, Remove, Access}
+use Rattle.fe_wire.specs.declared.version.Version.{Version}
+use Rattle.fe_wire.specs.declared.version.Version.TheVariants.{One, Two}
 use Rattle.fe_wire.specs.declared.client_message.ClientMessage.{ClientMessage}
 use Rattle.fe_wire.specs.declared.client_message.ClientMessage.TheVariants.{Attach, Call, Cancel, Settle, Bye, Report}
 use Rattle.fe_wire.specs.declared.server_message.ServerMessage.{ServerMessage}
@@ -12,75 +15,103 @@ use Rattle.fe_wire.specs.Codes.{tag_code, op_code, operand_of, answer_code, answ
 abbrev pub frame : ℕ → List ℕ → List ℕ
 frame kind body = to_be_bytes w32 (length body + 1) ++ kind ∷ body
 
--- a name: its length, and 16 bytes that are zero behind it
-abbrev pub name_field : List ℕ → List ℕ
-name_field name = length name ∷ name ++ replicate (16 - length name) 0
+-- a name above 16 bytes, which has kinds of its own
+abbrev pub is_long : List ℕ → Bool
+is_long name = nat_lt 16 (length name)
 
--- A row for each kind of frame from a client. A message of a kind that isn't open has no spelling.
+-- how many bytes a field has for a long or a short name
+abbrev pub name_room : Bool → ℕ
+name_room long = if long then 32 else 16
+
+-- a name: its length, and 16 or 32 bytes that are zero behind it
+abbrev pub name_field : List ℕ → List ℕ
+name_field name = length name ∷ name ++ replicate (name_room (is_long name) - length name) 0
+
+abbrev pub create_kind : Bool → ℕ
+create_kind long = if long then 12 else 2
+
+abbrev pub find_kind : Bool → ℕ
+find_kind long = if long then 13 else 3
+
+abbrev pub access_kind : Bool → ℕ
+access_kind no_wait = if no_wait then 11 else 5
+
+-- A row for each kind of message from a client.
 abbrev pub spelling : ClientMessage → List ℕ
 spelling (Attach session) = frame 1 (to_be_bytes w64 session)
 spelling (Call number (Create name length tag)) =
-    frame 2 (to_be_bytes w64 number ++ name_field name ++ to_be_bytes w32 length ++ tag_code tag ∷ [])
-spelling (Call number (Access array index op)) =
-    frame 5 (to_be_bytes w64 number ++ op_code op ∷ to_be_bytes w64 array ++ to_be_bytes w32 index ++ to_be_bytes w64 (operand_of op))
-spelling (Call number (Find name)) = []
-spelling (Call number (Remove array)) = []
-spelling (Cancel number) = []
-spelling (Settle floor) = []
-spelling Bye = []
-spelling Report = []
+    frame (create_kind (is_long name)) (to_be_bytes w64 number ++ name_field name ++ to_be_bytes w32 length ++ tag_code tag ∷ [])
+spelling (Call number (Find name)) = frame (find_kind (is_long name)) (to_be_bytes w64 number ++ name_field name)
+spelling (Call number (Remove array)) = frame 4 (to_be_bytes w64 number ++ to_be_bytes w64 array)
+spelling (Call number (Access array index op no_wait)) =
+    frame (access_kind no_wait) (to_be_bytes w64 number ++ op_code op ∷ to_be_bytes w64 array ++ to_be_bytes w32 index ++ to_be_bytes w64 (operand_of op))
+spelling (Cancel number) = frame 6 (to_be_bytes w64 number)
+spelling (Settle floor) = frame 7 (to_be_bytes w64 floor)
+spelling Bye = frame 8 []
+spelling Report = frame 9 []
 
--- The message is of a kind that is open, and each of its fields fits the bytes that it has.
+-- Each field of the message fits the bytes that it has.
 abbrev pub Fits : ClientMessage → Type 0
 Fits (Attach session) = session < 2 ^ 64
-Fits (Call number (Create name length_of tag)) = (number < 2 ^ 64) × (length name ≤ 16) × (length_of < 2 ^ 32)
-Fits (Call number (Access array index op)) = (number < 2 ^ 64) × (array < 2 ^ 64) × (index < 2 ^ 32) × (operand_of op < 2 ^ 64)
-Fits (Call number (Find name)) = ⊥
-Fits (Call number (Remove array)) = ⊥
-Fits (Cancel number) = ⊥
-Fits (Settle floor) = ⊥
-Fits Bye = ⊥
-Fits Report = ⊥
+Fits (Call number (Create name length_of tag)) = (number < 2 ^ 64) × (length name ≤ 32) × (length_of < 2 ^ 32)
+Fits (Call number (Find name)) = (number < 2 ^ 64) × (length name ≤ 32)
+Fits (Call number (Remove array)) = (number < 2 ^ 64) × (array < 2 ^ 64)
+Fits (Call number (Access array index op no_wait)) = (number < 2 ^ 64) × (array < 2 ^ 64) × (index < 2 ^ 32) × (operand_of op < 2 ^ 64)
+Fits (Cancel number) = number < 2 ^ 64
+Fits (Settle floor) = floor < 2 ^ 64
+Fits Bye = Unit {0}
+Fits Report = Unit {0}
 
--- The message is of a kind that is open.
-abbrev pub IsOpen : ClientMessage → Type 0
-IsOpen (Attach session) = Unit {0}
-IsOpen (Call number (Create name length tag)) = Unit {0}
-IsOpen (Call number (Access array index op)) = Unit {0}
-IsOpen (Call number (Find name)) = ⊥
-IsOpen (Call number (Remove array)) = ⊥
-IsOpen (Cancel number) = ⊥
-IsOpen (Settle floor) = ⊥
-IsOpen Bye = ⊥
-IsOpen Report = ⊥
+-- The version has the message: version 1 has no access that doesn't wait, and no name above 16 bytes.
+abbrev pub IsIn : Version → ClientMessage → Type 0
+IsIn One (Attach session) = Unit {0}
+IsIn One (Call number (Create name length_of tag)) = length name ≤ 16
+IsIn One (Call number (Find name)) = length name ≤ 16
+IsIn One (Call number (Remove array)) = Unit {0}
+IsIn One (Call number (Access array index op no_wait)) = no_wait ≡ false
+IsIn One (Cancel number) = Unit {0}
+IsIn One (Settle floor) = Unit {0}
+IsIn One Bye = Unit {0}
+IsIn One Report = Unit {0}
+IsIn Two m = Unit {0}
 
--- A row for each kind of frame from the server. A message of a kind that isn't open has no spelling.
+-- The message has a frame in the version.
+abbrev pub FitsIn : Version → ClientMessage → Type 0
+FitsIn version m = Fits m × IsIn version m
+
+-- A row for each kind of message from the server.
 abbrev pub reply_spelling : ServerMessage → List ℕ
 reply_spelling (server.Welcome session floor) = frame 65 (to_be_bytes w64 session ++ to_be_bytes w64 floor)
 reply_spelling (server.Answer number answer) =
     frame 66 (to_be_bytes w64 number ++ answer_code answer ∷ to_be_bytes w64 (answer_number answer) ++ to_be_bytes w32 (answer_length answer))
+reply_spelling (server.Withdrawn number) = frame 67 (to_be_bytes w64 number)
+reply_spelling (server.Settled floor) = frame 68 (to_be_bytes w64 floor)
+reply_spelling (server.Goodbye session) = frame 69 (to_be_bytes w64 session)
 reply_spelling (server.Refused number code) = frame 70 (to_be_bytes w64 number ++ code ∷ [])
-reply_spelling (server.Withdrawn number) = []
-reply_spelling (server.Settled floor) = []
-reply_spelling (server.Goodbye session) = []
-reply_spelling (server.Report text) = []
+reply_spelling (server.Report text) = frame 71 text
 
--- The reply is of a kind that is open, and each of its fields fits the bytes that it has.
+-- Each field of the reply fits the bytes that it has, and is in its range.
 abbrev pub ReplyFits : ServerMessage → Type 0
 ReplyFits (server.Welcome session floor) = (session < 2 ^ 64) × (floor < 2 ^ 64)
 ReplyFits (server.Answer number answer) = (number < 2 ^ 64) × (answer_number answer < 2 ^ 64) × (answer_length answer < 2 ^ 32)
+ReplyFits (server.Withdrawn number) = number < 2 ^ 64
+ReplyFits (server.Settled floor) = floor < 2 ^ 64
+ReplyFits (server.Goodbye session) = session < 2 ^ 64
 ReplyFits (server.Refused number code) = (number < 2 ^ 64) × (1 ≤ code) × (code ≤ 10)
-ReplyFits (server.Withdrawn number) = ⊥
-ReplyFits (server.Settled floor) = ⊥
-ReplyFits (server.Goodbye session) = ⊥
-ReplyFits (server.Report text) = ⊥
+ReplyFits (server.Report text) = (1 ≤ length text) × (length text ≤ 262144) × IsUtf8 text
 
--- The reply is of a kind that is open, and a refusal has a code from 1 to 10.
-abbrev pub IsOpenReply : ServerMessage → Type 0
-IsOpenReply (server.Welcome session floor) = Unit {0}
-IsOpenReply (server.Answer number answer) = Unit {0}
-IsOpenReply (server.Refused number code) = (1 ≤ code) × (code ≤ 10)
-IsOpenReply (server.Withdrawn number) = ⊥
-IsOpenReply (server.Settled floor) = ⊥
-IsOpenReply (server.Goodbye session) = ⊥
-IsOpenReply (server.Report text) = ⊥
+-- A refusal has a code from 1 to 10.
+abbrev pub HasRefusalCode : ServerMessage → Type 0
+HasRefusalCode (server.Welcome session floor) = Unit {0}
+HasRefusalCode (server.Answer number answer) = Unit {0}
+HasRefusalCode (server.Withdrawn number) = Unit {0}
+HasRefusalCode (server.Settled floor) = Unit {0}
+HasRefusalCode (server.Goodbye session) = Unit {0}
+HasRefusalCode (server.Refused number code) = (1 ≤ code) × (code ≤ 10)
+HasRefusalCode (server.Report text) = Unit {0}
+
+-- The bytes are the frame of a report.
+pub record IsReport (bytes : List ℕ) : Type 0 where
+  pub text : List ℕ
+  pub fits : ReplyFits (server.Report text)
+  pub spelled : bytes ≡ reply_spelling (server.Report text)

@@ -1,10 +1,29 @@
-//! The numbers that stand for tags, operations and answers in frames.
+//! The numbers that stand for kinds, tags, operations and answers in frames.
 
 ghost use Rattle.std.specs.Prelude.{◌≡◌};
 ghost use Rattle.fe_wire.specs.Codes.{tag_code, op_code, operand_of, answer_code, answer_number, answer_length};
+ghost use Rattle.fe_wire.specs.Spelling.{create_kind, find_kind, access_kind};
 
 use fe_state::Answer;
 use fe_words::{Op, Tag};
+
+pub fn create_kind(is_long: bool) -> u8
+    ensures { result ≡ create_kind is_long }
+{
+    if is_long { 12 } else { 2 }
+}
+
+pub fn find_kind(is_long: bool) -> u8
+    ensures { result ≡ find_kind is_long }
+{
+    if is_long { 13 } else { 3 }
+}
+
+pub fn access_kind(no_wait: bool) -> u8
+    ensures { result ≡ access_kind no_wait }
+{
+    if no_wait { 11 } else { 5 }
+}
 
 pub fn tag_code(tag: Tag) -> u8
     ensures { result ≡ tag_code tag }
@@ -60,6 +79,7 @@ pub fn answer_code(answer: Answer) -> u8
         Answer::WordLimit => 8,
         Answer::BadName => 9,
         Answer::BadLength => 10,
+        Answer::NotNow => 11,
     }
 }
 

@@ -1,11 +1,12 @@
 ghost use Rattle.std.specs.Prelude.{◌≡◌, ◌≤◌, ◌++◌, ℕ, List, [], true, length, IfOk, OnOk, OnErr, IsOkAnd};
 ghost use Rattle.fe_wire.specs.Place.{IsPlace, GoesOn, decoding};
-ghost use Rattle.fe_wire.specs.Stream.{HasRead, CompletesMessage, fault_of};
+ghost use Rattle.fe_wire.specs.Stream.{HasRead, HasReadFrom, CompletesMessage, fault_of};
 ghost use Rattle.fe_wire.specs.declared.client_message.ClientMessage.{ClientMessage as Message};
 
 use crate::client_message::ClientMessage;
 use crate::fed::Fed;
 use crate::place::{FRAME_BYTES, Place};
+use crate::version::Version;
 use fe_state::Request;
 use std::alloc::{AllocError, Global};
 use std::marker::Model;
@@ -29,15 +30,41 @@ impl Model for Decoder {
 }
 
 impl Decoder {
-    /// A decoder at the beginning of its stream.
+    /// A decoder of version 1 at the beginning of its stream.
     pub fn new() -> Decoder
-        ensures { HasRead result [] [] }
+        ensures begins { HasRead result [] [] }
+        ensures version { result.version ≡ Version.One }
+    {
+        Self::at(Version::One, 0)
+    }
+
+    /// A decoder at the beginning of its stream.
+    pub fn with_version(version: Version) -> Decoder
+        ensures begins { HasRead result [] [] }
+        ensures version { result.version ≡ version }
+    {
+        Self::at(version, 0)
+    }
+
+    /// A decoder of version 1 at the beginning of a stream whose first byte counts as the one at
+    /// `offset`.
+    pub fn starting_at(offset: u64) -> Decoder
+        ensures begins { HasReadFrom offset result [] [] }
+        ensures version { result.version ≡ Version.One }
+    {
+        Self::at(Version::One, offset)
+    }
+
+    fn at(version: Version, offset: u64) -> Decoder
+        ensures begins { HasReadFrom offset result [] [] }
+        ensures version { result.version ≡ version }
     {
         let place = Place {
-            offset: 0,
+            offset,
             cells: [0; FRAME_BYTES],
             len: 0,
             is_bad: false,
+            version,
         };
         Decoder { place }
     }
@@ -46,8 +73,9 @@ impl Decoder {
     /// in it; then nothing of the piece was taken.
     pub fn feed(&mut self, alloc: Global, piece: &[u8]) -> Result<Fed, AllocError>
         // With this piece the stream is read as far, and has these messages more.
-        ensures reads { IfOk result (λ fed. (before : List ℕ) (earlier : List Message) → HasRead self.old before earlier →
-            HasRead self.new (before ++ piece.now) (earlier ++ fed.messages.items)) }
+        ensures reads { IfOk result (λ fed. (start : ℕ) (before : List ℕ) (earlier : List Message) → HasReadFrom start self.old before earlier →
+            HasReadFrom start self.new (before ++ piece.now) (earlier ++ fed.messages.items)) }
+        ensures version { self.new.version ≡ self.old.version }
         ensures fault { IfOk result (λ fed. fed.fault ≡ fault_of self.new) }
         // After a bad frame each call tells the same fault, and no message.
         ensures stopped { self.old.is_bad ≡ true → IsOkAnd result (λ fed. fed.messages.items ≡ []) }
@@ -55,7 +83,7 @@ impl Decoder {
         ensures err { OnErr result (self.new ≡ self.old) }
         // Memory is wanted only where the piece completes a message.
         ensures memory { OnErr result (CompletesMessage self.old piece.now) }
-        ensures held { length self.new.held ≤ 34 }
+        ensures held { length self.new.held ≤ 50 }
     {
         if self.place.is_bad {
             return Ok(Fed {

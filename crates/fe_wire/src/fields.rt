@@ -2,7 +2,8 @@
 
 ghost use Rattle.std.specs.Prelude.{◌≡◌, length, IfSome};
 ghost use Rattle.std.specs.Int.{w32, w64};
-ghost use Rattle.fe_wire.specs.Reading.{Gives, number_at, byte_at, bytes_at, name_of, are_zero, tag_of, op_of, answer_of, ended};
+ghost use Rattle.fe_wire.specs.Reading.{Gives, number_at, byte_at, bytes_at, number_of, two_numbers_of, least_name, name_of, are_zero, tag_of, op_of, answer_of, ended};
+ghost use Rattle.fe_wire.specs.Spelling.{name_room};
 
 use byteorder::{BigEndian, ByteOrder};
 use fe_state::{Answer, Name};
@@ -47,14 +48,27 @@ pub fn bytes_at(count: usize, bytes: &[u8]) -> Option<(&[u8], &[u8])>
     Some(bytes.split_at(count))
 }
 
-/// The name of this length in the 16 bytes of its field, where those behind it are zero.
+/// How many bytes the field of a name has, without that of its length.
+pub fn name_room(is_long: bool) -> u8
+    ensures { result ≡ name_room is_long }
+{
+    if is_long { 32 } else { 16 }
+}
+
+fn least_name(is_long: bool) -> usize
+    ensures { result ≡ least_name is_long }
+{
+    if is_long { 17 } else { 0 }
+}
+
+/// The name of this length in the bytes of its field, where those behind it are zero.
 #[tactic(auto, unfolding(crate::specs::Reading::name_of))]
-pub fn name_of(len: u8, cells: &[u8]) -> Option<Name>
-    requires { length cells.now ≡ 16 }
-    ensures { result ≡ name_of len cells.now }
+pub fn name_of(is_long: bool, len: u8, cells: &[u8]) -> Option<Name>
+    requires { length cells.now ≡ name_room is_long }
+    ensures { result ≡ name_of is_long len cells.now }
 {
     let len = usize::from(len);
-    if len <= cells.len() && are_zero(&cells[len..]) {
+    if least_name(is_long) <= len && len <= cells.len() && are_zero(&cells[len..]) {
         Name::new(&cells[..len])
     } else {
         None
@@ -110,6 +124,7 @@ pub fn answer_of(code: u8, number: u64, length: u32) -> Option<Answer>
         (8, 0, 0) => Some(Answer::WordLimit),
         (9, 0, 0) => Some(Answer::BadName),
         (10, 0, 0) => Some(Answer::BadLength),
+        (11, 0, 0) => Some(Answer::NotNow),
         _ => None,
     }
 }
@@ -122,4 +137,21 @@ pub fn ended<T: Drop>(rest: &[u8], value: T) -> Option<T>
         [] => Some(value),
         [_, ..] => None,
     }
+}
+
+/// The number that is the whole body.
+pub fn number_of(body: &[u8]) -> Option<u64>
+    ensures { result ≡ number_of body.now }
+{
+    let (number, rest) = u64_at(body)?;
+    ended(rest, number)
+}
+
+/// The two numbers that are the whole body.
+pub fn two_numbers_of(body: &[u8]) -> Option<(u64, u64)>
+    ensures { result ≡ two_numbers_of body.now }
+{
+    let (first, rest) = u64_at(body)?;
+    let (second, rest) = u64_at(rest)?;
+    ended(rest, (first, second))
 }

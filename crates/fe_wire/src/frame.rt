@@ -1,13 +1,21 @@
 ghost use Rattle.std.specs.Prelude.{◌≡◌, ◌+◌, ◌≤◌, [], ◌∷◌, ◌++◌, length};
 ghost use Rattle.std.specs.Int.{w32, w64, to_be_bytes};
-ghost use Rattle.fe_wire.specs.Spelling.{name_field};
+ghost use Rattle.fe_wire.specs.Spelling.{is_long, name_field};
 
+use crate::fields::name_room;
 use crate::place::FRAME_BYTES;
 use byteorder::{BigEndian, ByteOrder};
 use fe_state::{NAME_BYTES, Name};
 use std::marker::Model;
 
-/// A frame that is being written, of at most 35 bytes.
+/// Whether the name is spelled in the field of long ones, which is so above 16 bytes.
+pub fn is_long(name: &Name) -> bool
+    ensures { result ≡ is_long name.now }
+{
+    name.bytes().len() > 16
+}
+
+/// A frame that is being written, of at most 51 bytes.
 #[derive(Debug, Drop)]
 pub struct Frame {
     cells: [u8; FRAME_BYTES],
@@ -21,7 +29,7 @@ impl Model for Frame {
 
     ghost view = { λ f. take f.len f.cells };
 
-    ghost invariant = { λ f. (f.len ≤ 35) × (length f.cells ≡ 35) };
+    ghost invariant = { λ f. (f.len ≤ 51) × (length f.cells ≡ 51) };
 }
 
 impl Frame {
@@ -39,7 +47,7 @@ impl Frame {
     }
 
     pub fn put(&mut self, bytes: &[u8])
-        requires { length self.old + length bytes.now ≤ 35 }
+        requires { length self.old + length bytes.now ≤ 51 }
         ensures { self.new ≡ self.old ++ bytes.now }
     {
         self.cells[self.len..self.len + bytes.len()].copy_from_slice(bytes);
@@ -47,14 +55,14 @@ impl Frame {
     }
 
     pub fn put_u8(&mut self, value: u8)
-        requires { length self.old + 1 ≤ 35 }
+        requires { length self.old + 1 ≤ 51 }
         ensures { self.new ≡ self.old ++ value ∷ [] }
     {
         self.put(&[value]);
     }
 
     pub fn put_u32(&mut self, value: u32)
-        requires { length self.old + 4 ≤ 35 }
+        requires { length self.old + 4 ≤ 51 }
         ensures { self.new ≡ self.old ++ to_be_bytes w32 value }
     {
         let mut bytes = [0; 4];
@@ -63,7 +71,7 @@ impl Frame {
     }
 
     pub fn put_u64(&mut self, value: u64)
-        requires { length self.old + 8 ≤ 35 }
+        requires { length self.old + 8 ≤ 51 }
         ensures { self.new ≡ self.old ++ to_be_bytes w64 value }
     {
         let mut bytes = [0; 8];
@@ -72,14 +80,15 @@ impl Frame {
     }
 
     pub fn put_name(&mut self, name: &Name)
-        requires { length self.old + 17 ≤ 35 }
+        requires { length self.old + 33 ≤ 51 }
         ensures field { self.new ≡ self.old ++ name_field name.now }
-        ensures short { length name.now ≤ 16 }
+        ensures short { length name.now ≤ 32 }
     {
         let bytes = name.bytes();
+        let room = usize::from(name_room(is_long(name)));
         self.put_u8(bytes.len() as u8);
         self.put(bytes);
-        self.put(&[0; NAME_BYTES][bytes.len()..]);
+        self.put(&[0; NAME_BYTES][..room - bytes.len()]);
     }
 
     /// The bytes that were put.

@@ -2,23 +2,23 @@
 
 ghost use Rattle.fe_wire.specs.Laws.{EachHasReading, HasOneReading, HasOneOutcome, HasOneSpelling};
 
-/// Two readings of one stream are one: its messages, and the rest behind them.
+/// Two readings of one stream in one version are one: its messages, and the rest behind them.
 pub fn one_reading()
     ensures { HasOneReading }
 {}
 
-/// Each list of bytes has a reading, so that its messages and its rest are a function of it.
+/// Each list of bytes has a reading in each version, so that its messages and its rest are a function of it.
 pub fn has_reading()
     ensures { EachHasReading }
 {}
 
-/// Two decoders that have read one stream have the same messages, and stand alike, however the
+/// Two decoders of one version that have read one stream have the same messages, and stand alike, however the
 /// stream was cut into pieces for each.
 pub fn one_outcome()
     ensures { HasOneOutcome }
 {}
 
-/// No message's frame begins another's, and no two messages have one frame.
+/// No message's frame begins another's, and no two messages have one frame, of whichever versions.
 pub fn one_spelling()
     ensures { HasOneSpelling }
 {}

@@ -9,12 +9,14 @@ mod fields;
 mod frame;
 mod head;
 mod laws;
+mod message_frames;
 mod messages;
 mod place;
 mod putting;
 mod replies;
 mod report_text;
 mod server_message;
+mod version;
 
 pub use client_message::ClientMessage;
 pub use decoder::Decoder;
@@ -22,8 +24,6 @@ pub use fed::{BadFrame, Fed};
 pub use laws::{has_reading, one_outcome, one_reading, one_spelling};
 pub use putting::{put_message, put_reply};
 pub use replies::read_reply;
-pub use report_text::ReportText;
+pub use report_text::{REPORT_BYTES, ReportText};
 pub use server_message::ServerMessage;
-
-#[cfg(test)]
-mod tests;
+pub use version::Version;

@@ -1,29 +1,20 @@
 //! The messages of clients, from the bodies of their frames.
 
 ghost use Rattle.std.specs.Prelude.{◌≡◌};
-ghost use Rattle.fe_wire.specs.Reading.{attach_of, create_of, access_of, message_of};
+ghost use Rattle.fe_wire.specs.Reading.{create_of, find_of, access_of, plain_of, message_of};
 
 use crate::client_message::ClientMessage;
-use crate::fields::{byte_at, bytes_at, ended, name_of, op_of, tag_of, u32_at, u64_at};
-use fe_state::{NAME_BYTES, Request};
-
-#[tactic(auto, unfolding(crate::specs::Reading::attach_of))]
-fn attach_of(body: &[u8]) -> Option<ClientMessage>
-    ensures { result ≡ attach_of body.now }
-{
-    let _named: Option<Request> = None;
-    let (session, rest) = u64_at(body)?;
-    ended(rest, ClientMessage::Attach { session })
-}
+use crate::fields::{byte_at, bytes_at, ended, name_of, name_room, number_of, op_of, tag_of, two_numbers_of, u32_at, u64_at};
+use fe_state::Request;
 
 #[tactic(auto, unfolding(crate::specs::Reading::create_of))]
-fn create_of(body: &[u8]) -> Option<ClientMessage>
-    ensures { result ≡ create_of body.now }
+fn create_of(is_long: bool, body: &[u8]) -> Option<ClientMessage>
+    ensures { result ≡ create_of is_long body.now }
 {
     let (number, rest) = u64_at(body)?;
     let (count, rest) = byte_at(rest)?;
-    let (cells, rest) = bytes_at(NAME_BYTES, rest)?;
-    let name = name_of(count, cells)?;
+    let (cells, rest) = bytes_at(usize::from(name_room(is_long)), rest)?;
+    let name = name_of(is_long, count, cells)?;
     let (length, rest) = u32_at(rest)?;
     let (code, rest) = byte_at(rest)?;
     let tag = tag_of(code)?;
@@ -31,9 +22,21 @@ fn create_of(body: &[u8]) -> Option<ClientMessage>
     ended(rest, ClientMessage::Call { number, request })
 }
 
+#[tactic(auto, unfolding(crate::specs::Reading::find_of))]
+fn find_of(is_long: bool, body: &[u8]) -> Option<ClientMessage>
+    ensures { result ≡ find_of is_long body.now }
+{
+    let (number, rest) = u64_at(body)?;
+    let (count, rest) = byte_at(rest)?;
+    let (cells, rest) = bytes_at(usize::from(name_room(is_long)), rest)?;
+    let name = name_of(is_long, count, cells)?;
+    let request = Request::Find { name };
+    ended(rest, ClientMessage::Call { number, request })
+}
+
 #[tactic(auto, unfolding(crate::specs::Reading::access_of))]
-fn access_of(body: &[u8]) -> Option<ClientMessage>
-    ensures { result ≡ access_of body.now }
+fn access_of(no_wait: bool, body: &[u8]) -> Option<ClientMessage>
+    ensures { result ≡ access_of no_wait body.now }
 {
     let (number, rest) = u64_at(body)?;
     let (code, rest) = byte_at(rest)?;
@@ -41,19 +44,57 @@ fn access_of(body: &[u8]) -> Option<ClientMessage>
     let (index, rest) = u32_at(rest)?;
     let (operand, rest) = u64_at(rest)?;
     let op = op_of(code, operand)?;
-    let request = Request::Access { array, index, op };
+    let request = Request::Access {
+        array,
+        index,
+        op,
+        no_wait,
+    };
     ended(rest, ClientMessage::Call { number, request })
 }
 
-/// The message that a frame of this kind with this body spells.
+/// The message of a kind whose body is whole numbers, or nothing.
+#[tactic(auto, unfolding(crate::specs::Reading::plain_of))]
+fn plain_of(kind: u8, body: &[u8]) -> Option<ClientMessage>
+    ensures { result ≡ plain_of kind body.now }
+{
+    let _named: Option<Request> = None;
+    match kind {
+        1 => {
+            let session = number_of(body)?;
+            Some(ClientMessage::Attach { session })
+        }
+        4 => {
+            let (number, array) = two_numbers_of(body)?;
+            let request = Request::Remove { array };
+            Some(ClientMessage::Call { number, request })
+        }
+        6 => {
+            let number = number_of(body)?;
+            Some(ClientMessage::Cancel { number })
+        }
+        7 => {
+            let floor = number_of(body)?;
+            Some(ClientMessage::Settle { floor })
+        }
+        8 => ended(body, ClientMessage::Bye),
+        9 => ended(body, ClientMessage::Report),
+        _ => None,
+    }
+}
+
+/// The message that a frame of this kind with this body spells, in whichever version.
 #[tactic(auto, unfolding(crate::specs::Reading::message_of))]
 pub fn message_of(kind: u8, body: &[u8]) -> Option<ClientMessage>
     ensures { result ≡ message_of kind body.now }
 {
     match kind {
-        1 => attach_of(body),
-        2 => create_of(body),
-        5 => access_of(body),
-        _ => None,
+        2 => create_of(false, body),
+        3 => find_of(false, body),
+        5 => access_of(false, body),
+        11 => access_of(true, body),
+        12 => create_of(true, body),
+        13 => find_of(true, body),
+        _ => plain_of(kind, body),
     }
 }

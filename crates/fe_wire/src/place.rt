@@ -1,13 +1,14 @@
-ghost use Rattle.std.specs.Prelude.{◌≡◌, ◌+◌, ◌<◌, ◌≤◌, ◌++◌, ℕ, List, false, length, take, option_to_list, IsTrue};
+ghost use Rattle.std.specs.Prelude.{◌≡◌, ◌+◌, ◌<◌, ◌≤◌, ◌++◌, ℕ, List, false, length, take, option_to_list};
 ghost use Rattle.fe_wire.specs.Stream.{IsUnfinished, length_field, fault_of};
 ghost use Rattle.fe_wire.specs.Place.{IsPlace, GoesOn, held_of, decoding, wanted_of};
 
 use crate::client_message::ClientMessage;
 use crate::fed::BadFrame;
 use crate::head::{Head, LENGTH_BYTES, head_of, length_field};
+use crate::version::Version;
 
 /// The bytes of the longest frame from a client.
-pub const FRAME_BYTES: usize = 35;
+pub const FRAME_BYTES: usize = 51;
 
 /// Where a decoder stands in its stream.
 #[derive(Clone, Copy, Debug)]
@@ -20,10 +21,12 @@ pub struct Place {
     pub len: usize,
     /// That frame is bad, and nothing of it is held.
     pub is_bad: bool,
+    /// The version of the stream's frames.
+    pub version: Version,
 }
 
-fn wanted(held: &[u8]) -> usize
-    requires { IsUnfinished held.now }
+fn wanted(version: Version, held: &[u8]) -> usize
+    requires { IsUnfinished version held.now }
     ensures { result ≡ wanted_of held.now }
 {
     if held.len() < LENGTH_BYTES {
@@ -43,21 +46,21 @@ impl Place {
         ensures within { result ≤ length piece.now }
         ensures held { held_of self.new ≡ held_of self.old ++ take result piece.now }
         ensures frame { length (held_of self.new) ≤ 4 + length_field (held_of self.new) }
-        ensures room { self.new.len ≤ 35 }
-        ensures cells { length self.new.cells ≡ 35 }
+        ensures room { self.new.len ≤ 51 }
+        ensures cells { length self.new.cells ≡ 51 }
         ensures offset { self.new.offset ≡ self.old.offset }
         ensures is_bad { self.new.is_bad ≡ self.old.is_bad }
+        ensures version { self.new.version ≡ self.old.version }
     {
-        let wanted = wanted(&self.cells[..self.len]);
+        let wanted = wanted(self.version, &self.cells[..self.len]);
         let count = piece.len().min(wanted - self.len);
         self.cells[self.len..self.len + count].copy_from_slice(&piece[..count]);
         self.len += count;
         count
     }
 
-    /// Reads on to the end of its frame, or of the piece, or to where the frame turns out bad: how
-    /// many bytes that took, and the message of the frame.
-    pub fn step(&mut self, piece: &[u8]) -> (usize, Option<ClientMessage>)
+    /// `step` where bytes of the frame are held: it is read in the place.
+    fn step_in_place(&mut self, piece: &[u8]) -> (usize, Option<ClientMessage>)
         requires place { IsPlace self.old }
         requires good { self.old.is_bad ≡ false }
         requires more { 0 < length piece.now }
@@ -67,16 +70,48 @@ impl Place {
         ensures reads { GoesOn self.old self.new (take result.0 piece.now) (option_to_list result.1) }
     {
         let count = self.fill(piece);
-        match head_of(&self.cells[..self.len]) {
+        match head_of(self.version, &self.cells[..self.len]) {
             Head::Unfinished => (count, None),
             Head::Bad => {
                 self.is_bad = true;
                 self.len = 0;
                 (count, None)
             }
-            Head::Whole(message) => {
+            Head::Whole(_, message) => {
                 self.offset = self.offset.saturating_add(self.len as u64);
                 self.len = 0;
+                (count, Some(message))
+            }
+        }
+    }
+
+    /// Reads on to the end of its frame, or of the piece, or to where the frame turns out bad: how
+    /// many bytes that took, and the message of the frame. A frame that is whole in the piece is
+    /// read there, and copied nowhere.
+    pub fn step(&mut self, piece: &[u8]) -> (usize, Option<ClientMessage>)
+        requires place { IsPlace self.old }
+        requires good { self.old.is_bad ≡ false }
+        requires more { 0 < length piece.now }
+        ensures place { IsPlace self.new }
+        ensures some { 0 < result.0 }
+        ensures within { result.0 ≤ length piece.now }
+        ensures reads { GoesOn self.old self.new (take result.0 piece.now) (option_to_list result.1) }
+    {
+        if self.len > 0 {
+            return self.step_in_place(piece);
+        }
+        match head_of(self.version, piece) {
+            Head::Unfinished => {
+                self.cells[..piece.len()].copy_from_slice(piece);
+                self.len = piece.len();
+                (piece.len(), None)
+            }
+            Head::Bad => {
+                self.is_bad = true;
+                (piece.len(), None)
+            }
+            Head::Whole(count, message) => {
+                self.offset = self.offset.saturating_add(count as u64);
                 (count, Some(message))
             }
         }

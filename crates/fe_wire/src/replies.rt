@@ -1,22 +1,17 @@
 //! The replies of the server, from their frames.
 
-ghost use Rattle.std.specs.Prelude.{◌≡◌, Some, IfOk, IfSome, IsOk};
-ghost use Rattle.fe_wire.specs.Spelling.{reply_spelling, ReplyFits};
-ghost use Rattle.fe_wire.specs.Reading.{welcome_of, answered_of, refused_of, reply_of, reply_at};
+ghost use Rattle.std.specs.Prelude.{◌≡◌, Some, IfOk, IfSome, OnErr};
+ghost use Rattle.fe_wire.specs.Spelling.{reply_spelling, ReplyFits, IsReport};
+ghost use Rattle.fe_wire.specs.Reading.{Gives, answered_of, refused_of, report_of, reply_of, parts_of};
 ghost use Rattle.fe_wire.specs.declared.server_message.ServerMessage.{ServerMessage as Reply};
 
-use crate::fields::{answer_of, byte_at, ended, u32_at, u64_at};
+use crate::fields::{answer_of, byte_at, ended, number_of, two_numbers_of, u32_at, u64_at};
+use crate::report_text::{REPORT_BYTES, ReportText};
 use crate::server_message::ServerMessage;
 use std::alloc::{AllocError, Global};
 
-#[tactic(auto, unfolding(crate::specs::Reading::welcome_of))]
-fn welcome_of(body: &[u8]) -> Option<ServerMessage>
-    ensures { result ≡ welcome_of body.now }
-{
-    let (session, rest) = u64_at(body)?;
-    let (floor, rest) = u64_at(rest)?;
-    ended(rest, ServerMessage::Welcome { session, floor })
-}
+/// The kind of a report.
+const REPORT: u8 = 71;
 
 #[tactic(auto, unfolding(crate::specs::Reading::answered_of))]
 fn answered_of(body: &[u8]) -> Option<ServerMessage>
@@ -42,26 +37,57 @@ fn refused_of(body: &[u8]) -> Option<ServerMessage>
     ended(rest, ServerMessage::Refused { number, code })
 }
 
+/// The reply that a frame of this kind with this body spells, where it is no report.
 #[tactic(auto, unfolding(crate::specs::Reading::reply_of))]
 fn reply_of(kind: u8, body: &[u8]) -> Option<ServerMessage>
     ensures { result ≡ reply_of kind body.now }
 {
     match kind {
-        65 => welcome_of(body),
+        65 => {
+            let (session, floor) = two_numbers_of(body)?;
+            Some(ServerMessage::Welcome { session, floor })
+        }
         66 => answered_of(body),
+        67 => {
+            let number = number_of(body)?;
+            Some(ServerMessage::Withdrawn { number })
+        }
+        68 => {
+            let floor = number_of(body)?;
+            Some(ServerMessage::Settled { floor })
+        }
+        69 => {
+            let session = number_of(body)?;
+            Some(ServerMessage::Goodbye { session })
+        }
         70 => refused_of(body),
         _ => None,
     }
 }
 
-#[tactic(auto, unfolding(crate::specs::Reading::reply_at))]
-fn reply_at(frame: &[u8]) -> Option<ServerMessage>
-    ensures { result ≡ reply_at frame.now }
+/// The report of these bytes, or `None` where they aren't 1 to 262,144 bytes of UTF-8.
+fn report_of(alloc: Global, body: &[u8]) -> Result<Option<ServerMessage>, AllocError>
+    ensures value { IfOk result (λ reply. reply ≡ report_of body.now) }
+    ensures memory { OnErr result (ReplyFits (Reply.Report body.now)) }
+{
+    if body.is_empty() || body.len() > REPORT_BYTES {
+        return Ok(None);
+    }
+    let Ok(text) = str::from_utf8(body) else {
+        return Ok(None);
+    };
+    let text = String::from_str(alloc, text)?;
+    Ok(Some(ServerMessage::Report(ReportText::new(text))))
+}
+
+/// The kind and the body of a frame that is the bytes, all of them.
+#[tactic(auto, unfolding(crate::specs::Reading::parts_of))]
+fn parts_of(frame: &[u8]) -> Option<(u8, &[u8])>
+    ensures { Gives (λ x. (x.0, x.1.now)) result (parts_of frame.now) }
 {
     let (length, rest) = u32_at(frame)?;
-    let (kind, body) = byte_at(rest)?;
     if length as usize == rest.len() {
-        reply_of(kind, body)
+        byte_at(rest)
     } else {
         None
     }
@@ -74,9 +100,14 @@ pub fn read_reply(alloc: Global, frame: &[u8]) -> Result<Option<ServerMessage>, 
     ensures found { IfOk result (λ reply. IfSome reply (λ m. ReplyFits m × (frame.now ≡ reply_spelling m))) }
     // What is spelled so is read, so that `None` comes only outside the grammar.
     ensures only { (m : Reply) → ReplyFits m → frame.now ≡ reply_spelling m → IfOk result (λ reply. reply ≡ Some m) }
-    // Memory is wanted for a report's text alone, and that kind isn't open.
-    ensures memory { IsOk result }
+    // Memory is wanted for a report's text alone.
+    ensures memory { OnErr result (IsReport frame.now) }
 {
-    let _ = alloc;
-    Ok(reply_at(frame))
+    let Some((kind, body)) = parts_of(frame) else {
+        return Ok(None);
+    };
+    if kind == REPORT {
+        return report_of(alloc, body);
+    }
+    Ok(reply_of(kind, body))
 }

@@ -1,41 +1,49 @@
-ghost use Rattle.std.specs.Prelude.{◌≡◌};
-ghost use Rattle.std.specs.String.{string_bytes};
+ghost use Rattle.std.specs.Prelude.{◌≡◌, ◌≤◌, string_bytes, string_len, length};
 
 use std::marker::Model;
 
-/// The text of a report.
+/// How many bytes the text of a report has at most.
+pub const REPORT_BYTES: usize = 262144;
+
+/// The text of a report: 1 to 262,144 bytes.
 #[derive(Debug, Drop)]
 pub struct ReportText {
     text: String,
 }
 
 impl Model for ReportText {
-    ghost use Rattle.std.specs.Prelude.{ℕ, List};
-    ghost use Rattle.std.specs.String.{string_bytes};
+    ghost use Rattle.std.specs.Prelude.{List, ℕ, ◌≤◌, string_bytes, string_len};
 
     ghost Value = { List ℕ };
 
     ghost view = { λ a. string_bytes a.text };
+
+    ghost invariant = { λ a. (1 ≤ string_len a.text) × (string_len a.text ≤ 262144) };
 }
 
 impl ReportText {
     /// The report of this text, whose memory it takes.
     pub fn new(text: String) -> ReportText
+        requires some { 1 ≤ string_len text }
+        requires few { string_len text ≤ 262144 }
         ensures { result ≡ string_bytes text }
     {
-        Self { text }
+        ReportText { text }
     }
 
-    /// The bytes of the text.
-    pub fn bytes(&self) -> &[u8]
-        ensures { result.now ≡ self.now }
+    pub fn as_str(&self) -> &str
+        ensures text { result.now ≡ self.now }
+        ensures some { 1 ≤ length result.now }
+        ensures few { length result.now ≤ 262144 }
     {
-        self.text.as_bytes()
+        self.text.as_str()
     }
 
     /// The text, with the memory that it came with.
     pub fn into_string(self) -> String
-        ensures { string_bytes result ≡ self }
+        ensures text { string_bytes result ≡ self }
+        ensures some { 1 ≤ string_len result }
+        ensures few { string_len result ≤ 262144 }
     {
         let ReportText { text } = self;
         text

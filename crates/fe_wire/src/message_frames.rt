@@ -1,0 +1,112 @@
+//! The frames of clients' messages.
+
+ghost use Rattle.std.specs.Prelude.{◌≡◌};
+ghost use Rattle.fe_wire.specs.Spelling.{spelling, Fits};
+
+use crate::client_message::ClientMessage;
+use crate::codes::{access_kind, create_kind, find_kind, op_code, operand_of, tag_code};
+use crate::fields::name_room;
+use crate::frame::{Frame, is_long};
+use fe_state::{Name, Request};
+use fe_words::{Op, Tag};
+
+fn attach_frame(session: u64) -> Frame
+    ensures { result ≡ spelling (ClientMessage.Attach session) }
+{
+    let mut frame = Frame::new(9, 1);
+    frame.put_u64(session);
+    frame
+}
+
+fn create_frame(number: u64, name: &Name, words: u32, tag: Tag) -> Frame
+    ensures spelled { result ≡ spelling (ClientMessage.Call number (Request.Create name.now words tag)) }
+    ensures fits { Fits (ClientMessage.Call number (Request.Create name.now words tag)) }
+{
+    let is_long = is_long(name);
+    let mut frame = Frame::new(u32::from(name_room(is_long)) + 15, create_kind(is_long));
+    frame.put_u64(number);
+    frame.put_name(name);
+    frame.put_u32(words);
+    frame.put_u8(tag_code(tag));
+    frame
+}
+
+fn find_frame(number: u64, name: &Name) -> Frame
+    ensures spelled { result ≡ spelling (ClientMessage.Call number (Request.Find name.now)) }
+    ensures fits { Fits (ClientMessage.Call number (Request.Find name.now)) }
+{
+    let is_long = is_long(name);
+    let mut frame = Frame::new(u32::from(name_room(is_long)) + 10, find_kind(is_long));
+    frame.put_u64(number);
+    frame.put_name(name);
+    frame
+}
+
+fn remove_frame(number: u64, array: u64) -> Frame
+    ensures { result ≡ spelling (ClientMessage.Call number (Request.Remove array)) }
+{
+    let mut frame = Frame::new(17, 4);
+    frame.put_u64(number);
+    frame.put_u64(array);
+    frame
+}
+
+fn access_frame(number: u64, array: u64, index: u32, op: Op, no_wait: bool) -> Frame
+    ensures spelled { result ≡ spelling (ClientMessage.Call number (Request.Access array index op no_wait)) }
+    ensures fits { Fits (ClientMessage.Call number (Request.Access array index op no_wait)) }
+{
+    let mut frame = Frame::new(30, access_kind(no_wait));
+    frame.put_u64(number);
+    frame.put_u8(op_code(op));
+    frame.put_u64(array);
+    frame.put_u32(index);
+    frame.put_u64(operand_of(op));
+    frame
+}
+
+fn cancel_frame(number: u64) -> Frame
+    ensures { result ≡ spelling (ClientMessage.Cancel number) }
+{
+    let mut frame = Frame::new(9, 6);
+    frame.put_u64(number);
+    frame
+}
+
+fn settle_frame(floor: u64) -> Frame
+    ensures { result ≡ spelling (ClientMessage.Settle floor) }
+{
+    let mut frame = Frame::new(9, 7);
+    frame.put_u64(floor);
+    frame
+}
+
+fn call_frame(number: u64, request: &Request) -> Frame
+    ensures spelled { result ≡ spelling (ClientMessage.Call number request.now) }
+    ensures fits { Fits (ClientMessage.Call number request.now) }
+{
+    match request {
+        Request::Create { name, length, tag } => create_frame(number, name, *length, *tag),
+        Request::Find { name } => find_frame(number, name),
+        Request::Remove { array } => remove_frame(number, *array),
+        Request::Access {
+            array,
+            index,
+            op,
+            no_wait,
+        } => access_frame(number, *array, *index, *op, *no_wait),
+    }
+}
+
+pub fn message_frame(message: &ClientMessage) -> Frame
+    ensures spelled { result ≡ spelling message.now }
+    ensures fits { Fits message.now }
+{
+    match message {
+        ClientMessage::Attach { session } => attach_frame(*session),
+        ClientMessage::Call { number, request } => call_frame(*number, request),
+        ClientMessage::Cancel { number } => cancel_frame(*number),
+        ClientMessage::Settle { floor } => settle_frame(*floor),
+        ClientMessage::Bye => Frame::new(1, 8),
+        ClientMessage::Report => Frame::new(1, 9),
+    }
+}
