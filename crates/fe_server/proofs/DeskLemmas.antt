@@ -1,8 +1,10 @@
 -- The messages that the desk takes, one behind the other.
 use Rattle.std.proofs.Common.{◌≡◌, ℕ, ◌+◌, ◌-◌, ◌^◌, ◌<◌, min, false, List, [], ◌∷◌, ◌++◌, length, get_or, drop, refl, sym, ap, ◌∙◌, subst, inl, arith, Result, Ok, Err, OnOk, IfErr, MatchResult, Bool, Option, Some, None, IsSome, if◌then◌else◌, rules}
 use Rattle.std.proofs.lemmas.List.{drop_more, append_cancel_left}
-use Rattle.fe_wire.specs.Spelling.{spelling, Fits, reply_spelling, ReplyFits}
-use Rattle.fe_wire.specs.Stream.{Decoding, HasRead, fault_of}
+use Rattle.fe_wire.specs.Spelling.{spelling, Fits, FitsIn, reply_spelling, ReplyFits}
+use Rattle.fe_wire.specs.declared.version.Version.{Version}
+use Rattle.fe_wire.specs.declared.version.Version.TheVariants.{Two}
+use Rattle.fe_wire.specs.Stream.{Decoding, HasRead, HasReadFrom, fault_of}
 use Rattle.fe_wire.proofs.StreamLaws.{one_outcome, reads_message, nothing_unfinished}
 use Rattle.fe_wire.specs.declared.fed.BadFrame.{BadFrame}
 use Rattle.fe_front.specs.Front.{FrontState}
@@ -21,28 +23,32 @@ takes_next f room h g xs k m lt is same takes rest =
     let front : drop k xs ≡ m ∷ drop (k + 1) xs = drop_more xs k m lt ∙ ap (λ (x : ClientMessage). x ∷ drop (k + 1) xs) (sym is) in
     subst (λ (ys : List ClientMessage). TakesAll f ys g) (sym front) (h, subst (λ (r : FrontState). Takes r m h) same takes, rest)
 
+-- version 2 has every message
+pub in_two : (v : Version) (m : ClientMessage) → v ≡ Two → Fits m → FitsIn v m
+in_two v m is fits = subst (λ (w : Version). FitsIn w m) (sym is) (fits, tt)
+
 -- a decoder that has read nothing is between frames
-pub at_start : (d : Decoding) → HasRead d [] [] → IsBetween d
-at_start d h =
-    let ideal : Decoding = record { offset = 0; held = []; is_bad = false } in
-    let reads : HasRead ideal [] [] = record { rest = []; is_stream = record { parts = refl; each = tt; end = inl nothing_unfinished }; offset = refl; stands = (nothing_unfinished, refl) } in
-    let same : d ≡ ideal = (one_outcome [] [] [] d ideal h reads).1 in
-    record { reads = record { before = []; earlier = []; read = h }; held = ap (λ (x : Decoding). x.held) same; good = ap (λ (x : Decoding). x.is_bad) same }
+pub at_start : (d : Decoding) → d.version ≡ Two → HasRead d [] [] → IsBetween d
+at_start d version h =
+    let ideal : Decoding = record { version = Two; offset = 0; held = []; is_bad = false } in
+    let reads : HasRead ideal [] [] = record { rest = []; is_stream = record { parts = refl; each = tt; end = inl (nothing_unfinished Two) }; offset = refl; stands = (nothing_unfinished Two, refl) } in
+    let same : d ≡ ideal = (one_outcome 0 [] [] [] d ideal version h reads).1 in
+    record { reads = record { version = version; before = []; earlier = []; read = h }; held = ap (λ (x : Decoding). x.held) same; good = ap (λ (x : Decoding). x.is_bad) same }
 
 -- what a decoder between frames reads in the frame of one message
 pub record ReadsOne (e : Decoding) (messages : List ClientMessage) (m : ClientMessage) : Type 0 where
   pub one : messages ≡ m ∷ []
   pub between : IsBetween e
 
-pub reads_one : (d e : Decoding) (piece : List ℕ) (messages : List ClientMessage) (m : ClientMessage) → (b : IsBetween d) → HasRead e (b.reads.before ++ piece) (b.reads.earlier ++ messages) → Fits m → piece ≡ spelling m → ReadsOne e messages m
-reads_one d e piece messages m b reads fits spelled =
-    let ideal : Decoding = record { offset = min (d.offset + length piece) (2 ^ 64 - 1); held = []; is_bad = false } in
+pub reads_one : (d e : Decoding) (piece : List ℕ) (messages : List ClientMessage) (m : ClientMessage) → (b : IsBetween d) → e.version ≡ d.version → HasRead e (b.reads.before ++ piece) (b.reads.earlier ++ messages) → Fits m → piece ≡ spelling m → ReadsOne e messages m
+reads_one d e piece messages m b version reads fits spelled =
+    let ideal : Decoding = record { version = d.version; offset = min (d.offset + length piece) (2 ^ 64 - 1); held = []; is_bad = false } in
     let all : piece ≡ d.held ++ piece = ap (λ (t : List ℕ). t ++ piece) (sym b.held) in
-    let is : HasRead ideal (b.reads.before ++ piece) (b.reads.earlier ++ m ∷ []) = reads_message d ideal b.reads.before piece piece b.reads.earlier m b.good refl refl refl all fits spelled b.reads.read in
-    let same = one_outcome (b.reads.before ++ piece) (b.reads.earlier ++ messages) (b.reads.earlier ++ m ∷ []) e ideal reads is in
+    let is : HasRead ideal (b.reads.before ++ piece) (b.reads.earlier ++ m ∷ []) = reads_message 0 d b.reads.before piece piece b.reads.earlier m (min (d.offset + length piece) (2 ^ 64 - 1)) b.good refl all (in_two d.version m b.reads.version fits) spelled b.reads.read in
+    let same = one_outcome 0 (b.reads.before ++ piece) (b.reads.earlier ++ messages) (b.reads.earlier ++ m ∷ []) e ideal version reads is in
     record {
       one = append_cancel_left b.reads.earlier messages (m ∷ []) same.0;
-      between = record { reads = record { before = b.reads.before ++ piece; earlier = b.reads.earlier ++ messages; read = reads }; held = ap (λ (x : Decoding). x.held) same.1; good = ap (λ (x : Decoding). x.is_bad) same.1 };
+      between = record { reads = record { version = version ∙ b.reads.version; before = b.reads.before ++ piece; earlier = b.reads.earlier ++ messages; read = reads }; held = ap (λ (x : Decoding). x.held) same.1; good = ap (λ (x : Decoding). x.is_bad) same.1 };
     }
 
 all_append : (xs ys : List ServerMessage) → AllByRecursion ReplyFits xs → AllByRecursion ReplyFits ys → AllByRecursion ReplyFits (xs ++ ys)
@@ -76,17 +82,25 @@ answers (Ok u) old taken new m before after d t front written fits err between =
     (record { taken = taken; takes = subst (λ (f : FrontState). Takes (roomy old) m f) (sym t.2) t.1; front = front; written = written; fits = fits }, between)
 answers (Err e) old taken new m before after d t front written fits err between = err
 
--- a decoder that reads on is reading
-pub reads_on : (d e : Decoding) (piece : List ℕ) (messages : List ClientMessage) → IsReading d → ((before : List ℕ) (earlier : List ClientMessage) → HasRead d before earlier → HasRead e (before ++ piece) (earlier ++ messages)) → IsReading e
-reads_on d e piece messages r on = record { before = r.before ++ piece; earlier = r.earlier ++ messages; read = on r.before r.earlier r.read }
+-- whatever a decoder had read, it has read this piece behind it, and these messages more
+abbrev pub ReadsMore : Decoding → Decoding → List ℕ → List ClientMessage → Type 0
+ReadsMore d e piece messages = (start : ℕ) (before : List ℕ) (earlier : List ClientMessage) → HasReadFrom start d before earlier → HasReadFrom start e (before ++ piece) (earlier ++ messages)
 
-later_fit : (xs ys : List ClientMessage) → AllByRecursion Fits (xs ++ ys) → AllByRecursion Fits ys
-later_fit [] ys all = all
-later_fit (x ∷ xs) ys all = later_fit xs ys all.1
+-- a decoder that reads on is reading
+pub reads_on : (d e : Decoding) (piece : List ℕ) (messages : List ClientMessage) → IsReading d → e.version ≡ d.version → ReadsMore d e piece messages → IsReading e
+reads_on d e piece messages r version on = record { version = version ∙ r.version; before = r.before ++ piece; earlier = r.earlier ++ messages; read = on 0 r.before r.earlier r.read }
+
+all_fit : (v : Version) (ms : List ClientMessage) → AllByRecursion (FitsIn v) ms → AllByRecursion Fits ms
+all_fit v [] all = tt
+all_fit v (m ∷ ms) all = (all.0.0, all_fit v ms all.1)
+
+later_fit : (v : Version) (xs ys : List ClientMessage) → AllByRecursion (FitsIn v) (xs ++ ys) → AllByRecursion Fits ys
+later_fit v [] ys all = all_fit v ys all
+later_fit v (x ∷ xs) ys all = later_fit v xs ys all.1
 
 -- each message that was read fits
-pub each_fits : (d e : Decoding) (piece : List ℕ) (messages : List ClientMessage) → IsReading d → ((before : List ℕ) (earlier : List ClientMessage) → HasRead d before earlier → HasRead e (before ++ piece) (earlier ++ messages)) → AllByRecursion Fits messages
-each_fits d e piece messages r on = later_fit r.earlier messages (on r.before r.earlier r.read).is_stream.each
+pub each_fits : (d e : Decoding) (piece : List ℕ) (messages : List ClientMessage) → IsReading d → ReadsMore d e piece messages → AllByRecursion Fits messages
+each_fits d e piece messages r on = later_fit e.version r.earlier messages (on 0 r.before r.earlier r.read).is_stream.each
 
 -- between two frames a decoder tells no fault
 pub no_fault : (d : Decoding) → IsBetween d → fault_of d ≡ None

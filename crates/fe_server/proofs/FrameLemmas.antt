@@ -8,20 +8,21 @@ use Rattle.std.proofs.lemmas.Bool.{le-ltb, false≢true}
 use Rattle.std.proofs.lemmas.List.{take_at, drop_at, length-append}
 use Rattle.fe_wire.specs.declared.server_message.ServerMessage.{ServerMessage}
 use Rattle.fe_wire.specs.declared.server_message.ServerMessage.TheVariants as server
-use Rattle.fe_wire.specs.Spelling.{frame, reply_spelling, ReplyFits, IsOpenReply}
+use Rattle.fe_wire.specs.Spelling.{frame, reply_spelling, ReplyFits, HasRefusalCode}
 use Rattle.fe_wire.specs.Stream.{length_field}
 use Rattle.fe_wire.specs.Codes.{answer_code, answer_number, answer_length}
 use Rattle.fe_wire.proofs.FieldLaws.{wide32}
 use Rattle.fe_server.specs.Frames.{frame_at}
 
-pub fits_open : (m : ServerMessage) → ReplyFits m → IsOpenReply m
-fits_open (server.Welcome session floor) h = tt
-fits_open (server.Answer number answer) h = tt
-fits_open (server.Refused number code) h = (h.1, h.2)
-fits_open (server.Withdrawn number) h = absurd h
-fits_open (server.Settled floor) h = absurd h
-fits_open (server.Goodbye session) h = absurd h
-fits_open (server.Report text) h = absurd h
+-- a refusal that fits has a code
+pub fits_coded : (m : ServerMessage) → ReplyFits m → HasRefusalCode m
+fits_coded (server.Welcome session floor) h = tt
+fits_coded (server.Answer number answer) h = tt
+fits_coded (server.Refused number code) h = (h.1, h.2)
+fits_coded (server.Withdrawn number) h = tt
+fits_coded (server.Settled floor) h = tt
+fits_coded (server.Goodbye session) h = tt
+fits_coded (server.Report text) h = tt
 
 -- a frame with this body is the first of what it begins
 framed : (kind : ℕ) (body rest : List ℕ) → length body + 1 < 2 ^ 32 → frame_at (frame kind body ++ rest) ≡ Some (frame kind body, rest)
@@ -37,19 +38,19 @@ pub reply_first : (m : ServerMessage) (rest : List ℕ) → ReplyFits m → fram
 reply_first (server.Welcome session floor) rest h = framed 65 (to_be_bytes w64 session ++ to_be_bytes w64 floor) rest (omega arith)
 reply_first (server.Answer number answer) rest h = framed 66 (to_be_bytes w64 number ++ answer_code answer ∷ to_be_bytes w64 (answer_number answer) ++ to_be_bytes w32 (answer_length answer)) rest (omega arith)
 reply_first (server.Refused number code) rest h = framed 70 (to_be_bytes w64 number ++ code ∷ []) rest (omega arith)
-reply_first (server.Withdrawn number) rest h = absurd h
-reply_first (server.Settled floor) rest h = absurd h
-reply_first (server.Goodbye session) rest h = absurd h
-reply_first (server.Report text) rest h = absurd h
+reply_first (server.Withdrawn number) rest h = framed 67 (to_be_bytes w64 number) rest (omega arith)
+reply_first (server.Settled floor) rest h = framed 68 (to_be_bytes w64 floor) rest (omega arith)
+reply_first (server.Goodbye session) rest h = framed 69 (to_be_bytes w64 session) rest (omega arith)
+reply_first (server.Report text) rest h = framed 71 text rest (omega (arith, h.1.0))
 
 pub reply_some : (m : ServerMessage) → ReplyFits m → 0 < length (reply_spelling m)
 reply_some (server.Welcome session floor) h = omega arith
 reply_some (server.Answer number answer) h = omega arith
 reply_some (server.Refused number code) h = omega arith
-reply_some (server.Withdrawn number) h = absurd h
-reply_some (server.Settled floor) h = absurd h
-reply_some (server.Goodbye session) h = absurd h
-reply_some (server.Report text) h = absurd h
+reply_some (server.Withdrawn number) h = omega arith
+reply_some (server.Settled floor) h = omega arith
+reply_some (server.Goodbye session) h = omega arith
+reply_some (server.Report text) h = omega arith
 
 -- the reply whose frame is the first of the bytes, and those behind it
 pub record IsFirst (bytes : List ℕ) (left : List ServerMessage) : Type 0 where

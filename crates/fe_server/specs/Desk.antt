@@ -4,6 +4,7 @@ use Rattle.std.specs.Option.{option_map_or}
 use Rattle.std.specs.List.{flat_map, AllByRecursion}
 use Rattle.fe_wire.specs.Spelling.{reply_spelling, ReplyFits}
 use Rattle.fe_wire.specs.Stream.{Decoding, HasRead}
+use Rattle.fe_wire.specs.declared.version.Version.TheVariants.{Two}
 use Rattle.fe_front.specs.Front.{FrontState, has_room, attach_refusal, attached, admission, called, TakesMemory, next_batch, cut, posted, mails_on, with_mails, refusal_mailed}
 use Rattle.fe_front.specs.Refusal.{code_of}
 use Rattle.fe_front.specs.declared.mail.Mail.{Mail}
@@ -12,19 +13,20 @@ use Rattle.fe_front.specs.declared.refusal.Refusal.{Refusal}
 use Rattle.fe_front.specs.declared.refusal.Refusal.TheVariants.{NoMemory}
 use Rattle.fe_state.specs.declared.batch.Batch.{Batch}
 use Rattle.fe_state.specs.declared.request.Request.{Request}
+use Rattle.fe_state.specs.declared.request.Request.TheVariants.{Remove}
 use Rattle.fe_wire.specs.declared.client_message.ClientMessage.{ClientMessage}
 use Rattle.fe_wire.specs.declared.client_message.ClientMessage.TheVariants.{Attach, Call}
 use Rattle.fe_wire.specs.declared.server_message.ServerMessage.{ServerMessage}
 use Rattle.fe_wire.specs.declared.server_message.ServerMessage.TheVariants as server
 
--- the reply that tells a mail, without the session and the place of an answer; nothing where no open kind does
+-- the reply that tells a mail, without the session and the place of an answer; the first form of the front makes no report
 abbrev pub reply_of : Mail → Option ServerMessage
 reply_of (mail.Welcome session floor) = Some (server.Welcome session floor)
 reply_of (mail.Answer session number answer place) = Some (server.Answer number answer)
 reply_of (mail.Refused number refusal) = Some (server.Refused number (code_of refusal))
-reply_of (mail.Withdrawn number) = None
-reply_of (mail.Settled floor) = None
-reply_of (mail.Goodbye session) = None
+reply_of (mail.Withdrawn number) = Some (server.Withdrawn number)
+reply_of (mail.Settled floor) = Some (server.Settled floor)
+reply_of (mail.Goodbye session) = Some (server.Goodbye session)
 reply_of (mail.Report text) = None
 
 -- the replies that tell the mails, in their order
@@ -63,19 +65,25 @@ CallTaken f number request (Err refusal) g = g ≡ refusal_mailed f 1 number ref
 CallTaken f number request (Ok session) g =
     (g ≡ called f session number request) ⊎ (TakesMemory f request × (g ≡ refusal_mailed f 1 number NoMemory))
 
--- the front after a message of the connection; the front takes attaches and calls alone
+-- the front after a call; the first form of the front passes over a request to remove
+abbrev pub TakesCall : FrontState → ℕ → Request → FrontState → Type 0
+TakesCall f number (Remove array) g = g ≡ f
+TakesCall f number request g = CallTaken f number request (admission f 1 number) g
+
+-- the front after a message of the connection; the first form of the front takes attaches and calls, and passes over the rest
 abbrev pub Takes : FrontState → ClientMessage → FrontState → Type 0
 Takes f (Attach session) g = g ≡ attach_taken f session (attach_refusal f 1 session)
-Takes f (Call number request) g = CallTaken f number request (admission f 1 number) g
-Takes f _ g = ⊥
+Takes f (Call number request) g = TakesCall f number request g
+Takes f _ g = g ≡ f
 
 -- the front after messages of the connection, in their order
 abbrev pub TakesAll : FrontState → List ClientMessage → FrontState → Type 0
 TakesAll f [] g = g ≡ f
 TakesAll f (m ∷ ms) g = (h : FrontState) × Takes (roomy f) m h × TakesAll h ms g
 
--- The decoder has read some stream.
+-- The decoder has read some stream of version 2.
 pub record IsReading (decoder : Decoding) : Type 0 where
+  pub version : decoder.version ≡ Two
   pub before : List ℕ
   pub earlier : List ClientMessage
   pub read : HasRead decoder before earlier

@@ -2,7 +2,7 @@
 use Rattle.std.specs.Prelude.{ℕ, List, [], ◌++◌, codes, ◌==◌, if◌then◌else◌}
 use Rattle.std.specs.Fmt.{decimal}
 use Rattle.fe_state.specs.declared.answer.Answer.{Answer}
-use Rattle.fe_state.specs.declared.answer.Answer.TheVariants.{Value, Done, Array, NoArray, BadIndex, NameTaken, ArrayLimit, WordLimit, BadName, BadLength}
+use Rattle.fe_state.specs.declared.answer.Answer.TheVariants.{Value, Done, Array, NoArray, BadIndex, NameTaken, ArrayLimit, WordLimit, BadName, BadLength, NotNow}
 use Rattle.fe_wire.specs.declared.server_message.ServerMessage.{ServerMessage}
 use Rattle.fe_wire.specs.declared.server_message.ServerMessage.TheVariants as server
 
@@ -17,6 +17,7 @@ answer_text ArrayLimit = codes "array-limit"
 answer_text WordLimit = codes "word-limit"
 answer_text BadName = codes "bad-name"
 answer_text BadLength = codes "bad-length"
+answer_text NotNow = codes "not-now"
 
 -- the name of the refusal of each code in frames
 unfoldable pub refusal_text : ℕ → List ℕ
@@ -32,7 +33,7 @@ refusal_text code =
     else if code == 9 then codes "spent"
     else codes "not-waiting"
 
--- The line for a reply to a connection, with its line feed. A reply of a kind that isn't open has none.
+-- The line for a reply to a connection, with its line feed. A report has none yet: the first form of the front makes none.
 unfoldable pub printed : ℕ → ServerMessage → List ℕ
 printed conn (server.Welcome session floor) =
     codes "c" ++ (decimal conn ++ (codes " welcome " ++ (decimal session ++ (codes " " ++ (decimal floor ++ codes "\n")))))
@@ -40,7 +41,10 @@ printed conn (server.Answer number answer) =
     codes "c" ++ (decimal conn ++ (codes " " ++ (decimal number ++ (codes " " ++ (answer_text answer ++ codes "\n")))))
 printed conn (server.Refused number code) =
     codes "c" ++ (decimal conn ++ (codes " refused " ++ (decimal number ++ (codes " " ++ (refusal_text code ++ codes "\n")))))
-printed conn (server.Withdrawn number) = []
-printed conn (server.Settled floor) = []
-printed conn (server.Goodbye session) = []
+printed conn (server.Withdrawn number) =
+    codes "c" ++ (decimal conn ++ (codes " " ++ (decimal number ++ codes " withdrawn\n")))
+printed conn (server.Settled floor) =
+    codes "c" ++ (decimal conn ++ (codes " settled " ++ (decimal floor ++ codes "\n")))
+printed conn (server.Goodbye session) =
+    codes "c" ++ (decimal conn ++ (codes " goodbye " ++ (decimal session ++ codes "\n")))
 printed conn (server.Report text) = []

@@ -1,5 +1,5 @@
 -- The requests of a line.
-use Rattle.std.specs.Prelude.{ℕ, ◌^◌, ◌<◌, ◌≤◌, length, List, codes, Option, Some, None, if◌then◌else◌}
+use Rattle.std.specs.Prelude.{ℕ, ◌^◌, ◌<◌, ◌≤◌, length, List, codes, Option, Some, None, false, if◌then◌else◌}
 use Rattle.std.specs.Str.{bytes_eq}
 use Rattle.fe_words.specs.declared.op.Op.{Op}
 use Rattle.fe_words.specs.declared.op.Op.TheVariants.{ReadFe, ReadFf, ReadXx, WriteEf, WriteFf, WriteXf, Purge, IntFetchAdd}
@@ -26,16 +26,16 @@ writing_op_named word operand =
     else if bytes_eq word (codes "int_fetch_add") then Some (IntFetchAdd operand)
     else None
 
--- the requests that lines have: those whose frames are of an open kind
+-- the requests that lines have
 abbrev pub IsOpenRequest : Request → Type 0
 IsOpenRequest (Create name length tag) = Unit {0}
-IsOpenRequest (Access array index op) = Unit {0}
+IsOpenRequest (Access array index op no_wait) = Unit {0}
 IsOpenRequest _ = ⊥
 
 -- each field of such a request fits the bytes that its frame has for it
 abbrev pub RequestFits : Request → Type 0
-RequestFits (Create name size tag) = (length name ≤ 16) × (size < 2 ^ 32)
-RequestFits (Access array index op) = (array < 2 ^ 64) × (index < 2 ^ 32) × (operand_of op < 2 ^ 64)
+RequestFits (Create name size tag) = (length name ≤ 32) × (size < 2 ^ 32)
+RequestFits (Access array index op no_wait) = (array < 2 ^ 64) × (index < 2 ^ 32) × (operand_of op < 2 ^ 64)
 RequestFits _ = ⊥
 
 -- NAME LENGTH full, or NAME LENGTH empty
@@ -54,7 +54,7 @@ access_in op words = do
   parts ← words_at words
   array ← number_of parts.0
   index ← small_number_of parts.1
-  Some (Access array index op)
+  Some (Access array index op false)
 
 -- ARRAY INDEX OPERAND
 unfoldable pub writing_access_in : List ℕ → List ℕ → Option Request
@@ -65,7 +65,7 @@ writing_access_in name words = do
   index ← small_number_of last.0
   operand ← number_of last.1
   op ← writing_op_named name operand
-  Some (Access array index op)
+  Some (Access array index op false)
 
 -- an access of this operation, which has no operand, or one of the name, which has one
 unfoldable pub access_named : Option Op → List ℕ → List ℕ → Option Request

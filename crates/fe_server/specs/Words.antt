@@ -27,9 +27,9 @@ small_number_of word = do
   number ← number_of word
   if nat_lt (2 ^ 32 - 1) number then None else Some number
 
--- the word as a name, 1 to 16 bytes of any kind
+-- the word as a name, 1 to 32 bytes of any kind
 unfoldable pub name_in : List ℕ → Option (List ℕ)
-name_in word = if nat_lt 0 (length word) && nat_le (length word) 16 then Some word else None
+name_in word = if nat_lt 0 (length word) && nat_le (length word) 32 then Some word else None
 
 unfoldable pub tag_named : List ℕ → Option Tag
 tag_named word = if bytes_eq word (codes "full") then Some Full else if bytes_eq word (codes "empty") then Some Empty else None

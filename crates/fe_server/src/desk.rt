@@ -9,7 +9,7 @@ use crate::fault::Fault;
 use crate::replies::reply_of;
 use fe_front::Front;
 use fe_state::Request;
-use fe_wire::{ClientMessage, Decoder, put_reply};
+use fe_wire::{ClientMessage, Decoder, Version, put_reply};
 use std::alloc::Global;
 
 /// The connection of the desk.
@@ -37,7 +37,7 @@ impl Desk {
         front.connect(CONN).map_err(|_| Fault::Memory)?;
         Ok(Desk {
             front,
-            decoder: Decoder::new(),
+            decoder: Decoder::with_version(Version::Two),
             written: Vec::new(alloc),
             alloc,
         })
@@ -82,7 +82,8 @@ impl Desk {
         }
     }
 
-    /// Gives a message to the front, and mails its refusal if it is refused.
+    /// Gives a message to the front, and mails its refusal if it is refused. What the first form of the front does
+    /// not take is passed over.
     fn take(&mut self, message: ClientMessage)
         requires room { IsTrue (has_room self.old.front.pending) }
         requires out { self.old.front.out ≡ None }
@@ -98,12 +99,16 @@ impl Desk {
                     self.front.mail_refusal(CONN, session, refusal);
                 }
             }
+            ClientMessage::Call {
+                request: Request::Remove { .. },
+                ..
+            } => {}
             ClientMessage::Call { number, request } => {
                 if let Err(refusal) = self.front.call(CONN, number, request) {
                     self.front.mail_refusal(CONN, number, refusal);
                 }
             }
-            _ => unreachable!("no frame of another kind is read"),
+            _ => {}
         }
     }
 
@@ -152,8 +157,7 @@ impl Desk {
         self.write_mails()
     }
 
-    /// Takes each mail of the connection, and writes the frame of its reply. A mail that no reply of an open
-    /// kind tells is dropped.
+    /// Takes each mail of the connection, and writes the frame of its reply.
     fn write_mails(&mut self) -> Result<(), Fault>
         ensures front { OnOk result (self.new.front ≡ emptied self.old.front) }
         ensures written { OnOk result (self.new.written.items ≡ self.old.written.items

@@ -2,7 +2,7 @@
 
 ghost use Rattle.std.specs.Prelude.{◌≡◌, IfSome};
 ghost use Rattle.fe_server.specs.Line.{parsed, message_in};
-ghost use Rattle.fe_wire.specs.Spelling.{IsOpen, Fits};
+ghost use Rattle.fe_wire.specs.Spelling.{Fits};
 
 use crate::request::request_in;
 use crate::word::{number_of, says, word_at};
@@ -20,7 +20,6 @@ pub struct Line {
 #[tactic(auto, unfolding(crate::specs::Line::message_in, crate::specs::Line::attach_in, crate::specs::Line::call_in))]
 fn message_in(words: &[u8]) -> Option<ClientMessage>
     ensures message { result ≡ message_in words.now }
-    ensures open { IfSome result IsOpen }
     ensures fits { IfSome result Fits }
 {
     let (first, words) = word_at(words)?;
@@ -38,7 +37,6 @@ fn message_in(words: &[u8]) -> Option<ClientMessage>
 #[tactic(auto, unfolding(crate::specs::Line::parsed, crate::specs::Line::line_in))]
 pub fn parse(bytes: &[u8]) -> Option<Line>
     ensures line { result ≡ parsed bytes.now }
-    ensures open { IfSome result (λ line. IsOpen line.message) }
     ensures fits { IfSome result (λ line. Fits line.message) }
 {
     let (conn, words) = word_at(bytes)?;

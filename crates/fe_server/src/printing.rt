@@ -1,7 +1,7 @@
 //! Replies as text.
 
 ghost use Rattle.std.specs.Prelude.{◌≡◌, ◌≤◌, IfOk, string_bytes};
-ghost use Rattle.fe_wire.specs.Spelling.{IsOpenReply};
+ghost use Rattle.fe_wire.specs.Spelling.{HasRefusalCode};
 ghost use Rattle.fe_server.specs.Printed.{answer_text, refusal_text, printed};
 
 use fe_state::Answer;
@@ -23,13 +23,14 @@ fn answer_text(alloc: Global, answer: &Answer) -> Result<String, AllocError>
         Answer::WordLimit => String::from_str(alloc, "word-limit"),
         Answer::BadName => String::from_str(alloc, "bad-name"),
         Answer::BadLength => String::from_str(alloc, "bad-length"),
+        Answer::NotNow => String::from_str(alloc, "not-now"),
     }
 }
 
 /// The line that is printed for a reply to a connection, with its line feed.
 #[tactic(auto, unfolding(crate::specs::Printed::printed))]
 pub fn printed(alloc: Global, conn: u64, message: &ServerMessage) -> Result<String, AllocError>
-    requires { IsOpenReply message.now }
+    requires { HasRefusalCode message.now }
     ensures { IfOk result (λ text. string_bytes text ≡ printed conn message.now) }
 {
     match message {
@@ -45,10 +46,10 @@ pub fn printed(alloc: Global, conn: u64, message: &ServerMessage) -> Result<Stri
             let name = refusal_name(*code);
             format!(in alloc; "c{conn} refused {number} {name}\n")
         }
-        ServerMessage::Withdrawn { .. } => unreachable!(),
-        ServerMessage::Settled { .. } => unreachable!(),
-        ServerMessage::Goodbye { .. } => unreachable!(),
-        ServerMessage::Report(_) => unreachable!(),
+        ServerMessage::Withdrawn { number } => format!(in alloc; "c{conn} {number} withdrawn\n"),
+        ServerMessage::Settled { floor } => format!(in alloc; "c{conn} settled {floor}\n"),
+        ServerMessage::Goodbye { session } => format!(in alloc; "c{conn} goodbye {session}\n"),
+        ServerMessage::Report(_) => Ok(String::new(alloc)),
     }
 }
 

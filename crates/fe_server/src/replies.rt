@@ -3,17 +3,16 @@
 ghost use Rattle.std.specs.Prelude.{◌≡◌, ◌<◌, ◌^◌, IfSome};
 ghost use Rattle.fe_server.specs.Desk.{reply_of};
 ghost use Rattle.fe_wire.specs.Codes.{answer_number, answer_length};
-ghost use Rattle.fe_wire.specs.Spelling.{IsOpenReply, ReplyFits};
+ghost use Rattle.fe_wire.specs.Spelling.{ReplyFits};
 
 use fe_front::Mail;
 use fe_state::Answer;
 use fe_wire::ServerMessage;
 
-/// The reply that tells a mail, which leaves out an answer's session and place. `None` where no reply of
-/// an open kind does.
+/// The reply that tells a mail, which leaves out an answer's session and place. `None` for a
+/// report, of which the first form of the front makes none.
 pub(crate) fn reply_of(mail: &Mail) -> Option<ServerMessage>
     ensures reply { result ≡ reply_of mail.now }
-    ensures open { IfSome result IsOpenReply }
     ensures fits { IfSome result ReplyFits }
 {
     match mail {
@@ -32,9 +31,9 @@ pub(crate) fn reply_of(mail: &Mail) -> Option<ServerMessage>
             number: *number,
             code: refusal.code(),
         }),
-        Mail::Withdrawn { .. } => None,
-        Mail::Settled { .. } => None,
-        Mail::Goodbye { .. } => None,
+        Mail::Withdrawn { number } => Some(ServerMessage::Withdrawn { number: *number }),
+        Mail::Settled { floor } => Some(ServerMessage::Settled { floor: *floor }),
+        Mail::Goodbye { session } => Some(ServerMessage::Goodbye { session: *session }),
         Mail::Report(_) => None,
     }
 }

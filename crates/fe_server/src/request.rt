@@ -68,7 +68,12 @@ fn access_in(op: Op, words: &[u8]) -> Option<Request>
     let (array, index) = word_at(words)?;
     let array = number_of(array)?;
     let index = small_number_of(index)?;
-    Some(Request::Access { array, index, op })
+    Some(Request::Access {
+        array,
+        index,
+        op,
+        no_wait: false,
+    })
 }
 
 /// `A I V`.
@@ -84,7 +89,12 @@ fn writing_access_in(name: &[u8], words: &[u8]) -> Option<Request>
     let index = small_number_of(index)?;
     let operand = number_of(operand)?;
     let op = writing_op_named(name, operand)?;
-    Some(Request::Access { array, index, op })
+    Some(Request::Access {
+        array,
+        index,
+        op,
+        no_wait: false,
+    })
 }
 
 /// `create NAME LENGTH full|empty`, `OP A I` or `OP A I V`.

@@ -1,7 +1,7 @@
 //! Runs a schedule (`docs/schedules.md`).
 
 ghost use Rattle.std.specs.Prelude.{◌≡◌, [], ◌∷◌, None, IfErr, OnOk};
-ghost use Rattle.fe_wire.specs.Spelling.{IsOpen, Fits};
+ghost use Rattle.fe_wire.specs.Spelling.{Fits};
 ghost use Rattle.fe_server.specs.Desk.{IsBetween};
 ghost use Rattle.fe_server.specs.Fault.{IsOutside};
 ghost use Rattle.fe_server.specs.Run.{start, RunsAll, RunEnds, RunsSome, Prints, LineEnds, PrintsFront, PrintsMessage, PrintsSome};
@@ -93,7 +93,6 @@ fn run_line<W: Write>(
     line: Line,
     writer: &mut W,
 ) -> Result<(), Fault>
-    requires open { IsOpen line.message }
     requires fits { Fits line.message }
     requires out { desk.old.front.out ≡ None }
     requires decoder { IsBetween desk.old.decoder }

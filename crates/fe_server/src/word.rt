@@ -61,7 +61,7 @@ pub(crate) fn small_number_of(word: &[u8]) -> Option<u32>
     Some(number as u32)
 }
 
-/// The word as a name, which has 1 to 16 bytes of any kind.
+/// The word as a name, which has 1 to 32 bytes of any kind.
 #[tactic(auto, unfolding(crate::specs::Words::name_in))]
 pub(crate) fn name_in(word: &[u8]) -> Option<Name>
     ensures { result ≡ name_in word.now }
