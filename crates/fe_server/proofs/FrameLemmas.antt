@@ -41,7 +41,7 @@ reply_first (server.Refused number code) rest h = framed 70 (to_be_bytes w64 num
 reply_first (server.Withdrawn number) rest h = framed 67 (to_be_bytes w64 number) rest (omega arith)
 reply_first (server.Settled floor) rest h = framed 68 (to_be_bytes w64 floor) rest (omega arith)
 reply_first (server.Goodbye session) rest h = framed 69 (to_be_bytes w64 session) rest (omega arith)
-reply_first (server.Report text) rest h = framed 71 text rest (omega (arith, h.1.0))
+reply_first (server.Report text) rest h = framed 71 text rest (omega (arith, h.1))
 
 pub reply_some : (m : ServerMessage) → ReplyFits m → 0 < length (reply_spelling m)
 reply_some (server.Welcome session floor) h = omega arith

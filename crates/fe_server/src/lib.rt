@@ -19,6 +19,3 @@ pub use laws::refusals_print_their_names;
 pub use line::{Line, parse};
 pub use printing::printed;
 pub use schedule::run_schedule;
-
-#[cfg(test)]
-mod tests;

@@ -8,4 +8,6 @@ mod disk;
 #[cfg(test)]
 mod front;
 #[cfg(test)]
+mod server;
+#[cfg(test)]
 mod words;

@@ -1,8 +1,6 @@
-use super::*;
-use crate::desk::Desk;
-use fe_state::Answer;
-use fe_wire::ServerMessage;
-use std::alloc::{AllocError, Global};
+//! Schedules through `run_schedule`, over a reader and a writer in memory.
+use fe_server::{Fault, parse, run_schedule};
+use std::alloc::Global;
 use std::io;
 use std::io::{Error, ErrorKind, Read, Write};
 use std::process::Abort;
@@ -17,28 +15,6 @@ const FIRST_ANSWERS: &[u8] =
 /// What the first path prints where its array finds no memory.
 const NO_MEMORY: &[u8] =
     b"c1 welcome 7 1\nc1 refused 1 no-memory\nc1 refused 2 beyond-window\nc1 refused 3 beyond-window\nc1 refused 4 beyond-window\n";
-
-/// The client's frames of the first path.
-const FRAMES: &[u8] = &[
-    0, 0, 0, 9, 1, 0, 0, 0, 0, 0, 0, 0, 7, // attach
-    0, 0, 0, 31, 2, 0, 0, 0, 0, 0, 0, 0, 1, 5, 99, 101, 108, 108, 115, 0, 0, 0, 0, 0, 0, 0, 0, 0,
-    0, 0, 0, 0, 0, 2, 0, // create
-    0, 0, 0, 30, 5, 0, 0, 0, 0, 0, 0, 0, 2, 19, 0, 0, 0, 0, 0, 0, 0, 1, 0, 0, 0, 0, 0, 0, 0, 0, 0,
-    0, 0, 42, // writeef
-    0, 0, 0, 30, 5, 0, 0, 0, 0, 0, 0, 0, 3, 16, 0, 0, 0, 0, 0, 0, 0, 1, 0, 0, 0, 0, 0, 0, 0, 0, 0,
-    0, 0, 0, // readfe
-    0, 0, 0, 30, 5, 0, 0, 0, 0, 0, 0, 0, 4, 18, 0, 0, 0, 0, 0, 0, 0, 1, 0, 0, 0, 0, 0, 0, 0, 0, 0,
-    0, 0, 0, // readxx
-];
-
-/// The server's frames of the first path.
-const REPLIES: &[u8] = &[
-    0, 0, 0, 17, 65, 0, 0, 0, 0, 0, 0, 0, 7, 0, 0, 0, 0, 0, 0, 0, 1, // welcome
-    0, 0, 0, 22, 66, 0, 0, 0, 0, 0, 0, 0, 1, 3, 0, 0, 0, 0, 0, 0, 0, 1, 0, 0, 0, 2, // array
-    0, 0, 0, 22, 66, 0, 0, 0, 0, 0, 0, 0, 2, 2, 0, 0, 0, 0, 0, 0, 0, 0, 0, 0, 0, 0, // done
-    0, 0, 0, 22, 66, 0, 0, 0, 0, 0, 0, 0, 3, 1, 0, 0, 0, 0, 0, 0, 0, 42, 0, 0, 0, 0, // value
-    0, 0, 0, 22, 66, 0, 0, 0, 0, 0, 0, 0, 4, 1, 0, 0, 0, 0, 0, 0, 0, 42, 0, 0, 0, 0, // value
-];
 
 /// A reader that gives its bytes one by one and then fails, where a reader in memory would end.
 #[derive(Drop)]
@@ -169,7 +145,7 @@ fn syntax(rt: HostRuntime) -> Result<(), Fail> {
         b"c1 1 readfe 1 0 nowait",
         b"c1 1 writeef 1 0",
         b"c1 1 writeef 1 0 18446744073709551616",
-        b"c1 1 create seventeen_letters 1 full",
+        b"c1 1 create a_name_of_thirty_three_characters 1 full",
         b"c1 1 create  1 full",
         b"c1 1 create a 4294967296 full",
         b"c1 1 create a 1 Full",
@@ -203,29 +179,12 @@ fn syntax(rt: HostRuntime) -> Result<(), Fail> {
 #[test]
 fn names_are_bytes(rt: HostRuntime) -> Result<(), Fail> {
     let input =
-        b"c1 attach 7\nc1 1 create a\0b 1 full\nc1 2 create a\tb 1 full\nc1 3 create \xff\xfe 1 full\nc1 4 create a\r 1 full\nc1 5 create sixteen__letters 4294967295 full\nc1 6 create sixteen__letters 1 full\n";
+        b"c1 attach 7\nc1 1 create a\0b 1 full\nc1 2 create a\tb 1 full\nc1 3 create \xff\xfe 1 full\nc1 4 create a\r 1 full\nc1 5 create sixteen__letters 4294967295 full\nc1 6 create sixteen__letters 1 full\nc1 7 create seventeen_letters 1 full\n";
     let output =
-        b"c1 welcome 7 1\nc1 1 bad-name\nc1 2 bad-name\nc1 3 bad-name\nc1 4 bad-name\nc1 5 bad-length\nc1 6 array 1 1\n";
+        b"c1 welcome 7 1\nc1 1 bad-name\nc1 2 bad-name\nc1 3 bad-name\nc1 4 bad-name\nc1 5 bad-length\nc1 6 array 1 1\nc1 7 array 2 1\n";
     let (written, result) = run(rt.alloc(), input);
     assert_eq!(rt; result, Ok(()));
     assert_eq!(rt; written.as_slice(), output.as_slice());
-    Ok(())
-}
-
-#[test]
-fn frames_in_pieces(rt: HostRuntime) -> Result<(), Fail> {
-    let mut whole = Desk::new(rt.alloc())?;
-    whole.bytes(FRAMES)?;
-    whole.commit()?;
-    assert_eq!(rt; whole.written.as_slice(), REPLIES);
-    let mut cut = Desk::new(rt.alloc())?;
-    for byte in FRAMES {
-        cut.bytes(&[*byte])?;
-        cut.commit()?;
-    }
-    assert_eq!(rt; cut.written.as_slice(), REPLIES);
-    let mut strange = Desk::new(rt.alloc())?;
-    assert_eq!(rt; strange.bytes(&[0, 0, 0, 0]), Err(Fault::Strange));
     Ok(())
 }
 
@@ -266,52 +225,6 @@ fn streams_fail(rt: HostRuntime) -> Result<(), Fail> {
         assert_eq!(rt; narrow.written.as_slice(), &FIRST_ANSWERS[..kept], "{room}");
     }
     Ok(())
-}
-
-#[test]
-fn answers_in_words(rt: HostRuntime) -> Result<(), Fail> {
-    let table: [(Answer, &str); 10] = [
-        (Answer::Value(0), "c1 9 value 0\n"),
-        (Answer::Done, "c1 9 done\n"),
-        (Answer::Array { id: 3, length: 4 }, "c1 9 array 3 4\n"),
-        (Answer::NoArray, "c1 9 no-array\n"),
-        (Answer::BadIndex, "c1 9 bad-index\n"),
-        (Answer::NameTaken, "c1 9 name-taken\n"),
-        (Answer::ArrayLimit, "c1 9 array-limit\n"),
-        (Answer::WordLimit, "c1 9 word-limit\n"),
-        (Answer::BadName, "c1 9 bad-name\n"),
-        (Answer::BadLength, "c1 9 bad-length\n"),
-    ];
-    for (answer, want) in table {
-        let reply = ServerMessage::Answer { number: 9, answer };
-        let text = printed(rt.alloc(), 1, &reply)?;
-        assert_eq!(rt; text.as_str(), want);
-    }
-    let names = [
-        "not-attached",
-        "session-limit",
-        "below-floor",
-        "beyond-window",
-        "number-used",
-        "still-waiting",
-        "closing",
-        "no-memory",
-        "spent",
-        "not-waiting",
-    ];
-    let mut code = 1;
-    for name in names {
-        let text = refused_line(rt.alloc(), code)?;
-        let want = format!(in rt.alloc(); "c1 refused 9 {name}\n")?;
-        assert_eq!(rt; text.as_str(), want.as_str());
-        code = code.saturating_add(1);
-    }
-    Ok(())
-}
-
-fn refused_line(alloc: Global, code: u8) -> Result<String, AllocError> {
-    let code = code.clamp(1, 10);
-    printed(alloc, 1, &ServerMessage::Refused { number: 9, code })
 }
 
 #[test]
