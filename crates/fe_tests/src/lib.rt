@@ -10,4 +10,6 @@ mod front;
 #[cfg(test)]
 mod server;
 #[cfg(test)]
+mod wire;
+#[cfg(test)]
 mod words;

@@ -4,7 +4,10 @@ ghost use Rattle.std.specs.Prelude.{◌≡◌};
 ghost use Rattle.fe_wire.specs.Reading.{create_of, find_of, access_of, plain_of, message_of};
 
 use crate::client_message::ClientMessage;
-use crate::fields::{byte_at, bytes_at, ended, name_of, name_room, number_of, op_of, tag_of, two_numbers_of, u32_at, u64_at};
+use crate::fields::{
+    byte_at, bytes_at, ended, name_of, name_room, number_of, op_of, tag_of, two_numbers_of, u32_at,
+    u64_at,
+};
 use fe_state::Request;
 
 #[tactic(auto, unfolding(crate::specs::Reading::create_of))]

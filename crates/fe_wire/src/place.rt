@@ -1,5 +1,5 @@
 ghost use Rattle.std.specs.Prelude.{◌≡◌, ◌+◌, ◌<◌, ◌≤◌, ◌++◌, ℕ, List, false, length, take, option_to_list};
-ghost use Rattle.fe_wire.specs.Stream.{IsUnfinished, length_field, fault_of};
+ghost use Rattle.fe_wire.specs.Stream.{length_field, fault_of};
 ghost use Rattle.fe_wire.specs.Place.{IsPlace, GoesOn, held_of, decoding, wanted_of};
 
 use crate::client_message::ClientMessage;
@@ -25,8 +25,7 @@ pub struct Place {
     pub version: Version,
 }
 
-fn wanted(version: Version, held: &[u8]) -> usize
-    requires { IsUnfinished version held.now }
+fn wanted(held: &[u8]) -> usize
     ensures { result ≡ wanted_of held.now }
 {
     if held.len() < LENGTH_BYTES {
@@ -52,7 +51,7 @@ impl Place {
         ensures is_bad { self.new.is_bad ≡ self.old.is_bad }
         ensures version { self.new.version ≡ self.old.version }
     {
-        let wanted = wanted(self.version, &self.cells[..self.len]);
+        let wanted = wanted(&self.cells[..self.len]);
         let count = piece.len().min(wanted - self.len);
         self.cells[self.len..self.len + count].copy_from_slice(&piece[..count]);
         self.len += count;

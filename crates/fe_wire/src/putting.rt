@@ -78,7 +78,7 @@ fn refused_frame(number: u64, code: u8) -> Frame
     frame
 }
 
-/// The length and the kind are no frame of their own, and the text isn't copied into one.
+/// The text goes into `out` straight behind its length and kind, and is copied into no `Frame`.
 fn put_report(out: &mut Vec<u8>, report: &ReportText) -> Result<(), AllocError>
     ensures ok { OnOk result (out.new.items ≡ out.old.items ++ reply_spelling (ServerMessage.Report report.now)) }
     ensures err { OnErr result (out.new.items ≡ out.old.items) }

@@ -1,0 +1,364 @@
+//! Frames, with the bytes of `docs/formats.md`.
+
+ghost use Rattle.fe_wire.specs.Spelling.{HasRefusalCode};
+
+use fe_state::{Answer, Name, Request};
+use fe_wire::{
+    BadFrame, ClientMessage, Decoder, Fed, ReportText, ServerMessage, Version, put_message,
+    put_reply, read_reply,
+};
+use fe_words::{Op, Tag};
+use std::alloc::{AllocError, Global};
+use std::process::Abort;
+use std::test::Fail;
+
+/// The client's frames of the first path: attach, create, `writeef`, `readfe`, `readxx`.
+const FRAMES: [&[u8]; 5] = [
+    b"\0\0\0\x09\x01\0\0\0\0\0\0\0\x07",
+    b"\0\0\0\x1f\x02\0\0\0\0\0\0\0\x01\x05cells\0\0\0\0\0\0\0\0\0\0\0\0\0\0\x02\0",
+    b"\0\0\0\x1e\x05\0\0\0\0\0\0\0\x02\x13\0\0\0\0\0\0\0\x01\0\0\0\0\0\0\0\0\0\0\0\x2a",
+    b"\0\0\0\x1e\x05\0\0\0\0\0\0\0\x03\x10\0\0\0\0\0\0\0\x01\0\0\0\0\0\0\0\0\0\0\0\0",
+    b"\0\0\0\x1e\x05\0\0\0\0\0\0\0\x04\x12\0\0\0\0\0\0\0\x01\0\0\0\0\0\0\0\0\0\0\0\0",
+];
+
+/// The server's frames of the first path: welcome, the new array, done, and the value 42 twice.
+const REPLIES: [&[u8]; 5] = [
+    b"\0\0\0\x11\x41\0\0\0\0\0\0\0\x07\0\0\0\0\0\0\0\x01",
+    b"\0\0\0\x16\x42\0\0\0\0\0\0\0\x01\x03\0\0\0\0\0\0\0\x01\0\0\0\x02",
+    b"\0\0\0\x16\x42\0\0\0\0\0\0\0\x02\x02\0\0\0\0\0\0\0\0\0\0\0\0",
+    b"\0\0\0\x16\x42\0\0\0\0\0\0\0\x03\x01\0\0\0\0\0\0\0\x2a\0\0\0\0",
+    b"\0\0\0\x16\x42\0\0\0\0\0\0\0\x04\x01\0\0\0\0\0\0\0\x2a\0\0\0\0",
+];
+
+/// A bad frame after an attach, by its length alone.
+const ATTACH_AND_BAD: &[u8] = b"\0\0\0\x09\x01\0\0\0\0\0\0\0\x07\0\0\0\0";
+
+/// `readfe` of array 1, word 0 under number 2, not to wait.
+const NO_WAIT: &[u8] =
+    b"\0\0\0\x1e\x0b\0\0\0\0\0\0\0\x02\x10\0\0\0\0\0\0\0\x01\0\0\0\0\0\0\0\0\0\0\0\0";
+
+const ATTACH: ClientMessage = ClientMessage::Attach { session: 7 };
+
+fn call(number: u64, request: Request) -> ClientMessage {
+    ClientMessage::Call { number, request }
+}
+
+fn access(number: u64, op: Op, no_wait: bool) -> ClientMessage {
+    let (array, index) = (1, 0);
+    call(
+        number,
+        Request::Access {
+            array,
+            index,
+            op,
+            no_wait,
+        },
+    )
+}
+
+fn create(number: u64, name: &[u8], length: u32, tag: Tag) -> Option<ClientMessage> {
+    let name = Name::new(name)?;
+    Some(call(number, Request::Create { name, length, tag }))
+}
+
+fn find(number: u64, name: &[u8]) -> Option<ClientMessage> {
+    let name = Name::new(name)?;
+    Some(call(number, Request::Find { name }))
+}
+
+/// The messages of the first path.
+fn first_path() -> Option<[ClientMessage; 5]> {
+    Some([
+        ATTACH,
+        create(1, b"cells", 2, Tag::Empty)?,
+        access(2, Op::WriteEf(42), false),
+        access(3, Op::ReadFe, false),
+        access(4, Op::ReadXx, false),
+    ])
+}
+
+/// The frames one behind another.
+fn joined(alloc: Global, frames: &[&[u8]]) -> Result<Vec<u8>, AllocError> {
+    let mut bytes = Vec::new(alloc);
+    for frame in frames {
+        bytes.extend_from_slice(frame)?;
+    }
+    Ok(bytes)
+}
+
+#[test]
+fn frames_in_pieces(rt: HostRuntime) -> Result<(), Fail> {
+    let wanted = first_path().ok_or("five bytes")?;
+    let stream = joined(rt.alloc(), &FRAMES)?;
+    let fed = Decoder::new().feed(rt.alloc(), &stream)?;
+    assert_eq!(rt; fed.messages.as_slice(), wanted.as_slice());
+    assert_eq!(rt; fed.fault, None);
+    let mut decoder = Decoder::new();
+    let mut messages = Vec::new(rt.alloc());
+    for byte in &stream {
+        for message in decoder.feed(rt.alloc(), &[*byte])?.messages.iter() {
+            messages.push(*message)?;
+        }
+    }
+    assert_eq!(rt; messages.as_slice(), wanted.as_slice());
+    Ok(())
+}
+
+#[test]
+fn mid_frame_completes_nothing(rt: HostRuntime) -> Result<(), Fail> {
+    let mut decoder = Decoder::new();
+    let fed = decoder.feed(rt.alloc(), &FRAMES[0][..12])?;
+    assert_eq!(rt; fed.messages.len(), 0);
+    assert_eq!(rt; fed.fault, None);
+    Ok(())
+}
+
+/// The decoder gives the attach and this fault, and then the fault alone.
+fn check_fault(
+    rt: &impl Abort,
+    alloc: Global,
+    mut decoder: Decoder,
+    offset: u64,
+) -> Result<(), AllocError> {
+    let fault = Some(BadFrame { offset });
+    let fed = decoder.feed(alloc, ATTACH_AND_BAD)?;
+    assert_eq!(rt; fed.messages.as_slice(), [ATTACH].as_slice());
+    assert_eq!(rt; fed.fault, fault);
+    for _ in 0..2 {
+        let fed = decoder.feed(alloc, FRAMES[0])?;
+        assert_eq!(rt; fed.messages.len(), 0);
+        assert_eq!(rt; fed.fault, fault);
+    }
+    Ok(())
+}
+
+#[test]
+fn bad_frame_ends_the_stream(rt: HostRuntime) -> Result<(), Fail> {
+    check_fault(&rt, rt.alloc(), Decoder::new(), 13)?;
+    Ok(())
+}
+
+#[test]
+fn offset_stands_still(rt: HostRuntime) -> Result<(), Fail> {
+    let decoder = Decoder::starting_at(18446744073709551614);
+    check_fault(&rt, rt.alloc(), decoder, 18446744073709551615)?;
+    Ok(())
+}
+
+/// The message is put as the frame, and the frame is fed as the message.
+fn check_frame(
+    rt: &impl Abort,
+    alloc: Global,
+    message: ClientMessage,
+    frame: &[u8],
+) -> Result<(), AllocError> {
+    let mut out = Vec::new(alloc);
+    put_message(&mut out, &message)?;
+    assert_eq!(rt; out.as_slice(), frame);
+    let fed = Decoder::with_version(Version::Two).feed(alloc, frame)?;
+    assert_eq!(rt; fed.messages.as_slice(), [message].as_slice());
+    Ok(())
+}
+
+#[test]
+fn first_path_is_put(rt: HostRuntime) -> Result<(), Fail> {
+    let messages = first_path().ok_or("five bytes")?;
+    for (frame, message) in FRAMES.iter().zip(messages) {
+        check_frame(&rt, rt.alloc(), message, frame)?;
+    }
+    Ok(())
+}
+
+#[test]
+fn requests_about_arrays(rt: HostRuntime) -> Result<(), Fail> {
+    let found = find(5, b"cells").ok_or("five bytes")?;
+    let frame = b"\0\0\0\x1a\x03\0\0\0\0\0\0\0\x05\x05cells\0\0\0\0\0\0\0\0\0\0\0";
+    check_frame(&rt, rt.alloc(), found, frame)?;
+    let remove = call(6, Request::Remove { array: 1 });
+    let frame = b"\0\0\0\x11\x04\0\0\0\0\0\0\0\x06\0\0\0\0\0\0\0\x01";
+    check_frame(&rt, rt.alloc(), remove, frame)?;
+    Ok(())
+}
+
+#[test]
+fn messages_about_a_session(rt: HostRuntime) -> Result<(), Fail> {
+    let cancel = ClientMessage::Cancel { number: 7 };
+    check_frame(&rt, rt.alloc(), cancel, b"\0\0\0\x09\x06\0\0\0\0\0\0\0\x07")?;
+    let settle = ClientMessage::Settle { floor: 5 };
+    check_frame(&rt, rt.alloc(), settle, b"\0\0\0\x09\x07\0\0\0\0\0\0\0\x05")?;
+    check_frame(&rt, rt.alloc(), ClientMessage::Bye, b"\0\0\0\x01\x08")?;
+    check_frame(&rt, rt.alloc(), ClientMessage::Report, b"\0\0\0\x01\x09")?;
+    Ok(())
+}
+
+#[test]
+fn long_names(rt: HostRuntime) -> Result<(), Fail> {
+    let name = b"seventeen_letters";
+    let created = create(2, name, 1, Tag::Full).ok_or("17 bytes")?;
+    let frame =
+        b"\0\0\0\x2f\x0c\0\0\0\0\0\0\0\x02\x11seventeen_letters\0\0\0\0\0\0\0\0\0\0\0\0\0\0\0\0\0\0\x01\x01";
+    check_frame(&rt, rt.alloc(), created, frame)?;
+    let found = find(3, name).ok_or("17 bytes")?;
+    let frame =
+        b"\0\0\0\x2a\x0d\0\0\0\0\0\0\0\x03\x11seventeen_letters\0\0\0\0\0\0\0\0\0\0\0\0\0\0\0";
+    check_frame(&rt, rt.alloc(), found, frame)?;
+    Ok(())
+}
+
+/// The reply is put as the frame.
+fn check_reply(
+    rt: &impl Abort,
+    alloc: Global,
+    reply: ServerMessage,
+    frame: &[u8],
+) -> Result<(), AllocError>
+    requires { HasRefusalCode reply }
+{
+    let mut out = Vec::new(alloc);
+    put_reply(&mut out, &reply)?;
+    assert_eq!(rt; out.as_slice(), frame);
+    Ok(())
+}
+
+#[test]
+fn no_wait(rt: HostRuntime) -> Result<(), Fail> {
+    check_frame(&rt, rt.alloc(), access(2, Op::ReadFe, true), NO_WAIT)?;
+    let (number, answer) = (2, Answer::NotNow);
+    let frame = b"\0\0\0\x16\x42\0\0\0\0\0\0\0\x02\x0b\0\0\0\0\0\0\0\0\0\0\0\0";
+    check_reply(
+        &rt,
+        rt.alloc(),
+        ServerMessage::Answer { number, answer },
+        frame,
+    )?;
+    let read = read_reply(rt.alloc(), frame)?;
+    assert!(rt;
+        matches!(
+            read,
+            Some(ServerMessage::Answer {
+                number: 2,
+                answer: Answer::NotNow
+            })
+        )
+    );
+    let fed = Decoder::new().feed(rt.alloc(), NO_WAIT)?;
+    assert_eq!(rt; fed.messages.len(), 0);
+    assert_eq!(rt; fed.fault, Some(BadFrame { offset: 0 }));
+    Ok(())
+}
+
+#[test]
+fn replies_of_first_path(rt: HostRuntime) -> Result<(), Fail> {
+    let (session, floor) = (7, 1);
+    check_reply(
+        &rt,
+        rt.alloc(),
+        ServerMessage::Welcome { session, floor },
+        REPLIES[0],
+    )?;
+    let read = read_reply(rt.alloc(), REPLIES[0])?;
+    assert!(rt;
+        matches!(
+            read,
+            Some(ServerMessage::Welcome {
+                session: 7,
+                floor: 1
+            })
+        )
+    );
+    let answers = [
+        Answer::Array { id: 1, length: 2 },
+        Answer::Done,
+        Answer::Value(42),
+        Answer::Value(42),
+    ];
+    for ((number, answer), frame) in (1..).zip(answers).zip(&REPLIES[1..]) {
+        check_reply(
+            &rt,
+            rt.alloc(),
+            ServerMessage::Answer { number, answer },
+            frame,
+        )?;
+        match read_reply(rt.alloc(), frame)? {
+            Some(ServerMessage::Answer { answer: read, .. }) => assert_eq!(rt; read, answer),
+            _ => return Err("an answer".into()),
+        }
+    }
+    Ok(())
+}
+
+#[test]
+fn each_kind_of_server(rt: HostRuntime) -> Result<(), Fail> {
+    let alloc = rt.alloc();
+    let frame = b"\0\0\0\x09\x43\0\0\0\0\0\0\0\x07";
+    check_reply(&rt, alloc, ServerMessage::Withdrawn { number: 7 }, frame)?;
+    assert!(rt;
+        matches!(
+            read_reply(alloc, frame)?,
+            Some(ServerMessage::Withdrawn { number: 7 })
+        )
+    );
+    let frame = b"\0\0\0\x09\x44\0\0\0\0\0\0\0\x05";
+    check_reply(&rt, alloc, ServerMessage::Settled { floor: 5 }, frame)?;
+    assert!(rt;
+        matches!(
+            read_reply(alloc, frame)?,
+            Some(ServerMessage::Settled { floor: 5 })
+        )
+    );
+    let frame = b"\0\0\0\x09\x45\0\0\0\0\0\0\0\x07";
+    check_reply(&rt, alloc, ServerMessage::Goodbye { session: 7 }, frame)?;
+    assert!(rt;
+        matches!(
+            read_reply(alloc, frame)?,
+            Some(ServerMessage::Goodbye { session: 7 })
+        )
+    );
+    let (number, code) = (5, 10);
+    let frame = b"\0\0\0\x0a\x46\0\0\0\0\0\0\0\x05\x0a";
+    check_reply(&rt, alloc, ServerMessage::Refused { number, code }, frame)?;
+    assert!(rt;
+        matches!(
+            read_reply(alloc, frame)?,
+            Some(ServerMessage::Refused {
+                number: 5,
+                code: 10
+            })
+        )
+    );
+    Ok(())
+}
+
+#[test]
+fn reports(rt: HostRuntime) -> Result<(), Fail> {
+    let frame = b"\0\0\0\x0b\x47waiting 0\n";
+    let Some(ServerMessage::Report(text)) = read_reply(rt.alloc(), frame)? else {
+        return Err("a report".into());
+    };
+    assert_eq!(rt; text.as_str(), "waiting 0\n");
+    let text = ReportText::new(text.into_string());
+    check_reply(&rt, rt.alloc(), ServerMessage::Report(text), frame)?;
+    Ok(())
+}
+
+/// Feeds the piece, and once more where memory was refused.
+fn fed_at_last(decoder: &mut Decoder, alloc: Global, piece: &[u8]) -> Result<Fed, AllocError> {
+    match decoder.feed(alloc, piece) {
+        Ok(fed) => Ok(fed),
+        Err(_) => decoder.feed(alloc, piece),
+    }
+}
+
+/// One refused allocation, wherever it comes, shows in no message.
+#[test]
+fn want_of_memory(rt: HostRuntime) -> Result<(), Fail> {
+    let wanted = first_path().ok_or("five bytes")?;
+    let mut decoder = Decoder::new();
+    for (frame, message) in FRAMES.iter().zip(wanted) {
+        let (front, back) = frame.split_at(5);
+        assert_eq!(rt; decoder.feed(rt.alloc(), front)?.messages.len(), 0);
+        let fed = fed_at_last(&mut decoder, rt.alloc(), back)?;
+        assert_eq!(rt; fed.messages.as_slice(), [message].as_slice());
+    }
+    Ok(())
+}
