@@ -10,6 +10,8 @@ mod front;
 #[cfg(test)]
 mod server;
 #[cfg(test)]
+mod state;
+#[cfg(test)]
 mod wire;
 #[cfg(test)]
 mod words;

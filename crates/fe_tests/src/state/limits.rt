@@ -1,0 +1,62 @@
+use super::undoing::there_and_back;
+use super::*;
+
+/// Session 7 finishes the creation of an array of one word under the id, and settles it.
+fn create_one(rt: &impl Abort, state: &mut State, id: u64, name: &[u8]) -> Result<(), AllocError> {
+    let request = create(rt, name, 1, Tag::Full);
+    let made = Answer::Array { id, length: 1 };
+    pass(rt, state, finished(id, request, made))?;
+    pass(rt, state, settled(id.saturating_add(1)))?;
+    Ok(())
+}
+
+/// Session 7, and 64 arrays of one word.
+fn with_64_arrays(rt: &impl Abort, alloc: Global) -> Result<State, AllocError> {
+    let mut state = State::new(alloc)?;
+    pass(rt, &mut state, attached(7))?;
+    for k in 0..64u8 {
+        let name = [b'a' + k / 8, b'a' + k % 8];
+        create_one(rt, &mut state, u64::from(k) + 1, &name)?;
+    }
+    Ok(state)
+}
+
+#[test]
+fn a_65th_array_is_refused(rt: HostRuntime) -> Result<(), Fail> {
+    let mut state = with_64_arrays(&rt, rt.alloc())?;
+    let further = create(&rt, b"further", 1, Tag::Full);
+    assert_eq!(rt; state.answer_to(&further), Some(Answer::ArrayLimit));
+    pass(&rt, &mut state, finished(65, further, Answer::ArrayLimit))?;
+    assert!(rt; state.array_at(63).is_some());
+    assert!(rt; state.array_at(64).is_none());
+    assert_eq!(rt; state.next_id(), 65);
+    Ok(())
+}
+
+fn removed(number: u64, array: u64) -> Entry {
+    finished(number, Request::Remove { array }, Answer::Done)
+}
+
+/// Arrays in the middle and at both ends go, and one comes in between.
+fn removals(rt: &impl Abort) -> [Entry; 5] {
+    let made = Answer::Array { id: 65, length: 1 };
+    [
+        removed(65, 32),
+        removed(66, 1),
+        removed(67, 64),
+        finished(68, create(rt, b"further", 1, Tag::Full), made),
+        removed(69, 33),
+    ]
+}
+
+#[test]
+fn arrays_put_back_keep_their_order(rt: HostRuntime) -> Result<(), Fail> {
+    let mut state = with_64_arrays(&rt, rt.alloc())?;
+    let mut log = UndoLog::with_room(rt.alloc(), 5)?;
+    there_and_back(&rt, &mut state, &mut log, &removals(&rt))?;
+    for k in 0..64 {
+        let id = state.array_at(k).map(|array| array.0);
+        assert_eq!(rt; id, Some(k as u64 + 1));
+    }
+    Ok(())
+}
