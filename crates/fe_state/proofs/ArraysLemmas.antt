@@ -1,5 +1,5 @@
 -- The order of creation: where an id stands in it, and what it is after one more.
-use Rattle.std.proofs.Common.{◌≡◌, ℕ, zero, suc, ◌+◌, ◌<◌, ◌≤◌, Bool, true, false, List, [], ◌∷◌, length, take, map, nat_eq, position, slice_get, Option, Some, None, IsSome, is_some, true≢false, eqb-true, refl, sym, ap, subst, ◌∙◌, arith, add-one}
+use Rattle.std.proofs.Common.{◌≡◌, ℕ, zero, suc, ◌+◌, ◌<◌, ◌≤◌, true, false, List, [], ◌∷◌, length, take, map, nat_eq, position, slice_get, Option, Some, None, IsSome, is_some, true≢false, eqb-true, refl, sym, ap, subst, ◌∙◌, arith, add-one}
 use Rattle.std.proofs.lemmas.List.{length-map, get_or-map, map-append}
 use Rattle.std.proofs.lemmas.List.Quantifiers.{position-Some}
 use Rattle.std.specs.Cmp.{unsigned_tied}
@@ -49,9 +49,9 @@ module _ {X : Type 0} (m : FinMap nat_cmp X) where
   ids_next i e here =
       let before = map (λ e. e.0) (take i (entries m)) in
       let new : list_any (nat_eq e.0) before ≡ false =
-          ap (λ test. list_any test before) (λ j x. sym (unsigned_tied e.0 x) j) ∙ sym (is_some-find nat_cmp e.0 (take i (entries m))) ∙ ap is_some (find-take (entries m) i e (entries_sorted m) here) in
+      ap (λ test. list_any test before) (λ j x. sym (unsigned_tied e.0 x) j) ∙ sym (is_some-find nat_cmp e.0 (take i (entries m))) ∙ ap is_some (find-take (entries m) i e (entries_sorted m) here) in
       rw (new) (
-        sym (map-append (λ e. e.0) (take i (entries m)) (e ∷ []))
-        ∙ ap (map (λ e. e.0)) (sym (take-push (entries m) i e here))
-        ∙ ap (λ n. map (λ e. e.0) (take n (entries m))) (sym (add-one i))
+      sym (map-append (λ e. e.0) (take i (entries m)) (e ∷ []))
+      ∙ ap (map (λ e. e.0)) (sym (take-push (entries m) i e here))
+      ∙ ap (λ n. map (λ e. e.0) (take n (entries m))) (sym (add-one i))
       )

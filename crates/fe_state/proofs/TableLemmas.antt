@@ -4,7 +4,7 @@ use Rattle.std.proofs.Common.{◌≡◌, ℕ, zero, suc, ◌<◌, ◌≤◌, Boo
 use Rattle.std.proofs.lemmas.Cmp.{ranked}
 use Rattle.std.proofs.lemmas.List.Sorted.{searchable_from_sorted}
 use Rattle.std.specs.Cmp.{nat_cmp_total, nat_cmp_is, eq_by_cmp_equiv, unsigned_tied}
-use Rattle.std.specs.FinMap.{FinMap, is_sorted, put, find, empty, get-empty, get, insert as map_insert, remove as map_remove, retain_keys, get-entries, get-remove, get-retain_keys, entries-insert, same_map, nat_cmp-IsAntisymmetric, entries, entries_sorted, same_entries_map, len, len-entries, from_sorted, entries-from_sorted, get-from_sorted}
+use Rattle.std.specs.FinMap.{FinMap, is_sorted, put, find, empty, get-empty, get, insert as map_insert, remove as map_remove, get-entries, get-remove, entries-insert, same_map, nat_cmp-IsAntisymmetric, entries, entries_sorted, same_entries_map, len, len-entries, from_sorted, entries-from_sorted, get-from_sorted}
 use Rattle.std.specs.FinMap.Entries.{below_all, where_key, find-where_key, is_sorted-where_key}
 use Rattle.std.specs.List.{insert, remove}
 use Rattle.std.specs.List.Sorted.{IsSearchInRange, IsBinarySearchResult, IsNonDecreasingBy}

@@ -1,5 +1,5 @@
 -- A key that stands at a place: its value, and what a new value there makes of the map.
-use Rattle.std.proofs.Common.{◌≡◌, ℕ, zero, suc, List, [], ◌∷◌, length, get_or, set, map, slice_get, Option, Some, None, IsSome, is_some, true≢false, refl, sym, ap, ◌∙◌}
+use Rattle.std.proofs.Common.{◌≡◌, ℕ, zero, suc, List, [], ◌∷◌, get_or, set, map, slice_get, Option, Some, None, IsSome, is_some, true≢false, refl, sym, ap, ◌∙◌}
 use Rattle.std.proofs.lemmas.Option.{unwrap_or-slice_get}
 use Rattle.std.specs.FinMap.{FinMap, get, insert, keys, entries, entries_sorted}
 use Rattle.std.specs.Option.{option_map, option_map_or, unwrap_or}
@@ -23,9 +23,9 @@ module _ {X : Type 0} (m : FinMap nat_cmp X) (k i : ℕ) (at : IsAt (entries m) 
 
     written : (x : X) → (put_at m i x ≡ insert m k x) × (keys (insert m k x) ≡ keys m)
     written x = (
-        ap (λ o. option_map_or (λ e. insert m e.0 x) o m) here ∙ ap (λ q. insert m q x) (ap (λ e. e.0) read ∙ at.has_key e),
-        ap (map (λ e. e.0)) (sym (entries_written (entries m) m (entries_sorted m) (from_sorted-entries (entries m) m refl) k i e x read at)) ∙ keys_set (entries m) i e x read,
-      )
+      ap (λ o. option_map_or (λ e. insert m e.0 x) o m) here ∙ ap (λ q. insert m q x) (ap (λ e. e.0) read ∙ at.has_key e),
+      ap (map (λ e. e.0)) (sym (entries_written (entries m) m (entries_sorted m) (from_sorted-entries (entries m) m refl) k i e x read at)) ∙ keys_set (entries m) i e x read,
+    )
 
   there : (o : Option (ℕ × X)) → slice_get (entries m) i ≡ o → IsSome o
   there o is = sym (ap is_some is) ∙ is_some-slice_get (entries m) i at.in_range

@@ -19,9 +19,9 @@ pub const ARRAYS: usize = 64;
 
 /// The arrays by id, in order of creation.
 ///
-/// Ids rise, so the table's ascending order is that of creation. The set keeps the ids in the same order and finds the
-/// place of one in constant time. An array that comes or goes has the ids put into the set again: it keeps its room
-/// when it is cleared, and not when one is taken out. `new` and `copied` alone take memory.
+/// Ids rise, so the table's ascending order is that of creation. The set has the ids in the same order, and finds the
+/// place of one in constant time. When an array comes or goes, the set is cleared and has all ids put in again, since
+/// clearing it keeps its room for certain, and taking one id out does not. `new` and `copied` alone take memory.
 #[derive(Drop)]
 pub struct Arrays {
     ids: IndexSet<u64>,
@@ -110,7 +110,7 @@ impl Arrays {
     }
 }
 
-/// Puts the ids of a table into a set anew. It takes no memory.
+// Makes a set anew of a table's ids. It takes no memory.
 fn index(table: &Table<Array, ARRAYS>, ids: &mut IndexSet<u64>)
     requires room { 64 ≤ index_set_len ids.old + spare ids.old }
     ensures index { IsIndex ids.new table.now }

@@ -14,8 +14,7 @@ at_mut-requires g c =
 
 pub returns : goal.returns
 returns g c =
-    let at = rw c.unwrap-place.ensures at c.search.ensures.found in
-    (
+    let at = rw c.unwrap-place.ensures at c.search.ensures.found in (
       (refl, λ w. (put_here _ _ _ at w).0),
       record { writes_back = tt; value = get_lent _ _ _ at _ c.at_mut.ensures.value },
     )
