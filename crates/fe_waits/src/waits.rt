@@ -70,6 +70,14 @@ impl Waits {
         self.count
     }
 
+    /// How many requests of a slot wait. There is room for one more below 32.
+    pub fn count_of(&self, slot: u8) -> u32
+        requires slot { slot < 64 }
+        ensures { result ≡ count_of self.now.members slot }
+    {
+        self.sessions.at(slot as usize).length
+    }
+
     /// Adds an array of so many words, on which nothing waits. The one error is that memory is
     /// short.
     pub fn add_array(&mut self, array: u64, length: u32) -> Result<(), AllocError>
@@ -183,7 +191,7 @@ impl Waits {
         ensures removed { self.new.members ≡ without_slot self.old.members slot }
         ensures arrays { self.new.arrays ≡ self.old.arrays }
     {
-        let count = self.sessions.at(slot as usize).length;
+        let count = self.count_of(slot);
         while let Some(node) = self.first_of(slot) {
             self.finish(node);
         }
