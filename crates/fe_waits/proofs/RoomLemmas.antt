@@ -1,12 +1,11 @@
 -- Room in a slot, for a caller whose numbers lie in a window of 32.
-use Rattle.std.proofs.Common.{◌≡◌, ◌≢◌, ℕ, zero, suc, ◌<◌, ◌≤◌, ◌+◌, ◌-◌, ◌⊎◌, inl, inr, Bool, true, false, cond, Option, Some, None, is_some, refl, sym, ap, ◌∙◌, subst, arith}
-use Rattle.std.specs.Prelude.{◌==◌}
+use Rattle.std.proofs.Common.{◌≡◌, ◌≢◌, ℕ, zero, suc, ◌<◌, ◌≤◌, ◌+◌, ◌-◌, inl, inr, Bool, true, false, cond, Option, Some, None, is_some, refl, sym, ap, ◌∙◌, arith}
 use Rattle.std.specs.FinMap.{FinMap, empty, get, insert, remove, len, len-empty, len-remove, same_map, get-empty}
 use Rattle.std.proofs.lemmas.Bool.{cases_eq, ne_eqb, eq-eqb}
 use Rattle.fe_words.specs.declared.op.Op.TheVariants.{ReadXx}
 use Rattle.fe_waits.specs.Pair.{pair_cmp, pair_cmp_total, pair_cmp-IsAntisymmetric}
 use Rattle.fe_waits.specs.Waiting.{Waiter, of_slot, count_of}
-use Rattle.fe_waits.proofs.MemberLemmas.{none_some, some_same, key_cases, get-of_slot, get-insert_here, get-insert_other, get-remove_here, get-remove_other, len-insert_new}
+use Rattle.fe_waits.proofs.MemberLemmas.{none_some, key_cases, get-of_slot, get-insert_other, get-remove_here, get-remove_other, len-insert_new}
 
 -- each key is of the slot, and its number one of so many from the floor on
 abbrev pub AreWithin : FinMap pair_cmp Waiter → ℕ → ℕ → ℕ → Type 0
