@@ -12,6 +12,8 @@ mod server;
 #[cfg(test)]
 mod state;
 #[cfg(test)]
+mod waits;
+#[cfg(test)]
 mod wire;
 #[cfg(test)]
 mod words;

@@ -1,0 +1,4 @@
+pub mod Inner
+pub mod Pair
+pub mod Waiting
+pub mod Words

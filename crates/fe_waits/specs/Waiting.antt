@@ -1,0 +1,106 @@
+-- What a contract sees of the waiting lists: the requests that wait, by slot and number.
+use Rattle.std.specs.Prelude.{◌≡◌, ◌≢◌, ◌==◌, ℕ, ◌<◌, ◌≤◌, List, not, Option, Some, None, refl, slice_index_or}
+use Rattle.std.specs.Option.{option_map}
+use Rattle.std.specs.Ordering.{nat_cmp}
+use Rattle.std.specs.Coded.{Coded, code_by, coded×, coded_ℕ, coded_list, coded_option}
+use Rattle.std.specs.FinMap.{FinMap, code, get, len, retain_keys}
+use Rattle.fe_words.specs.declared.op.Op.{Op}
+use Rattle.fe_words.specs.contracts.op.Op.{the_row as op_row}
+use Rattle.fe_waits.specs.declared.row.Row.{Row}
+use Rattle.fe_waits.specs.contracts.row.Row.{the_row as row_row}
+use Rattle.fe_waits.specs.Pair.{pair_cmp}
+
+-- for what a request waits: its word, and the operation on it
+pub record Waiter : Type 0 where
+  pub array : ℕ
+  pub index : ℕ
+  pub op : Op
+
+-- a waiter is stored as the tuple of its fields
+abbrev pub waiter_code : Coded Waiter
+waiter_code =
+    code_by
+    (ℕ × (ℕ × Op))
+    (coded× coded_ℕ (coded× coded_ℕ op_row.coded))
+    (λ w. (w.array, (w.index, w.op)))
+    (λ t. record { array = t.0; index = t.1.0; op = t.1.1 })
+    (λ _. refl)
+
+-- the length of each added array; the requests that wait, by slot and number; and by node the
+-- request for which it stands
+pub record Waiting : Type 0 where
+  pub arrays : FinMap nat_cmp ℕ
+  pub members : FinMap pair_cmp Waiter
+  pub nodes : List (Option Row)
+
+-- what waits is stored as the tuple of its fields
+abbrev pub waiting_code : Coded Waiting
+waiting_code =
+    code_by
+    (FinMap nat_cmp ℕ × (FinMap pair_cmp Waiter × List (Option Row)))
+    (coded×
+    (code coded_ℕ coded_ℕ)
+    (coded× (code (coded× coded_ℕ coded_ℕ) waiter_code) (coded_list (coded_option row_row.coded))))
+    (λ w. (w.arrays, (w.members, w.nodes)))
+    (λ t. record { arrays = t.0; members = t.1.0; nodes = t.1.1 })
+    (λ _. refl)
+
+-- the slot and the number of a request
+abbrev pub key_of : Row → ℕ × ℕ
+key_of row = (row.slot, row.number)
+
+-- the word and the operation of a request
+abbrev pub waiter_of : Row → Waiter
+waiter_of row = record { array = row.array; index = row.index; op = row.op }
+
+-- the request for which a node stands
+abbrev pub row_of : Waiting → ℕ → Option Row
+row_of w node = slice_index_or w.nodes node None
+
+-- the request of a slot and a number, if it waits
+abbrev pub row_at : FinMap pair_cmp Waiter → ℕ → ℕ → Option Row
+row_at members slot number =
+    option_map
+    (λ waiter. record { slot = slot; number = number; array = waiter.array; index = waiter.index; op = waiter.op })
+    (get members (slot, number))
+
+-- the array is added, and the index is one of its
+abbrev pub IsWord : FinMap nat_cmp ℕ → ℕ → ℕ → Type 0
+IsWord arrays array index = (length : ℕ) × (get arrays array ≡ Some length) × (index < length)
+
+-- the waiter is on the word
+abbrev pub IsOn : Waiter → ℕ → ℕ → Type 0
+IsOn waiter array index = (waiter.array ≡ array) × (waiter.index ≡ index)
+
+-- the node stands for a request on the word
+abbrev pub IsNodeOn : Waiting → ℕ → ℕ → ℕ → Type 0
+IsNodeOn w array index node = (row : Row) × (row_of w node ≡ Some row) × IsOn (waiter_of row) array index
+
+-- no request waits on the word
+abbrev pub NoneOnWord : FinMap pair_cmp Waiter → ℕ → ℕ → Type 0
+NoneOnWord members array index = (key : ℕ × ℕ) (waiter : Waiter) → get members key ≡ Some waiter → ¬ (IsOn waiter array index)
+
+-- no request waits on a word of the array
+abbrev pub NoneOnArray : FinMap pair_cmp Waiter → ℕ → Type 0
+NoneOnArray members array = (key : ℕ × ℕ) (waiter : Waiter) → get members key ≡ Some waiter → waiter.array ≢ array
+
+-- the requests of a slot, and how many they are
+abbrev pub of_slot : FinMap pair_cmp Waiter → ℕ → FinMap pair_cmp Waiter
+of_slot members slot = retain_keys members (λ key. key.0 == slot)
+
+abbrev pub count_of : FinMap pair_cmp Waiter → ℕ → ℕ
+count_of members slot = len (of_slot members slot)
+
+-- the requests of the other slots
+abbrev pub without_slot : FinMap pair_cmp Waiter → ℕ → FinMap pair_cmp Waiter
+without_slot members slot = retain_keys members (λ key. not (key.0 == slot))
+
+-- what is always true: slots are below 64, each request is on a word of an added array, no slot has
+-- more than 32, there are at most 2,048 and at most 64 arrays, and a node stands for a request that waits
+pub record IsWithinLimits (w : Waiting) : Type 0 where
+  pub slots : (key : ℕ × ℕ) (waiter : Waiter) → get w.members key ≡ Some waiter → key.0 < 64
+  pub words : (key : ℕ × ℕ) (waiter : Waiter) → get w.members key ≡ Some waiter → IsWord w.arrays waiter.array waiter.index
+  pub few : (slot : ℕ) → count_of w.members slot ≤ 32
+  pub all : len w.members ≤ 2048
+  pub arrays : len w.arrays ≤ 64
+  pub nodes : (node : ℕ) (row : Row) → row_of w node ≡ Some row → get w.members (key_of row) ≡ Some (waiter_of row)

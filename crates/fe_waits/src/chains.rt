@@ -1,0 +1,46 @@
+ghost use Rattle.std.specs.Prelude.{◌≡◌, ◌<◌, replicate, length, Some, slice_get, slice_set, IfOk};
+ghost use Rattle.fe_waits.specs.Inner.{empty_chain};
+
+use fe_pool::Chain;
+use std::alloc::{AllocError, Global};
+use std::marker::Model;
+
+/// Chains of a pool, one at each place. Their number never changes.
+#[derive(Drop)]
+pub(crate) struct Chains {
+    chains: Vec<Chain>,
+}
+
+impl Model for Chains {
+    ghost use Rattle.std.specs.Prelude.{List};
+    ghost use Rattle.fe_pool.specs.declared.chain.Chain.{Chain};
+
+    ghost Value = { List Chain };
+
+    ghost view = { λ c. c.chains.items };
+}
+
+impl Chains {
+    // So many empty chains.
+    pub(crate) fn new(alloc: Global, count: usize) -> Result<Chains, AllocError>
+        ensures { IfOk result (λ chains. chains ≡ replicate count empty_chain) }
+    {
+        Ok(Chains {
+            chains: vec![in alloc; Chain::EMPTY; count]?,
+        })
+    }
+
+    pub(crate) fn at(&self, place: usize) -> Chain
+        requires { place < length self.now }
+        ensures { slice_get self.now place ≡ Some result }
+    {
+        self.chains[place]
+    }
+
+    pub(crate) fn set(&mut self, place: usize, chain: Chain)
+        requires { place < length self.old }
+        ensures { self.new ≡ slice_set self.old place chain }
+    {
+        self.chains[place] = chain;
+    }
+}

@@ -1,0 +1,10 @@
+//! The requests that wait, each on the list of its word and on the list of its session.
+#![tactic(auto)]
+
+mod chains;
+mod row;
+mod waits;
+mod words;
+
+pub use row::Row;
+pub use waits::Waits;

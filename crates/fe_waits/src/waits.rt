@@ -1,0 +1,227 @@
+ghost use Rattle.std.specs.Prelude.{◌≡◌, ◌≢◌, ◌↔◌, ◌<◌, Some, None, IfOk, OnErr, IfSome, IsSome, IsNone, IfNone};
+ghost use Rattle.std.specs.FinMap as map;
+ghost use Rattle.fe_waits.specs.Waiting.{key_of, waiter_of, row_of, row_at, of_slot, count_of, without_slot, IsWord, IsNodeOn, NoneOnWord, NoneOnArray, IsWithinLimits};
+ghost use Rattle.fe_waits.specs.Inner.{IsNodeOfSlot};
+
+use crate::chains::Chains;
+use crate::row::Row;
+use crate::words::Words;
+use fe_pool::{Family, Node, Pool};
+use fe_words::Op;
+use std::alloc::{AllocError, Global};
+use std::marker::Model;
+
+/// How many sessions there may be.
+const SLOTS: usize = 64;
+
+/// How many requests may wait: 32 for each session.
+const NODES: u32 = 2048;
+
+/// The requests that wait.
+///
+/// Only `new` and `add_array` take memory. A node is good until the next change.
+#[derive(Drop)]
+pub struct Waits {
+    pool: Pool<Row>,
+    sessions: Chains,
+    words: Words,
+    count: u32,
+    alloc: Global,
+}
+
+impl Model for Waits {
+    ghost use Rattle.fe_waits.specs.Waiting.{Waiting, waiting_code};
+
+    ghost Value = { Waiting };
+
+    ghost coded = { waiting_code };
+
+    ghost use Rattle.fe_waits.specs.Inner.{IsKept, waiting_of};
+
+    ghost view = { λ w. waiting_of w.pool w.words };
+
+    ghost invariant = { λ w. IsKept w.pool w.sessions w.words w.count };
+}
+
+impl Waits {
+    /// No arrays, and nothing waits. It takes the memory of all requests; the one error is that
+    /// there is too little.
+    pub fn new(alloc: Global) -> Result<Waits, AllocError>
+        ensures arrays { IfOk result (λ waits. waits.arrays ≡ map.empty) }
+        ensures members { IfOk result (λ waits. waits.members ≡ map.empty) }
+    {
+        let pool = Pool::with_nodes(alloc, NODES)?;
+        let sessions = Chains::new(alloc, SLOTS)?;
+        let words = Words::new(alloc)?;
+        Ok(Waits {
+            pool,
+            sessions,
+            words,
+            count: 0,
+            alloc,
+        })
+    }
+
+    /// How many requests wait, 0 to 2,048.
+    pub fn len(&self) -> u32
+        ensures len { result ≡ map.len self.now.members }
+        ensures limits { IsWithinLimits self.now }
+    {
+        self.count
+    }
+
+    /// How many requests of a slot wait. There is room for one more below 32.
+    pub fn count_of(&self, slot: u8) -> u32
+        requires slot { slot < 64 }
+        ensures { result ≡ count_of self.now.members slot }
+    {
+        self.sessions.at(slot as usize).length
+    }
+
+    /// Adds an array of so many words, on which nothing waits. The one error is that memory is
+    /// short.
+    pub fn add_array(&mut self, array: u64, length: u32) -> Result<(), AllocError>
+        requires new { map.get self.old.arrays array ≡ None }
+        requires room { map.len self.old.arrays < 64 }
+        ensures ok { IfOk result (λ _. self.new.arrays ≡ map.insert self.old.arrays array length) }
+        ensures members { self.new.members ≡ self.old.members }
+        ensures err { OnErr result (self.new ≡ self.old) }
+    {
+        let chains = Chains::new(self.alloc, length as usize)?;
+        self.words.insert(array, chains);
+        Ok(())
+    }
+
+    /// Drops an array on which nothing waits.
+    pub fn drop_array(&mut self, array: u64)
+        requires unused { NoneOnArray self.old.members array }
+        ensures arrays { self.new.arrays ≡ map.remove self.old.arrays array }
+        ensures members { self.new.members ≡ self.old.members }
+    {
+        self.words.remove(array);
+    }
+
+    /// The request of a new slot and number waits from now on, behind the others on its word.
+    pub fn add(&mut self, slot: u8, number: u64, array: u64, index: u32, op: Op)
+        requires slot { slot < 64 }
+        requires new { map.get self.old.members (slot, number) ≡ None }
+        requires room { count_of self.old.members slot < 32 }
+        requires word { IsWord self.old.arrays array index }
+        ensures added { self.new.members ≡ map.insert self.old.members (slot, number) (record { array = array; index = index; op = op }) }
+        ensures arrays { self.new.arrays ≡ self.old.arrays }
+    {
+        let row = Row {
+            slot,
+            number,
+            array,
+            index,
+            op,
+        };
+        let node = self.pool.take(row).unwrap();
+        let mut word = self.words.chain(array, index);
+        self.pool.push_back(Family::OfWord, &mut word, node);
+        self.words.set_chain(array, index, word);
+        let mut session = self.sessions.at(slot as usize);
+        self.pool.push_back(Family::OfSession, &mut session, node);
+        self.sessions.set(slot as usize, session);
+        self.count += 1;
+    }
+
+    /// A node of a request that waits on the word: the one that waits longest.
+    pub fn first_on(&self, array: u64, index: u32) -> Option<Node>
+        requires word { IsWord self.now.arrays array index }
+        ensures on_word { IfSome result (IsNodeOn self.now array index) }
+        ensures none { IsNone result ↔ NoneOnWord self.now.members array index }
+    {
+        self.words.chain(array, index).first
+    }
+
+    /// The request for which the node stands.
+    pub fn row(&self, node: Node) -> Row
+        requires { IsSome (row_of self.now node) }
+        ensures row { row_of self.now node ≡ Some result }
+        ensures member { map.get self.now.members (key_of result) ≡ Some (waiter_of result) }
+    {
+        *self.pool.get(node)
+    }
+
+    /// Takes out the request for which the node stands.
+    pub fn finish(&mut self, node: Node) -> Row
+        requires { IsSome (row_of self.old node) }
+        ensures row { row_of self.old node ≡ Some result }
+        ensures member { map.get self.old.members (key_of result) ≡ Some (waiter_of result) }
+        ensures removed { self.new.members ≡ map.remove self.old.members (key_of result) }
+        ensures arrays { self.new.arrays ≡ self.old.arrays }
+    {
+        let row = *self.pool.get(node);
+        let mut word = self.words.chain(row.array, row.index);
+        self.pool.unlink(Family::OfWord, &mut word, node);
+        self.words.set_chain(row.array, row.index, word);
+        let mut session = self.sessions.at(row.slot as usize);
+        self.pool.unlink(Family::OfSession, &mut session, node);
+        self.sessions.set(row.slot as usize, session);
+        self.count -= 1;
+        self.pool.give_back(node)
+    }
+
+    /// The request of a slot and a number, if it waits.
+    pub fn find(&self, slot: u8, number: u64) -> Option<Row>
+        requires slot { slot < 64 }
+        ensures row { result ≡ row_at self.now.members slot number }
+    {
+        let node = self.node_of(slot, number)?;
+        Some(self.row(node))
+    }
+
+    /// Takes out the request of a slot and a number, if it waits.
+    pub fn cancel(&mut self, slot: u8, number: u64) -> Option<Row>
+        requires slot { slot < 64 }
+        ensures row { result ≡ row_at self.old.members slot number }
+        ensures removed { self.new.members ≡ map.remove self.old.members (slot, number) }
+        ensures arrays { self.new.arrays ≡ self.old.arrays }
+    {
+        let node = self.node_of(slot, number)?;
+        Some(self.finish(node))
+    }
+
+    /// Takes out all requests of a slot, and counts them.
+    pub fn drop_session(&mut self, slot: u8) -> u32
+        requires slot { slot < 64 }
+        ensures count { result ≡ count_of self.old.members slot }
+        ensures removed { self.new.members ≡ without_slot self.old.members slot }
+        ensures arrays { self.new.arrays ≡ self.old.arrays }
+    {
+        let count = self.count_of(slot);
+        while let Some(node) = self.first_of(slot) {
+            self.finish(node);
+        }
+        count
+    }
+
+    // A node of a request of the slot, if it has any.
+    fn first_of(&self, slot: u8) -> Option<Node>
+        requires slot { slot < 64 }
+        ensures of_slot { IfSome result (IsNodeOfSlot self.now slot) }
+        ensures none { IfNone result (of_slot self.now.members slot ≡ map.empty) }
+    {
+        self.sessions.at(slot as usize).first
+    }
+
+    // The node of a request of the slot, if it waits.
+    fn node_of(&self, slot: u8, number: u64) -> Option<Node>
+        requires slot { slot < 64 }
+        ensures found { IfSome result (λ node. (row_of self.now node ≡ row_at self.now.members slot number) × IsSome (row_of self.now node)) }
+        ensures absent { IfNone result (map.get self.now.members (slot, number) ≡ None) }
+    {
+        let chain = self.sessions.at(slot as usize);
+        let mut at = chain.first;
+        for _ in 0..chain.length {
+            let node = at?;
+            if self.pool.get(node).number == number {
+                return Some(node);
+            }
+            at = self.pool.next(Family::OfSession, node);
+        }
+        None
+    }
+}
