@@ -1,4 +1,4 @@
-use Rattle.std.proofs.Common.{◌≡◌, ◌<◌, true, arith}
+use Rattle.std.proofs.Common.{◌≡◌, true, arith}
 use Rattle.std.specs.Ordering.{nat_cmp}
 use Rattle.std.specs.FinMap.{get-empty, len-empty}
 use Rattle.fe_words.specs.declared.word.Tag.TheVariants.{Empty}
