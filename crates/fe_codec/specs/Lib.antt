@@ -1,0 +1,5 @@
+pub mod Codes
+pub mod Layout
+pub mod Record
+pub mod Reading
+pub mod Laws
