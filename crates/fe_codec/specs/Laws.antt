@@ -1,6 +1,5 @@
 -- Laws of the grammar, which public functions name.
 use Rattle.std.specs.Prelude.{◌≡◌, ℕ, List, ◌++◌}
-
 use Rattle.fe_state.specs.declared.entry.Entry.{Entry}
 use Rattle.fe_codec.specs.Record.{entry_spelling, group_spelling, FitsRecord, FitsGroup}
 use Rattle.fe_codec.specs.declared.format.Format.{Format}

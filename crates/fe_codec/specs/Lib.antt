@@ -3,3 +3,5 @@ pub mod Layout
 pub mod Record
 pub mod Reading
 pub mod Laws
+pub mod Image
+pub mod Appending

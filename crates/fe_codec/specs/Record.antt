@@ -22,6 +22,10 @@ codes_field kind request answer count tag flag = kind ∷ request ∷ answer ∷
 abbrev pub name_row : Format → List ℕ → List ℕ
 name_row format name = padded (name_bytes format) name
 
+-- a name as images have it: its length and its row
+abbrev pub name_field : Format → List ℕ → List ℕ
+name_field format name = length name ∷ name_row format name
+
 -- an array and an operand, with zeros behind them
 abbrev pub array_row : Format → ℕ → ℕ → List ℕ
 array_row format array operand = to_be_bytes w64 array ++ to_be_bytes w64 operand ++ replicate (name_bytes format - 16) 0

@@ -54,9 +54,7 @@ fn is_of_format(format: Format, entry: &Entry) -> bool
 fn is_record(format: Format, entry: &Entry, bytes: &[u8]) -> bool
     ensures { IsTrue result ↔ (FitsRecord format entry.now × (bytes.now ≡ entry_spelling format entry.now)) }
 {
-    is_numbered(entry)
-        && is_of_format(format, entry)
-        && Record::of(format, entry).bytes() == bytes
+    is_numbered(entry) && is_of_format(format, entry) && Record::of(format, entry).bytes() == bytes
 }
 
 /// The entry whose record the bytes are, or `None` where they are no entry's.

@@ -2,7 +2,7 @@ ghost use Rattle.std.specs.Prelude.{◌≡◌, ℕ, ◌+◌, ◌≤◌, [], ◌�
 ghost use Rattle.std.specs.Int.{w32, w64, to_be_bytes};
 ghost use Rattle.fe_codec.specs.Codes.{answer_code, answer_length, answer_number};
 ghost use Rattle.fe_codec.specs.Layout.{name_bytes, record_bytes};
-ghost use Rattle.fe_codec.specs.Record.{codes_field, name_row, array_row, request_row, request_codes, request_size, record_spelling, short_spelling, entry_spelling, IsShort, HasRoom, HasRow, RequestFits, FieldsFit};
+ghost use Rattle.fe_codec.specs.Record.{codes_field, name_field, name_row, array_row, request_row, request_codes, request_size, record_spelling, short_spelling, entry_spelling, IsShort, HasRoom, HasRow, RequestFits, FieldsFit};
 
 use crate::codes::{
     answer_code, answer_length, answer_number, flag_code, op_code, operand_of, tag_code,
@@ -91,6 +91,17 @@ impl Record {
         self.put(&[0; NAME_BYTES][bytes.len()..format.name_bytes()]);
     }
 
+    /// A name as images have it: its length and its row.
+    pub fn of_name(format: Format, name: &Name) -> Record
+        requires { IsShort format name.now }
+        ensures { result ≡ name_field format name.now }
+    {
+        let mut record = Record::new();
+        record.put(&[name.bytes().len() as u8]);
+        record.put_name(format, name);
+        record
+    }
+
     fn put_array(&mut self, format: Format, array: u64, operand: u64)
         requires { length self.old + 32 ≤ 80 }
         ensures bytes { self.new ≡ self.old ++ array_row format array operand }
@@ -122,7 +133,12 @@ impl Record {
                 self.put_array(format, *array, 0);
                 self.put_u32(0);
             }
-            Request::Access { array, index, op, .. } => {
+            Request::Access {
+                array,
+                index,
+                op,
+                ..
+            } => {
                 self.put_array(format, *array, operand_of(*op));
                 self.put_u32(*index);
             }
@@ -193,7 +209,16 @@ fn request_codes(answer: u8, request: &Request) -> [u8; 8]
 {
     match request {
         Request::Create { name, tag, .. } => {
-            [4, 1, answer, name.bytes().len() as u8, tag_code(*tag), 0, 0, 0]
+            [
+                4,
+                1,
+                answer,
+                name.bytes().len() as u8,
+                tag_code(*tag),
+                0,
+                0,
+                0,
+            ]
         }
         Request::Find { name } => [4, 2, answer, name.bytes().len() as u8, 0, 0, 0, 0],
         Request::Remove { .. } => [4, 3, answer, 0, 0, 0, 0, 0],
