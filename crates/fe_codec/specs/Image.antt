@@ -13,6 +13,7 @@ use Rattle.fe_state.specs.declared.entry.Entry.TheVariants.{Finished}
 use Rattle.fe_codec.specs.Codes.{tag_code}
 use Rattle.fe_codec.specs.Record.{entry_spelling, name_field, IsShort, IsOfFormat, FitsRecord}
 use Rattle.fe_codec.specs.declared.format.Format.{Format}
+use Rattle.fe_codec.specs.declared.format.Format.TheVariants.{One, Two}
 
 -- a word: its tag and its value
 abbrev pub word_spelling : Word → List ℕ
@@ -61,7 +62,12 @@ ArrayOfFormat format e = IsShort format e.1.name
 abbrev pub SessionOfFormat : Format → ℕ × Session → Type 0
 SessionOfFormat format e = AllByRecursion (KeptOfFormat format e.0) (entries e.1.kept)
 
--- a state that the format has room for, as format 2 has for every state
-pub record StateOfFormat (format : Format) (s : ServerState) : Type 0 where
+-- the format has room for each array and each session of a state
+pub record HasRoomFor (format : Format) (s : ServerState) : Type 0 where
   pub arrays : AllByRecursion (ArrayOfFormat format) (entries s.arrays)
   pub sessions : AllByRecursion (SessionOfFormat format) (entries s.sessions)
+
+-- a state that the format has room for, as format 2 has for every state
+abbrev pub StateOfFormat : Format → ServerState → Type 0
+StateOfFormat One s = HasRoomFor One s
+StateOfFormat Two s = Unit {0}

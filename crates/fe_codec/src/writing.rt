@@ -6,7 +6,7 @@ ghost use Rattle.std.specs.List.{AllByRecursion};
 ghost use Rattle.fe_state.specs.declared.array.Array.{Array as Held};
 ghost use Rattle.fe_codec.specs.Appending.{Appends};
 ghost use Rattle.fe_codec.specs.Record.{IsShort, IsOfFormat};
-ghost use Rattle.fe_codec.specs.Image.{array_spelling, kept_spelling, slot_text, session_spelling, image_spelling, ArrayOfFormat, KeptOfFormat, SlotOfFormat, SessionOfFormat, StateOfFormat};
+ghost use Rattle.fe_codec.specs.Image.{array_spelling, kept_spelling, slot_text, session_spelling, image_spelling, ArrayOfFormat, KeptOfFormat, SlotOfFormat, SessionOfFormat, HasRoomFor, StateOfFormat};
 
 use crate::appending::{put_bytes, put_u32, put_u64, put_words};
 use crate::format::Format;
@@ -148,7 +148,7 @@ fn put_sessions(format: Format, state: &State, out: &mut Vec<u8>) -> Result<(), 
 }
 
 fn put_state(format: Format, state: &State, out: &mut Vec<u8>) -> Result<(), AllocError>
-    requires { StateOfFormat format state.now }
+    requires { HasRoomFor format state.now }
     ensures { Appends out.old.items out.new.items (vec_capacity out.old) (vec_capacity out.new) (is_ok result) (image_spelling format state.now) }
 {
     put_u64(out, state.place())?;
