@@ -1,17 +1,17 @@
 -- The one spelling of each state as an image, and which states have one in a format.
-use Rattle.std.specs.Prelude.{◌≡◌, ℕ, ◌<◌, ◌^◌, List, [], ◌∷◌, ◌++◌, length, flat_map, Option, Some, None}
+use Rattle.std.specs.Prelude.{ℕ, List, [], ◌∷◌, ◌++◌, length, flat_map, Option, Some, None}
 use Rattle.std.specs.List.{AllByRecursion}
 use Rattle.std.specs.Int.{w32, w64, to_be_bytes}
 use Rattle.std.specs.FinMap.{entries, len}
 use Rattle.fe_words.specs.declared.word.Word.{Word}
 use Rattle.fe_state.specs.Sessions.{Session}
-use Rattle.fe_state.specs.State.{ServerState, IsWithinLimits}
+use Rattle.fe_state.specs.State.{ServerState}
 use Rattle.fe_state.specs.declared.array.Array.{Array}
 use Rattle.fe_state.specs.declared.kept.Kept.{Kept}
 use Rattle.fe_state.specs.declared.entry.Entry.{Entry}
 use Rattle.fe_state.specs.declared.entry.Entry.TheVariants.{Finished}
 use Rattle.fe_codec.specs.Codes.{tag_code}
-use Rattle.fe_codec.specs.Record.{entry_spelling, name_field, IsShort, IsOfFormat, FitsRecord}
+use Rattle.fe_codec.specs.Record.{entry_spelling, name_field, IsShort, IsOfFormat}
 use Rattle.fe_codec.specs.declared.format.Format.{Format}
 use Rattle.fe_codec.specs.declared.format.Format.TheVariants.{One, Two}
 

@@ -1,5 +1,5 @@
 -- What a record holds, without a look at its unused bytes.
-use Rattle.std.specs.Prelude.{ℕ, ◌+◌, List, [], ◌∷◌, length, take, drop, slice_index, Option, Some, None, nat_le, ◌==◌, if◌then◌else◌}
+use Rattle.std.specs.Prelude.{ℕ, ◌+◌, List, take, drop, slice_index, Option, Some, None, nat_le, ◌==◌, if◌then◌else◌}
 use Rattle.std.specs.Int.{Width, w32, w64, byte_len, from_be_bytes}
 use Rattle.fe_words.specs.declared.word.Tag.{Tag}
 use Rattle.fe_words.specs.declared.word.Tag.TheVariants.{Full, Empty}

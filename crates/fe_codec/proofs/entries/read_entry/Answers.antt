@@ -1,11 +1,11 @@
-use Rattle.std.proofs.Common.{◌≡◌, List, ℕ, Option, Some, None, Bool, true, false, sym, ap, subst, ◌∙◌, arith}
+use Rattle.std.proofs.Common.{◌≡◌, List, ℕ, Option, Some, Bool, true, false, sym, ap, subst, ◌∙◌}
 use Rattle.std.specs.Prelude.{IsTrue, ◌↔◌}
 use Rattle.std.proofs.lemmas.Option.{none-some, same_Some}
 use Rattle.fe_state.specs.declared.entry.Entry.{Entry}
 use Rattle.fe_codec.specs.Record.{entry_spelling, FitsRecord}
 use Rattle.fe_codec.specs.Reading.{entry_of}
 use Rattle.fe_codec.specs.declared.format.Format.{Format}
-use Rattle.fe_codec.proofs.RecordLaws.{entry_again, length-entry_spelling}
+use Rattle.fe_codec.proofs.RecordLaws.{entry_again}
 use Rattle.fe_codec.proofs.entries.read_entry.Goals as goal
 
 -- what is spelled is what was read

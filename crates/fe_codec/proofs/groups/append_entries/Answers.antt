@@ -1,6 +1,6 @@
-use Rattle.std.proofs.Common.{◌≡◌, ◌+◌, ◌∷◌, drop, refl, arith}
+use Rattle.std.proofs.Common.{◌+◌, drop, refl, arith}
 use Rattle.std.proofs.lemmas.List.{drop_more}
-use Rattle.fe_codec.proofs.GroupLaws.{IsPutting, puts_one}
+use Rattle.fe_codec.proofs.GroupLaws.{puts_one}
 use Rattle.fe_codec.proofs.groups.append_entries.Goals as goal
 
 pub loop-entry-init : goal.loop-entry-init

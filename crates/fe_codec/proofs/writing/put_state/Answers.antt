@@ -1,4 +1,4 @@
-use Rattle.std.proofs.Common.{◌≡◌, true, refl}
+use Rattle.std.proofs.Common.{true, refl}
 use Rattle.std.specs.Prelude.{is_ok}
 use Rattle.fe_codec.proofs.Appends.{appends_both}
 use Rattle.fe_codec.proofs.writing.put_state.Goals as goal

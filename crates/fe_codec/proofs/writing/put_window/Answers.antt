@@ -1,11 +1,8 @@
-use Rattle.std.proofs.Common.{◌≡◌, ◌≤◌, ◌<◌, ◌+◌, ℕ, Bool, false, get_or, Option, Some, None, true, take, length, List, sym, refl, ap, subst, ◌∙◌, arith}
-use Rattle.std.specs.Prelude.{flat_map}
+use Rattle.std.proofs.Common.{◌≡◌, ℕ, false, Option, Some, None, true, List, sym, subst, ◌∙◌, arith}
 use Rattle.std.specs.List.{range_with_len, AllByRecursion}
-use Rattle.std.specs.FinMap.{get, entries, get-entries, entries_sorted}
-use Rattle.std.proofs.lemmas.List.FromFn.{get_or-range_with_len}
-use Rattle.fe_state.specs.Sessions.{IsInWindow}
+use Rattle.std.specs.FinMap.{get, entries, get-entries}
 use Rattle.fe_state.specs.declared.kept.Kept.{Kept}
-use Rattle.fe_codec.specs.Image.{kept_spelling, slot_text, SlotOfFormat, KeptOfFormat}
+use Rattle.fe_codec.specs.Image.{kept_spelling, SlotOfFormat, KeptOfFormat}
 use Rattle.fe_codec.specs.declared.format.Format.{Format}
 use Rattle.fe_codec.proofs.Appends.{appends_nothing, item_appended, item_failed, items_appended, failed}
 use Rattle.std.specs.FinMap.{FinMap}

@@ -1,7 +1,6 @@
-use Rattle.std.proofs.Common.{◌≡◌, ℕ, ◌-◌, ◌≤◌, List, ◌++◌, take, drop, replicate, append_assoc}
+use Rattle.std.proofs.Common.{◌≡◌, ℕ, ◌-◌, List, ◌++◌, replicate, append_assoc}
 use Rattle.std.specs.Int.{w64, to_be_bytes}
 use Rattle.fe_codec.specs.Layout.{name_bytes}
-use Rattle.fe_codec.specs.Record.{array_row}
 use Rattle.fe_codec.proofs.FieldLaws.{zeros_part}
 use Rattle.fe_codec.proofs.record.Record.put_array.Goals as goal
 

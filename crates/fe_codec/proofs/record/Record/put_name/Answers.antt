@@ -1,5 +1,4 @@
 use Rattle.std.proofs.Common.{◌≡◌, ℕ, ◌-◌, ◌≤◌, List, ◌++◌, length, take, drop, replicate, append_assoc}
-use Rattle.fe_codec.specs.Record.{name_row}
 use Rattle.fe_codec.proofs.FieldLaws.{zeros_part}
 use Rattle.fe_codec.proofs.record.Record.put_name.Goals as goal
 
