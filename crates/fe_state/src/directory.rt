@@ -6,6 +6,7 @@ ghost use Rattle.fe_words.specs.Table.{table};
 ghost use Rattle.fe_state.specs.Directory.{first_directory, named, creation, accessed, access, at_once, answer_of, answer_in, word_in};
 ghost use Rattle.fe_state.specs.Effect.{created, new_array, put_word, operated_on, performed, CreatesArray};
 ghost use Rattle.fe_state.specs.Change.{restored, CanRestore, MayCome, shown};
+ghost use Rattle.fe_state.specs.Table.{shown_entry};
 
 use crate::answer::Answer;
 use crate::array::Array;
@@ -288,6 +289,20 @@ impl Directory {
             Some((id, array)) => Some((id, array.name, array.words.len())),
             None => None,
         }
+    }
+
+    /// How many arrays there are, at most 64.
+    pub fn len(&self) -> usize
+        ensures { result ≡ len self.now.arrays }
+    {
+        self.arrays.len()
+    }
+
+    /// The array at a place of the ascending order of ids, counted from zero, with its id.
+    pub fn entry_at(&self, place: usize) -> Option<(u64, &Array)>
+        ensures { option_map shown_entry result ≡ slice_get (entries self.now.arrays) place }
+    {
+        self.arrays.at(place)
     }
 
     /// Adds an array of an image, its words empty and of value 0. The one error is that memory is short.

@@ -7,9 +7,11 @@ ghost use Rattle.fe_state.specs.Effect.{CreatesArray, new_array, put_word};
 ghost use Rattle.fe_state.specs.Sessions.{kept_in, IsInWindow, keeping, put_session};
 ghost use Rattle.fe_state.specs.State.{first_state, reply, IsLegal, IsAnswered, after, directory_of, directory_after, with_arrays, with_sessions, IsWithinLimits, MakesArray, OnFinished};
 ghost use Rattle.fe_words.specs.declared.word.Tag.TheVariants.{Empty};
+ghost use Rattle.fe_state.specs.Table.{shown_entry};
 ghost use Rattle.fe_state.specs.UndoLog.{empty_log, shortened, undone, rewound, IsLogOf};
 
 use crate::answer::Answer;
+use crate::array::Array;
 use crate::change::Change;
 use crate::copied::Copied;
 use crate::directory::Directory;
@@ -234,6 +236,34 @@ impl State {
     {
         let (session, _) = self.sessions.at(k)?;
         Some(session)
+    }
+
+    /// How many arrays there are, at most 64.
+    pub fn array_count(&self) -> usize
+        ensures { result ≡ len self.now.arrays }
+    {
+        self.directory.len()
+    }
+
+    /// How many sessions there are, at most 64.
+    pub fn session_count(&self) -> usize
+        ensures { result ≡ len self.now.sessions }
+    {
+        self.sessions.len()
+    }
+
+    /// The array at a place in ascending order, counted from zero, with its id.
+    pub fn array_entry(&self, k: usize) -> Option<(u64, &Array)>
+        ensures { option_map shown_entry result ≡ slice_get (entries self.now.arrays) k }
+    {
+        self.directory.entry_at(k)
+    }
+
+    /// The session at a place in ascending order, counted from zero, with its number.
+    pub fn session_entry(&self, k: usize) -> Option<(u64, &Session)>
+        ensures { option_map shown_entry result ≡ slice_get (entries self.now.sessions) k }
+    {
+        self.sessions.at(k)
     }
 
     /// Adds an array of an image, its words empty and of value 0. The one error is that memory is short.

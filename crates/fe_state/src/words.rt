@@ -48,6 +48,13 @@ impl Words {
         self.items.get(index as usize).copied()
     }
 
+    /// All of them.
+    pub fn as_slice(&self) -> &[Word]
+        ensures { result.now ≡ self.now }
+    {
+        self.items.as_slice()
+    }
+
     /// Puts a word in the place of the one at an index.
     pub fn set(&mut self, index: u32, word: Word)
         requires { index < length self.old }

@@ -4,6 +4,8 @@
 #![tactic(auto)]
 
 #[cfg(test)]
+mod codec;
+#[cfg(test)]
 mod disk;
 #[cfg(test)]
 mod front;

@@ -1,0 +1,6 @@
+pub mod FieldLaws
+pub mod RecordLaws
+pub mod GroupLaws
+pub mod Appends
+pub mod Elements
+pub mod Windows

@@ -1,0 +1,49 @@
+use Rattle.std.proofs.Common.{◌≡◌, ℕ, false, Option, Some, None, true, List, sym, subst, ◌∙◌, arith}
+use Rattle.std.specs.List.{range_with_len, AllByRecursion}
+use Rattle.std.specs.FinMap.{get, entries, get-entries}
+use Rattle.fe_state.specs.declared.kept.Kept.{Kept}
+use Rattle.fe_codec.specs.Image.{kept_spelling, SlotOfFormat, KeptOfFormat}
+use Rattle.fe_codec.specs.declared.format.Format.{Format}
+use Rattle.fe_codec.proofs.Appends.{appends_nothing, item_appended, item_failed, items_appended, failed}
+use Rattle.std.specs.FinMap.{FinMap}
+use Rattle.std.specs.Ordering.{nat_cmp}
+use Rattle.std.proofs.Common.{vec_capacity}
+use Rattle.fe_codec.specs.Appending.{Appends}
+use Rattle.fe_codec.proofs.Windows.{text_of, holds_found, window_entries, slot_at}
+use Rattle.fe_codec.proofs.writing.put_window.Goals as goal
+
+pub loop-step-init : goal.loop-step-init
+loop-step-init c = (appends_nothing _ _ _ (omega arith), λ le. absurd (omega arith))
+
+-- what is kept fits the format, since each entry does
+slot_fits : (format : Format) (session number : ℕ) (o : Option Kept) (kept : FinMap nat_cmp Kept) → AllByRecursion (KeptOfFormat format session) (entries kept) → o ≡ get kept number → SlotOfFormat format session number o
+slot_fits format session number None kept all is = tt
+slot_fits format session number (Some k) kept all is = holds_found (KeptOfFormat format session) (entries kept) number k all (sym (is ∙ get-entries kept number))
+
+pub put_slot-requires : goal.put_slot-requires
+put_slot-requires c = slot_fits c.args.format c.args.session _ c.kept.result c.args.window.now.kept c.requires c.kept.ensures.kept
+
+pub returns-in_err-put_slot : goal.returns-in_err-put_slot
+returns-in_err-put_slot c =
+    let f : ℕ × Kept → List ℕ = kept_spelling c.args.format c.args.session in
+    let at = slot_at f c.args.window.now.kept c.floor-floor.result c.loop-step.step c.kept.result (omega arith) c.kept.ensures.kept in
+    failed c.from_residual.result _ _ _ _ _ c.from_residual.ensures.0
+    (subst (λ (t : List ℕ). Appends c.args.out.now.items c.put_slot.new.out.items (vec_capacity c.args.out.now) (vec_capacity c.put_slot.new.out) false t) (window_entries f c.args.window.now.kept c.floor-floor.result (λ n k e. rw c.floor-floor.ensures.floor (c.kept.ensures.in_window n k e)))
+    (item_failed (text_of f (get c.args.window.now.kept)) (range_with_len c.floor-floor.result 32) _ _ _ _ _ _ c.loop-step.step 0 (omega arith) c.loop-step.invariant.0
+    (subst (λ (t : List ℕ). Appends c.loop-step.out.items c.put_slot.new.out.items (vec_capacity c.loop-step.out) (vec_capacity c.put_slot.new.out) false t) at c.in_err-put_slot.ensures)))
+
+pub loop-step-preserved : goal.loop-step-preserved
+loop-step-preserved c =
+    let f : ℕ × Kept → List ℕ = kept_spelling c.args.format c.args.session in
+    let at = slot_at f c.args.window.now.kept c.floor-floor.result c.loop-step.step c.kept.result (omega arith) c.kept.ensures.kept in (
+      item_appended (text_of f (get c.args.window.now.kept)) (range_with_len c.floor-floor.result 32) _ _ _ _ _ _ true c.loop-step.step 0 (omega arith) c.loop-step.invariant.0
+          (subst (λ (t : List ℕ). Appends c.loop-step.out.items c.put_slot.new.out.items (vec_capacity c.loop-step.out) (vec_capacity c.put_slot.new.out) true t) at c.in_ok-put_slot.ensures),
+      λ _ n k e. rw c.floor-floor.ensures.floor (c.kept.ensures.in_window n k e),
+    )
+
+pub returns : goal.returns
+returns c =
+    let f : ℕ × Kept → List ℕ = kept_spelling c.args.format c.args.session in
+    subst (λ (t : List ℕ). Appends c.args.out.now.items c.loop-step.out.items (vec_capacity c.args.out.now) (vec_capacity c.loop-step.out) true t)
+    (window_entries f c.args.window.now.kept c.floor-floor.result (c.loop-step.invariant.1 (omega arith)))
+    (items_appended (text_of f (get c.args.window.now.kept)) (range_with_len c.floor-floor.result 32) _ _ _ _ c.loop-step.step (omega arith) c.loop-step.invariant.0)

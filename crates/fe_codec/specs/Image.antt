@@ -1,0 +1,73 @@
+-- The one spelling of each state as an image, and which states have one in a format.
+use Rattle.std.specs.Prelude.{ℕ, List, [], ◌∷◌, ◌++◌, length, flat_map, Option, Some, None}
+use Rattle.std.specs.List.{AllByRecursion}
+use Rattle.std.specs.Int.{w32, w64, to_be_bytes}
+use Rattle.std.specs.FinMap.{entries, len}
+use Rattle.fe_words.specs.declared.word.Word.{Word}
+use Rattle.fe_state.specs.Sessions.{Session}
+use Rattle.fe_state.specs.State.{ServerState}
+use Rattle.fe_state.specs.declared.array.Array.{Array}
+use Rattle.fe_state.specs.declared.kept.Kept.{Kept}
+use Rattle.fe_state.specs.declared.entry.Entry.{Entry}
+use Rattle.fe_state.specs.declared.entry.Entry.TheVariants.{Finished}
+use Rattle.fe_codec.specs.Codes.{tag_code}
+use Rattle.fe_codec.specs.Record.{entry_spelling, name_field, IsShort, IsOfFormat}
+use Rattle.fe_codec.specs.declared.format.Format.{Format}
+use Rattle.fe_codec.specs.declared.format.Format.TheVariants.{One, Two}
+
+-- a word: its tag and its value
+abbrev pub word_spelling : Word → List ℕ
+word_spelling w = tag_code w.tag ∷ to_be_bytes w64 w.value
+
+-- an array: id, name, length, and the words
+abbrev pub array_spelling : Format → ℕ × Array → List ℕ
+array_spelling format e =
+    to_be_bytes w64 e.0 ++ name_field format e.1.name ++ to_be_bytes w32 (length e.1.words) ++ flat_map word_spelling e.1.words
+
+-- what is kept for a number is the record of its entry behind the entry's place
+abbrev pub entry_of_kept : ℕ → ℕ × Kept → Entry
+entry_of_kept session e = Finished session e.0 e.1.request e.1.answer
+
+abbrev pub kept_spelling : Format → ℕ → ℕ × Kept → List ℕ
+kept_spelling format session e = to_be_bytes w64 e.1.place ++ entry_spelling format (entry_of_kept session e)
+
+-- the format has room for the record of what is kept
+abbrev pub KeptOfFormat : Format → ℕ → ℕ × Kept → Type 0
+KeptOfFormat format session e = IsOfFormat format (entry_of_kept session e)
+
+-- the text of what is kept for a number, nothing where nothing is
+abbrev pub slot_text : {X : Type 0} → (ℕ × X → List ℕ) → ℕ → Option X → List ℕ
+slot_text f number None = []
+slot_text f number (Some x) = f (number, x)
+
+abbrev pub SlotOfFormat : Format → ℕ → ℕ → Option Kept → Type 0
+SlotOfFormat format session number None = Unit {0}
+SlotOfFormat format session number (Some kept) = KeptOfFormat format session (number, kept)
+
+-- a session: its number, its floor, how many answers are kept, and these
+abbrev pub session_spelling : Format → ℕ × Session → List ℕ
+session_spelling format e =
+    to_be_bytes w64 e.0 ++ to_be_bytes w64 e.1.floor ++ to_be_bytes w32 (len e.1.kept) ++ flat_map (kept_spelling format e.0) (entries e.1.kept)
+
+-- an image: place, next id, how many arrays and sessions, and these
+abbrev pub image_spelling : Format → ServerState → List ℕ
+image_spelling format s =
+    to_be_bytes w64 s.place ++ to_be_bytes w64 s.next_id ++ to_be_bytes w32 (len s.arrays) ++ to_be_bytes w32 (len s.sessions)
+    ++ flat_map (array_spelling format) (entries s.arrays) ++ flat_map (session_spelling format) (entries s.sessions)
+
+-- the format has room for an array's name, and for the records of a session
+abbrev pub ArrayOfFormat : Format → ℕ × Array → Type 0
+ArrayOfFormat format e = IsShort format e.1.name
+
+abbrev pub SessionOfFormat : Format → ℕ × Session → Type 0
+SessionOfFormat format e = AllByRecursion (KeptOfFormat format e.0) (entries e.1.kept)
+
+-- the format has room for each array and each session of a state
+pub record HasRoomFor (format : Format) (s : ServerState) : Type 0 where
+  pub arrays : AllByRecursion (ArrayOfFormat format) (entries s.arrays)
+  pub sessions : AllByRecursion (SessionOfFormat format) (entries s.sessions)
+
+-- a state that the format has room for, as format 2 has for every state
+abbrev pub StateOfFormat : Format → ServerState → Type 0
+StateOfFormat One s = HasRoomFor One s
+StateOfFormat Two s = Unit {0}

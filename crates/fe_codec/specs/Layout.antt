@@ -1,0 +1,19 @@
+-- What the two store formats have of different size.
+use Rattle.std.specs.Prelude.{ℕ}
+use Rattle.fe_codec.specs.declared.format.Format.{Format}
+use Rattle.fe_codec.specs.declared.format.Format.TheVariants.{One, Two}
+
+-- the row of a name
+abbrev pub name_bytes : Format → ℕ
+name_bytes One = 16
+name_bytes Two = 32
+
+-- the record of an entry
+abbrev pub record_bytes : Format → ℕ
+record_bytes One = 64
+record_bytes Two = 80
+
+-- the most records that a group has
+abbrev pub group_records : Format → ℕ
+group_records One = 16383
+group_records Two = 13107

@@ -1,0 +1,50 @@
+//! Fields appended to bytes.
+
+ghost use Rattle.std.specs.Prelude.{◌≡◌, ◌∷◌, [], flat_map, is_ok, vec_capacity};
+ghost use Rattle.std.specs.Int.{w32, w64, to_be_bytes};
+ghost use Rattle.fe_codec.specs.Appending.{Appends};
+ghost use Rattle.fe_codec.specs.Image.{word_spelling};
+
+use crate::codes::tag_code;
+use byteorder::{BigEndian, ByteOrder};
+use fe_words::Word;
+use std::alloc::AllocError;
+
+pub fn put_bytes(out: &mut Vec<u8>, bytes: &[u8]) -> Result<(), AllocError>
+    ensures { Appends out.old.items out.new.items (vec_capacity out.old) (vec_capacity out.new) (is_ok result) bytes.now }
+{
+    out.extend_from_slice(bytes)
+}
+
+pub fn put_u32(out: &mut Vec<u8>, value: u32) -> Result<(), AllocError>
+    ensures { Appends out.old.items out.new.items (vec_capacity out.old) (vec_capacity out.new) (is_ok result) (to_be_bytes w32 value) }
+{
+    let mut bytes = [0; 4];
+    BigEndian::write_u32(&mut bytes, value);
+    put_bytes(out, &bytes)
+}
+
+pub fn put_u64(out: &mut Vec<u8>, value: u64) -> Result<(), AllocError>
+    ensures { Appends out.old.items out.new.items (vec_capacity out.old) (vec_capacity out.new) (is_ok result) (to_be_bytes w64 value) }
+{
+    let mut bytes = [0; 8];
+    BigEndian::write_u64(&mut bytes, value);
+    put_bytes(out, &bytes)
+}
+
+pub fn put_word(out: &mut Vec<u8>, word: Word) -> Result<(), AllocError>
+    ensures { Appends out.old.items out.new.items (vec_capacity out.old) (vec_capacity out.new) (is_ok result) (word_spelling word) }
+{
+    let mut bytes = [tag_code(word.tag), 0, 0, 0, 0, 0, 0, 0, 0];
+    BigEndian::write_u64(&mut bytes[1..], word.value);
+    put_bytes(out, &bytes)
+}
+
+pub fn put_words(out: &mut Vec<u8>, words: &[Word]) -> Result<(), AllocError>
+    ensures { Appends out.old.items out.new.items (vec_capacity out.old) (vec_capacity out.new) (is_ok result) (flat_map word_spelling words.now) }
+{
+    for word in words {
+        put_word(out, *word)?;
+    }
+    Ok(())
+}

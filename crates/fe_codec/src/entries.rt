@@ -1,0 +1,76 @@
+//! Entries and groups of them as records.
+
+ghost use Rattle.std.specs.Prelude.{◌≡◌, ◌+◌, ◌<◌, ◌≤◌, ◌↔◌, ◌++◌, length, Some, IfSome, IsSome, OnOk, OnErr, IsOk, IsTrue, vec_len, vec_capacity};
+ghost use Rattle.fe_codec.specs.Layout.{record_bytes};
+ghost use Rattle.fe_codec.specs.Record.{entry_spelling, FitsRecord, IsOfFormat, IsNumbered, CanPut};
+ghost use Rattle.fe_state.specs.declared.entry.Entry.{Entry as Step};
+
+use crate::entry_of::entry_of;
+use crate::format::Format;
+use crate::record::Record;
+use fe_state::Entry;
+use std::alloc::AllocError;
+
+/// Numbers and floors are below this.
+const NUMBER_LIMIT: u64 = 9223372036854775808;
+
+/// Appends the record of an entry, whose number or floor is below 2^63. `AllocError` where the
+/// spare room doesn't hold it and there is no memory for more; then nothing is appended.
+pub fn put_entry(format: Format, entry: &Entry, out: &mut Vec<u8>) -> Result<(), AllocError>
+    requires { CanPut format entry.now }
+    ensures ok { OnOk result (out.new.items ≡ out.old.items ++ entry_spelling format entry.now) }
+    ensures err { OnErr result (out.new.items ≡ out.old.items) }
+    ensures full { OnErr result (vec_capacity out.old < vec_len out.old + record_bytes format) }
+    ensures room { vec_len out.old + record_bytes format ≤ vec_capacity out.old → IsOk result }
+    ensures capacity { vec_capacity out.old ≤ vec_capacity out.new }
+    // What is put is in the grammar, so that it is read again.
+    ensures fits { FitsRecord format entry.now }
+{
+    out.extend_from_slice(Record::of(format, entry).bytes())
+}
+
+/// Whether the number or floor is below 2^63.
+fn is_numbered(entry: &Entry) -> bool
+    ensures { IsTrue result ↔ IsNumbered entry.now }
+{
+    match entry {
+        Entry::Attached { floor, .. } | Entry::Settled { floor, .. } => *floor < NUMBER_LIMIT,
+        Entry::Closed { .. } => true,
+        Entry::Finished { number, .. } => *number < NUMBER_LIMIT,
+    }
+}
+
+/// Whether the format has room for the entry.
+fn is_of_format(format: Format, entry: &Entry) -> bool
+    ensures { IsTrue result ↔ IsOfFormat format entry.now }
+{
+    match format {
+        Format::One => entry.fits_format_1(),
+        Format::Two => true,
+    }
+}
+
+/// Whether the bytes are the record of the entry.
+fn is_record(format: Format, entry: &Entry, bytes: &[u8]) -> bool
+    ensures { IsTrue result ↔ (FitsRecord format entry.now × (bytes.now ≡ entry_spelling format entry.now)) }
+{
+    is_numbered(entry) && is_of_format(format, entry) && Record::of(format, entry).bytes() == bytes
+}
+
+/// The entry whose record the bytes are, or `None` where they are no entry's.
+pub fn read_entry(format: Format, bytes: &[u8]) -> Option<Entry>
+    // What is read is spelled so.
+    ensures found { IfSome result (λ entry. FitsRecord format entry × (bytes.now ≡ entry_spelling format entry)) }
+    // What is spelled so is read, so that `None` comes only outside the grammar.
+    ensures only { (entry : Step) → FitsRecord format entry → bytes.now ≡ entry_spelling format entry → result ≡ Some entry }
+{
+    if bytes.len() != format.record_bytes() {
+        return None;
+    }
+    let entry = entry_of(format, bytes)?;
+    if is_record(format, &entry, bytes) {
+        Some(entry)
+    } else {
+        None
+    }
+}

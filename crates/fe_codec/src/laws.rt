@@ -1,0 +1,13 @@
+//! Laws of the grammar, which hold of entries, groups and states apart from any code.
+
+ghost use Rattle.fe_codec.specs.Laws.{EntryHasOneSpelling, GroupHasOneSpelling};
+
+/// No record begins another, and no two entries have one record.
+pub fn one_entry_spelling()
+    ensures { EntryHasOneSpelling }
+{}
+
+/// No two groups of entries have one spelling.
+pub fn one_group_spelling()
+    ensures { GroupHasOneSpelling }
+{}

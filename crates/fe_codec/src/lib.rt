@@ -1,0 +1,19 @@
+//! Entries, groups of them and images of the state as bytes, in both store formats.
+#![tactic(auto)]
+
+mod appending;
+mod codes;
+mod entries;
+mod entry_of;
+mod fields;
+mod format;
+mod groups;
+mod laws;
+mod record;
+mod writing;
+
+pub use entries::{put_entry, read_entry};
+pub use format::Format;
+pub use groups::put_group;
+pub use laws::{one_entry_spelling, one_group_spelling};
+pub use writing::put_image;

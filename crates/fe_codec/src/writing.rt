@@ -1,0 +1,178 @@
+//! Images of states, written.
+
+ghost use Rattle.std.specs.Prelude.{◌≡◌, ◌+◌, ◌<◌, ◌≤◌, ◌++◌, length, flat_map, if◌then◌else◌, is_some, is_ok, OnOk, OnErr, IsOk, Some, slice_get, vec_len, vec_capacity};
+ghost use Rattle.std.specs.FinMap.{entries, len};
+ghost use Rattle.std.specs.List.{AllByRecursion};
+ghost use Rattle.fe_state.specs.declared.array.Array.{Array as Held};
+ghost use Rattle.fe_codec.specs.Appending.{Appends};
+ghost use Rattle.fe_codec.specs.Record.{IsShort, IsOfFormat};
+ghost use Rattle.fe_codec.specs.Image.{array_spelling, kept_spelling, slot_text, session_spelling, image_spelling, ArrayOfFormat, KeptOfFormat, SlotOfFormat, SessionOfFormat, HasRoomFor, StateOfFormat};
+
+use crate::appending::{put_bytes, put_u32, put_u64, put_words};
+use crate::format::Format;
+use crate::record::Record;
+use fe_state::{Array, Entry, Kept, Session, State};
+use std::alloc::AllocError;
+
+/// How many numbers a session may use, from its floor on.
+const WINDOW: u64 = 32;
+
+fn put_array(format: Format, id: u64, array: &Array, out: &mut Vec<u8>) -> Result<(), AllocError>
+    requires { ArrayOfFormat format (id, array.now) }
+    ensures { Appends out.old.items out.new.items (vec_capacity out.old) (vec_capacity out.new) (is_ok result) (array_spelling format (id, array.now)) }
+{
+    put_u64(out, id)?;
+    put_bytes(out, Record::of_name(format, &array.name).bytes())?;
+    put_u32(out, array.words.len())?;
+    put_words(out, array.words.as_slice())
+}
+
+fn put_arrays(format: Format, state: &State, out: &mut Vec<u8>) -> Result<(), AllocError>
+    requires { AllByRecursion (ArrayOfFormat format) (entries state.now.arrays) }
+    ensures { Appends out.old.items out.new.items (vec_capacity out.old) (vec_capacity out.new) (is_ok result) (flat_map (array_spelling format) (entries state.now.arrays)) }
+{
+    for k in 0..state.array_count() {
+        if let Some((id, array)) = state.array_entry(k) {
+            put_array(format, id, array, out)?;
+        }
+    }
+    Ok(())
+}
+
+fn put_kept(
+    format: Format,
+    session: u64,
+    number: u64,
+    kept: &Kept,
+    out: &mut Vec<u8>,
+) -> Result<(), AllocError>
+    requires { KeptOfFormat format session (number, kept.now) }
+    ensures { Appends out.old.items out.new.items (vec_capacity out.old) (vec_capacity out.new) (is_ok result) (kept_spelling format session (number, kept.now)) }
+{
+    put_u64(out, kept.place)?;
+    let entry = Entry::Finished {
+        session,
+        number,
+        request: kept.request,
+        answer: kept.answer,
+    };
+    put_bytes(out, Record::of(format, &entry).bytes())
+}
+
+/// What is kept for a number, if anything is.
+fn put_slot(
+    format: Format,
+    session: u64,
+    number: u64,
+    kept: Option<Kept>,
+    out: &mut Vec<u8>,
+) -> Result<(), AllocError>
+    requires { SlotOfFormat format session number kept }
+    ensures { Appends out.old.items out.new.items (vec_capacity out.old) (vec_capacity out.new) (is_ok result) (slot_text (kept_spelling format session) number kept) }
+{
+    match kept {
+        Some(kept) => put_kept(format, session, number, &kept, out),
+        None => Ok(()),
+    }
+}
+
+/// What is kept for the numbers of a session.
+fn put_window(
+    format: Format,
+    session: u64,
+    window: &Session,
+    out: &mut Vec<u8>,
+) -> Result<(), AllocError>
+    requires { SessionOfFormat format (session, window.now) }
+    ensures { Appends out.old.items out.new.items (vec_capacity out.old) (vec_capacity out.new) (is_ok result) (flat_map (kept_spelling format session) (entries window.now.kept)) }
+{
+    let floor = window.floor();
+    for step in 0..WINDOW {
+        put_slot(
+            format,
+            session,
+            floor + step,
+            window.kept(floor + step),
+            out,
+        )?;
+    }
+    Ok(())
+}
+
+fn slot_count(kept: Option<Kept>) -> u32
+    ensures { result ≡ (if is_some kept then 1 else 0) }
+{
+    match kept {
+        Some(_) => 1,
+        None => 0,
+    }
+}
+
+/// For how many numbers of a session something is kept.
+fn kept_count(window: &Session) -> u32
+    ensures { result ≡ len window.now.kept }
+{
+    let floor = window.floor();
+    let mut count = 0;
+    for step in 0..WINDOW {
+        count += slot_count(window.kept(floor + step));
+    }
+    count
+}
+
+fn put_session(
+    format: Format,
+    session: u64,
+    window: &Session,
+    out: &mut Vec<u8>,
+) -> Result<(), AllocError>
+    requires { SessionOfFormat format (session, window.now) }
+    ensures { Appends out.old.items out.new.items (vec_capacity out.old) (vec_capacity out.new) (is_ok result) (session_spelling format (session, window.now)) }
+{
+    put_u64(out, session)?;
+    put_u64(out, window.floor())?;
+    put_u32(out, kept_count(window))?;
+    put_window(format, session, window, out)
+}
+
+fn put_sessions(format: Format, state: &State, out: &mut Vec<u8>) -> Result<(), AllocError>
+    requires { AllByRecursion (SessionOfFormat format) (entries state.now.sessions) }
+    ensures { Appends out.old.items out.new.items (vec_capacity out.old) (vec_capacity out.new) (is_ok result) (flat_map (session_spelling format) (entries state.now.sessions)) }
+{
+    for k in 0..state.session_count() {
+        if let Some((session, window)) = state.session_entry(k) {
+            put_session(format, session, window, out)?;
+        }
+    }
+    Ok(())
+}
+
+fn put_state(format: Format, state: &State, out: &mut Vec<u8>) -> Result<(), AllocError>
+    requires { HasRoomFor format state.now }
+    ensures { Appends out.old.items out.new.items (vec_capacity out.old) (vec_capacity out.new) (is_ok result) (image_spelling format state.now) }
+{
+    put_u64(out, state.place())?;
+    put_u64(out, state.next_id())?;
+    put_u32(out, state.array_count() as u32)?;
+    put_u32(out, state.session_count() as u32)?;
+    put_arrays(format, state, out)?;
+    put_sessions(format, state, out)
+}
+
+/// Appends the image of a state. `AllocError` where the spare room doesn't hold it and there is no
+/// memory for more; then nothing is appended.
+pub fn put_image(format: Format, state: &State, out: &mut Vec<u8>) -> Result<(), AllocError>
+    requires { StateOfFormat format state.now }
+    ensures ok { OnOk result (out.new.items ≡ out.old.items ++ image_spelling format state.now) }
+    ensures err { OnErr result (out.new.items ≡ out.old.items) }
+    ensures full { OnErr result (vec_capacity out.old < vec_len out.old + length (image_spelling format state.now)) }
+    ensures room { vec_len out.old + length (image_spelling format state.now) ≤ vec_capacity out.old → IsOk result }
+    ensures capacity { vec_capacity out.old ≤ vec_capacity out.new }
+{
+    let start = out.len();
+    let put = put_state(format, state, out);
+    if put.is_err() {
+        out.truncate(start);
+    }
+    put
+}
