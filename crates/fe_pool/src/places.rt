@@ -98,14 +98,6 @@ impl<T: Drop> Places<T> {
         }
     }
 
-    #[cfg(test)]
-    pub(crate) fn is_taken(&self, node: Node) -> bool
-        requires { node < length self.now.items }
-        ensures { IsTrue result ↔ IsSome (slice_index_or self.now.items node None) }
-    {
-        matches!(&self.places[node.place()], Place::Taken(_))
-    }
-
     // Takes the item out of a node that is on no list, and makes it a free one.
     pub(crate) fn vacate(&mut self, node: Node, follower: Option<Node>) -> T
         requires taken { IsSome (slice_index_or self.old.items node None) }
