@@ -22,6 +22,7 @@ mod undo_log;
 mod words;
 
 pub use answer::Answer;
+pub use array::Array;
 pub use batch::{BATCH_ENTRIES, Batch, Entries};
 pub use directory::Directory;
 pub use entry::Entry;
@@ -29,5 +30,7 @@ pub use kept::Kept;
 pub use laws::{examples_hold, histories_join_and_cut, limits_are_kept, numbers_finish_once};
 pub use name::{NAME_BYTES, Name};
 pub use request::Request;
+pub use session::Session;
 pub use state::{GREATEST_PLACE, Illegal, State};
 pub use undo_log::UndoLog;
+pub use words::Words;
