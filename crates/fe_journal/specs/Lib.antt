@@ -1,0 +1,12 @@
+pub mod Layout
+pub mod Groups
+pub mod Contents
+pub mod Damage
+pub mod Reading
+pub mod Journal
+pub mod Cursor
+pub mod CursorFields
+pub mod Store
+pub mod Found
+pub mod Fields
+pub mod Steps
