@@ -26,7 +26,8 @@ pub fn format<D: Disk>(alloc: Global, disk: D) -> Result<Journal<D>, (StoreFault
     ensures formatted { D.honest disk → IfOk result (λ journal. Keeps D.seen D.may_leave journal (first_contents Two) None) }
     ensures ready { IfOk result (λ journal. journal.has_failed ≡ false) }
     ensures unformatted { IfErr result (λ e. (e.0 ≡ Unformatted) ↔ (D.size disk ≢ device_bytes)) }
-    ensures device { IfErr result (λ e. (e.0 ≡ Device) ↔ Rises (D.failures disk) (D.failures e.1)) }
+    ensures device { IfErr result (λ e. e.0 ≡ Device → Rises (D.failures disk) (D.failures e.1)) }
+    ensures untouched { IfErr result (λ e. e.0 ≢ Device → e.1 ≡ disk) }
     ensures refused { IfErr result (λ e. IsFormatFault e.0) }
     ensures honesty { IfOk result (λ journal. D.honest journal.disk ↔ D.honest disk) }
     ensures honesty_back { IfErr result (λ e. D.honest e.1 ↔ D.honest disk) }
@@ -43,7 +44,8 @@ pub fn format_in<D: Disk>(
     ensures formatted { D.honest disk → IfOk result (λ journal. Keeps D.seen D.may_leave journal (first_contents format) None) }
     ensures ready { IfOk result (λ journal. journal.has_failed ≡ false) }
     ensures unformatted { IfErr result (λ e. (e.0 ≡ Unformatted) ↔ (D.size disk ≢ device_bytes)) }
-    ensures device { IfErr result (λ e. (e.0 ≡ Device) ↔ Rises (D.failures disk) (D.failures e.1)) }
+    ensures device { IfErr result (λ e. e.0 ≡ Device → Rises (D.failures disk) (D.failures e.1)) }
+    ensures untouched { IfErr result (λ e. e.0 ≢ Device → e.1 ≡ disk) }
     ensures refused { IfErr result (λ e. IsFormatFault e.0) }
     ensures honesty { IfOk result (λ journal. D.honest journal.disk ↔ D.honest disk) }
     ensures honesty_back { IfErr result (λ e. D.honest e.1 ↔ D.honest disk) }
@@ -62,7 +64,8 @@ fn write_store<D: Disk>(alloc: Global, format: Format, disk: &mut D) -> Result<V
     ensures buffer { IfOk result (λ buffer. vec_len buffer ≡ area_bytes) }
     ensures sized { OnOk result (D.size disk.new ≡ device_bytes) }
     ensures unformatted { IfErr result (λ fault. (fault ≡ Unformatted) ↔ (D.size disk.old ≢ device_bytes)) }
-    ensures device { IfErr result (λ fault. (fault ≡ Device) ↔ Rises (D.failures disk.old) (D.failures disk.new)) }
+    ensures device { IfErr result (λ fault. fault ≡ Device → Rises (D.failures disk.old) (D.failures disk.new)) }
+    ensures untouched { IfErr result (λ fault. fault ≢ Device → disk.new ≡ disk.old) }
     ensures refused { IfErr result IsFormatFault }
     ensures honesty { D.honest disk.new ↔ D.honest disk.old }
 {

@@ -128,7 +128,7 @@ impl<D: Disk> Journal<D> {
             → OnOk result (Keeps D.seen D.may_leave self.new (with_group c payload.now) draft) }
 
         ensures value { OnOk result (self.new ≡ record self.old { disk = self.new.disk; used = self.old.used + (5 + length payload.now) }) }
-        ensures device { IsErrOf result Device ↔ Rises (D.failures self.old.disk) (D.failures self.new.disk) }
+        ensures device { self.old.has_failed ≡ false → (IsErrOf result Device ↔ Rises (D.failures self.old.disk) (D.failures self.new.disk)) }
         ensures failed { IsErrOf result Failed ↔ IsTrue self.old.has_failed }
         ensures untouched { IsErrOf result Failed → self.new ≡ self.old }
         ensures err { OnErr result (self.new ≡ record self.old { disk = self.new.disk; has_failed = true }) }
@@ -170,7 +170,7 @@ impl<D: Disk> Journal<D> {
           disk = self.new.disk;
           begun = Some (record { format = format; generation = generation; image_length = image_length; written = 0 });
         }) }
-        ensures device { IsErrOf result Device ↔ Rises (D.failures self.old.disk) (D.failures self.new.disk) }
+        ensures device { self.old.has_failed ≡ false → (IsErrOf result Device ↔ Rises (D.failures self.old.disk) (D.failures self.new.disk)) }
         ensures failed { IsErrOf result Failed ↔ IsTrue self.old.has_failed }
         ensures untouched { IsErrOf result Failed → self.new ≡ self.old }
         ensures err { OnErr result (self.new ≡ record self.old { disk = self.new.disk; has_failed = true }) }
@@ -210,7 +210,7 @@ impl<D: Disk> Journal<D> {
           disk = self.new.disk;
           begun = Some (record b { written = b.written + length slice.now });
         })) }
-        ensures device { IsErrOf result Device ↔ Rises (D.failures self.old.disk) (D.failures self.new.disk) }
+        ensures device { self.old.has_failed ≡ false → (IsErrOf result Device ↔ Rises (D.failures self.old.disk) (D.failures self.new.disk)) }
         ensures failed { IsErrOf result Failed ↔ IsTrue self.old.has_failed }
         ensures untouched { IsErrOf result Failed → self.new ≡ self.old }
         ensures err { OnErr result (self.new ≡ record self.old { disk = self.new.disk; has_failed = true }) }
@@ -255,7 +255,7 @@ impl<D: Disk> Journal<D> {
           used = end_of (catch_up_groups catch_up.now);
           begun = None;
         })) }
-        ensures device { IsErrOf result Device ↔ Rises (D.failures self.old.disk) (D.failures self.new.disk) }
+        ensures device { self.old.has_failed ≡ false → (IsErrOf result Device ↔ Rises (D.failures self.old.disk) (D.failures self.new.disk)) }
         ensures failed { IsErrOf result Failed ↔ IsTrue self.old.has_failed }
         ensures untouched { IsErrOf result Failed → self.new ≡ self.old }
         ensures err { OnErr result (self.new ≡ record self.old { disk = self.new.disk; has_failed = true }) }

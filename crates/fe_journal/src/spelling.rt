@@ -1,7 +1,7 @@
 // What goes onto the device, as bytes.
 ghost use Rattle.std.specs.Prelude.{◌≡◌, ◌+◌, ◌≤◌, ◌<◌, ◌^◌, ◌∷◌, ◌++◌, length, take};
 ghost use Rattle.byteorder.specs.Endian.{big_bytes};
-ghost use Rattle.fe_journal.specs.Layout.{magic_of};
+ghost use Rattle.fe_disk.specs.Disk.{after_write};
 ghost use Rattle.fe_journal.specs.Groups.{behind_gate};
 ghost use Rattle.fe_journal.specs.Steps.{header_fields, area_start};
 
@@ -20,6 +20,24 @@ pub fn header_fields(format: Format, generation: u64, image_length: usize) -> [u
     fields
 }
 
+// The open gate of a group and the length of its payload.
+fn group_head(length: usize) -> [u8; 5]
+    requires { length < 2 ^ 32 }
+    ensures { result ≡ 1 ∷ big_bytes 4 length }
+{
+    let mut head = [1; 5];
+    BigEndian::write_u32(&mut head[1..], length as u32);
+    head
+}
+
+// Writes a piece over the bytes from `at` on.
+fn replace(buffer: &mut [u8], at: usize, piece: &[u8])
+    requires { at + length piece.now ≤ length buffer.old }
+    ensures { buffer.new ≡ after_write buffer.old at piece.now }
+{
+    buffer[at..at + piece.len()].copy_from_slice(piece);
+}
+
 /// Puts an open gate, the payload's length, the payload and a closed gate into the buffer, and tells
 /// how many bytes they are.
 pub fn put_group(buffer: &mut [u8], payload: &[u8]) -> usize
@@ -30,10 +48,9 @@ pub fn put_group(buffer: &mut [u8], payload: &[u8]) -> usize
     ensures same { length buffer.new ≡ length buffer.old }
 {
     let end = 5 + payload.len();
-    buffer[0] = 1;
-    BigEndian::write_u32(&mut buffer[1..], payload.len() as u32);
-    buffer[5..end].copy_from_slice(payload);
-    buffer[end] = 0;
+    replace(buffer, 0, &group_head(payload.len()));
+    replace(buffer, 5, payload);
+    replace(buffer, end, &[0]);
     end + 1
 }
 

@@ -1,0 +1,35 @@
+-- What a stop leaves in the steps of `commit` and of `shut`.
+use Rattle.std.proofs.Common.{◌≡◌, ◌≢◌, ℕ, ◌+◌, ◌<◌, ◌≤◌, List, [], ◌∷◌, length, get_or, inl, inr, add-zero, sym, ◌∙◌, ap, subst, arith}
+use Rattle.fe_disk.specs.Disk.{IsTorn, Follows, AddsNone, LeavesJust, bytes_at, after_write}
+use Rattle.fe_disk.proofs.Images.{IsTorn-same, torn_left, get_or-bytes_at}
+use Rattle.fe_journal.specs.Layout.{IsOpen, IsShut}
+use Rattle.fe_journal.specs.Steps.{IsLeftInCommit, IsLeftInShutting}
+
+module _ (before : List ℕ → Type 0) (seen : List ℕ) (at : ℕ) (bytes : List ℕ) (gate : ℕ) where
+  pub not_begun : (image : List ℕ) → before image → IsLeftInCommit before seen at bytes gate image
+  not_begun image may = inl (image, may, IsTorn-same at (length bytes) image)
+
+  pub bytes_torn : (new : List ℕ → Type 0) → Follows (IsTorn at (length bytes)) before new → (image : List ℕ) → new image → IsLeftInCommit before seen at bytes gate image
+  bytes_torn new follows image may = inl (follows image may)
+
+  pub gate_torn : (old new : List ℕ → Type 0) → LeavesJust (after_write seen at bytes) old → Follows (IsTorn gate 1) old new → (image : List ℕ) → new image → IsLeftInCommit before seen at bytes gate image
+  gate_torn old new just follows image may = inr (torn_left (after_write seen at bytes) gate 1 old new just follows image may)
+
+-- a gate that is left alone
+pub shut_still : (seen : List ℕ) (gate : ℕ) (image : List ℕ) → image ≡ seen → IsLeftInShutting seen gate image
+shut_still seen gate image same =
+    record {
+      torn = subst (λ (l : List ℕ). IsTorn gate 1 seen l) (sym same) (IsTorn-same gate 1 seen);
+      opens_none = λ is_open. ap (λ (l : List ℕ). get_or l gate 0) (sym same) ∙ is_open;
+    }
+
+-- a gate that was open, closed
+pub shut_torn : (seen : List ℕ) (gate : ℕ) → get_or seen gate 0 ≡ 1 → (old new : List ℕ → Type 0) → LeavesJust seen old → Follows (IsTorn gate 1) old new → (image : List ℕ) → new image → IsLeftInShutting seen gate image
+shut_torn seen gate was_open old new just follows image may =
+    record { torn = torn_left seen gate 1 old new just follows image may; opens_none = λ _. was_open }
+
+-- the byte that a read of one byte gave
+pub byte_read : (seen : List ℕ) (gate : ℕ) (buffer : List ℕ) → buffer ≡ bytes_at seen gate 1 → get_or seen gate 0 ≡ get_or buffer 0 0
+byte_read seen gate buffer read =
+    subst (λ (k : ℕ). get_or seen k 0 ≡ get_or buffer 0 0) (add-zero gate)
+    (sym (ap (λ (l : List ℕ). get_or l 0 0) read ∙ get_or-bytes_at seen gate 1 0 (omega arith)))
