@@ -1,9 +1,11 @@
 -- The bytes of the buffer that go onto the device.
-use Rattle.std.proofs.Common.{◌≡◌, ℕ, ◌+◌, ◌≤◌, List, [], ◌∷◌, ◌++◌, length, take, drop, append_assoc, length-append, sym, ◌∙◌, ap, subst, refl, arith}
+use Rattle.std.proofs.Common.{◌≡◌, ℕ, ◌+◌, ◌≤◌, List, [], ◌∷◌, ◌++◌, length, take, drop, set, append_assoc, length-append, sym, ◌∙◌, ap, subst, refl, arith}
 use Rattle.std.proofs.lemmas.List.{take_all, take_at, take-append-le}
 use Rattle.fe_disk.specs.Disk.{bytes_at, after_write}
 use Rattle.fe_disk.proofs.Images.{length-after_write}
-use Rattle.fe_journal.specs.Groups.{behind_gate}
+use Rattle.fe_journal.specs.Groups.{behind_gate, end_of}
+use Rattle.fe_journal.specs.Journal.{catch_up_groups}
+use Rattle.fe_journal.specs.Steps.{area_start}
 use Rattle.fe_journal.proofs.Bytes.{SameBytes, same_part, same_bytes_at, part_same}
 use Rattle.fe_journal.proofs.Spelled.{length-behind_gate, bytes_whole}
 
@@ -38,3 +40,9 @@ group_put buffer head payload last five single room one two three one_is two_is 
     let third = ap (λ (l : List ℕ). take (5 + length payload + length last) l) three_is ∙ front_written two (head ++ payload) last (5 + length payload) (omega (arith, length-append head payload)) (omega arith) second in
     let all : 5 + length payload + length last ≡ 6 + length payload = omega arith in
     subst (λ (n : ℕ). take n three ≡ head ++ (payload ++ last)) all (third ∙ append_assoc head payload last)
+
+-- a closed gate alone
+pub none_put : (buffer catch_up : List ℕ) → 1 ≤ length buffer → length catch_up ≡ 0 → take 1 (set buffer 0 0) ≡ area_start catch_up
+none_put [] catch_up some none = absurd (omega arith)
+none_put (byte ∷ bytes) [] some none = refl
+none_put (byte ∷ bytes) (x ∷ xs) some none = absurd (omega arith)

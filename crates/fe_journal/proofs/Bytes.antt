@@ -1,6 +1,7 @@
 -- The same bytes in two lists, at places of their own.
-use Rattle.std.proofs.Common.{◌≡◌, ◌⊎◌, ℕ, ◌+◌, ◌<◌, ◌≤◌, List, length, get_or, inl, inr, sym, ◌∙◌, ap, subst, refl, arith}
-use Rattle.std.proofs.lemmas.List.{ext_get_or}
+use Rattle.std.proofs.Common.{◌≡◌, ◌⊎◌, ℕ, ◌+◌, ◌-◌, ◌<◌, ◌≤◌, List, ◌++◌, length, length-append, get_or, inl, inr, sym, ◌∙◌, ap, subst, refl, arith}
+use Rattle.std.proofs.lemmas.List.{ext_get_or, get_or_append_left, get_or-append_right}
+use Rattle.std.proofs.lemmas.Bool.{cases_lt}
 use Rattle.byteorder.specs.Endian.{big_number}
 use Rattle.fe_disk.specs.Disk.{IsTorn, bytes_at, after_write}
 use Rattle.fe_disk.proofs.Images.{length-bytes_at, get_or-bytes_at, length-after_write, after_write_inside}
@@ -74,3 +75,20 @@ part_same image at n fits =
         subst (λ (k : ℕ). get_or image k 0 ≡ get_or (bytes_at image at n) q 0) (sym at_p)
         (subst (λ (k : ℕ). get_or image (at + i) 0 ≡ get_or (bytes_at image at n) k 0) (sym at_i) (sym (get_or-bytes_at image at n i low)));
     }
+
+-- one list behind another
+pub joined_same : (xs : List ℕ) (a : ℕ) (ys zs : List ℕ) (m n : ℕ) → length ys ≡ m → length zs ≡ n → SameBytes xs a ys 0 m → SameBytes xs (a + m) zs 0 n → SameBytes xs a (ys ++ zs) 0 (m + n)
+joined_same xs a ys zs m n long_ys long_zs s t =
+    let there : a + m + n ≤ length xs = t.here in
+    record {
+      here = omega arith;
+      there = omega (arith, length-append ys zs);
+      same = λ i p q low at_p at_q. elim (cases_lt q m) [
+        | inl front ↦ s.same i p q (omega arith) at_p at_q ∙ sym (get_or_append_left ys zs 0 q (omega arith))
+        | inr behind ↦ t.same (i - m) p (q - m) (omega arith) (omega arith) (omega arith) ∙ sym (get_or-append_right ys zs m q 0 long_ys behind)
+      ];
+    }
+
+-- what bytes are known to be
+pub known_same : (image : List ℕ) (at n : ℕ) (bytes : List ℕ) → at + n ≤ length image → bytes_at image at n ≡ bytes → SameBytes image at bytes 0 n
+known_same image at n bytes fits is = subst (λ (l : List ℕ). SameBytes image at l 0 n) is (part_same image at n fits)

@@ -6,3 +6,4 @@ mod Appends
 mod Buffers
 mod Journals
 mod Slots
+mod Begins

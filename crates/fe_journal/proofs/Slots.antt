@@ -19,7 +19,7 @@ halves_apart : (slot other at n a m : ℕ) → slot + other ≡ 1 → header_of 
 halves_apart slot other at n a m both from to low high = ⊎_elim (λ (first : slot < 1). inr (omega arith)) (λ (second : 1 ≤ slot). inl (omega arith)) (cases_lt slot 1)
 
 end_within : (c : Contents) (image : List ℕ) → Holds c image → 1052672 + end_of c.groups < 2101248
-end_within c image holds = ends c.format image (area_of c.slot) 0 c.groups (omega arith) holds.groups_are.stand
+end_within c image holds = let low = ends c.format image (area_of c.slot) 0 c.groups (omega arith) holds.groups_are.stand in omega arith
   where
     ends : (format : Format) (bytes : List ℕ) (area at : ℕ) (payloads : List (List ℕ)) → at < 1048576 → StandFrom format bytes area at payloads → 1052672 + (at + end_of payloads) < 2101248
     ends format bytes area at [] low stand = omega arith
@@ -72,7 +72,7 @@ begin_holds c seen image holds (inl left) =
 -- a slice written into the image of the slot begun
 pub slice_left : (c : Contents) (draft : Option Draft) (d : Draft) (was image : List ℕ) (at n : ℕ) → image_of (other_than c.slot) ≤ at → at + n ≤ header_of (other_than c.slot) + 2101248 → IsTorn at n was image → IsLeft c (Some d) was → IsLeft c draft image
 slice_left c draft d was image at n from to torn left =
-    let shut = stays_shut c was image left.holds at n torn (omega arith) to (omega arith) (left.shut tt) in
+    let shut = stays_shut c was image left.holds at n torn (omega arith) to (omega arith) (left.shut refl) in
     record {
       holds = other_torn c was image left.holds at n torn (omega arith) to (shut_no_rise was image (other_than c.slot) shut);
       shut = λ _. shut;
