@@ -1,6 +1,6 @@
 -- The bytes of the buffer that go onto the device.
-use Rattle.std.proofs.Common.{◌≡◌, ℕ, ◌+◌, ◌≤◌, List, [], ◌∷◌, ◌++◌, length, take, drop, set, append_assoc, length-append, sym, ◌∙◌, ap, subst, refl, arith}
-use Rattle.std.proofs.lemmas.List.{take_all, take_at, take-append-le}
+use Rattle.std.proofs.Common.{◌≡◌, ℕ, ◌+◌, ◌-◌, ◌≤◌, List, [], ◌∷◌, ◌++◌, length, take, drop, set, append_assoc, length-append, sym, ◌∙◌, ap, subst, refl, arith}
+use Rattle.std.proofs.lemmas.List.{length-take-le, take_all, take_at, take-append-le}
 use Rattle.fe_disk.specs.Disk.{bytes_at, after_write}
 use Rattle.fe_disk.proofs.Images.{length-after_write}
 use Rattle.fe_journal.specs.Groups.{behind_gate, end_of}
@@ -46,3 +46,9 @@ pub none_put : (buffer catch_up : List ℕ) → 1 ≤ length buffer → length c
 none_put [] catch_up some none = absurd (omega arith)
 none_put (byte ∷ bytes) [] some none = refl
 none_put (byte ∷ bytes) (x ∷ xs) some none = absurd (omega arith)
+
+-- how many bytes a new area begins with, and where the gate behind them stands
+pub start_end : (buffer catch_up : List ℕ) (count : ℕ) → count ≤ length buffer → take count buffer ≡ area_start catch_up → count - 1 ≡ end_of (catch_up_groups catch_up)
+start_end buffer [] count fits is = let long : count ≡ 1 = sym (length-take-le count buffer fits) ∙ ap (λ (l : List ℕ). length l) is in omega arith
+start_end buffer (x ∷ xs) count fits is =
+    let long : count ≡ length (area_start (x ∷ xs)) = sym (length-take-le count buffer fits) ∙ ap (λ (l : List ℕ). length l) is in omega (arith, length-behind_gate (x ∷ xs))
