@@ -20,6 +20,13 @@ use Rattle.fe_journal.proofs.Journals.{nothing_done}
 begun_same : (b e : Begun) → Some b ≡ Some e → b ≡ e
 begun_same b e is = cc
 
+-- a slice more stays within the image
+pub within_more : (b : Begun) (n : ℕ) → b.written + n ≤ b.image_length → IsImageLength b.format b.image_length
+    → ForSome {T = Begun} (Some (record { format = b.format; generation = b.generation; image_length = b.image_length; written = b.written + n })) (λ e. (e.written ≤ e.image_length) × IsImageLength e.format e.image_length)
+within_more b n fits length_fits =
+    let next : Begun = record { format = b.format; generation = b.generation; image_length = b.image_length; written = b.written + n } in
+    λ e is. subst (λ (x : Begun). (x.written ≤ x.image_length) × IsImageLength x.format x.image_length) (begun_same next e is) (fits, length_fits)
+
 -- what a slice more makes of a draft
 begun_more : (b : Begun) (d : Draft) (slice : List ℕ) → b ≡ record { format = d.format; generation = d.generation; image_length = d.image_length; written = length d.bytes }
     → ◌≡◌ {A = Option Begun} (Some (record { format = b.format; generation = b.generation; image_length = b.image_length; written = b.written + length slice }))

@@ -36,12 +36,13 @@ pub fn commit<D: Disk>(
 /// gate could open it. A read, and two device calls where it is open.
 pub fn shut<D: Disk>(disk: &mut D, gate: usize) -> Result<(), DeviceFault>
     requires gate_fits { gate + 1 ≤ D.size disk.old }
-    requires settled { D.honest disk.old → LeavesJust (D.seen disk.old) (D.may_leave disk.old) }
 
-    ensures any_moment { D.honest disk.old → LeavesOnly D.moment D.left_since disk.old disk.new (IsLeftInShutting (D.seen disk.old) gate) }
+    // From a disk on which all that was written is synced.
+    ensures any_moment { D.honest disk.old → LeavesJust (D.seen disk.old) (D.may_leave disk.old) → LeavesOnly D.moment D.left_since disk.old disk.new (IsLeftInShutting (D.seen disk.old) gate) }
+    ensures settled { D.honest disk.old → LeavesJust (D.seen disk.old) (D.may_leave disk.old) → OnOk result (LeavesJust (D.seen disk.new) (D.may_leave disk.new)) }
+
     ensures closed { D.honest disk.old → OnOk result (IsShut (D.seen disk.new) gate) }
     ensures torn { D.honest disk.old → IsTorn gate 1 (D.seen disk.old) (D.seen disk.new) }
-    ensures settled { D.honest disk.old → OnOk result (LeavesJust (D.seen disk.new) (D.may_leave disk.new)) }
 
     ensures fault { IsErr result ↔ Rises (D.failures disk.old) (D.failures disk.new) }
     ensures still { OnOk result (D.failures disk.new ≡ D.failures disk.old) }

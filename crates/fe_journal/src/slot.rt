@@ -21,11 +21,11 @@ pub fn begin_slot<D: Disk>(
     requires is_slot { slot < 2 }
     requires device { D.size disk.old ≡ device_bytes }
     requires short { image_length < 2 ^ 32 }
-    requires settled { D.honest disk.old → LeavesJust (D.seen disk.old) (D.may_leave disk.old) }
 
-    ensures any_moment { D.honest disk.old → LeavesOnly D.moment D.left_since disk.old disk.new (IsLeftInBeginning (D.seen disk.old) slot) }
+    // From a disk on which all that was written is synced.
+    ensures any_moment { D.honest disk.old → LeavesJust (D.seen disk.old) (D.may_leave disk.old) → LeavesOnly D.moment D.left_since disk.old disk.new (IsLeftInBeginning (D.seen disk.old) slot) }
     ensures begun { D.honest disk.old → OnOk result (IsBegun (D.seen disk.old) slot (header_fields format generation image_length) (D.seen disk.new)) }
-    ensures left { D.honest disk.old → OnOk result ((image : List ℕ) → D.may_leave disk.new image → IsHeaderTorn (D.seen disk.old) slot image) }
+    ensures left { D.honest disk.old → LeavesJust (D.seen disk.old) (D.may_leave disk.old) → OnOk result ((image : List ℕ) → D.may_leave disk.new image → IsHeaderTorn (D.seen disk.old) slot image) }
 
     ensures fault { IsErr result ↔ Rises (D.failures disk.old) (D.failures disk.new) }
     ensures still { OnOk result (D.failures disk.new ≡ D.failures disk.old) }

@@ -7,26 +7,23 @@ use Rattle.fe_journal.proofs.Steps.{shut_still, shut_torn, byte_read}
 use Rattle.fe_journal.proofs.commit.shut.Goals as goal
 
 pub returns-in_err-read_at-clause-any_moment : goal.returns-in_err-read_at-clause-any_moment
-returns-in_err-read_at-clause-any_moment g c = λ honest.
+returns-in_err-read_at-clause-any_moment g c = λ honest just.
     let start = c.args.disk.now in
     let P : List ℕ → Type 0 = IsLeftInShutting (g.D.Disk.seen start) c.args.gate in
-    let just = c.requires.settled honest in
     let run_0 = started g.D.Disk.moment g.D.Disk.left_since start P (λ image left. shut_still _ _ image (just image (g.met.D.Disk.only_now start image honest left))) in
     goes_on g.D.Disk.moment g.D.Disk.left_since start start c.read_at.new.self P _ run_0 (c.read_at.ensures.time honest) (λ image now. shut_still _ _ image (just image (c.read_at.ensures.stop honest image now)))
 
 pub returns-then-byte-ne1-clause-any_moment : goal.returns-then-byte-ne1-clause-any_moment
-returns-then-byte-ne1-clause-any_moment g c = λ honest.
+returns-then-byte-ne1-clause-any_moment g c = λ honest just.
     let start = c.args.disk.now in
     let P : List ℕ → Type 0 = IsLeftInShutting (g.D.Disk.seen start) c.args.gate in
-    let just = c.requires.settled honest in
     let run_0 = started g.D.Disk.moment g.D.Disk.left_since start P (λ image left. shut_still _ _ image (just image (g.met.D.Disk.only_now start image honest left))) in
     goes_on g.D.Disk.moment g.D.Disk.left_since start start c.read_at.new.self P _ run_0 (c.read_at.ensures.time honest) (λ image now. shut_still _ _ image (just image (c.read_at.ensures.stop honest image now)))
 
 pub returns-in_err-write_at-clause-any_moment : goal.returns-in_err-write_at-clause-any_moment
-returns-in_err-write_at-clause-any_moment g c = λ honest.
+returns-in_err-write_at-clause-any_moment g c = λ honest just.
     let start = c.args.disk.now in
     let P : List ℕ → Type 0 = IsLeftInShutting (g.D.Disk.seen start) c.args.gate in
-    let just = c.requires.settled honest in
     let run_0 = started g.D.Disk.moment g.D.Disk.left_since start P (λ image left. shut_still _ _ image (just image (g.met.D.Disk.only_now start image honest left))) in
     let run_1 = goes_on g.D.Disk.moment g.D.Disk.left_since start start c.read_at.new.self P _ run_0 (c.read_at.ensures.time honest) (λ image now. shut_still _ _ image (just image (c.read_at.ensures.stop honest image now))) in
     let honest_1 = c.read_at.ensures.honesty.1 honest in
@@ -35,10 +32,9 @@ returns-in_err-write_at-clause-any_moment g c = λ honest.
     (shut_torn _ _ was_open (g.D.Disk.may_leave c.read_at.new.self) _ (λ image now. just image (c.read_at.ensures.stop honest image now)) (c.write_at.ensures.stop honest_1))
 
 pub returns-clause-any_moment : goal.returns-clause-any_moment
-returns-clause-any_moment g c = λ honest.
+returns-clause-any_moment g c = λ honest just.
     let start = c.args.disk.now in
     let P : List ℕ → Type 0 = IsLeftInShutting (g.D.Disk.seen start) c.args.gate in
-    let just = c.requires.settled honest in
     let run_0 = started g.D.Disk.moment g.D.Disk.left_since start P (λ image left. shut_still _ _ image (just image (g.met.D.Disk.only_now start image honest left))) in
     let run_1 = goes_on g.D.Disk.moment g.D.Disk.left_since start start c.read_at.new.self P _ run_0 (c.read_at.ensures.time honest) (λ image now. shut_still _ _ image (just image (c.read_at.ensures.stop honest image now))) in
     let honest_1 = c.read_at.ensures.honesty.1 honest in

@@ -7,8 +7,9 @@ use Rattle.fe_journal.specs.Journal.{JournalState, Draft, Keeps, new_draft, with
 use Rattle.fe_journal.specs.Steps.{area_start, header_fields, IsLeftInCommit, IsLeftInBeginning, IsHeaderTorn, IsBegun, after_commit}
 use Rattle.fe_journal.specs.declared.begun.Begun.{Begun}
 use Rattle.fe_journal.proofs.Buffers.{buffer_whole, start_end}
-use Rattle.fe_journal.proofs.Journals.{at_ok}
-use Rattle.fe_journal.proofs.Begins.{finish_moments, finish_keeps, write_moments, write_keeps, begin_moments, begin_keeps}
+use Rattle.fe_journal.proofs.Journals.{at_ok, nothing_done}
+use Rattle.fe_journal.proofs.Frames.{image_short}
+use Rattle.fe_journal.proofs.Begins.{finish_moments, finish_keeps, write_moments, write_keeps, within_more, begin_moments, begin_keeps}
 use Rattle.fe_journal.proofs.journal.Journal.slot_write.Goals as goal
 
 pub returns-clause-any_moment : goal.returns-clause-any_moment
@@ -53,3 +54,32 @@ returns-clause-written g c = λ honest contents d keeps.
     let wrote = at_ok c.write_at-outcome.result (sym c.is_err.ensures.value ∙ c.if-is_err.false) (c.write_at-outcome.ensures.written honest_inside) ∙ ap (λ (s : JournalState g.row.D.Denot). after_write (g.D.Disk.seen s.disk) at c.args.slice.now) c.self.view_is in
     subst (λ (s : JournalState g.row.D.Denot). Keeps g.D.Disk.seen g.D.Disk.may_leave (record { disk = c.write_at-outcome.new.self; slot = s.slot; format = s.format; generation = s.generation; used = s.used; begun = Some (record { format = c.in-Some.begun.format; generation = c.in-Some.begun.generation; image_length = c.in-Some.begun.image_length; written = c.in-Some.begun.written + length c.args.slice.now }); has_failed = c.self.inside.has_failed }) contents (Some (with_slice d c.args.slice.now))) (sym c.self.view_is)
     (write_keeps g.D.Disk.moment g.D.Disk.left_since g.D.Disk.seen g.D.Disk.may_leave j contents d c.args.slice.now at c.in-Some.begun keeps stays begun at_is fits c.write_at-outcome.new.self c.self.inside.has_failed follows wrote)
+
+pub returns-then-self-clause-any_moment : goal.returns-then-self-clause-any_moment
+returns-then-self-clause-any_moment g c = λ honest contents d keeps.
+    nothing_done g.D.Disk.moment g.D.Disk.left_since g.D.Disk.seen g.D.Disk.may_leave c.args.self.now contents (Some d) (Holds contents) keeps (λ image left. g.met.D.Disk.only_now c.args.self.now.disk image honest left) (λ image holds. holds)
+
+pub overflow_add-at : goal.overflow_add-at
+overflow_add-at g c =
+    let bounds = c.self.invariant.begun_within c.in-Some.begun c.in-Some.is in
+    omega (arith, c.image_of.ensures, c.self.invariant.is_slot, bounds.0, image_short c.in-Some.begun.format c.in-Some.begun.image_length bounds.1)
+
+pub write_at-outcome-requires : goal.write_at-outcome-requires
+write_at-outcome-requires g c =
+    let bounds = c.self.invariant.begun_within c.in-Some.begun c.in-Some.is in
+    let begun = sym (ap (λ (s : JournalState g.row.D.Denot). s.begun) c.self.view_is) ∙ c.in-Some.is in
+    let fits = c.requires.begun c.in-Some.begun begun in
+    omega (arith, c.image_of.ensures, c.self.invariant.is_slot, c.self.invariant.device, fits, image_short c.in-Some.begun.format c.in-Some.begun.image_length bounds.1)
+
+pub invariant_of-self-2 : goal.invariant_of-self-2
+invariant_of-self-2 g c =
+    let bounds = c.self.invariant.begun_within c.in-Some.begun c.in-Some.is in
+    let begun = sym (ap (λ (s : JournalState g.row.D.Denot). s.begun) c.self.view_is) ∙ c.in-Some.is in
+    let fits = c.requires.begun c.in-Some.begun begun in
+    record {
+      device = c.write_at-outcome.ensures.size ∙ c.self.invariant.device;
+      buffer = c.self.invariant.buffer;
+      is_slot = c.self.invariant.is_slot;
+      within = c.self.invariant.within;
+      begun_within = within_more c.in-Some.begun (length c.args.slice.now) fits bounds.1;
+    }
