@@ -7,3 +7,4 @@ mod Buffers
 mod Journals
 mod Slots
 mod Begins
+mod Openings

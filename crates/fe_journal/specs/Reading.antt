@@ -7,6 +7,11 @@ use Rattle.fe_journal.specs.declared.header.Header.{Header}
 use Rattle.fe_journal.specs.declared.fault.StoreFault.{StoreFault}
 use Rattle.fe_journal.specs.declared.fault.StoreFault.TheVariants.{Unformatted, Damaged, Device, NoMemory}
 
+-- the format with this magic, if there is one
+abbrev pub IsFormatOf : ℕ → Option Format → Type 0
+IsFormatOf magic None = (magic ≡ 0x46454d454d535431 → ⊥) × (magic ≡ 0x46454d454d535432 → ⊥)
+IsFormatOf magic (Some format) = magic ≡ magic_of format
+
 -- the header that begins at `at` is valid and says this, or it is not valid
 pub record IsHeaderAt (bytes : List ℕ) (at : ℕ) (header : Header) : Type 0 where
   pub is_open : IsOpen bytes (at + 4095)
@@ -29,6 +34,12 @@ IsCounting first second (Some (slot, header)) =
 abbrev pub IsFitting : Format → List ℕ → ℕ → Option ℕ → Type 0
 IsFitting format bytes at None = Fits format at (number_at bytes (at + 1) 4) → ⊥
 IsFitting format bytes at (Some n) = (n ≡ number_at bytes (at + 1) 4) × Fits format at n
+
+-- groups stand from the area's beginning to `at`
+pub record Reaches (format : Format) (bytes : List ℕ) (at : ℕ) : Type 0 where
+  pub groups : List (List ℕ)
+  pub stand : StandFrom format bytes 0 0 groups
+  pub at_is : at ≡ end_of groups
 
 -- groups stand from the area's beginning to `at`, and behind an open gate there is no group
 pub record IsOddAt (format : Format) (bytes : List ℕ) (at : ℕ) : Type 0 where

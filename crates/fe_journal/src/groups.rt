@@ -1,4 +1,4 @@
-ghost use Rattle.std.specs.Prelude.{◌≡◌, ◌+◌, ◌<◌, ◌^◌, ℕ, List, [], ◌∷◌, length, IsNone, IsSomeAnd};
+ghost use Rattle.std.specs.Prelude.{◌≡◌, ◌+◌, ◌<◌, ◌≤◌, ℕ, List, [], ◌∷◌, length, IsNone, IfSome, IsSomeAnd};
 ghost use Rattle.fe_journal.specs.Cursor.{Lists};
 
 use byteorder::{BigEndian, ByteOrder};
@@ -42,6 +42,7 @@ impl Groups {
     pub fn payload(&self) -> Option<&[u8]>
         ensures next { (payload : List ℕ) (rest : List (List ℕ)) → Lists self.now (payload ∷ rest) → IsSomeAnd result (λ p. p.now ≡ payload) }
         ensures none { Lists self.now [] → IsNone result }
+        ensures within { IfSome result (λ p. self.now.at + (5 + length p.now) ≤ 1048576) }
     {
         if self.at >= self.bytes.len() - 5 || self.bytes[self.at] != 1 {
             return None;
@@ -66,9 +67,10 @@ impl Groups {
         ensures at { (payload : List ℕ) (rest : List (List ℕ)) → Lists self.old (payload ∷ rest) → self.new ≡ record self.old { at = self.old.at + (5 + length payload) } }
         ensures rest { (payload : List ℕ) (rest : List (List ℕ)) → Lists self.old (payload ∷ rest) → Lists self.new rest }
     {
-        if let Some(payload) = self.payload() {
-            let length = payload.len();
-            self.at += 5 + length;
-        }
+        let length = match self.payload() {
+            None => return,
+            Some(payload) => payload.len(),
+        };
+        self.at += 5 + length;
     }
 }

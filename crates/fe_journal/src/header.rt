@@ -1,5 +1,5 @@
 ghost use Rattle.std.specs.Prelude.{◌≡◌, ◌≤◌, ◌<◌, ◌^◌, length, Option, None, Some};
-ghost use Rattle.fe_journal.specs.Reading.{IsHeader, IsCounting};
+ghost use Rattle.fe_journal.specs.Reading.{IsFormatOf, IsHeader, IsCounting};
 
 use crate::Format;
 use byteorder::{BigEndian, ByteOrder};
@@ -20,19 +20,25 @@ pub fn header_in(bytes: &[u8]) -> Option<Header>
     if bytes[4_095] != 1 {
         return None;
     }
-    let magic = BigEndian::read_u64(bytes);
-    let format = if magic == Format::One.magic() {
-        Format::One
-    } else if magic == Format::Two.magic() {
-        Format::Two
-    } else {
-        return None;
-    };
+    let format = format_of(BigEndian::read_u64(bytes))?;
     Some(Header {
         format,
         generation: BigEndian::read_u64(&bytes[8..]),
         image_length: BigEndian::read_u32(&bytes[16..]),
     })
+}
+
+// The format with this magic.
+fn format_of(magic: u64) -> Option<Format>
+    ensures { IsFormatOf magic result }
+{
+    if magic == Format::One.magic() {
+        return Some(Format::One);
+    }
+    if magic == Format::Two.magic() {
+        return Some(Format::Two);
+    }
+    None
 }
 
 /// The slot that counts, of slots with these headers.
