@@ -60,7 +60,6 @@ module _ (c : Contents) (payload bytes : List ℕ) (gate : ℕ) (at_gate : gate 
     room = let is_slot : c.slot < 2 = holds.counts.is_slot in omega (arith, within, holds.whole)
 
     pub staged_holds : Holds c staged
-
     staged_holds = bytes_torn_holds seen (after_write seen (gate + 1) bytes) holds (IsTorn-after_write seen (gate + 1) bytes room)
 
     module _ (image : List ℕ) (torn : IsTorn gate 1 (after_write seen (gate + 1) bytes) image) where

@@ -30,7 +30,7 @@ within_more b n fits length_fits =
 -- what a slice more makes of a draft
 begun_more : (b : Begun) (d : Draft) (slice : List ℕ) → b ≡ record { format = d.format; generation = d.generation; image_length = d.image_length; written = length d.bytes }
     → ◌≡◌ {A = Option Begun} (Some (record { format = b.format; generation = b.generation; image_length = b.image_length; written = b.written + length slice }))
-      (Some (record { format = d.format; generation = d.generation; image_length = d.image_length; written = length (d.bytes ++ slice) }))
+    (Some (record { format = d.format; generation = d.generation; image_length = d.image_length; written = length (d.bytes ++ slice) }))
 begun_more b d slice same =
     let more : Begun → Option Begun = λ e. Some (record { format = e.format; generation = e.generation; image_length = e.image_length; written = e.written + length slice }) in
     let so_far : ℕ → Option Begun = λ n. Some (record { format = d.format; generation = d.generation; image_length = d.image_length; written = n }) in
@@ -126,15 +126,17 @@ module _ {D : Type 0} (moment : D → ℕ) (left_since : D → ℕ → List ℕ 
           used_is = keeps.used_is;
           begun_is = begun_more b d slice same;
           left = λ l may. let from = follows l may in slice_leaves (Some (with_slice d slice)) from.0 l from.2 (keeps.left from.0 from.1);
-          drafted = λ e e_is. subst (λ (x : Draft). IsDraft (other_than c.slot) x (seen new) × (x.generation ≡ c.generation + 1)) (draft_is e e_is)
-            (subst (λ (l : List ℕ). IsDraft (other_than c.slot) (with_slice d slice) l) (sym wrote) (record {
+          drafted = λ e e_is. subst (λ (x : Draft). IsDraft (other_than c.slot) x (seen new) × (x.generation ≡ c.generation + 1)) (draft_is e e_is) (
+            subst (λ (l : List ℕ). IsDraft (other_than c.slot) (with_slice d slice) l) (sym wrote) (record {
               magic = same_draft.magic;
               generation_is = same_draft.generation_is;
               length_is = same_draft.length_is;
               length_fits = same_draft.length_fits;
               bytes_are = subst (λ (n : ℕ). bytes_at image (image_of (other_than c.slot)) n ≡ d.bytes ++ slice) (sym count) whole;
               within = omega (arith, count, within);
-            }), (keeps.drafted d refl).1);
+            }),
+            (keeps.drafted d refl).1,
+          );
           settled = λ is_none. cc;
         }
       where
@@ -163,8 +165,8 @@ module _ {D : Type 0} (moment : D → ℕ) (left_since : D → ℕ → List ℕ 
         let short = image_short format image_length allowed in
         let new_long : length (seen new) ≡ length old = begun.header.torn.whole in
         let fields = fields_spelled (seen new) (header_of (other_than c.slot)) format generation image_length small (omega arith)
-            (subst (λ (k : ℕ). SameBytes (seen new) (header_of k) (header_fields format generation image_length) 0 20) slot_there
-            (known_same (seen new) (header_of slot) 20 (header_fields format generation image_length) (omega (arith, slot_there)) (subst (λ (n : ℕ). bytes_at (seen new) (header_of slot) n ≡ header_fields format generation image_length) twenty begun.fields_are))) in
+        (subst (λ (k : ℕ). SameBytes (seen new) (header_of k) (header_fields format generation image_length) 0 20) slot_there
+        (known_same (seen new) (header_of slot) 20 (header_fields format generation image_length) (omega (arith, slot_there)) (subst (λ (n : ℕ). bytes_at (seen new) (header_of slot) n ≡ header_fields format generation image_length) twenty begun.fields_are))) in
         record {
           slot_is = keeps.slot_is;
           format_is = keeps.format_is;
@@ -172,17 +174,19 @@ module _ {D : Type 0} (moment : D → ℕ) (left_since : D → ℕ → List ℕ 
           used_is = keeps.used_is;
           begun_is = refl;
           left = λ image may.
-            let torn = subst (λ (k : ℕ). IsHeaderTorn old k image) slot_there (lefts image may) in
-            record { holds = begin_holds c old image holds (inr torn); shut = λ _. torn.shut };
-          drafted = λ e e_is. subst (λ (x : Draft). IsDraft (other_than c.slot) x (seen new) × (x.generation ≡ c.generation + 1)) (draft_is e e_is)
-            (record {
+              let torn = subst (λ (k : ℕ). IsHeaderTorn old k image) slot_there (lefts image may) in
+              record { holds = begin_holds c old image holds (inr torn); shut = λ _. torn.shut };
+          drafted = λ e e_is. subst (λ (x : Draft). IsDraft (other_than c.slot) x (seen new) × (x.generation ≡ c.generation + 1)) (draft_is e e_is) (
+            record {
               magic = fields.magic;
               generation_is = fields.generation_is;
               length_is = fields.length_is;
               length_fits = allowed;
               bytes_are = refl;
               within = omega arith;
-            }, omega (arith, next, keeps.generation_is));
+            },
+            omega (arith, next, keeps.generation_is),
+          );
           settled = λ is_none. cc;
         }
       where

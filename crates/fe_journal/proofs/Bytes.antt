@@ -58,9 +58,9 @@ written_same image at bytes fits =
       here = omega (arith, long);
       there = omega arith;
       same = λ i p q low at_p at_q.
-        let at_i : q ≡ i = omega arith in
-        subst (λ (k : ℕ). get_or (after_write image at bytes) k 0 ≡ get_or bytes q 0) (sym at_p)
-        (subst (λ (k : ℕ). get_or (after_write image at bytes) (at + i) 0 ≡ get_or bytes k 0) (sym at_i) (after_write_inside image at bytes fits i low));
+          let at_i : q ≡ i = omega arith in
+          subst (λ (k : ℕ). get_or (after_write image at bytes) k 0 ≡ get_or bytes q 0) (sym at_p)
+          (subst (λ (k : ℕ). get_or (after_write image at bytes) (at + i) 0 ≡ get_or bytes k 0) (sym at_i) (after_write_inside image at bytes fits i low));
     }
 
 -- what is read of a part
@@ -71,9 +71,9 @@ part_same image at n fits =
       here = fits;
       there = omega (arith, long);
       same = λ i p q low at_p at_q.
-        let at_i : q ≡ i = omega arith in
-        subst (λ (k : ℕ). get_or image k 0 ≡ get_or (bytes_at image at n) q 0) (sym at_p)
-        (subst (λ (k : ℕ). get_or image (at + i) 0 ≡ get_or (bytes_at image at n) k 0) (sym at_i) (sym (get_or-bytes_at image at n i low)));
+          let at_i : q ≡ i = omega arith in
+          subst (λ (k : ℕ). get_or image k 0 ≡ get_or (bytes_at image at n) q 0) (sym at_p)
+          (subst (λ (k : ℕ). get_or image (at + i) 0 ≡ get_or (bytes_at image at n) k 0) (sym at_i) (sym (get_or-bytes_at image at n i low)));
     }
 
 -- one list behind another

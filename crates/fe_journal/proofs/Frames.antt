@@ -20,9 +20,10 @@ group_same format xs ys a b at payload s is =
 
 pub stand_same : (format : Format) (xs ys : List ℕ) (a b at : ℕ) (payloads : List (List ℕ)) → SameBytes xs a ys b (at + end_of payloads) → StandFrom format xs a at payloads → StandFrom format ys b at payloads
 stand_same format xs ys a b at [] s stand = tt
-stand_same format xs ys a b at (payload ∷ payloads) s stand =
-    (group_same format xs ys a b at payload (same_part s 0 (at + (5 + length payload)) a b (omega arith) (omega arith) (omega arith)) stand.0,
-    stand_same format xs ys a b (at + (5 + length payload)) payloads (same_part s 0 (at + (5 + length payload) + end_of payloads) a b (omega arith) (omega arith) (omega arith)) stand.1)
+stand_same format xs ys a b at (payload ∷ payloads) s stand = (
+  group_same format xs ys a b at payload (same_part s 0 (at + (5 + length payload)) a b (omega arith) (omega arith) (omega arith)) stand.0,
+  stand_same format xs ys a b (at + (5 + length payload)) payloads (same_part s 0 (at + (5 + length payload) + end_of payloads) a b (omega arith) (omega arith) (omega arith)) stand.1,
+)
 
 pub groups_same : (format : Format) (xs ys : List ℕ) (a b at : ℕ) (payloads : List (List ℕ)) → SameBytes xs a ys b (at + end_of payloads) → IsShut ys (b + (at + end_of payloads)) → HoldsGroups format xs a at payloads → HoldsGroups format ys b at payloads
 groups_same format xs ys a b at payloads s shut holds = record { stand = stand_same format xs ys a b at payloads s holds.stand; ended = shut }
@@ -47,11 +48,13 @@ shut_no_rise old new slot shut = record { none = λ format valid. absurd (shut v
 pub same_no_rise : (old new : List ℕ) (slot : ℕ) → SameBytes old (header_of slot) new (header_of slot) 4096 → NoRise old new slot
 same_no_rise old new slot s =
     record {
-      none = λ format valid. (record {
+      none = λ format valid. (
+        record {
           is_open = same_byte s 4095 (gate_of slot) (gate_of slot) (omega arith) refl refl ∙ valid.is_open;
           magic = same_number_at (same_part s 0 8 (header_of slot) (header_of slot) (omega arith) (omega arith) (omega arith)) ∙ valid.magic;
         },
-        sym (same_number_at (same_part s 8 8 (header_of slot + 8) (header_of slot + 8) (omega arith) refl refl)));
+        sym (same_number_at (same_part s 8 8 (header_of slot + 8) (header_of slot + 8) (omega arith) refl refl)),
+      );
     }
 
 module _ (old new : List ℕ) (slot : ℕ) (format : Format) (s : SameBytes old (header_of slot) new (header_of slot) 1052672) where
@@ -74,9 +77,9 @@ module _ (old new : List ℕ) (slot : ℕ) (format : Format) (s : SameBytes old 
         is_slot = counts.is_slot;
         valid = valid_same counts.valid;
         ahead = λ f valid.
-          let was = rise.none f valid in
-          subst (λ (k : ℕ). (k < generation_at new slot) ⊎ ((k ≡ generation_at new slot) × (slot ≡ 0))) (sym was.1)
-          (subst (λ (k : ℕ). (generation_at old (other_than slot) < k) ⊎ ((generation_at old (other_than slot) ≡ k) × (slot ≡ 0))) (sym generation_same) (counts.ahead f was.0));
+            let was = rise.none f valid in
+            subst (λ (k : ℕ). (k < generation_at new slot) ⊎ ((k ≡ generation_at new slot) × (slot ≡ 0))) (sym was.1)
+            (subst (λ (k : ℕ). (generation_at old (other_than slot) < k) ⊎ ((generation_at old (other_than slot) ≡ k) × (slot ≡ 0))) (sym generation_same) (counts.ahead f was.0));
       }
 
 pub image_short : (format : Format) (n : ℕ) → IsImageLength format n → n ≤ 774232

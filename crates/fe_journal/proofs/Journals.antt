@@ -57,10 +57,11 @@ module _ {D : Type 0} (moment : D → ℕ) (left_since : D → ℕ → List ℕ 
             shut = λ is_some is_open. (keeps.left (seen j.disk) stays).shut is_some (same_byte other 4095 (gate_of (other_than c.slot)) (gate_of (other_than c.slot)) (omega arith) refl refl ∙ is_open);
           });
           drafted = λ d is.
-            let before = keeps.drafted d is in
-            (subst (λ (l : List ℕ). IsDraft (other_than c.slot) d l) (sym committed) (draft_same (other_than c.slot) d (seen j.disk) after
-            (same_part other 0 20 (header_of (other_than c.slot)) (header_of (other_than c.slot)) (omega arith) (omega arith) (omega arith))
-            (same_part other 4096 (length d.bytes) (image_of (other_than c.slot)) (image_of (other_than c.slot)) (let w = before.0.within in omega (arith, image_short d.format d.image_length before.0.length_fits)) refl refl) before.0),
-            before.1);
+              let before = keeps.drafted d is in (
+                subst (λ (l : List ℕ). IsDraft (other_than c.slot) d l) (sym committed) (draft_same (other_than c.slot) d (seen j.disk) after
+                    (same_part other 0 20 (header_of (other_than c.slot)) (header_of (other_than c.slot)) (omega arith) (omega arith) (omega arith))
+                    (same_part other 4096 (length d.bytes) (image_of (other_than c.slot)) (image_of (other_than c.slot)) (let w = before.0.within in omega (arith, image_short d.format d.image_length before.0.length_fits)) refl refl) before.0),
+                before.1,
+              );
           settled = λ _. just;
         }

@@ -62,11 +62,11 @@ begin_holds c seen image holds (inl left) =
           here = omega arith;
           there = omega arith;
           same = λ i p q low at_p at_q.
-            let same_place : p ≡ q = omega arith in
-            subst (λ (k : ℕ). get_or seen p 0 ≡ get_or image k 0) same_place (⊎_elim
-            (λ (below : p < gate_of (other_than c.slot)). sym (left.torn.below p below))
-            (λ (above : gate_of (other_than c.slot) ≤ p). let here : gate_of (other_than c.slot) ≡ p = omega arith in subst (λ (k : ℕ). get_or seen k 0 ≡ get_or image k 0) here (left.opens_none is_open ∙ sym is_open))
-            (cases_lt p (gate_of (other_than c.slot))));
+              let same_place : p ≡ q = omega arith in
+              subst (λ (k : ℕ). get_or seen p 0 ≡ get_or image k 0) same_place (⊎_elim
+              (λ (below : p < gate_of (other_than c.slot)). sym (left.torn.below p below))
+              (λ (above : gate_of (other_than c.slot) ≤ p). let here : gate_of (other_than c.slot) ≡ p = omega arith in subst (λ (k : ℕ). get_or seen k 0 ≡ get_or image k 0) here (left.opens_none is_open ∙ sym is_open))
+              (cases_lt p (gate_of (other_than c.slot))));
         }
 
 -- a slice written into the image of the slot begun
@@ -101,14 +101,17 @@ area_holds format image area (byte ∷ bytes) is s =
     let is_spelled = spelled image (area + 1) payload (omega (arith, fits.within)) behind in
     let zero = is_spelled.ended in
     record {
-      stand = (record {
+      stand = (
+        record {
           is_open = gate;
           length_is = let there : area + 1 ≡ area + 0 + 1 = omega arith in subst (λ (k : ℕ). number_at image k 4 ≡ length payload) there is_spelled.length_is;
           fits = fits;
           payload_is = let there : area + 1 + 4 ≡ area + 0 + 5 = omega arith in subst (λ (k : ℕ). bytes_at image k (length payload) ≡ payload) there is_spelled.payload_is;
-        }, tt);
+        },
+        tt,
+      );
       ended = λ is_open. let there : area + (0 + (5 + length payload + 0)) ≡ area + 1 + 4 + length payload = omega arith in
-        let one : get_or image (area + 1 + 4 + length payload) 0 ≡ 1 = subst (λ (k : ℕ). get_or image k 0 ≡ 1) there is_open in omega (arith, zero, one);
+          let one : get_or image (area + 1 + 4 + length payload) 0 ≡ 1 = subst (λ (k : ℕ). get_or image k 0 ≡ 1) there is_open in omega (arith, zero, one);
     }
 
 -- a slot whose gate opens behind its draft and a new area
@@ -195,7 +198,7 @@ module _ (c : Contents) (d : Draft) (catch_up bytes : List ℕ) (bytes_are : byt
           })
 
       pub left_at_gate : HoldsEither c (finished c d catch_up) image
-      left_at_gate = ⊎_elim (λ is_open. inr (now_open is_open)) (λ shut. inl (still_shut shut)) (cases_eq (get_or image (gate_of o)  0) 1)
+      left_at_gate = ⊎_elim (λ is_open. inr (now_open is_open)) (λ shut. inl (still_shut shut)) (cases_eq (get_or image (gate_of o) 0) 1)
 
   -- what a stop leaves of the whole call
   pub left_in_finish : (before : List ℕ → Type 0) (seen : List ℕ) → ((image : List ℕ) → before image → IsLeft c (Some d) image) → IsLeft c (Some d) seen → IsDraft o d seen → (image : List ℕ) → IsLeftInCommit before seen (area_of o) bytes (gate_of o) image

@@ -22,8 +22,8 @@ behind_same xs ys n long =
       here = omega (arith, length-append xs ys);
       there = omega arith;
       same = λ i p q low at_p at_q.
-        let less : p - n ≡ q = omega arith in
-        get_or-append_right xs ys n p 0 long (omega arith) ∙ ap (λ (k : ℕ). get_or ys k 0) less;
+          let less : p - n ≡ q = omega arith in
+          get_or-append_right xs ys n p 0 long (omega arith) ∙ ap (λ (k : ℕ). get_or ys k 0) less;
     }
 
 pub front_same : (xs ys : List ℕ) → SameBytes (xs ++ ys) 0 xs 0 (length xs)
@@ -32,8 +32,8 @@ front_same xs ys =
       here = omega (arith, length-append xs ys);
       there = omega arith;
       same = λ i p q low at_p at_q.
-        let p_is : p ≡ q = omega arith in
-        get_or_append_left xs ys 0 p (omega arith) ∙ ap (λ (k : ℕ). get_or xs k 0) p_is;
+          let p_is : p ≡ q = omega arith in
+          get_or_append_left xs ys 0 p (omega arith) ∙ ap (λ (k : ℕ). get_or xs k 0) p_is;
     }
 
 pub bytes_whole : (xs : List ℕ) (n : ℕ) → length xs ≡ n → bytes_at xs 0 n ≡ xs
@@ -69,10 +69,10 @@ spelled bytes at payload short s =
       length_is = same_number_at (same_part s 0 4 at 0 (omega arith) (omega arith) (omega arith)) ∙ number_first 4 (length payload) (payload ++ 0 ∷ []) (omega arith);
       payload_is = same_bytes_at mine ∙ same_bytes_at theirs ∙ same_bytes_at first ∙ bytes_whole payload (length payload) refl;
       ended =
-        same_byte s (4 + length payload) (at + 4 + length payload) (4 + length payload) (omega arith) (omega arith) (omega arith)
-        ∙ same_byte rest (length payload) (4 + length payload) (length payload) (omega (arith, long)) refl (omega arith)
-        ∙ get_or-append_right payload (0 ∷ []) (length payload) (length payload) 0 refl (omega arith)
-        ∙ ap (λ (k : ℕ). get_or (0 ∷ []) k 0) (let none : length payload - length payload ≡ 0 = omega arith in none);
+          same_byte s (4 + length payload) (at + 4 + length payload) (4 + length payload) (omega arith) (omega arith) (omega arith)
+          ∙ same_byte rest (length payload) (4 + length payload) (length payload) (omega (arith, long)) refl (omega arith)
+          ∙ get_or-append_right payload (0 ∷ []) (length payload) (length payload) 0 refl (omega arith)
+          ∙ ap (λ (k : ℕ). get_or (0 ∷ []) k 0) (let none : length payload - length payload ≡ 0 = omega arith in none);
     }
 
 -- the fields where a header was written
@@ -87,8 +87,14 @@ magic_fits Two = omega arith
 
 pub length-header_fields : (format : Format) (generation image_length : ℕ) → length (header_fields format generation image_length) ≡ 20
 length-header_fields format generation image_length =
-    omega (arith, length-append (big_bytes 8 (magic_of format)) (big_bytes 8 generation ++ big_bytes 4 image_length), length-append (big_bytes 8 generation) (big_bytes 4 image_length), length-big_bytes 8 (magic_of format),
-    length-big_bytes 8 generation, length-big_bytes 4 image_length)
+    omega (
+      arith,
+      length-append (big_bytes 8 (magic_of format)) (big_bytes 8 generation ++ big_bytes 4 image_length),
+      length-append (big_bytes 8 generation) (big_bytes 4 image_length),
+      length-big_bytes 8 (magic_of format),
+      length-big_bytes 8 generation,
+      length-big_bytes 4 image_length,
+    )
 
 big_number_none : (xs : List ℕ) → big_number 4 (xs ++ []) ≡ big_number 4 xs
 big_number_none xs = ap (λ (l : List ℕ). big_number 4 l) (append-nil xs)
@@ -105,13 +111,13 @@ fields_spelled bytes at format generation image_length small short s =
     let rest = behind_same magic (big_bytes 8 generation ++ last) 8 eight in
     let end = behind_same (big_bytes 8 generation) last 8 again in
     let last_whole : number_at last 0 4 ≡ image_length =
-        big_from-take 0 4 4 last (omega arith) ∙ sym (big_number_none last) ∙ big_number-reads_back 4 image_length [] short in
+    big_from-take 0 4 4 last (omega arith) ∙ sym (big_number_none last) ∙ big_number-reads_back 4 image_length [] short in
     record {
       magic = same_number_at (same_part s 0 8 at 0 (omega arith) (omega arith) (omega arith)) ∙ number_first 8 (magic_of format) (big_bytes 8 generation ++ last) (magic_fits format);
       generation_is =
-        same_number_at (same_part s 8 8 (at + 8) 8 (omega arith) refl (omega arith)) ∙ same_number_at (same_part rest 0 8 8 0 (omega (arith, long)) (omega arith) (omega arith))
-        ∙ number_first 8 generation last small;
+          same_number_at (same_part s 8 8 (at + 8) 8 (omega arith) refl (omega arith)) ∙ same_number_at (same_part rest 0 8 8 0 (omega (arith, long)) (omega arith) (omega arith))
+          ∙ number_first 8 generation last small;
       length_is =
-        same_number_at (same_part s 16 4 (at + 16) 16 (omega arith) refl (omega arith)) ∙ same_number_at (same_part rest 8 4 16 8 (omega (arith, long)) (omega arith) (omega arith))
-        ∙ same_number_at (same_part end 0 4 8 0 (omega (arith, four)) (omega arith) (omega arith)) ∙ last_whole;
+          same_number_at (same_part s 16 4 (at + 16) 16 (omega arith) refl (omega arith)) ∙ same_number_at (same_part rest 8 4 16 8 (omega (arith, long)) (omega arith) (omega arith))
+          ∙ same_number_at (same_part end 0 4 8 0 (omega (arith, four)) (omega arith) (omega arith)) ∙ last_whole;
     }

@@ -6,7 +6,5 @@ pub mod Reading
 pub mod Journal
 pub mod Cursor
 pub mod CursorFields
-pub mod Store
-pub mod Found
 pub mod Fields
 pub mod Steps

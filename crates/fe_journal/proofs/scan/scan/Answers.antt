@@ -17,4 +17,4 @@ pub returns-clause-ends : goal.returns-clause-ends
 returns-clause-ends c = reaches_end c.args.format c.args.area.now c.loop-at.at c.loop-at.invariant.reaches c.loop-at-test.false
 
 pub returns-in_default-clause-odd : goal.returns-in_default-clause-odd
-returns-in_default-clause-odd c = ?
+returns-in_default-clause-odd c = reaches_odd c.args.format c.args.area.now c.loop-at.at c.loop-at.invariant.reaches c.loop-at-test.true c.in_default.ensures

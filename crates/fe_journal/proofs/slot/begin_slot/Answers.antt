@@ -14,7 +14,7 @@ returns-in_err-shut-clause-any_moment g c = λ honest synced.
     let slot = c.args.slot in
     let seen = g.D.Disk.seen start in
     let shutting = weaker g.D.Disk.moment g.D.Disk.left_since start c.shut.new.disk (IsLeftInShutting seen (gate_of slot)) (IsLeftInBeginning seen slot) (λ image left. inl left)
-        (subst (λ (k : ℕ). LeavesOnly g.D.Disk.moment g.D.Disk.left_since start c.shut.new.disk (IsLeftInShutting seen k)) c.gate_of.ensures (c.shut.ensures.any_moment honest synced)) in
+    (subst (λ (k : ℕ). LeavesOnly g.D.Disk.moment g.D.Disk.left_since start c.shut.new.disk (IsLeftInShutting seen k)) c.gate_of.ensures (c.shut.ensures.any_moment honest synced)) in
     shutting
 
 pub returns-clause-any_moment : goal.returns-clause-any_moment
@@ -23,7 +23,7 @@ returns-clause-any_moment g c = λ honest synced.
     let slot = c.args.slot in
     let seen = g.D.Disk.seen start in
     let shutting = weaker g.D.Disk.moment g.D.Disk.left_since start c.shut.new.disk (IsLeftInShutting seen (gate_of slot)) (IsLeftInBeginning seen slot) (λ image left. inl left)
-        (subst (λ (k : ℕ). LeavesOnly g.D.Disk.moment g.D.Disk.left_since start c.shut.new.disk (IsLeftInShutting seen k)) c.gate_of.ensures (c.shut.ensures.any_moment honest synced)) in
+    (subst (λ (k : ℕ). LeavesOnly g.D.Disk.moment g.D.Disk.left_since start c.shut.new.disk (IsLeftInShutting seen k)) c.gate_of.ensures (c.shut.ensures.any_moment honest synced)) in
     let honest_1 = c.shut.ensures.honesty.1 honest in
     let torn = subst (λ (k : ℕ). IsTorn k 1 seen (g.D.Disk.seen c.shut.new.disk)) c.gate_of.ensures (c.shut.ensures.torn honest) in
     let shut = subst (λ (k : ℕ). IsShut (g.D.Disk.seen c.shut.new.disk) k) c.gate_of.ensures (c.in_ok-shut.ensures.closed honest) in
@@ -62,9 +62,9 @@ returns-clause-begun g c = λ honest.
     let written = subst (λ (k : ℕ). IsTorn k (length c.header_fields-fields.result) mid new) c.header_of.ensures (c.write_at.ensures.torn honest_1) in
     let room : header_of slot + length c.header_fields-fields.result ≤ length mid = omega (arith, whole, c.shut.ensures.size, c.requires.device, twenty, c.requires.is_slot) in
     on_ok_weaker c.write_at.result (λ wrote.
-      let there : new ≡ after_write mid (header_of slot) c.header_fields-fields.result = wrote ∙ ap (λ (k : ℕ). after_write mid k c.header_fields-fields.result) c.header_of.ensures in
-      record {
-        header = header_torn seen mid new slot (length c.header_fields-fields.result) (omega (arith, twenty)) torn shut written;
-        fields_are = subst (λ (l : List ℕ). bytes_at new (header_of slot) (length l) ≡ l) c.header_fields-fields.ensures
-            (ap (λ (l : List ℕ). bytes_at l (header_of slot) (length c.header_fields-fields.result)) there ∙ bytes_at-after_write mid (header_of slot) c.header_fields-fields.result room);
-      }) (c.write_at.ensures.written honest_1)
+    let there : new ≡ after_write mid (header_of slot) c.header_fields-fields.result = wrote ∙ ap (λ (k : ℕ). after_write mid k c.header_fields-fields.result) c.header_of.ensures in
+    record {
+      header = header_torn seen mid new slot (length c.header_fields-fields.result) (omega (arith, twenty)) torn shut written;
+      fields_are = subst (λ (l : List ℕ). bytes_at new (header_of slot) (length l) ≡ l) c.header_fields-fields.ensures
+          (ap (λ (l : List ℕ). bytes_at l (header_of slot) (length c.header_fields-fields.result)) there ∙ bytes_at-after_write mid (header_of slot) c.header_fields-fields.result room);
+    }) (c.write_at.ensures.written honest_1)
