@@ -1,0 +1,67 @@
+-- What the calls of a journal keep, from what each step left.
+use Rattle.std.proofs.Common.{◌≡◌, ◌≢◌, ◌⊎◌, ℕ, ◌+◌, ◌-◌, ◌*◌, ◌<◌, ◌≤◌, Bool, false, List, [], ◌∷◌, ◌++◌, length, get_or, Option, Some, None, IsSome, Result, Ok, Err, OnOk, inl, inr, ⊎_elim, sym, ◌∙◌, ap, subst, refl, arith}
+use Rattle.std.specs.Result.{is_err}
+use Rattle.fe_disk.specs.Disk.{IsTorn, LeavesJust, LeavesOnly, after_write, bytes_at}
+use Rattle.fe_disk.proofs.Moments.{started, weaker}
+use Rattle.fe_journal.specs.Layout.{header_of, gate_of, image_of, area_of, other_than, IsShut, longest_image, IsImageLength}
+use Rattle.fe_journal.specs.Groups.{Fits, end_of, behind_gate}
+use Rattle.fe_journal.specs.Contents.{Contents, Holds, HoldsEither, with_group}
+use Rattle.fe_journal.specs.Journal.{JournalState, Draft, IsDraft, IsLeft, Keeps}
+use Rattle.fe_journal.specs.Steps.{IsLeftInCommit, after_commit}
+use Rattle.fe_journal.specs.declared.store_format.Format.{Format}
+use Rattle.fe_journal.proofs.Bytes.{SameBytes, same_part, same_byte}
+use Rattle.fe_journal.proofs.Frames.{draft_same, end_of-more, image_short}
+use Rattle.fe_journal.proofs.Appends.{left_in_append, appended_holds, appended_other}
+
+pub at_ok : {T E P : Type 0} (r : Result T E) → is_err r ≡ false → OnOk r P → P
+at_ok (Ok x) is clause = clause
+at_ok (Err e) is clause = cc
+
+module _ {D : Type 0} (moment : D → ℕ) (left_since : D → ℕ → List ℕ → Type 0) (seen : D → List ℕ) (may_leave : D → List ℕ → Type 0) where
+  -- a call that does nothing
+  pub nothing_done : (j : JournalState D) (c : Contents) (draft : Option Draft) (P : List ℕ → Type 0) → Keeps seen may_leave j c draft → ((image : List ℕ) → left_since j.disk (moment j.disk) image → may_leave j.disk image)
+      → ((image : List ℕ) → Holds c image → P image) → LeavesOnly moment left_since j.disk j.disk P
+  nothing_done j c draft P keeps only_now has = started moment left_since j.disk P (λ image left. has image (keeps.left image (only_now image left)).holds)
+
+  module _ (j : JournalState D) (c : Contents) (draft : Option Draft) (payload bytes : List ℕ) (gate : ℕ) (keeps : Keeps seen may_leave j c draft) (stays : may_leave j.disk (seen j.disk))
+      (at_gate : gate ≡ area_of j.slot + j.used) (fits : Fits j.format j.used (length payload)) (bytes_are : bytes ≡ behind_gate payload) where
+    gate_there : gate ≡ area_of c.slot + end_of c.groups
+    gate_there = let s : j.slot ≡ c.slot = keeps.slot_is in let u : j.used ≡ end_of c.groups = keeps.used_is in omega arith
+
+    fits_there : Fits c.format (end_of c.groups) (length payload)
+    fits_there = subst (λ (f : Format). Fits f (end_of c.groups) (length payload)) keeps.format_is (subst (λ (k : ℕ). Fits j.format k (length payload)) keeps.used_is fits)
+
+    holds_seen : Holds c (seen j.disk)
+    holds_seen = (keeps.left (seen j.disk) stays).holds
+
+    pub append_moments : (new : D) → LeavesOnly moment left_since j.disk new (IsLeftInCommit (may_leave j.disk) (seen j.disk) (gate + 1) bytes gate) → LeavesOnly moment left_since j.disk new (HoldsEither c (with_group c payload))
+    append_moments new run =
+        weaker moment left_since j.disk new (IsLeftInCommit (may_leave j.disk) (seen j.disk) (gate + 1) bytes gate) (HoldsEither c (with_group c payload))
+        (left_in_append c payload bytes gate gate_there fits_there bytes_are (may_leave j.disk) (seen j.disk) (λ image left. (keeps.left image left).holds) holds_seen) run
+
+    pub append_keeps : (new : D) (failed : Bool) (used : ℕ) → used ≡ j.used + (5 + length payload) → seen new ≡ after_commit (seen j.disk) (gate + 1) bytes gate → LeavesJust (seen new) (may_leave new)
+        → Keeps seen may_leave (record { disk = new; slot = j.slot; format = j.format; generation = j.generation; used = used; begun = j.begun; has_failed = failed }) (with_group c payload) draft
+    append_keeps new failed used used_now committed just =
+        let after = after_commit (seen j.disk) (gate + 1) bytes gate in
+        let holds = appended_holds c payload bytes gate gate_there fits_there bytes_are (seen j.disk) holds_seen in
+        let other = appended_other c payload bytes gate gate_there fits_there bytes_are (seen j.disk) holds_seen in
+        let was : j.used ≡ end_of c.groups = keeps.used_is in
+        record {
+          slot_is = keeps.slot_is;
+          format_is = keeps.format_is;
+          generation_is = keeps.generation_is;
+          used_is = omega (arith, end_of-more c.groups payload);
+          begun_is = keeps.begun_is;
+          left = λ image left. subst (λ (l : List ℕ). IsLeft (with_group c payload) draft l) (sym (just image left ∙ committed)) (record {
+            holds = holds;
+            shut = λ is_some is_open. (keeps.left (seen j.disk) stays).shut is_some (same_byte other 4095 (gate_of (other_than c.slot)) (gate_of (other_than c.slot)) (omega arith) refl refl ∙ is_open);
+          });
+          drafted = λ d is.
+              let before = keeps.drafted d is in (
+                subst (λ (l : List ℕ). IsDraft (other_than c.slot) d l) (sym committed) (draft_same (other_than c.slot) d (seen j.disk) after
+                    (same_part other 0 20 (header_of (other_than c.slot)) (header_of (other_than c.slot)) (omega arith) (omega arith) (omega arith))
+                    (same_part other 4096 (length d.bytes) (image_of (other_than c.slot)) (image_of (other_than c.slot)) (let w = before.0.within in omega (arith, image_short d.format d.image_length before.0.length_fits)) refl refl) before.0),
+                before.1,
+              );
+          settled = λ _. just;
+        }

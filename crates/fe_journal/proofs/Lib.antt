@@ -1,0 +1,10 @@
+mod Steps
+mod Bytes
+mod Frames
+mod Spelled
+mod Appends
+mod Buffers
+mod Journals
+mod Slots
+mod Begins
+mod Openings

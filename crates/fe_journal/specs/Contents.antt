@@ -1,0 +1,59 @@
+-- What an image of a device holds: the slot that counts, and what stands in it.
+use Rattle.std.specs.Prelude.{◌≡◌, ◌⊎◌, ◌-◌, ℕ, ◌+◌, ◌<◌, ◌≤◌, List, [], ◌∷◌, ◌++◌, length}
+use Rattle.fe_disk.specs.Disk.{bytes_at}
+use Rattle.fe_journal.specs.Layout.{device_bytes, header_of, gate_of, image_of, area_of, other_than, number_at, IsOpen, magic_of, IsImageLength}
+use Rattle.fe_journal.specs.Groups.{HoldsGroups}
+use Rattle.fe_journal.specs.declared.store_format.Format.{Format}
+
+-- the slot that counts, its format and generation, its image, and the payloads of its open groups
+pub record Contents : Type 0 where
+  pub slot : ℕ
+  pub format : Format
+  pub generation : ℕ
+  pub image : List ℕ
+  pub groups : List (List ℕ)
+
+-- A slot is valid where its magic is that of a format and its gate is open.
+pub record IsValidAs (image : List ℕ) (slot : ℕ) (format : Format) : Type 0 where
+  pub is_open : IsOpen image (gate_of slot)
+  pub magic : number_at image (header_of slot) 8 ≡ magic_of format
+
+abbrev pub generation_at : List ℕ → ℕ → ℕ
+generation_at image slot = number_at image (header_of slot + 8) 8
+
+abbrev pub image_length_at : List ℕ → ℕ → ℕ
+image_length_at image slot = number_at image (header_of slot + 16) 4
+
+-- Of two valid slots the one with the greater generation counts, and of equal ones slot 0, whatever their formats.
+pub record Counts (image : List ℕ) (slot : ℕ) (format : Format) : Type 0 where
+  pub is_slot : slot < 2
+  pub valid : IsValidAs image slot format
+  pub ahead : (f : Format) → IsValidAs image (other_than slot) f
+      → (generation_at image (other_than slot) < generation_at image slot) ⊎ ((generation_at image (other_than slot) ≡ generation_at image slot) × (slot ≡ 0))
+
+-- an image of the device's size holds these contents
+pub record Holds (c : Contents) (image : List ℕ) : Type 0 where
+  pub whole : length image ≡ device_bytes
+  pub counts : Counts image c.slot c.format
+  pub generation_is : generation_at image c.slot ≡ c.generation
+  pub numbered : 1 ≤ c.generation
+  pub length_is : image_length_at image c.slot ≡ length c.image
+  pub length_fits : IsImageLength c.format (length c.image)
+  pub image_is : bytes_at image (image_of c.slot) (length c.image) ≡ c.image
+  pub groups_are : HoldsGroups c.format image (area_of c.slot) 0 c.groups
+
+-- the contents with one group more at the end
+abbrev pub with_group : Contents → List ℕ → Contents
+with_group c payload = record { slot = c.slot; format = c.format; generation = c.generation; image = c.image; groups = c.groups ++ payload ∷ [] }
+
+-- these contents or those
+abbrev pub HoldsEither : Contents → Contents → List ℕ → Type 0
+HoldsEither before after image = Holds before image ⊎ Holds after image
+
+-- an empty state as an image, in both formats: place 0, next array id 1, no arrays, no sessions
+abbrev pub empty_image : List ℕ
+empty_image = 0 ∷ 0 ∷ 0 ∷ 0 ∷ 0 ∷ 0 ∷ 0 ∷ 0 ∷ 0 ∷ 0 ∷ 0 ∷ 0 ∷ 0 ∷ 0 ∷ 0 ∷ 1 ∷ 0 ∷ 0 ∷ 0 ∷ 0 ∷ 0 ∷ 0 ∷ 0 ∷ 0 ∷ []
+
+-- the contents of a store just formatted
+abbrev pub first_contents : Format → Contents
+first_contents format = record { slot = 0; format = format; generation = 1; image = empty_image; groups = [] }

@@ -1,0 +1,31 @@
+-- When an image holds no contents, and what is told of it.
+use Rattle.std.specs.Prelude.{◌≡◌, ◌≢◌, ◌⊎◌, ℕ, ◌+◌, ◌<◌, ◌≤◌, List, length}
+use Rattle.fe_journal.specs.Layout.{device_bytes, header_of, area_of, number_at, IsOpen, IsImageLength}
+use Rattle.fe_journal.specs.Groups.{StandFrom, end_of, Fits}
+use Rattle.fe_journal.specs.Contents.{IsValidAs, Counts, generation_at, image_length_at}
+use Rattle.fe_journal.specs.declared.store_format.Format.{Format}
+use Rattle.fe_journal.specs.declared.fault.StoreFault.{StoreFault}
+use Rattle.fe_journal.specs.declared.fault.StoreFault.TheVariants.{Unformatted, Damaged, Device, NoMemory}
+
+-- a device of another size, or no valid slot
+abbrev pub IsUnformatted : List ℕ → Type 0
+IsUnformatted image = (length image ≢ device_bytes) ⊎ ((slot : ℕ) (format : Format) → slot < 2 → IsValidAs image slot format → ⊥)
+
+-- The first thing wrong in the slot that counts, in this order, and its offset on the device.
+pub data IsDamagedAt (image : List ℕ) (offset : ℕ) : Type 0 where
+  -- generation 0, at its field
+  NoGeneration : (slot : ℕ) (format : Format) → Counts image slot format → generation_at image slot ≡ 0 → offset ≡ header_of slot + 8 → IsDamagedAt image offset
+  -- an image length that the format does not allow, at its field
+  OddImage : (slot : ℕ) (format : Format) → Counts image slot format → 1 ≤ generation_at image slot → (IsImageLength format (image_length_at image slot) → ⊥)
+      → offset ≡ header_of slot + 16 → IsDamagedAt image offset
+  -- behind open groups, an open gate with a length that is not allowed or does not fit, at the gate
+  OddGroup : (slot : ℕ) (format : Format) (groups : List (List ℕ)) → Counts image slot format → 1 ≤ generation_at image slot → IsImageLength format (image_length_at image slot)
+      → StandFrom format image (area_of slot) 0 groups → IsOpen image (area_of slot + end_of groups) → (Fits format (end_of groups) (number_at image (area_of slot + end_of groups + 1) 4) → ⊥)
+      → offset ≡ area_of slot + end_of groups → IsDamagedAt image offset
+
+-- what a fault of opening says of the image that the disk reads; want of memory and faults of the device say nothing
+abbrev pub Tells : StoreFault → List ℕ → Type 0
+Tells Unformatted image = IsUnformatted image
+Tells (Damaged offset) image = IsDamagedAt image offset
+Tells Device image = Unit {0}
+Tells NoMemory image = Unit {0}

@@ -1,0 +1,78 @@
+-- A journal as its callers see it, and how it stands to the images that its disk may leave.
+use Rattle.std.specs.Prelude.{◌≡◌, ◌+◌, ◌-◌, ◌≤◌, ℕ, Bool, List, [], ◌∷◌, ◌++◌, length, Option, Some, None, IsSome}
+use Rattle.fe_disk.specs.Disk.{bytes_at, LeavesJust}
+use Rattle.fe_journal.specs.Layout.{header_of, gate_of, image_of, other_than, number_at, magic_of, IsShut, IsImageLength, IsPayloadLength}
+use Rattle.fe_journal.specs.Groups.{end_of}
+use Rattle.fe_journal.specs.Contents.{Contents, Holds, generation_at, image_length_at}
+use Rattle.fe_journal.specs.declared.store_format.Format.{Format}
+use Rattle.fe_journal.specs.declared.begun.Begun.{Begun}
+
+-- a journal's disk and what it knows of the slot that counts, of the slot begun, and whether its disk has failed
+pub record JournalState (D : Type 0) : Type 0 where
+  pub disk : D
+  pub slot : ℕ
+  pub format : Format
+  pub generation : ℕ
+  pub used : ℕ
+  pub begun : Option Begun
+  pub has_failed : Bool
+
+-- a slot begun and not finished, with the bytes of its image that were written so far
+pub record Draft : Type 0 where
+  pub format : Format
+  pub generation : ℕ
+  pub image_length : ℕ
+  pub bytes : List ℕ
+
+-- how much of a draft the journal itself knows
+abbrev pub begun_of : Option Draft → Option Begun
+begun_of None = None
+begun_of (Some draft) = Some (record { format = draft.format; generation = draft.generation; image_length = draft.image_length; written = length draft.bytes })
+
+-- the slot's fields and the image so far are read there
+pub record IsDraft (slot : ℕ) (draft : Draft) (image : List ℕ) : Type 0 where
+  pub magic : number_at image (header_of slot) 8 ≡ magic_of draft.format
+  pub generation_is : generation_at image slot ≡ draft.generation
+  pub length_is : image_length_at image slot ≡ draft.image_length
+  pub length_fits : IsImageLength draft.format draft.image_length
+  pub bytes_are : bytes_at image (image_of slot) (length draft.bytes) ≡ draft.bytes
+  pub within : length draft.bytes ≤ draft.image_length
+
+-- an image that a stop leaves while the journal stands there: it holds the contents, and the gate of a slot begun is closed
+pub record IsLeft (c : Contents) (draft : Option Draft) (image : List ℕ) : Type 0 where
+  pub holds : Holds c image
+  pub shut : IsSome draft → IsShut image (gate_of (other_than c.slot))
+
+-- The journal knows the slot that counts, and each image that a stop may leave now holds these contents. A slot begun
+-- stands as its draft where the disk is read, and without one all that was written is on the disk.
+pub record Keeps {D : Type 0} (seen : D → List ℕ) (may_leave : D → List ℕ → Type 0) (journal : JournalState D) (c : Contents) (draft : Option Draft) : Type 0 where
+  pub slot_is : journal.slot ≡ c.slot
+  pub format_is : journal.format ≡ c.format
+  pub generation_is : journal.generation ≡ c.generation
+  pub used_is : journal.used ≡ end_of c.groups
+  pub begun_is : journal.begun ≡ begun_of draft
+  pub left : (image : List ℕ) → may_leave journal.disk image → IsLeft c draft image
+  pub drafted : (d : Draft) → draft ≡ Some d → IsDraft (other_than c.slot) d (seen journal.disk) × (d.generation ≡ c.generation + 1)
+  pub settled : draft ≡ None → LeavesJust (seen journal.disk) (may_leave journal.disk)
+
+-- what `slot_close` begins
+abbrev pub new_draft : Format → ℕ → ℕ → Draft
+new_draft format generation image_length = record { format = format; generation = generation; image_length = image_length; bytes = [] }
+
+-- the draft with a slice more
+abbrev pub with_slice : Draft → List ℕ → Draft
+with_slice d slice = record { format = d.format; generation = d.generation; image_length = d.image_length; bytes = d.bytes ++ slice }
+
+-- a catch-up of no bytes is no group
+abbrev pub catch_up_groups : List ℕ → List (List ℕ)
+catch_up_groups [] = []
+catch_up_groups (byte ∷ bytes) = (byte ∷ bytes) ∷ []
+
+-- a catch-up is empty, or a payload
+abbrev pub IsCatchUp : Format → List ℕ → Type 0
+IsCatchUp format [] = Unit {0}
+IsCatchUp format (byte ∷ bytes) = IsPayloadLength format (length (byte ∷ bytes))
+
+-- the contents that a finished draft makes, with the catch-up
+abbrev pub finished : Contents → Draft → List ℕ → Contents
+finished c d catch_up = record { slot = other_than c.slot; format = d.format; generation = d.generation; image = d.bytes; groups = catch_up_groups catch_up }

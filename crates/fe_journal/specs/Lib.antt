@@ -1,0 +1,10 @@
+pub mod Layout
+pub mod Groups
+pub mod Contents
+pub mod Damage
+pub mod Reading
+pub mod Journal
+pub mod Cursor
+pub mod CursorFields
+pub mod Fields
+pub mod Steps

@@ -1,0 +1,65 @@
+-- What the parts of opening read of a store.
+use Rattle.std.specs.Prelude.{◌≡◌, ◌⊎◌, ◌≤◌, ◌<◌, ◌+◌, ◌*◌, ℕ, List, length, Option, Some, None}
+use Rattle.fe_journal.specs.Layout.{number_at, IsOpen, IsShut, magic_of, header_of, IsImageLength}
+use Rattle.fe_journal.specs.Groups.{StandFrom, HoldsGroups, end_of, Fits}
+use Rattle.fe_journal.specs.declared.store_format.Format.{Format}
+use Rattle.fe_journal.specs.declared.header.Header.{Header}
+use Rattle.fe_journal.specs.declared.fault.StoreFault.{StoreFault}
+use Rattle.fe_journal.specs.declared.fault.StoreFault.TheVariants.{Unformatted, Damaged, Device, NoMemory}
+
+-- the format with this magic, if there is one
+abbrev pub IsFormatOf : ℕ → Option Format → Type 0
+IsFormatOf magic None = (magic ≡ 0x46454d454d535431 → ⊥) × (magic ≡ 0x46454d454d535432 → ⊥)
+IsFormatOf magic (Some format) = magic ≡ magic_of format
+
+-- the header that begins at `at` is valid and says this, or it is not valid
+pub record IsHeaderAt (bytes : List ℕ) (at : ℕ) (header : Header) : Type 0 where
+  pub is_open : IsOpen bytes (at + 4095)
+  pub magic : number_at bytes at 8 ≡ magic_of header.format
+  pub generation_is : number_at bytes (at + 8) 8 ≡ header.generation
+  pub length_is : number_at bytes (at + 16) 4 ≡ header.image_length
+
+abbrev pub IsHeader : List ℕ → ℕ → Option Header → Type 0
+IsHeader bytes at None = (format : Format) → IsOpen bytes (at + 4095) → number_at bytes at 8 ≡ magic_of format → ⊥
+IsHeader bytes at (Some header) = IsHeaderAt bytes at header
+
+-- of two headers the one with the greater generation counts, and the first of equal ones
+abbrev pub IsCounting : Option Header → Option Header → Option (ℕ × Header) → Type 0
+IsCounting first second None = (first ≡ None) × (second ≡ None)
+IsCounting first second (Some (slot, header)) =
+    ((slot ≡ 0) × (first ≡ Some header) × ((other : Header) → second ≡ Some other → other.generation ≤ header.generation))
+    ⊎ ((slot ≡ 1) × (second ≡ Some header) × ((other : Header) → first ≡ Some other → other.generation < header.generation))
+
+-- the length behind the gate, where a group with it fits
+abbrev pub IsFitting : Format → List ℕ → ℕ → Option ℕ → Type 0
+IsFitting format bytes at None = Fits format at (number_at bytes (at + 1) 4) → ⊥
+IsFitting format bytes at (Some n) = (n ≡ number_at bytes (at + 1) 4) × Fits format at n
+
+-- groups stand from the area's beginning to `at`
+pub record Reaches (format : Format) (bytes : List ℕ) (at : ℕ) : Type 0 where
+  pub groups : List (List ℕ)
+  pub stand : StandFrom format bytes 0 0 groups
+  pub at_is : at ≡ end_of groups
+
+-- groups stand from the area's beginning to `at`, and behind an open gate there is no group
+pub record IsOddAt (format : Format) (bytes : List ℕ) (at : ℕ) : Type 0 where
+  pub groups : List (List ℕ)
+  pub stand : StandFrom format bytes 0 0 groups
+  pub at_is : at ≡ end_of groups
+  pub is_open : IsOpen bytes at
+  pub odd : Fits format at (number_at bytes (at + 1) 4) → ⊥
+
+-- groups stand from the area's beginning to `at`, where a gate is closed
+pub record EndsAt (format : Format) (bytes : List ℕ) (at : ℕ) : Type 0 where
+  pub groups : List (List ℕ)
+  pub holds : HoldsGroups format bytes 0 0 groups
+  pub at_is : at ≡ end_of groups
+
+-- what is wrong with the header: no generation, or an image length that the format does not allow
+abbrev pub HeaderFault : ℕ → Header → StoreFault → Type 0
+HeaderFault slot header (Damaged offset) =
+    ((header.generation ≡ 0) × (offset ≡ header_of slot + 8))
+    ⊎ ((1 ≤ header.generation) × (IsImageLength header.format header.image_length → ⊥) × (offset ≡ header_of slot + 16))
+HeaderFault slot header Unformatted = ⊥
+HeaderFault slot header Device = ⊥
+HeaderFault slot header NoMemory = ⊥

@@ -1,0 +1,68 @@
+-- What single steps of the journal do to a disk, byte by byte.
+use Rattle.std.specs.Prelude.{◌≡◌, ◌⊎◌, ◌≤◌, ℕ, ◌+◌, List, [], ◌∷◌, ◌++◌, length}
+use Rattle.byteorder.specs.Endian.{big_bytes}
+use Rattle.fe_disk.specs.Disk.{IsTorn, AddsNone, LeavesOnly, bytes_at, after_write}
+use Rattle.fe_journal.specs.Layout.{magic_of, IsOpen, IsShut, header_of, gate_of, image_of, area_of}
+use Rattle.fe_journal.specs.Groups.{behind_gate}
+use Rattle.fe_journal.specs.Contents.{empty_image}
+use Rattle.fe_journal.specs.declared.store_format.Format.{Format}
+use Rattle.fe_journal.specs.declared.fault.StoreFault.{StoreFault}
+use Rattle.fe_journal.specs.declared.fault.StoreFault.TheVariants.{Unformatted, Device, NoMemory}
+
+-- the spelling of a header's fields
+abbrev pub header_fields : Format → ℕ → ℕ → List ℕ
+header_fields format generation image_length = big_bytes 8 (magic_of format) ++ (big_bytes 8 generation ++ big_bytes 4 image_length)
+
+-- how a new journal area begins: with the catch-up as an open group, or with a closed gate where there is none
+abbrev pub area_start : List ℕ → List ℕ
+area_start [] = 0 ∷ []
+area_start (byte ∷ bytes) = 1 ∷ behind_gate (byte ∷ bytes)
+
+-- the disk was only read: nothing is read otherwise, and no stop leaves what could not be left before
+pub record OnlyReads {D : Type 0} (seen : D → List ℕ) (may_leave : D → List ℕ → Type 0) (moment : D → ℕ) (left_since : D → ℕ → List ℕ → Type 0) (old new : D) : Type 0 where
+  pub same : seen new ≡ seen old
+  pub adds_none : AddsNone (may_leave old) (may_leave new)
+  pub run : LeavesOnly moment left_since old new (may_leave old)
+
+-- the image that a whole commit leaves: the bytes, and the gate open
+abbrev pub after_commit : List ℕ → ℕ → List ℕ → ℕ → List ℕ
+after_commit seen at bytes gate = after_write (after_write seen at bytes) gate (1 ∷ [])
+
+-- What a stop leaves of a commit: an image from before it with the bytes torn, or all of the bytes with the gate torn.
+abbrev pub IsLeftInCommit : (List ℕ → Type 0) → List ℕ → ℕ → List ℕ → ℕ → List ℕ → Type 0
+IsLeftInCommit before seen at bytes gate image =
+    ((was : List ℕ) × before was × IsTorn at (length bytes) was image) ⊎ IsTorn gate 1 (after_write seen at bytes) image
+
+-- what a stop leaves while an open gate is closed: only the gate is other than it was, and it is not open where it was closed
+pub record IsLeftInShutting (seen : List ℕ) (gate : ℕ) (image : List ℕ) : Type 0 where
+  pub torn : IsTorn gate 1 seen image
+  pub opens_none : IsOpen image gate → IsOpen seen gate
+
+-- the slot's header may have changed, and its gate is closed
+pub record IsHeaderTorn (seen : List ℕ) (slot : ℕ) (image : List ℕ) : Type 0 where
+  pub torn : IsTorn (header_of slot) 4096 seen image
+  pub shut : IsShut image (gate_of slot)
+
+-- what a stop leaves while a slot is begun: its gate is closed first, and then its header is written
+abbrev pub IsLeftInBeginning : List ℕ → ℕ → List ℕ → Type 0
+IsLeftInBeginning seen slot image = IsLeftInShutting seen (gate_of slot) image ⊎ IsHeaderTorn seen slot image
+
+-- the slot's gate is closed, and its header has these fields
+pub record IsBegun (seen : List ℕ) (slot : ℕ) (fields : List ℕ) (image : List ℕ) : Type 0 where
+  pub header : IsHeaderTorn seen slot image
+  pub fields_are : bytes_at image (header_of slot) (length fields) ≡ fields
+
+-- both header gates are closed
+pub record IsCleared (image : List ℕ) : Type 0 where
+  pub first : IsShut image (gate_of 0)
+  pub second : IsShut image (gate_of 1)
+
+-- so they are, and the first slot has a header with generation 1 and the empty image
+pub record IsFirst (format : Format) (image : List ℕ) : Type 0 where
+  pub cleared : IsCleared image
+  pub fields_are : bytes_at image (header_of 0) 20 ≡ header_fields format 1 24
+  pub image_is : bytes_at image (image_of 0) 24 ≡ empty_image
+
+-- what may come of formatting
+abbrev pub IsFormatFault : StoreFault → Type 0
+IsFormatFault fault = (fault ≡ Unformatted) ⊎ ((fault ≡ Device) ⊎ (fault ≡ NoMemory))

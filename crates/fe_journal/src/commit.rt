@@ -1,0 +1,59 @@
+// The two orders of writing on which all crash promises rest.
+ghost use Rattle.std.specs.Prelude.{◌≡◌, ◌↔◌, ◌+◌, ◌≤◌, length, IsErr, OnOk};
+ghost use Rattle.fe_disk.specs.Disk.{IsTorn, LeavesJust, LeavesOnly, Rises};
+ghost use Rattle.fe_journal.specs.Layout.{IsShut};
+ghost use Rattle.fe_journal.specs.Steps.{after_commit, IsLeftInCommit, IsLeftInShutting};
+
+use fe_disk::{DeviceFault, Disk};
+
+/// Writes the bytes, and opens the gate once they are on the disk. Four device calls.
+pub fn commit<D: Disk>(
+    disk: &mut D,
+    at: usize,
+    bytes: &[u8],
+    gate: usize,
+) -> Result<(), DeviceFault>
+    requires fits { at + length bytes.now ≤ D.size disk.old }
+    requires gate_fits { gate + 1 ≤ D.size disk.old }
+
+    // A stop leaves the bytes torn, and, only once all of them are on the disk, the gate torn.
+    ensures any_moment { D.honest disk.old → LeavesOnly D.moment D.left_since disk.old disk.new (IsLeftInCommit (D.may_leave disk.old) (D.seen disk.old) at bytes.now gate) }
+    ensures committed { D.honest disk.old → OnOk result (D.seen disk.new ≡ after_commit (D.seen disk.old) at bytes.now gate) }
+    ensures durable { D.honest disk.old → OnOk result (LeavesJust (D.seen disk.new) (D.may_leave disk.new)) }
+
+    ensures fault { IsErr result ↔ Rises (D.failures disk.old) (D.failures disk.new) }
+    ensures still { OnOk result (D.failures disk.new ≡ D.failures disk.old) }
+    ensures honesty { D.honest disk.new ↔ D.honest disk.old }
+    ensures size { D.size disk.new ≡ D.size disk.old }
+{
+    disk.write_at(at, bytes)?;
+    disk.sync()?;
+    disk.write_at(gate, &[1])?;
+    disk.sync()
+}
+
+/// Closes the gate where it is open, and leaves a closed one as it is: a torn write over a closed
+/// gate could open it. A read, and two device calls where it is open.
+pub fn shut<D: Disk>(disk: &mut D, gate: usize) -> Result<(), DeviceFault>
+    requires gate_fits { gate + 1 ≤ D.size disk.old }
+
+    // From a disk on which all that was written is synced.
+    ensures any_moment { D.honest disk.old → LeavesJust (D.seen disk.old) (D.may_leave disk.old) → LeavesOnly D.moment D.left_since disk.old disk.new (IsLeftInShutting (D.seen disk.old) gate) }
+    ensures settled { D.honest disk.old → LeavesJust (D.seen disk.old) (D.may_leave disk.old) → OnOk result (LeavesJust (D.seen disk.new) (D.may_leave disk.new)) }
+
+    ensures closed { D.honest disk.old → OnOk result (IsShut (D.seen disk.new) gate) }
+    ensures torn { D.honest disk.old → IsTorn gate 1 (D.seen disk.old) (D.seen disk.new) }
+
+    ensures fault { IsErr result ↔ Rises (D.failures disk.old) (D.failures disk.new) }
+    ensures still { OnOk result (D.failures disk.new ≡ D.failures disk.old) }
+    ensures honesty { D.honest disk.new ↔ D.honest disk.old }
+    ensures size { D.size disk.new ≡ D.size disk.old }
+{
+    let mut byte = [0];
+    disk.read_at(gate, &mut byte)?;
+    if byte[0] != 1 {
+        return Ok(());
+    }
+    disk.write_at(gate, &[0])?;
+    disk.sync()
+}

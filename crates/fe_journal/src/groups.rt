@@ -1,0 +1,76 @@
+ghost use Rattle.std.specs.Prelude.{◌≡◌, ◌+◌, ◌<◌, ◌≤◌, ℕ, List, [], ◌∷◌, length, IsNone, IfSome, IsSomeAnd};
+ghost use Rattle.fe_journal.specs.Cursor.{Lists};
+
+use byteorder::{BigEndian, ByteOrder};
+use std::marker::Model;
+
+/// The open groups of a store, read one after the other out of the bytes of its journal area.
+#[derive(Drop)]
+pub struct Groups {
+    bytes: Vec<u8>,
+    start: usize,
+    at: usize,
+}
+
+impl Model for Groups {
+    ghost use Rattle.fe_journal.specs.Cursor.{Cursor};
+
+    ghost Value = { Cursor };
+
+    ghost use Rattle.fe_journal.specs.CursorFields.{cursor_of, IsCursor};
+
+    ghost view = { cursor_of };
+
+    ghost invariant = { IsCursor };
+}
+
+impl Groups {
+    // From the first group of a journal area on, which begins at `start` of the device.
+    pub(crate) fn new(bytes: Vec<u8>, start: usize) -> Groups
+        requires start { start < 4202496 }
+        requires area { length bytes.items ≡ 1048576 }
+        ensures { result ≡ record { bytes = bytes.items; start = start; at = 0 } }
+    {
+        Groups {
+            bytes,
+            start,
+            at: 0,
+        }
+    }
+
+    /// The payload of the next group, if there is one.
+    pub fn payload(&self) -> Option<&[u8]>
+        ensures next { (payload : List ℕ) (rest : List (List ℕ)) → Lists self.now (payload ∷ rest) → IsSomeAnd result (λ p. p.now ≡ payload) }
+        ensures none { Lists self.now [] → IsNone result }
+        ensures within { IfSome result (λ p. self.now.at + (5 + length p.now) ≤ 1048576) }
+    {
+        if self.at >= self.bytes.len() - 5 || self.bytes[self.at] != 1 {
+            return None;
+        }
+        let length = BigEndian::read_u32(&self.bytes[self.at + 1..]) as usize;
+        let begin = self.at + 5;
+        if length > self.bytes.len() - begin {
+            return None;
+        }
+        Some(&self.bytes[begin..begin + length])
+    }
+
+    /// Where the payload of the next group begins on the device, in bytes.
+    pub fn offset(&self) -> usize
+        ensures { result ≡ self.now.start + self.now.at + 5 }
+    {
+        self.start + self.at + 5
+    }
+
+    /// Goes on behind the next group, where there is one.
+    pub fn skip(&mut self)
+        ensures at { (payload : List ℕ) (rest : List (List ℕ)) → Lists self.old (payload ∷ rest) → self.new ≡ record self.old { at = self.old.at + (5 + length payload) } }
+        ensures rest { (payload : List ℕ) (rest : List (List ℕ)) → Lists self.old (payload ∷ rest) → Lists self.new rest }
+    {
+        let length = match self.payload() {
+            None => return,
+            Some(payload) => payload.len(),
+        };
+        self.at += 5 + length;
+    }
+}

@@ -1,0 +1,289 @@
+ghost use Rattle.std.specs.Prelude.{◌≡◌, ◌↔◌, ◌⊎◌, ◌+◌, ◌-◌, ◌≤◌, ◌<◌, ◌^◌, ℕ, [], ◌∷◌, ◌++◌, List, length, Option, Some, None, false, true, vec_len, IsTrue, IsSome, IfSome, OnOk, OnErr, IsErrOf};
+ghost use Rattle.std.specs.Option.{ForSome};
+ghost use Rattle.fe_disk.specs.Disk.{LeavesOnly, Rises};
+ghost use Rattle.fe_journal.specs.Layout.{device_bytes, area_bytes, other_than, IsPayloadLength, IsImageLength};
+ghost use Rattle.fe_journal.specs.Groups.{room_at, end_of};
+ghost use Rattle.fe_journal.specs.Contents.{Contents, HoldsEither, Holds, with_group};
+ghost use Rattle.fe_journal.specs.Journal.{Draft, Keeps, new_draft, with_slice, IsCatchUp, catch_up_groups, finished};
+ghost use Rattle.fe_journal.specs.declared.fault.JournalFault.TheVariants.{Device, Failed};
+
+use crate::begun::Begun;
+use crate::commit::commit;
+use crate::layout::{area_of, gate_of, image_of};
+use crate::slot::begin_slot;
+use crate::spelling::{put_area_start, put_group};
+use crate::{Format, JournalFault};
+use fe_disk::Disk;
+use std::marker::Model;
+
+/// The journal of an opened store: groups are appended behind the image of the slot that counts, and
+/// the other slot is made ready in pieces, to take its place.
+///
+/// After a fault of the device each call answers `Failed` and makes no device call; what stands is
+/// found by opening the store again. No call takes memory.
+#[derive(Drop)]
+pub struct Journal<D: Disk> {
+    disk: D,
+    buffer: Vec<u8>,
+    slot: usize,
+    format: Format,
+    generation: u64,
+    used: usize,
+    begun: Option<Begun>,
+    has_failed: bool,
+}
+
+impl<D: Disk> Model for Journal<D> {
+    ghost use Rattle.fe_journal.specs.Journal.{JournalState};
+
+    ghost Value = { JournalState D };
+
+    ghost use Rattle.fe_journal.specs.Fields.{state_of, IsJournal};
+
+    ghost view = { state_of };
+
+    ghost invariant = { IsJournal D.size };
+}
+
+impl<D: Disk> Journal<D> {
+    // A journal that stands behind the groups of an opened or new store.
+    pub(crate) fn opened(
+        disk: D,
+        buffer: Vec<u8>,
+        slot: usize,
+        format: Format,
+        generation: u64,
+        used: usize,
+    ) -> Journal<D>
+        requires device { D.size disk ≡ device_bytes }
+        requires buffer { vec_len buffer ≡ area_bytes }
+        requires is_slot { slot < 2 }
+        requires within { used < area_bytes }
+        ensures { result ≡ record { disk = disk; slot = slot; format = format; generation = generation; used = used; begun = None; has_failed = false } }
+    {
+        Journal {
+            disk,
+            buffer,
+            slot,
+            format,
+            generation,
+            used,
+            begun: None,
+            has_failed: false,
+        }
+    }
+
+    /// The offset in the journal area of the closed gate behind the groups.
+    pub fn used(&self) -> u32
+        ensures { result ≡ self.now.used }
+    {
+        self.used as u32
+    }
+
+    /// The longest payload, in bytes, that `append_group` has room for now.
+    pub fn room(&self) -> u32
+        ensures { result ≡ room_at self.now.used }
+    {
+        1_048_570u32.saturating_sub(self.used as u32)
+    }
+
+    /// The format of the slot that counts, in which groups are appended.
+    pub fn format(&self) -> Format
+        ensures { result ≡ self.now.format }
+    {
+        self.format
+    }
+
+    /// The generation of the slot that counts.
+    pub fn generation(&self) -> u64
+        ensures { result ≡ self.now.generation }
+    {
+        self.generation
+    }
+
+    /// The slot that was begun and is not finished.
+    pub fn begun(&self) -> Option<Begun>
+        ensures { result ≡ self.now.begun }
+    {
+        self.begun
+    }
+
+    /// The disk, as the calls of the journal left it.
+    pub fn into_disk(self) -> D
+        ensures { result ≡ self.disk }
+    {
+        let Journal { disk, .. } = self;
+        disk
+    }
+
+    /// Appends a group with this payload behind the others: four device calls (`docs/store.md`).
+    pub fn append_group(&mut self, payload: &[u8]) -> Result<(), JournalFault>
+        requires allowed { IsPayloadLength self.old.format (length payload.now) }
+        requires fits { length payload.now ≤ room_at self.old.used }
+
+        // A stop at any moment of the call leaves the contents of before, or those with the new group at the end.
+        ensures any_moment { D.honest self.old.disk → (c : Contents) (draft : Option Draft) → Keeps D.seen D.may_leave self.old c draft
+            → LeavesOnly D.moment D.left_since self.old.disk self.new.disk (HoldsEither c (with_group c payload.now)) }
+        ensures appended { D.honest self.old.disk → (c : Contents) (draft : Option Draft) → Keeps D.seen D.may_leave self.old c draft
+            → OnOk result (Keeps D.seen D.may_leave self.new (with_group c payload.now) draft) }
+
+        ensures value { OnOk result (self.new ≡ record self.old { disk = self.new.disk; used = self.old.used + (5 + length payload.now) }) }
+        ensures device { self.old.has_failed ≡ false → (IsErrOf result Device ↔ Rises (D.failures self.old.disk) (D.failures self.new.disk)) }
+        ensures failed { IsErrOf result Failed ↔ IsTrue self.old.has_failed }
+        ensures untouched { IsErrOf result Failed → self.new ≡ self.old }
+        ensures err { OnErr result (self.new ≡ record self.old { disk = self.new.disk; has_failed = true }) }
+        ensures honesty { D.honest self.new.disk ↔ D.honest self.old.disk }
+    {
+        if self.has_failed {
+            return Err(JournalFault::Failed);
+        }
+        let count = put_group(&mut self.buffer, payload);
+        let gate = area_of(self.slot) + self.used;
+        let outcome = commit(&mut self.disk, gate + 1, &self.buffer[1..count], gate);
+        if outcome.is_err() {
+            self.has_failed = true;
+            return Err(JournalFault::Device);
+        }
+        self.used += 5 + payload.len();
+        Ok(())
+    }
+
+    /// Begins the slot that does not count: closes its gate, if that is open, and writes its header's
+    /// fields. At most three device calls beside a read.
+    pub fn slot_close(
+        &mut self,
+        format: Format,
+        generation: u64,
+        image_length: usize,
+    ) -> Result<(), JournalFault>
+        requires none_begun { self.old.begun ≡ None }
+        requires next { generation ≡ self.old.generation + 1 }
+        requires allowed { IsImageLength format image_length }
+
+        // A stop at any moment of the call leaves the contents of before.
+        ensures any_moment { D.honest self.old.disk → (c : Contents) → Keeps D.seen D.may_leave self.old c None
+            → LeavesOnly D.moment D.left_since self.old.disk self.new.disk (Holds c) }
+        ensures closed { D.honest self.old.disk → (c : Contents) → Keeps D.seen D.may_leave self.old c None
+            → OnOk result (Keeps D.seen D.may_leave self.new c (Some (new_draft format generation image_length))) }
+
+        ensures value { OnOk result (self.new ≡ record self.old {
+          disk = self.new.disk;
+          begun = Some (record { format = format; generation = generation; image_length = image_length; written = 0 });
+        }) }
+        ensures device { self.old.has_failed ≡ false → (IsErrOf result Device ↔ Rises (D.failures self.old.disk) (D.failures self.new.disk)) }
+        ensures failed { IsErrOf result Failed ↔ IsTrue self.old.has_failed }
+        ensures untouched { IsErrOf result Failed → self.new ≡ self.old }
+        ensures err { OnErr result (self.new ≡ record self.old { disk = self.new.disk; has_failed = true }) }
+        ensures honesty { D.honest self.new.disk ↔ D.honest self.old.disk }
+    {
+        if self.has_failed {
+            return Err(JournalFault::Failed);
+        }
+        let slot = 1 - self.slot;
+        let outcome = begin_slot(&mut self.disk, slot, format, generation, image_length);
+        if outcome.is_err() {
+            self.has_failed = true;
+            return Err(JournalFault::Device);
+        }
+        self.begun = Some(Begun {
+            format,
+            generation,
+            image_length,
+            written: 0,
+        });
+        Ok(())
+    }
+
+    /// Writes the next slice of the image of the slot begun. One device call.
+    pub fn slot_write(&mut self, slice: &[u8]) -> Result<(), JournalFault>
+        requires begun { ForSome self.old.begun (λ b. b.written + length slice.now ≤ b.image_length) }
+        requires has_begun { IsSome self.old.begun }
+        requires short { length slice.now ≤ 65536 }
+
+        // A stop at any moment of the call leaves the contents of before.
+        ensures any_moment { D.honest self.old.disk → (c : Contents) (d : Draft) → Keeps D.seen D.may_leave self.old c (Some d)
+            → LeavesOnly D.moment D.left_since self.old.disk self.new.disk (Holds c) }
+        ensures written { D.honest self.old.disk → (c : Contents) (d : Draft) → Keeps D.seen D.may_leave self.old c (Some d)
+            → OnOk result (Keeps D.seen D.may_leave self.new c (Some (with_slice d slice.now))) }
+
+        ensures value { OnOk result (IfSome self.old.begun (λ b. self.new ≡ record self.old {
+          disk = self.new.disk;
+          begun = Some (record b { written = b.written + length slice.now });
+        })) }
+        ensures device { self.old.has_failed ≡ false → (IsErrOf result Device ↔ Rises (D.failures self.old.disk) (D.failures self.new.disk)) }
+        ensures failed { IsErrOf result Failed ↔ IsTrue self.old.has_failed }
+        ensures untouched { IsErrOf result Failed → self.new ≡ self.old }
+        ensures err { OnErr result (self.new ≡ record self.old { disk = self.new.disk; has_failed = true }) }
+        ensures honesty { D.honest self.new.disk ↔ D.honest self.old.disk }
+    {
+        if self.has_failed {
+            return Err(JournalFault::Failed);
+        }
+        let Some(begun) = self.begun else {
+            unreachable!()
+        };
+        let at = image_of(1 - self.slot) + begun.written;
+        let outcome = self.disk.write_at(at, slice);
+        if outcome.is_err() {
+            self.has_failed = true;
+            return Err(JournalFault::Device);
+        }
+        self.begun = Some(Begun {
+            written: begun.written + slice.len(),
+            ..begun
+        });
+        Ok(())
+    }
+
+    /// Finishes the slot begun, whose image is whole: what came since its beginning goes into its
+    /// journal area as one group, and its gate is opened. From then on it counts. Four device calls.
+    pub fn slot_finish(&mut self, catch_up: &[u8]) -> Result<(), JournalFault>
+        requires begun { ForSome self.old.begun (λ b. (b.written ≡ b.image_length) × IsCatchUp b.format catch_up.now) }
+        requires has_begun { IsSome self.old.begun }
+
+        // A stop at any moment of the call leaves the contents of before or those of the new slot.
+        ensures any_moment { D.honest self.old.disk → (c : Contents) (d : Draft) → Keeps D.seen D.may_leave self.old c (Some d)
+            → LeavesOnly D.moment D.left_since self.old.disk self.new.disk (HoldsEither c (finished c d catch_up.now)) }
+        ensures finished { D.honest self.old.disk → (c : Contents) (d : Draft) → Keeps D.seen D.may_leave self.old c (Some d)
+            → OnOk result (Keeps D.seen D.may_leave self.new (finished c d catch_up.now) None) }
+
+        ensures value { OnOk result (IfSome self.old.begun (λ b. self.new ≡ record self.old {
+          disk = self.new.disk;
+          slot = other_than self.old.slot;
+          format = b.format;
+          generation = b.generation;
+          used = end_of (catch_up_groups catch_up.now);
+          begun = None;
+        })) }
+        ensures device { self.old.has_failed ≡ false → (IsErrOf result Device ↔ Rises (D.failures self.old.disk) (D.failures self.new.disk)) }
+        ensures failed { IsErrOf result Failed ↔ IsTrue self.old.has_failed }
+        ensures untouched { IsErrOf result Failed → self.new ≡ self.old }
+        ensures err { OnErr result (self.new ≡ record self.old { disk = self.new.disk; has_failed = true }) }
+        ensures honesty { D.honest self.new.disk ↔ D.honest self.old.disk }
+    {
+        if self.has_failed {
+            return Err(JournalFault::Failed);
+        }
+        let Some(begun) = self.begun else {
+            unreachable!()
+        };
+        let slot = 1 - self.slot;
+        let count = put_area_start(&mut self.buffer, catch_up);
+        let outcome = commit(
+            &mut self.disk,
+            area_of(slot),
+            &self.buffer[..count],
+            gate_of(slot),
+        );
+        if outcome.is_err() {
+            self.has_failed = true;
+            return Err(JournalFault::Device);
+        }
+        self.slot = slot;
+        self.format = begun.format;
+        self.generation = begun.generation;
+        self.used = count - 1;
+        self.begun = None;
+        Ok(())
+    }
+}

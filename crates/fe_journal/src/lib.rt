@@ -1,0 +1,23 @@
+//! The journal of a store: two slots on a device, each with an image and the groups behind it.
+//!
+//! It knows bytes, gates, generations and lengths, and nothing of what a payload or an image says
+//! (`docs/store.md`).
+#![tactic(auto)]
+
+mod begun;
+mod commit;
+mod fault;
+mod groups;
+mod header;
+mod journal;
+mod layout;
+mod scan;
+mod slot;
+mod spelling;
+mod store_format;
+
+pub use begun::Begun;
+pub use fault::{JournalFault, StoreFault};
+pub use groups::Groups;
+pub use journal::Journal;
+pub use store_format::Format;

@@ -1,0 +1,43 @@
+// The lengths of all groups of a journal area.
+ghost use Rattle.std.specs.Prelude.{◌≡◌, ◌<◌, length, Option, Some, None, IfOk, IfErr};
+ghost use Rattle.fe_journal.specs.Reading.{IsFitting, IsOddAt, EndsAt};
+
+use crate::Format;
+use crate::layout::AREA_BYTES;
+use byteorder::{BigEndian, ByteOrder};
+
+/// Where the closed gate behind the open groups stands in the area. `Err` tells the first open gate
+/// with a length behind it that is not allowed or does not fit.
+pub fn scan(area: &[u8], format: Format) -> Result<usize, usize>
+    requires { length area.now ≡ 1048576 }
+    ensures ends { IfOk result (EndsAt format area.now) }
+    ensures within { IfOk result (λ at. at < 1048576) }
+    ensures odd { IfErr result (IsOddAt format area.now) }
+    ensures odd_within { IfErr result (λ at. at < 1048576) }
+{
+    let mut at = 0;
+    while area[at] == 1 {
+        let Some(payload) = payload_length(area, at, format) else {
+            return Err(at);
+        };
+        at += 5 + payload;
+    }
+    Ok(at)
+}
+
+// The length behind an open gate, where it is allowed and fits with a gate behind it.
+fn payload_length(area: &[u8], at: usize, format: Format) -> Option<usize>
+    requires area { length area.now ≡ 1048576 }
+    requires within { at < 1048576 }
+    ensures { IsFitting format area.now at result }
+{
+    if AREA_BYTES - at < 6 {
+        return None;
+    }
+    let payload = BigEndian::read_u32(&area[at + 1..]) as usize;
+    if payload <= AREA_BYTES - at - 6 && format.allows_payload(payload) {
+        Some(payload)
+    } else {
+        None
+    }
+}

@@ -1,0 +1,38 @@
+// The beginning of a slot that does not count.
+ghost use Rattle.std.specs.Prelude.{◌≡◌, ◌≢◌, ◌⊎◌, ◌↔◌, ◌+◌, ◌≤◌, ◌<◌, ◌^◌, ℕ, List, length, IsErr, OnOk};
+ghost use Rattle.fe_disk.specs.Disk.{LeavesJust, LeavesOnly, Rises};
+ghost use Rattle.fe_journal.specs.Layout.{device_bytes};
+ghost use Rattle.fe_journal.specs.Steps.{header_fields, IsHeaderTorn, IsLeftInBeginning, IsBegun};
+
+use crate::Format;
+use crate::commit::shut;
+use crate::layout::{gate_of, header_of};
+use crate::spelling::header_fields;
+use fe_disk::{DeviceFault, Disk};
+
+/// Closes the slot's gate, if it is open, and then writes the header's fields.
+pub fn begin_slot<D: Disk>(
+    disk: &mut D,
+    slot: usize,
+    format: Format,
+    generation: u64,
+    image_length: usize,
+) -> Result<(), DeviceFault>
+    requires is_slot { slot < 2 }
+    requires device { D.size disk.old ≡ device_bytes }
+    requires short { image_length < 2 ^ 32 }
+
+    // From a disk on which all that was written is synced.
+    ensures any_moment { D.honest disk.old → LeavesJust (D.seen disk.old) (D.may_leave disk.old) → LeavesOnly D.moment D.left_since disk.old disk.new (IsLeftInBeginning (D.seen disk.old) slot) }
+    ensures begun { D.honest disk.old → OnOk result (IsBegun (D.seen disk.old) slot (header_fields format generation image_length) (D.seen disk.new)) }
+    ensures left { D.honest disk.old → LeavesJust (D.seen disk.old) (D.may_leave disk.old) → OnOk result ((image : List ℕ) → D.may_leave disk.new image → IsHeaderTorn (D.seen disk.old) slot image) }
+
+    ensures fault { IsErr result ↔ Rises (D.failures disk.old) (D.failures disk.new) }
+    ensures still { OnOk result (D.failures disk.new ≡ D.failures disk.old) }
+    ensures honesty { D.honest disk.new ↔ D.honest disk.old }
+    ensures size { D.size disk.new ≡ D.size disk.old }
+{
+    shut(disk, gate_of(slot))?;
+    let fields = header_fields(format, generation, image_length);
+    disk.write_at(header_of(slot), &fields)
+}

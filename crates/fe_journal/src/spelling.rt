@@ -1,0 +1,71 @@
+// What goes onto the device, as bytes.
+ghost use Rattle.std.specs.Prelude.{◌≡◌, ◌+◌, ◌≤◌, ◌<◌, ◌^◌, ◌∷◌, ◌++◌, length, take};
+ghost use Rattle.byteorder.specs.Endian.{big_bytes};
+ghost use Rattle.fe_disk.specs.Disk.{after_write};
+ghost use Rattle.fe_journal.specs.Groups.{behind_gate};
+ghost use Rattle.fe_journal.specs.Steps.{header_fields, area_start};
+
+use crate::Format;
+use byteorder::{BigEndian, ByteOrder};
+
+/// A header's fields: magic, generation and image length.
+pub fn header_fields(format: Format, generation: u64, image_length: usize) -> [u8; 20]
+    requires { image_length < 2 ^ 32 }
+    ensures { result ≡ header_fields format generation image_length }
+{
+    let mut fields = [0; 20];
+    BigEndian::write_u64(&mut fields, format.magic());
+    BigEndian::write_u64(&mut fields[8..], generation);
+    BigEndian::write_u32(&mut fields[16..], image_length as u32);
+    fields
+}
+
+// The open gate of a group and the length of its payload.
+fn group_head(length: usize) -> [u8; 5]
+    requires { length < 2 ^ 32 }
+    ensures { result ≡ 1 ∷ big_bytes 4 length }
+{
+    let mut head = [1; 5];
+    BigEndian::write_u32(&mut head[1..], length as u32);
+    head
+}
+
+// Writes a piece over the bytes from `at` on.
+fn replace(buffer: &mut [u8], at: usize, piece: &[u8])
+    requires { at + length piece.now ≤ length buffer.old }
+    ensures { buffer.new ≡ after_write buffer.old at piece.now }
+{
+    buffer[at..at + piece.len()].copy_from_slice(piece);
+}
+
+/// Puts an open gate, the payload's length, the payload and a closed gate into the buffer, and tells
+/// how many bytes they are.
+pub fn put_group(buffer: &mut [u8], payload: &[u8]) -> usize
+    requires room { 6 + length payload.now ≤ length buffer.old }
+    requires short { length payload.now < 2 ^ 32 }
+    ensures size { result ≡ 6 + length payload.now }
+    ensures bytes { take (6 + length payload.now) buffer.new ≡ 1 ∷ behind_gate payload.now }
+    ensures same { length buffer.new ≡ length buffer.old }
+{
+    let end = 5 + payload.len();
+    replace(buffer, 0, &group_head(payload.len()));
+    replace(buffer, 5, payload);
+    replace(buffer, end, &[0]);
+    end + 1
+}
+
+/// Puts the beginning of a new journal area into the buffer: the catch-up as a group, or a closed
+/// gate where there is none. Tells how many bytes it is.
+pub fn put_area_start(buffer: &mut [u8], catch_up: &[u8]) -> usize
+    requires room { 6 + length catch_up.now ≤ length buffer.old }
+    requires short { length catch_up.now < 2 ^ 32 }
+    ensures within { result ≤ length buffer.old }
+    ensures bytes { take result buffer.new ≡ area_start catch_up.now }
+    ensures same { length buffer.new ≡ length buffer.old }
+{
+    if catch_up.is_empty() {
+        buffer[0] = 0;
+        return 1;
+    }
+    put_group(buffer, catch_up)
+}
