@@ -51,14 +51,14 @@ fn found<D: Disk + Drop>(alloc: Global, disk: D) -> Option<(u64, usize, usize)> 
 
 #[test]
 fn stop_in_append(rt: HostRuntime) -> Result<(), Fail> {
-    for calls in [3u64] {
+    for calls in 0..5 {
         let journal = new_store(rt.alloc(), Format::Two).expect(&rt, "formatted");
         let fuse = Fuse::new(journal.into_disk(), calls + 5);
         let store = find(rt.alloc(), fuse).ok().expect(&rt, "found");
         let mut journal = store.journal;
         assert_eq!(rt; journal.append_group(&ONE).is_ok(), calls == 4, "after {calls}");
         let disk = journal.into_disk().into_inner();
-        for torn in [Torn::Lost, Torn::Byte(0x01)] {
+        for torn in TORN {
             let left = disk.stopped(torn)?;
             let (generation, image, total) = found(rt.alloc(), left).expect(&rt, "found again");
             assert!(rt; generation == 1 && image == 24);
@@ -70,7 +70,7 @@ fn stop_in_append(rt: HostRuntime) -> Result<(), Fail> {
 
 #[test]
 fn stop_in_slots(rt: HostRuntime) -> Result<(), Fail> {
-    for calls in [7u64] {
+    for calls in 0..9 {
         let journal = new_store(rt.alloc(), Format::One).expect(&rt, "formatted");
         let fuse = Fuse::new(journal.into_disk(), calls + 5);
         let store = find(rt.alloc(), fuse).ok().expect(&rt, "found");
@@ -81,7 +81,7 @@ fn stop_in_slots(rt: HostRuntime) -> Result<(), Fail> {
         let done = journal.slot_finish(&TWO).is_ok();
         assert_eq!(rt; done, calls == 8, "after {calls}");
         let disk = journal.into_disk().into_inner();
-        for torn in [Torn::Lost, Torn::Byte(0x01)] {
+        for torn in TORN {
             let left = disk.stopped(torn)?;
             let (generation, image, total) = found(rt.alloc(), left).expect(&rt, "found again");
             let is_old = generation == 1 && image == 24 && total == 0;
