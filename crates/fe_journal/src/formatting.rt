@@ -7,6 +7,7 @@ ghost use Rattle.fe_journal.specs.Steps.{IsCleared, IsFirst, IsFormatFault};
 ghost use Rattle.fe_journal.specs.declared.store_format.Format.TheVariants.{Two};
 ghost use Rattle.fe_journal.specs.declared.fault.StoreFault.TheVariants.{Unformatted, Device};
 
+use crate::buffer::buffer_of;
 use crate::commit::commit;
 use crate::layout::{AREA_BYTES, DEVICE_BYTES, area_of, gate_of, header_of, image_of};
 use crate::spelling::header_fields;
@@ -72,7 +73,7 @@ fn write_store<D: Disk>(alloc: Global, format: Format, disk: &mut D) -> Result<V
     if disk.size() != DEVICE_BYTES {
         return Err(StoreFault::Unformatted);
     }
-    let buffer = vec![in alloc; 0; AREA_BYTES]?;
+    let buffer = buffer_of(alloc, AREA_BYTES)?;
     shut_both(disk)?;
     write_first(disk, format)?;
     commit(disk, area_of(0), &[0], gate_of(0))?;

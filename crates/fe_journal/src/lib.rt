@@ -5,6 +5,7 @@
 #![tactic(auto)]
 
 mod begun;
+mod buffer;
 mod commit;
 mod fault;
 mod groups;
