@@ -1,9 +1,10 @@
 -- What is read of a store just formatted.
-use Rattle.std.proofs.Common.{◌≡◌, ◌≢◌, ◌⊎◌, ℕ, ◌+◌, ◌-◌, ◌*◌, ◌<◌, ◌≤◌, ◌^◌, List, [], ◌∷◌, ◌++◌, length, get_or, inl, inr, sym, ◌∙◌, ap, subst, refl, arith}
-use Rattle.fe_disk.specs.Disk.{IsTorn, bytes_at, after_write}
+use Rattle.std.proofs.Common.{◌≡◌, ◌≢◌, ◌⊎◌, ℕ, ◌+◌, ◌-◌, ◌*◌, ◌<◌, ◌≤◌, ◌^◌, List, [], ◌∷◌, ◌++◌, length, get_or, Option, None, false, inl, inr, sym, ◌∙◌, ap, subst, refl, arith}
+use Rattle.fe_disk.specs.Disk.{IsTorn, LeavesJust, bytes_at, after_write}
 use Rattle.fe_disk.proofs.Images.{length-after_write, IsTorn-after_write, bytes_at-after_write, bytes_at_elsewhere}
 use Rattle.fe_journal.specs.Layout.{header_of, gate_of, image_of, area_of, number_at, IsOpen, IsShut, IsImageLength}
 use Rattle.fe_journal.specs.Contents.{Contents, IsValidAs, Counts, Holds, empty_image, first_contents}
+use Rattle.fe_journal.specs.Journal.{JournalState, IsLeft, Keeps}
 use Rattle.fe_journal.specs.Steps.{header_fields, after_commit, IsCleared, IsFirst}
 use Rattle.fe_journal.specs.declared.store_format.Format.{Format}
 use Rattle.fe_journal.specs.declared.store_format.Format.TheVariants.{One, Two}
@@ -81,8 +82,8 @@ module _ (format : Format) (seen : List ℕ) (area gate : ℕ) (whole : length s
   second : IsShut last (gate_of 1)
   second = λ one. first.cleared.second (sym (torn.above (gate_of 1) (omega arith)) ∙ sym (again.above (gate_of 1) (omega arith)) ∙ one)
 
-  pub first_holds : Holds (first_contents format) last
-  first_holds = record {
+  holds : Holds (first_contents format) last
+  holds = record {
     whole = again.whole ∙ torn.whole ∙ whole;
     counts = record {
       is_slot = omega arith;
@@ -96,3 +97,23 @@ module _ (format : Format) (seen : List ℕ) (area gate : ℕ) (whole : length s
     image_is = bytes_at_elsewhere gate 1 staged last again (image_of 0) 24 (inr (omega arith)) ∙ bytes_at_elsewhere area 1 seen staged torn (image_of 0) 24 (inl (omega arith)) ∙ first.image_is;
     groups_are = record { stand = tt; ended = ended };
   }
+
+  pub first_holds : (new : List ℕ) → new ≡ last → Holds (first_contents format) new
+  first_holds new is = subst (λ (l : List ℕ). Holds (first_contents format) l) (sym is) holds
+
+-- the journal of a new store
+pub first_keeps : {D : Type 0} (seen : D → List ℕ) (may_leave : D → List ℕ → Type 0) (journal : JournalState D) (disk : D) (format : Format)
+    → journal ≡ record { disk = disk; slot = 0; format = format; generation = 1; used = 0; begun = None; has_failed = false }
+    → Holds (first_contents format) (seen disk) → LeavesJust (seen disk) (may_leave disk) → Keeps seen may_leave journal (first_contents format) None
+first_keeps {D} seen may_leave journal disk format journal_is holds just =
+    subst (λ (j : JournalState D). Keeps seen may_leave j (first_contents format) None) (sym journal_is)
+    (record {
+      slot_is = refl;
+      format_is = refl;
+      generation_is = refl;
+      used_is = refl;
+      begun_is = refl;
+      left = λ image left. record { holds = subst (λ (l : List ℕ). Holds (first_contents format) l) (sym (just image left)) holds; shut = λ is. cc };
+      drafted = λ e is. cc;
+      settled = λ _. just;
+    })
