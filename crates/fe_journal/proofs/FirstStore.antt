@@ -1,14 +1,14 @@
 -- What is read of a store just formatted.
-use Rattle.std.proofs.Common.{◌≡◌, ◌≢◌, ◌⊎◌, ℕ, ◌+◌, ◌-◌, ◌*◌, ◌<◌, ◌≤◌, ◌^◌, List, [], ◌∷◌, ◌++◌, length, get_or, Option, None, false, inl, inr, sym, ◌∙◌, ap, subst, refl, arith}
+use Rattle.std.proofs.Common.{◌≡◌, ℕ, ◌+◌, ◌≤◌, List, [], ◌∷◌, length, get_or, None, false, inl, inr, sym, ◌∙◌, ap, subst, refl, arith}
 use Rattle.fe_disk.specs.Disk.{IsTorn, LeavesJust, bytes_at, after_write}
-use Rattle.fe_disk.proofs.Images.{length-after_write, IsTorn-after_write, bytes_at-after_write, bytes_at_elsewhere}
-use Rattle.fe_journal.specs.Layout.{header_of, gate_of, image_of, area_of, number_at, IsOpen, IsShut, IsImageLength}
-use Rattle.fe_journal.specs.Contents.{Contents, IsValidAs, Counts, Holds, empty_image, first_contents}
-use Rattle.fe_journal.specs.Journal.{JournalState, IsLeft, Keeps}
+use Rattle.fe_disk.proofs.Images.{IsTorn-after_write, bytes_at-after_write, bytes_at_elsewhere}
+use Rattle.fe_journal.specs.Layout.{header_of, gate_of, image_of, area_of, IsOpen, IsShut, IsImageLength}
+use Rattle.fe_journal.specs.Contents.{Holds, empty_image, first_contents}
+use Rattle.fe_journal.specs.Journal.{JournalState, Keeps}
 use Rattle.fe_journal.specs.Steps.{header_fields, after_commit, IsCleared, IsFirst}
 use Rattle.fe_journal.specs.declared.store_format.Format.{Format}
 use Rattle.fe_journal.specs.declared.store_format.Format.TheVariants.{One, Two}
-use Rattle.fe_journal.proofs.Bytes.{SameBytes, same_back, same_through, same_byte, torn_same, written_same, known_same}
+use Rattle.fe_journal.proofs.Bytes.{same_back, same_through, same_byte, torn_same, written_same, known_same}
 use Rattle.fe_journal.proofs.Spelled.{HasFields, fields_spelled, length-header_fields}
 
 -- the header and the empty image, written behind closed gates

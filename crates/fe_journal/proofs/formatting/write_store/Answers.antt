@@ -1,5 +1,4 @@
-use Rattle.std.proofs.Common.{◌≡◌, ℕ, [], ◌∷◌, length, sym, ◌∙◌, subst, List}
-use Rattle.fe_journal.specs.Contents.{Holds, first_contents}
+use Rattle.std.proofs.Common.{◌≡◌, length, sym, ◌∙◌}
 use Rattle.fe_journal.proofs.FirstStore.{first_holds}
 use Rattle.fe_journal.proofs.formatting.write_store.Goals as goal
 
