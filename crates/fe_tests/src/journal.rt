@@ -7,6 +7,7 @@ use std::test::Fail;
 const TORN: [Torn; 4] = [Torn::Kept, Torn::Lost, Torn::Byte(0x01), Torn::Byte(0x37)];
 
 const ONE: [u8; 80] = [7; 80];
+
 const TWO: [u8; 160] = [9; 160];
 
 fn new_store(alloc: Global, format: Format) -> Option<Journal<MemoryDisk>> {
@@ -16,21 +17,49 @@ fn new_store(alloc: Global, format: Format) -> Option<Journal<MemoryDisk>> {
 
 #[test]
 fn bytes_of_one_record(rt: HostRuntime) -> Result<(), Fail> {
-    for (format, length, head, last) in [
-        (Format::One, 64usize, [1, 0, 0, 0, 0x40], 1_052_741usize),
-        (Format::Two, 80, [1, 0, 0, 0, 0x50], 1_052_757),
+    for (format, length, head, next_gate, room) in [
+        (
+            Format::One,
+            64usize,
+            [1, 0, 0, 0, 0x40],
+            1_052_741usize,
+            1_048_501,
+        ),
+        (Format::Two, 80, [1, 0, 0, 0, 0x50], 1_052_757, 1_048_485),
     ] {
         let mut journal = new_store(rt.alloc(), format).expect(&rt, "formatted");
         assert_eq!(rt; journal.room(), 1_048_570);
         assert!(rt; journal.append_group(&ONE[..length]).is_ok());
-        assert_eq!(rt; journal.room() as usize, 1_048_570 - 5 - length);
+        assert_eq!(rt; journal.room(), room);
         let mut disk = journal.into_disk();
-        let mut bytes = [3; 86];
+        let mut bytes = [3; 85];
         assert!(rt; disk.read_at(1_052_672, &mut bytes).is_ok());
         assert_eq!(rt; &bytes[..5] == head.as_slice(), true);
         assert_eq!(rt; &bytes[5..5 + length] == &ONE[..length], true);
-        assert_eq!(rt; bytes[5 + length], 0);
-        assert_eq!(rt; last, 1_052_672 + 5 + length);
+        let mut gate = [3];
+        assert!(rt; disk.read_at(next_gate, &mut gate).is_ok());
+        assert_eq!(rt; gate[0], 0);
+    }
+    Ok(())
+}
+
+#[test]
+fn bytes_of_new_store(rt: HostRuntime) -> Result<(), Fail> {
+    for (format, magic) in [(Format::One, "FEMEMST1"), (Format::Two, "FEMEMST2")] {
+        let journal = new_store(rt.alloc(), format).expect(&rt, "formatted");
+        let mut disk = journal.into_disk();
+        let mut fields = [3; 20];
+        assert!(rt; disk.read_at(0, &mut fields).is_ok());
+        assert_eq!(rt; &fields[..8] == magic.as_bytes(), true);
+        assert_eq!(rt;
+            &fields[8..] == [0, 0, 0, 0, 0, 0, 0, 1, 0, 0, 0, 24].as_slice(),
+            true
+        );
+        for (gate, byte) in [(4_095usize, 1u8), (1_052_672, 0), (2_105_343, 0)] {
+            let mut bytes = [3];
+            assert!(rt; disk.read_at(gate, &mut bytes).is_ok());
+            assert_eq!(rt; bytes[0], byte, "at {gate}");
+        }
     }
     Ok(())
 }
@@ -56,13 +85,20 @@ fn stop_in_append(rt: HostRuntime) -> Result<(), Fail> {
         let fuse = Fuse::new(journal.into_disk(), calls + 5);
         let store = find(rt.alloc(), fuse).ok().expect(&rt, "found");
         let mut journal = store.journal;
-        assert_eq!(rt; journal.append_group(&ONE).is_ok(), calls == 4, "after {calls}");
+        assert_eq!(rt;
+            journal.append_group(&ONE).is_ok(),
+            calls == 4,
+            "after {calls}"
+        );
         let disk = journal.into_disk().into_inner();
         for torn in TORN {
             let left = disk.stopped(torn)?;
             let (generation, image, total) = found(rt.alloc(), left).expect(&rt, "found again");
             assert!(rt; generation == 1 && image == 24);
-            assert!(rt; total == 0 && calls < 4 || total == 80 && calls > 2, "after {calls}");
+            assert!(rt;
+                total == 0 && calls < 4 || total == 80 && calls > 2,
+                "after {calls}"
+            );
         }
     }
     Ok(())

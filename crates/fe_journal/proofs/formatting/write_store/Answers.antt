@@ -4,7 +4,6 @@ use Rattle.fe_journal.proofs.formatting.write_store.Goals as goal
 
 pub returns-clause-holds : goal.returns-clause-holds
 returns-clause-holds g c = λ honest.
-    let cleared = c.shut_both.new.disk in
     let first = c.write_first.new.disk in
     let honest_1 = c.shut_both.ensures.honesty.1 honest in
     let honest_2 = c.write_first.ensures.honesty.1 honest_1 in
