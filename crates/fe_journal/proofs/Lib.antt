@@ -2,6 +2,7 @@ mod Steps
 mod Bytes
 mod Frames
 mod Spelled
+mod FirstStore
 mod Appends
 mod Buffers
 mod Journals

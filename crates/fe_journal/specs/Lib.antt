@@ -4,6 +4,8 @@ pub mod Contents
 pub mod Damage
 pub mod Reading
 pub mod Journal
+pub mod Store
+pub mod Found
 pub mod Cursor
 pub mod CursorFields
 pub mod Fields

@@ -5,19 +5,25 @@
 #![tactic(auto)]
 
 mod begun;
+mod buffer;
 mod commit;
 mod fault;
+mod formatting;
 mod groups;
 mod header;
 mod journal;
 mod layout;
+mod opening;
 mod scan;
 mod slot;
 mod spelling;
+mod store;
 mod store_format;
 
 pub use begun::Begun;
 pub use fault::{JournalFault, StoreFault};
+pub use formatting::{format, format_in};
 pub use groups::Groups;
 pub use journal::Journal;
+pub use opening::{Found, find};
 pub use store_format::Format;

@@ -1,0 +1,39 @@
+-- What opening has read of a store, part by part.
+use Rattle.std.specs.Prelude.{◌≡◌, ◌<◌, ◌≤◌, ◌+◌, ℕ, List, length, Option, Some, None, vec_len}
+use Rattle.fe_disk.specs.Disk.{bytes_at}
+use Rattle.fe_journal.specs.Layout.{area_of, image_of, area_bytes, IsImageLength}
+use Rattle.fe_journal.specs.Contents.{Contents, Holds, IsValidAs, Counts, generation_at, image_length_at}
+use Rattle.fe_journal.specs.Groups.{end_of}
+use Rattle.fe_journal.specs.Reading.{EndsAt}
+use Rattle.fe_journal.specs.declared.store_format.Format.{Format}
+use Rattle.fe_journal.specs.declared.header.Header.{Header}
+use Rattle.fe_journal.specs.declared.store.Store.{Store}
+use Rattle.fe_journal.specs.declared.store.Parts.{Parts}
+
+-- the slot that counts and what its header says, or that no slot is valid
+abbrev pub CountsAs : List ℕ → Option (ℕ × Header) → Type 0
+CountsAs image None = (slot : ℕ) (format : Format) → slot < 2 → IsValidAs image slot format → ⊥
+CountsAs image (Some (slot, header)) = Counts image slot header.format × (generation_at image slot ≡ header.generation) × (image_length_at image slot ≡ header.image_length)
+
+-- the slot's journal area, whose groups end there, and its image
+pub record IsSlotRead (image : List ℕ) (slot : ℕ) (header : Header) (parts : Parts) : Type 0 where
+  pub area_is : parts.area.items ≡ bytes_at image (area_of slot) area_bytes
+  pub ends : EndsAt header.format parts.area.items parts.used
+  pub image_is : parts.image.items ≡ bytes_at image (image_of slot) header.image_length
+
+-- the sizes of what was read, whatever the disk said
+pub record AreParts (parts : Parts) : Type 0 where
+  pub area_whole : vec_len parts.area ≡ area_bytes
+  pub within : parts.used < area_bytes
+
+-- all of it: a slot that counts and is not damaged, and its parts
+pub record IsStore (image : List ℕ) (store : Store) : Type 0 where
+  pub counts : CountsAs image (Some (store.slot, store.header))
+  pub numbered : 1 ≤ store.header.generation
+  pub length_fits : IsImageLength store.header.format store.header.image_length
+  pub read : IsSlotRead image store.slot store.header store.parts
+
+pub record IsWhole (store : Store) : Type 0 where
+  pub is_slot : store.slot < 2
+  pub buffer_whole : vec_len store.buffer ≡ area_bytes
+  pub parts_whole : AreParts store.parts

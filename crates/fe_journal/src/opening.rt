@@ -1,0 +1,77 @@
+ghost use Rattle.std.specs.Prelude.{◌≡◌, ◌⊎◌, ◌↔◌, IfOk, IfErr, OnOk};
+ghost use Rattle.fe_disk.specs.Disk.{LeavesJust, Rises};
+ghost use Rattle.fe_journal.specs.Contents.{Contents, Holds};
+ghost use Rattle.fe_journal.specs.Damage.{Tells};
+ghost use Rattle.fe_journal.specs.Layout.{device_bytes};
+ghost use Rattle.fe_journal.specs.Steps.{OnlyReads};
+ghost use Rattle.fe_journal.specs.Store.{IsStore, IsWhole};
+ghost use Rattle.fe_journal.specs.Found.{IsFound, disk_after};
+ghost use Rattle.fe_journal.specs.declared.fault.StoreFault.TheVariants.{Device, NoMemory};
+
+use crate::layout::area_of;
+use crate::store::{Store, read_store};
+use crate::{Groups, Journal, StoreFault};
+use fe_disk::Disk;
+use std::alloc::Global;
+
+/// An opened store: the journal behind its groups, the bytes of its image, and its groups from the
+/// first on.
+#[derive(Drop)]
+pub struct Found<D: Disk> {
+    pub journal: Journal<D>,
+    pub image: Vec<u8>,
+    pub groups: Groups,
+}
+
+/// Opens a store: a sync, and then only reads. It takes some three megabytes, of which the journal
+/// keeps one.
+///
+/// What is told of a damaged store is the first thing wrong in the slot that counts: its generation,
+/// its image's length, the lengths of its groups (`docs/formats.md`, "Device").
+pub fn find<D: Disk>(alloc: Global, disk: D) -> Result<Found<D>, (StoreFault, D)>
+    ensures found { D.honest disk → IfOk result (IsFound D.seen D.may_leave (D.seen disk)) }
+    ensures refused { D.honest disk → IfErr result (λ e. Tells e.0 (D.seen disk)) }
+
+    // A store that holds contents is refused only for its device or for memory.
+    ensures holds { D.honest disk → (c : Contents) → Holds c (D.seen disk) → IfErr result (λ e. (e.0 ≡ Device) ⊎ (e.0 ≡ NoMemory)) }
+
+    // No stop leaves what could not be left before, and what is read stays the same.
+    ensures reads { D.honest disk → OnlyReads D.seen D.may_leave D.moment D.left_since disk (disk_after result) }
+
+    ensures device { IfErr result (λ e. (e.0 ≡ Device) ↔ Rises (D.failures disk) (D.failures e.1)) }
+    ensures still { IfOk result (λ found. D.failures found.journal.disk ≡ D.failures disk) }
+    ensures honesty { D.honest (disk_after result) ↔ D.honest disk }
+{
+    let mut disk = disk;
+    match read_store(alloc, &mut disk) {
+        Err(fault) => Err((fault, disk)),
+        Ok(store) => Ok(found_in(store, disk)),
+    }
+}
+
+fn found_in<D: Disk>(store: Store, disk: D) -> Found<D>
+    requires device { D.size disk ≡ device_bytes }
+    requires whole { IsWhole store }
+    ensures disk { result.journal.disk ≡ disk }
+    ensures found { IsStore (D.seen disk) store → LeavesJust (D.seen disk) (D.may_leave disk) → IsFound D.seen D.may_leave (D.seen disk) result }
+{
+    let Store {
+        buffer,
+        slot,
+        header,
+        parts,
+    } = store;
+    let journal = Journal::opened(
+        disk,
+        buffer,
+        slot,
+        header.format,
+        header.generation,
+        parts.used,
+    );
+    Found {
+        journal,
+        image: parts.image,
+        groups: Groups::new(parts.area, area_of(slot)),
+    }
+}
