@@ -8,3 +8,4 @@ mod Journals
 mod Slots
 mod Begins
 mod Openings
+mod Readings
