@@ -1,4 +1,5 @@
 use Rattle.std.proofs.Common.{◌≡◌, ◌↔◌, ℕ, ◌+◌, ◌-◌, ◌≤◌, min, List, length, take, Option, length-take, sym, ◌∙◌, ap, subst, refl, arith}
+use Rattle.std.proofs.lemmas.Result.{err_from_is_err_and}
 use Rattle.fe_journal.specs.Layout.{header_of}
 use Rattle.fe_journal.specs.Reading.{IsHeader}
 use Rattle.fe_journal.specs.declared.header.Header.{Header}
@@ -9,7 +10,7 @@ pub read_header-requires-2-clause-header : goal.read_header-requires-2-clause-he
 read_header-requires-2-clause-header g c = omega (arith, c.read_header.ensures.same, length-take 4096 c.args.buffer.now, c.requires.room)
 
 pub returns-in_err-first-clause-fault : goal.returns-in_err-first-clause-fault
-returns-in_err-first-clause-fault g c = let rises = c.in_err-first.ensures.fault in rw c.from_residual.ensures (λ _. rises.0 refl, λ _. refl)
+returns-in_err-first-clause-fault g c = let rises = c.in_err-first.ensures.fault in let p = err_from_is_err_and c.from_residual.result c.from_residual.ensures.1 in rw p.1 (λ _. rises.0 refl, λ _. refl)
 
 pub returns-clause-counts : goal.returns-clause-counts
 returns-clause-counts g c = λ honest.
