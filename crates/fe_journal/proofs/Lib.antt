@@ -9,3 +9,4 @@ mod Slots
 mod Begins
 mod Openings
 mod Readings
+mod Founds
