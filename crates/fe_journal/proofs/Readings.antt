@@ -1,5 +1,5 @@
 -- What opening reads of the slots of a store.
-use Rattle.std.proofs.Common.{◌≡◌, ◌≢◌, ◌⊎◌, ℕ, ◌+◌, ◌-◌, ◌*◌, ◌<◌, ◌≤◌, List, length, get_or, Option, Some, None, inl, inr, ⊎_elim, sym, ◌∙◌, ap, subst, refl, arith}
+use Rattle.std.proofs.Common.{◌≡◌, ◌≢◌, ◌⊎◌, ℕ, ◌+◌, ◌-◌, ◌*◌, ◌<◌, ◌≤◌, List, length, get_or, Option, Some, None, Result, Ok, Err, inl, inr, ⊎_elim, sym, ◌∙◌, ap, subst, refl, arith}
 use Rattle.std.proofs.lemmas.Bool.{cases_lt}
 use Rattle.fe_disk.specs.Disk.{LeavesOnly, bytes_at}
 use Rattle.fe_disk.proofs.Moments.{joined, weaker}
@@ -127,3 +127,10 @@ module _ (image : List ℕ) where
   pub nothing_told : (fault : StoreFault) → (fault ≡ Device) ⊎ (fault ≡ NoMemory) → Tells fault image
   nothing_told fault (inl is) = subst (λ (f : StoreFault). Tells f image) (sym is) tt
   nothing_told fault (inr is) = subst (λ (f : StoreFault). Tells f image) (sym is) tt
+
+-- a fault that is handed on
+pub same_fault : {T : Type 0} (r : Result T StoreFault) (given fault : StoreFault) → r ≡ Err given → given ≡ fault → r ≡ Err Device → fault ≡ Device
+same_fault r given fault is same device = cc
+
+pub fault_back : {T U : Type 0} (r : Result T StoreFault) (given fault : StoreFault) → r ≡ Err given → given ≡ fault → ◌≡◌ {A = Result U StoreFault} (Err fault) (Err Device) → r ≡ Err Device
+fault_back r given fault is same device = let there : fault ≡ Device = cc in cc
