@@ -1,7 +1,7 @@
 -- What opening reads of the slots of a store.
-use Rattle.std.proofs.Common.{◌≡◌, ◌≢◌, ◌⊎◌, ℕ, ◌+◌, ◌-◌, ◌*◌, ◌<◌, ◌≤◌, List, length, get_or, Option, Some, None, Result, Ok, Err, inl, inr, ⊎_elim, sym, ◌∙◌, ap, subst, refl, arith}
+use Rattle.std.proofs.Common.{◌≡◌, ◌≢◌, ◌⊎◌, ◌↔◌, OnOk, ℕ, ◌+◌, ◌-◌, ◌*◌, ◌<◌, ◌≤◌, List, length, get_or, Option, Some, None, Result, Ok, Err, inl, inr, ⊎_elim, sym, ◌∙◌, ap, subst, refl, arith}
 use Rattle.std.proofs.lemmas.Bool.{cases_lt}
-use Rattle.fe_disk.specs.Disk.{LeavesOnly, bytes_at}
+use Rattle.fe_disk.specs.Disk.{LeavesOnly, Rises, bytes_at}
 use Rattle.fe_disk.proofs.Moments.{joined, weaker}
 use Rattle.fe_journal.specs.Layout.{header_of, area_of, area_bytes, device_bytes, number_at, IsOpen, IsShut, magic_of, IsImageLength}
 use Rattle.fe_journal.specs.Groups.{StandFrom, Fits, end_of}
@@ -134,3 +134,20 @@ same_fault r given fault is same device = cc
 
 pub fault_back : {T U : Type 0} (r : Result T StoreFault) (given fault : StoreFault) → r ≡ Err given → given ≡ fault → ◌≡◌ {A = Result U StoreFault} (Err fault) (Err Device) → r ≡ Err Device
 fault_back r given fault is same device = let there : fault ≡ Device = cc in cc
+
+-- faults of the device are counted, from a call on after which the count stands as before
+pub counted : {T : Type 0} (r : Result T StoreFault) (before since now : ℕ) → since ≡ before → (Rises before since → ⊥) → (r ≡ Err Device → Rises since now) → ((r ≡ Err Device → ⊥) → now ≡ since) → (r ≡ Err Device) ↔ Rises before now
+counted (Ok x) before since now stood none fault still =
+    (λ e. absurd (cc), λ rises. absurd (none (subst (λ (n : ℕ). Rises before n) (still (λ e. cc)) rises)))
+counted (Err Device) before since now stood none fault still =
+    (λ e. subst (λ (n : ℕ). Rises n now) stood (fault e), λ _. refl)
+counted (Err Unformatted) before since now stood none fault still =
+    (λ e. absurd (cc), λ rises. absurd (none (subst (λ (n : ℕ). Rises before n) (still (λ e. cc)) rises)))
+counted (Err (Damaged offset)) before since now stood none fault still =
+    (λ e. absurd (cc), λ rises. absurd (none (subst (λ (n : ℕ). Rises before n) (still (λ e. cc)) rises)))
+counted (Err NoMemory) before since now stood none fault still =
+    (λ e. absurd (cc), λ rises. absurd (none (subst (λ (n : ℕ). Rises before n) (still (λ e. cc)) rises)))
+
+pub still_after : {T : Type 0} (r : Result T StoreFault) (before since now : ℕ) → since ≡ before → ((r ≡ Err Device → ⊥) → now ≡ since) → OnOk r (now ≡ before)
+still_after (Ok x) before since now stood still = still (λ e. cc) ∙ stood
+still_after (Err fault) before since now stood still = tt
