@@ -9,3 +9,5 @@ mod Journals
 mod Slots
 mod Begins
 mod Openings
+mod Readings
+mod Founds

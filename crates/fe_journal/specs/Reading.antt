@@ -1,6 +1,6 @@
 -- What the parts of opening read of a store.
 use Rattle.std.specs.Prelude.{◌≡◌, ◌⊎◌, ◌≤◌, ◌<◌, ◌+◌, ◌*◌, ℕ, List, length, Option, Some, None}
-use Rattle.fe_journal.specs.Layout.{number_at, IsOpen, IsShut, magic_of, header_of, IsImageLength}
+use Rattle.fe_journal.specs.Layout.{number_at, IsOpen, IsShut, magic_of, header_of, area_of, area_bytes, IsImageLength}
 use Rattle.fe_journal.specs.Groups.{StandFrom, HoldsGroups, end_of, Fits}
 use Rattle.fe_journal.specs.declared.store_format.Format.{Format}
 use Rattle.fe_journal.specs.declared.header.Header.{Header}
@@ -63,3 +63,10 @@ HeaderFault slot header (Damaged offset) =
 HeaderFault slot header Unformatted = ⊥
 HeaderFault slot header Device = ⊥
 HeaderFault slot header NoMemory = ⊥
+
+-- what is wrong with the groups of the slot's journal area
+abbrev pub GroupFault : ℕ → Format → List ℕ → StoreFault → Type 0
+GroupFault slot format area (Damaged offset) = (at : ℕ) × (at < area_bytes) × IsOddAt format area at × (offset ≡ area_of slot + at)
+GroupFault slot format area Unformatted = ⊥
+GroupFault slot format area Device = ⊥
+GroupFault slot format area NoMemory = ⊥

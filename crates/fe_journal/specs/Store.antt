@@ -21,6 +21,10 @@ pub record IsSlotRead (image : List ℕ) (slot : ℕ) (header : Header) (parts :
   pub ends : EndsAt header.format parts.area.items parts.used
   pub image_is : parts.image.items ≡ bytes_at image (image_of slot) header.image_length
 
+-- a slot, and a header that allows it to be read
+abbrev pub IsSound : ℕ × Header → Type 0
+IsSound (slot, header) = (slot < 2) × (1 ≤ header.generation) × IsImageLength header.format header.image_length
+
 -- the sizes of what was read, whatever the disk said
 pub record AreParts (parts : Parts) : Type 0 where
   pub area_whole : vec_len parts.area ≡ area_bytes

@@ -53,7 +53,7 @@ fn found_in<D: Disk>(store: Store, disk: D) -> Found<D>
     requires device { D.size disk ≡ device_bytes }
     requires whole { IsWhole store }
     ensures disk { result.journal.disk ≡ disk }
-    ensures found { IsStore (D.seen disk) store → LeavesJust (D.seen disk) (D.may_leave disk) → IsFound D.seen D.may_leave (D.seen disk) result }
+    ensures found { D.honest disk → IsStore (D.seen disk) store → LeavesJust (D.seen disk) (D.may_leave disk) → IsFound D.seen D.may_leave (D.seen disk) result }
 {
     let Store {
         buffer,

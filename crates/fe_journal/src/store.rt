@@ -1,14 +1,14 @@
 // A store as it is read from its device.
-ghost use Rattle.std.specs.Prelude.{◌≡◌, ◌↔◌, ◌≤◌, ◌<◌, length, Some, IfSome, IfOk, IfErr, IsErr, IsErrOf, OnOk};
-ghost use Rattle.fe_disk.specs.Disk.{LeavesJust, Rises};
+ghost use Rattle.std.specs.Prelude.{◌≡◌, ◌⊎◌, ◌↔◌, ◌+◌, ◌≤◌, ◌<◌, length, Some, IfSome, IfOk, IfErr, IsErr, IsErrOf, OnOk, vec_len};
+ghost use Rattle.fe_disk.specs.Disk.{LeavesJust, Rises, bytes_at};
 ghost use Rattle.fe_journal.specs.Layout.{device_bytes, header_of, IsImageLength};
 ghost use Rattle.fe_journal.specs.Damage.{Tells};
-ghost use Rattle.fe_journal.specs.Reading.{IsHeader, HeaderFault};
+ghost use Rattle.fe_journal.specs.Reading.{IsHeader, HeaderFault, GroupFault, EndsAt};
 ghost use Rattle.fe_journal.specs.Steps.{OnlyReads};
-ghost use Rattle.fe_journal.specs.Store.{CountsAs, IsSlotRead, AreParts, IsStore, IsWhole};
-ghost use Rattle.fe_journal.specs.declared.fault.StoreFault.TheVariants.{Device};
+ghost use Rattle.fe_journal.specs.Store.{CountsAs, IsSlotRead, AreParts, IsSound, IsStore, IsWhole};
+ghost use Rattle.fe_journal.specs.declared.fault.StoreFault.TheVariants.{Device, NoMemory};
 
-use crate::StoreFault;
+use crate::{Format, StoreFault};
 use crate::header::{Header, counting, header_in};
 use crate::layout::{AREA_BYTES, DEVICE_BYTES, HEADER_BYTES, area_of, header_of, image_of};
 use crate::scan::scan;
@@ -42,17 +42,31 @@ pub fn read_store<D: Disk>(alloc: Global, disk: &mut D) -> Result<Store, StoreFa
     ensures whole { IfOk result IsWhole }
     ensures device { OnOk result (D.size disk.new ≡ device_bytes) }
     ensures fault { IsErrOf result Device ↔ Rises (D.failures disk.old) (D.failures disk.new) }
+    ensures still { OnOk result (D.failures disk.new ≡ D.failures disk.old) }
     ensures honesty { D.honest disk.new ↔ D.honest disk.old }
 {
     disk.sync()?;
     if disk.size() != DEVICE_BYTES {
         return Err(StoreFault::Unformatted);
     }
+    read_synced(alloc, disk)
+}
+
+// The store on a device of its size.
+fn read_synced<D: Disk>(alloc: Global, disk: &mut D) -> Result<Store, StoreFault>
+    requires device { D.size disk.old ≡ device_bytes }
+    ensures store { D.honest disk.old → IfOk result (IsStore (D.seen disk.old)) }
+    ensures faults { D.honest disk.old → IfErr result (λ fault. Tells fault (D.seen disk.old)) }
+    ensures whole { IfOk result IsWhole }
+    ensures reads { D.honest disk.old → OnlyReads D.seen D.may_leave D.moment D.left_since disk.old disk.new }
+
+    ensures fault { IsErrOf result Device → Rises (D.failures disk.old) (D.failures disk.new) }
+    ensures still { (IsErrOf result Device → ⊥) → D.failures disk.new ≡ D.failures disk.old }
+    ensures honesty { D.honest disk.new ↔ D.honest disk.old }
+    ensures size { D.size disk.new ≡ D.size disk.old }
+{
     let mut buffer = vec![in alloc; 0; AREA_BYTES]?;
-    let Some((slot, header)) = read_counting(disk, &mut buffer)? else {
-        return Err(StoreFault::Unformatted);
-    };
-    check_header(slot, &header)?;
+    let (slot, header) = read_sound(disk, &mut buffer)?;
     let parts = read_slot(alloc, disk, slot, &header)?;
     Ok(Store {
         buffer,
@@ -60,6 +74,31 @@ pub fn read_store<D: Disk>(alloc: Global, disk: &mut D) -> Result<Store, StoreFa
         header,
         parts,
     })
+}
+
+// The slot that counts, and its header, which was tested.
+fn read_sound<D: Disk>(
+    disk: &mut D,
+    buffer: &mut [u8],
+) -> Result<(usize, Header), StoreFault>
+    requires device { D.size disk.old ≡ device_bytes }
+    requires room { 4096 ≤ length buffer.old }
+    ensures counts { D.honest disk.old → IfOk result (λ found. CountsAs (D.seen disk.old) (Some found)) }
+    ensures sound { IfOk result IsSound }
+    ensures faults { D.honest disk.old → IfErr result (λ fault. Tells fault (D.seen disk.old)) }
+    ensures reads { D.honest disk.old → OnlyReads D.seen D.may_leave D.moment D.left_since disk.old disk.new }
+
+    ensures fault { IsErrOf result Device → Rises (D.failures disk.old) (D.failures disk.new) }
+    ensures still { (IsErrOf result Device → ⊥) → D.failures disk.new ≡ D.failures disk.old }
+    ensures honesty { D.honest disk.new ↔ D.honest disk.old }
+    ensures size { D.size disk.new ≡ D.size disk.old }
+    ensures same { length buffer.new ≡ length buffer.old }
+{
+    let Some((slot, header)) = read_counting(disk, buffer)? else {
+        return Err(StoreFault::Unformatted);
+    };
+    check_header(slot, &header)?;
+    Ok((slot, header))
 }
 
 // The header of a slot, where the slot is valid.
@@ -78,6 +117,7 @@ fn read_header<D: Disk>(
     ensures still { OnOk result (D.failures disk.new ≡ D.failures disk.old) }
     ensures honesty { D.honest disk.new ↔ D.honest disk.old }
     ensures size { D.size disk.new ≡ D.size disk.old }
+    ensures same { length bytes.new ≡ length bytes.old }
 {
     disk.read_at(header_of(slot), bytes)?;
     Ok(header_in(bytes))
@@ -100,8 +140,9 @@ fn read_counting<D: Disk>(
     ensures size { D.size disk.new ≡ D.size disk.old }
     ensures same { length buffer.new ≡ length buffer.old }
 {
-    let first = read_header(disk, 0, &mut buffer[..HEADER_BYTES])?;
-    let second = read_header(disk, 1, &mut buffer[..HEADER_BYTES])?;
+    let bytes = &mut buffer[..HEADER_BYTES];
+    let first = read_header(disk, 0, bytes)?;
+    let second = read_header(disk, 1, bytes)?;
     Ok(counting(first, second))
 }
 
@@ -124,7 +165,46 @@ fn check_header(slot: usize, header: &Header) -> Result<(), StoreFault>
     Ok(())
 }
 
-// The journal area, of which the lengths of all groups are tested, and the image.
+// So many bytes of the device.
+fn read_bytes<D: Disk>(
+    alloc: Global,
+    disk: &mut D,
+    at: usize,
+    length: usize,
+) -> Result<Vec<u8>, StoreFault>
+    requires within { at + length ≤ D.size disk.old }
+    ensures bytes { D.honest disk.old → IfOk result (λ bytes. bytes.items ≡ bytes_at (D.seen disk.old) at length) }
+    ensures whole { IfOk result (λ bytes. vec_len bytes ≡ length) }
+    ensures refused { IfErr result (λ fault. (fault ≡ Device) ⊎ (fault ≡ NoMemory)) }
+    ensures reads { D.honest disk.old → OnlyReads D.seen D.may_leave D.moment D.left_since disk.old disk.new }
+
+    ensures fault { IsErrOf result Device → Rises (D.failures disk.old) (D.failures disk.new) }
+    ensures still { (IsErrOf result Device → ⊥) → D.failures disk.new ≡ D.failures disk.old }
+    ensures honesty { D.honest disk.new ↔ D.honest disk.old }
+    ensures size { D.size disk.new ≡ D.size disk.old }
+{
+    let mut bytes = vec![in alloc; 0; length]?;
+    disk.read_at(at, &mut bytes)?;
+    Ok(bytes)
+}
+
+// Where the groups of a slot's journal area end, of which the lengths of all are tested.
+fn groups_end(slot: usize, area: &[u8], format: Format) -> Result<usize, StoreFault>
+    requires is_slot { slot < 2 }
+    requires area { length area.now ≡ 1048576 }
+    ensures ends { IfOk result (EndsAt format area.now) }
+    ensures within { IfOk result (λ at. at < 1048576) }
+    ensures fault { IfErr result (GroupFault slot format area.now) }
+{
+    match scan(area, format) {
+        Ok(used) => Ok(used),
+        Err(at) => Err(StoreFault::Damaged {
+            offset: area_of(slot) + at,
+        }),
+    }
+}
+
+// The journal area and the image.
 fn read_slot<D: Disk>(
     alloc: Global,
     disk: &mut D,
@@ -140,22 +220,13 @@ fn read_slot<D: Disk>(
     ensures whole { IfOk result AreParts }
     ensures reads { D.honest disk.old → OnlyReads D.seen D.may_leave D.moment D.left_since disk.old disk.new }
 
-    ensures fault { IsErrOf result Device ↔ Rises (D.failures disk.old) (D.failures disk.new) }
-    ensures still { OnOk result (D.failures disk.new ≡ D.failures disk.old) }
+    ensures fault { IsErrOf result Device → Rises (D.failures disk.old) (D.failures disk.new) }
+    ensures still { (IsErrOf result Device → ⊥) → D.failures disk.new ≡ D.failures disk.old }
     ensures honesty { D.honest disk.new ↔ D.honest disk.old }
     ensures size { D.size disk.new ≡ D.size disk.old }
 {
-    let mut area = vec![in alloc; 0; AREA_BYTES]?;
-    disk.read_at(area_of(slot), &mut area)?;
-    let used = match scan(&area, header.format) {
-        Ok(used) => used,
-        Err(at) => {
-            return Err(StoreFault::Damaged {
-                offset: area_of(slot) + at,
-            });
-        }
-    };
-    let mut image = vec![in alloc; 0; header.image_length as usize]?;
-    disk.read_at(image_of(slot), &mut image)?;
+    let area = read_bytes(alloc, disk, area_of(slot), AREA_BYTES)?;
+    let used = groups_end(slot, &area, header.format)?;
+    let image = read_bytes(alloc, disk, image_of(slot), header.image_length as usize)?;
     Ok(Parts { area, used, image })
 }

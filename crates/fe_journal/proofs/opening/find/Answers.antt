@@ -1,0 +1,33 @@
+use Rattle.std.proofs.Common.{◌≡◌, ℕ, List, Err, sym, ◌∙◌, ap, subst}
+use Rattle.fe_disk.specs.Disk.{LeavesJust}
+use Rattle.fe_journal.specs.Found.{IsFound}
+use Rattle.fe_journal.specs.Steps.{OnlyReads}
+use Rattle.fe_journal.specs.Store.{IsStore}
+use Rattle.fe_journal.specs.declared.fault.StoreFault.{StoreFault}
+use Rattle.fe_journal.proofs.Founds.{refused_only}
+use Rattle.fe_journal.proofs.opening.find.Goals as goal
+
+pub returns-in-Ok-clause-found : goal.returns-in-Ok-clause-found
+returns-in-Ok-clause-found g c = λ honest.
+    let same = (c.read_store.ensures.reads honest).same in
+    let store = subst (λ (l : List ℕ). IsStore l c.in-Ok.store) (sym same) (c.in-Ok.ensures.store honest) in
+    subst (λ (l : List ℕ). IsFound g.D.Disk.seen g.D.Disk.may_leave l c.found_in.result) same (c.found_in.ensures.found (c.read_store.ensures.honesty.1 honest) store (c.in-Ok.ensures.settled honest))
+
+pub returns-in-Err-clause-refused : goal.returns-in-Err-clause-refused
+returns-in-Err-clause-refused g c = λ honest. c.in-Err.ensures.faults honest
+
+pub returns-in-Err-clause-holds : goal.returns-in-Err-clause-holds
+returns-in-Err-clause-holds g c = λ honest contents holds. refused_only contents (g.D.Disk.seen c.args.disk) holds c.in-Err.fault (c.in-Err.ensures.faults honest)
+
+pub returns-in-Ok-clause-reads : goal.returns-in-Ok-clause-reads
+returns-in-Ok-clause-reads g c = λ honest.
+    subst (λ (d : g.row.D.Denot). OnlyReads g.D.Disk.seen g.D.Disk.may_leave g.D.Disk.moment g.D.Disk.left_since c.args.disk d) (sym c.found_in.ensures.disk) (c.read_store.ensures.reads honest)
+
+pub returns-in-Err-clause-reads : goal.returns-in-Err-clause-reads
+returns-in-Err-clause-reads g c = c.read_store.ensures.reads
+
+pub returns-in-Err-clause-device : goal.returns-in-Err-clause-device
+returns-in-Err-clause-device g c = let fault = c.in-Err.ensures.fault in (λ is. fault.0 (ap (λ (f : StoreFault). Err f) is), λ rises. let e = fault.1 rises in cc)
+
+pub returns-in-Ok-clause-still : goal.returns-in-Ok-clause-still
+returns-in-Ok-clause-still g c = ap (λ (d : g.row.D.Denot). g.D.Disk.failures d) c.found_in.ensures.disk ∙ c.in-Ok.ensures.still
