@@ -7,10 +7,10 @@
 mod begun;
 mod commit;
 mod fault;
+mod formatting;
 mod groups;
 mod header;
 mod journal;
-mod formatting;
 mod layout;
 mod opening;
 mod scan;
