@@ -122,15 +122,15 @@ counts_one image slot other f g one two =
     elim (cases_eq slot other) [
       | inl same ↦ same
       | inr differ ↦
-          let there : other ≡ 1 - slot = elim (cases_lt slot other) [ | inl lt ↦ omega arith | inr le ↦ let lt : other < slot = elim (cases_lt other slot) [ | inl l ↦ l | inr ge ↦ absurd (differ (omega arith)) ] in omega arith ] in
+          let there : other ≡ 1 - slot = elim (cases_lt slot other) [ inl lt ↦ omega arith | inr le ↦ let lt : other < slot = elim (cases_lt other slot) [ inl l ↦ l | inr ge ↦ absurd (differ (omega arith)) ] in omega arith ] in
           let back : slot ≡ 1 - other = omega arith in
           let ahead = one.ahead g (subst (λ (k : ℕ). IsValidAs image k g) there two.valid) in
           let ahead_too = two.ahead f (subst (λ (k : ℕ). IsValidAs image k f) back one.valid) in
           let ahead_1 = subst (λ (k : ℕ). (generation_at image k < generation_at image slot) ⊎ ((generation_at image k ≡ generation_at image slot) × (slot ≡ 0))) (sym there) ahead in
           let ahead_2 = subst (λ (k : ℕ). (generation_at image k < generation_at image other) ⊎ ((generation_at image k ≡ generation_at image other) × (other ≡ 0))) (sym back) ahead_too in
           elim ahead_1 [
-            | inl less ↦ elim ahead_2 [ | inl more ↦ absurd (omega (arith, less, more)) | inr equal ↦ let e = equal.0 in absurd (omega (arith, less, e)) ]
-            | inr equal ↦ elim ahead_2 [ | inl more ↦ let e = equal.0 in absurd (omega (arith, more, e)) | inr zero_too ↦ equal.1 ∙ sym zero_too.1 ]
+            | inl less ↦ elim ahead_2 [ inl more ↦ absurd (omega (arith, less, more)) | inr equal ↦ let e = equal.0 in absurd (omega (arith, less, e)) ]
+            | inr equal ↦ elim ahead_2 [ inl more ↦ let e = equal.0 in absurd (omega (arith, more, e)) | inr zero_too ↦ equal.1 ∙ sym zero_too.1 ]
           ]
     ]
 

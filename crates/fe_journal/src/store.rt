@@ -8,10 +8,10 @@ ghost use Rattle.fe_journal.specs.Steps.{OnlyReads};
 ghost use Rattle.fe_journal.specs.Store.{CountsAs, IsSlotRead, AreParts, IsSound, IsStore, IsWhole};
 ghost use Rattle.fe_journal.specs.declared.fault.StoreFault.TheVariants.{Device, NoMemory};
 
-use crate::{Format, StoreFault};
 use crate::header::{Header, counting, header_in};
 use crate::layout::{AREA_BYTES, DEVICE_BYTES, HEADER_BYTES, area_of, header_of, image_of};
 use crate::scan::scan;
+use crate::{Format, StoreFault};
 use fe_disk::{DeviceFault, Disk};
 use std::alloc::Global;
 
@@ -77,10 +77,7 @@ fn read_synced<D: Disk>(alloc: Global, disk: &mut D) -> Result<Store, StoreFault
 }
 
 // The slot that counts, and its header, which was tested.
-fn read_sound<D: Disk>(
-    disk: &mut D,
-    buffer: &mut [u8],
-) -> Result<(usize, Header), StoreFault>
+fn read_sound<D: Disk>(disk: &mut D, buffer: &mut [u8]) -> Result<(usize, Header), StoreFault>
     requires device { D.size disk.old ≡ device_bytes }
     requires room { 4096 ≤ length buffer.old }
     ensures counts { D.honest disk.old → IfOk result (λ found. CountsAs (D.seen disk.old) (Some found)) }
