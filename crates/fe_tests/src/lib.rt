@@ -10,8 +10,6 @@ mod disk;
 #[cfg(test)]
 mod front;
 #[cfg(test)]
-mod journal;
-#[cfg(test)]
 mod server;
 #[cfg(test)]
 mod state;
