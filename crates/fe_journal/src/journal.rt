@@ -80,7 +80,7 @@ impl<D: Disk> Journal<D> {
         self.used as u32
     }
 
-    /// The longest payload, in bytes, that `append_group` has room for now.
+    /// The longest payload, in bytes, that `append_group` has room for.
     pub fn room(&self) -> u32
         ensures { result ≡ room_at self.now.used }
     {
