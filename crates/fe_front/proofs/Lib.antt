@@ -1,3 +1,2 @@
 pub mod BoxLemmas
 pub mod FrontLemmas
-pub mod WordLemmas

@@ -2,4 +2,3 @@ pub mod Front
 pub mod FrontFields
 pub mod Mail
 pub mod Refusal
-pub mod Words

@@ -4,7 +4,6 @@
 
 mod connection;
 mod front;
-mod laws;
 mod mail;
 mod mailbox;
 mod outcome;
@@ -13,7 +12,6 @@ mod report_text;
 mod waiting;
 
 pub use front::{Front, ROOM};
-pub use laws::other_words_stay;
 pub use mail::Mail;
 pub use mailbox::MAILS;
 pub use outcome::{Outcome, StrangeBatch};

@@ -7,6 +7,7 @@ pub mod Limits
 pub mod Loads
 pub mod LogLemmas
 pub mod Maps
+pub mod OtherWordLemmas
 pub mod SessionLemmas
 pub mod Spent
 pub mod TableCopyLemmas

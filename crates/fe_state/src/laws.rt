@@ -1,4 +1,5 @@
 ghost use Rattle.fe_state.specs.History.{KeepsLimits, FinishesOnce, JoinsAndCuts};
+ghost use Rattle.fe_state.specs.OtherWords.{KeepsOtherWords};
 ghost use Rattle.fe_state.specs.Examples.{ExampleAnswers, ExampleEffects, ExampleEntries};
 
 /// A legal entry keeps the state within the limits.
@@ -21,4 +22,9 @@ pub fn examples_hold()
     ensures answers { ExampleAnswers }
     ensures effects { ExampleEffects }
     ensures entries { ExampleEntries }
+{}
+
+/// A request leaves every word that it is not about as it was, in every array.
+pub fn other_words_stay()
+    ensures { KeepsOtherWords }
 {}

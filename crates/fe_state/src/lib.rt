@@ -27,10 +27,13 @@ pub use batch::{BATCH_ENTRIES, Batch, Entries};
 pub use directory::Directory;
 pub use entry::Entry;
 pub use kept::Kept;
-pub use laws::{examples_hold, histories_join_and_cut, limits_are_kept, numbers_finish_once};
+pub use laws::{
+    examples_hold, histories_join_and_cut, limits_are_kept, numbers_finish_once, other_words_stay,
+};
 pub use name::{NAME_BYTES, Name};
 pub use request::Request;
 pub use session::Session;
 pub use state::{GREATEST_PLACE, Illegal, State};
+pub use table::Table;
 pub use undo_log::UndoLog;
 pub use words::Words;

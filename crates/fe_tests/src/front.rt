@@ -1,7 +1,7 @@
 //! The front in its first form: want of memory, a full box, the names of refusals.
 ghost use Rattle.fe_front.specs.Front.{IsServed};
 
-use fe_front::{Front, Mail, Outcome, Refusal, ReportText, other_words_stay};
+use fe_front::{Front, Mail, Outcome, Refusal, ReportText};
 use fe_state::{Answer, Name, Request};
 use fe_words::{Op, Tag};
 use std::process::Abort;
@@ -174,6 +174,5 @@ fn report_text_comes_back(rt: HostRuntime) -> Result<(), std::alloc::AllocError>
     let report = ReportText::new(text);
     assert_eq!(rt; report.as_str(), "waiting 0\n");
     assert_eq!(rt; report.into_string().as_str(), "waiting 0\n");
-    other_words_stay();
     Ok(())
 }

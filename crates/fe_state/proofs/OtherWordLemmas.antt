@@ -14,7 +14,7 @@ use Rattle.fe_state.specs.declared.answer.Answer.TheVariants as answer
 use Rattle.fe_state.specs.declared.array.Array.{Array}
 use Rattle.fe_state.specs.declared.request.Request.{Request}
 use Rattle.fe_state.specs.declared.request.Request.TheVariants.{Create, Find, Remove, Access}
-use Rattle.fe_front.specs.Words.{IsOwnWord}
+use Rattle.fe_state.specs.OtherWords.{IsOwnWord}
 
 get_inserted : {X : Type 0} (m : FinMap nat_cmp X) (k : ℕ) (v : X) → get (insert m k v) k ≡ Some v
 get_inserted m k v = grind (gets, rules)

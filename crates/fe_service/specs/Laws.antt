@@ -1,0 +1,11 @@
+-- Laws of the service.
+use Rattle.std.specs.Prelude.{◌≡◌, ℕ, ◌+◌, ◌-◌, ◌^◌, ◌≤◌, List, length}
+use Rattle.fe_state.specs.State.{ServerState}
+use Rattle.fe_state.specs.History.{AreLegal}
+use Rattle.fe_state.specs.declared.entry.Entry.{Entry}
+use Rattle.fe_service.specs.Service.{Waiters, AreUsable, Serves}
+
+-- Where there is a place for each entry of a service, they are legal one after the other.
+abbrev pub ServesLegally : Type 0
+ServesLegally = (s s' : ServerState) (waiting waiting' : Waiters) (es : List Entry)
+    → AreUsable s waiting → s.place + length es ≤ 2 ^ 63 - 1 → Serves s waiting es s' waiting' → AreLegal s es

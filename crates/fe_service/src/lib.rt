@@ -1,0 +1,6 @@
+//! The service of what waits: which requests complete, and what that leaves.
+#![tactic(auto)]
+
+mod laws;
+
+pub use laws::service_is_legal;
