@@ -1,2 +1,5 @@
+pub mod Lengths
+pub mod Quiet
 pub mod Replies
+pub mod Serving
 pub mod Turns

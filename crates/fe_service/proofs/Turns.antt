@@ -88,3 +88,24 @@ after_then s (x ∷ es) e = after_then (after s x) es e
 pub without_then : (waiting : Waiters) (es : List Entry) (e : Entry) → without_turns waiting (es ++ e ∷ []) ≡ without_turn (without_turns waiting es) e
 without_then waiting [] e = refl
 without_then waiting (x ∷ es) e = without_then (without_turn waiting x) es e
+
+-- turns after turns
+pub turns_append : (s : ServerState) (waiting : Waiters) (es fs : List Entry) → AreTurns s waiting es → AreTurns (after_all s es) (without_turns waiting es) fs → AreTurns s waiting (es ++ fs)
+turns_append s waiting [] fs turns more = more
+turns_append s waiting (e ∷ es) fs turns more = (turns.0, turns_append (after s e) (without_turn waiting e) es fs turns.1 more)
+
+pub after_append : (s : ServerState) (es fs : List Entry) → after_all s (es ++ fs) ≡ after_all (after_all s es) fs
+after_append s [] fs = refl
+after_append s (e ∷ es) fs = after_append (after s e) es fs
+
+pub without_append : (waiting : Waiters) (es fs : List Entry) → without_turns waiting (es ++ fs) ≡ without_turns (without_turns waiting es) fs
+without_append waiting [] fs = refl
+without_append waiting (e ∷ es) fs = without_append (without_turn waiting e) es fs
+
+pub turns_usable : (s : ServerState) (waiting : Waiters) (es : List Entry) → AreUsable s waiting → AreTurns s waiting es → AreUsable (after_all s es) (without_turns waiting es)
+turns_usable s waiting [] usable turns = usable
+turns_usable s waiting (e ∷ es) usable turns = turns_usable (after s e) (without_turn waiting e) es (turn_usable s waiting e usable turns.0) turns.1
+
+pub turns_place : (s : ServerState) (es : List Entry) → (after_all s es).place ≡ s.place + length es
+turns_place s [] = omega arith
+turns_place s (e ∷ es) = let rest = turns_place (after s e) es in omega (arith, rest)

@@ -1,2 +1,5 @@
+pub mod Parts
+pub mod Inner
 pub mod Laws
+pub mod Seating
 pub mod Service

@@ -46,6 +46,10 @@ abbrev pub word_in : Option Array → ℕ → Option Word
 word_in None index = None
 word_in (Some a) index = slice_get a.words index
 
+-- how many words an array has, if it is there
+abbrev pub words_in : Option Array → Option ℕ
+words_in here = option_map (λ a. length a.words) here
+
 -- a new array is answered the first of these that applies
 abbrev pub creation : Directory → List ℕ → ℕ → Answer
 creation d name size =

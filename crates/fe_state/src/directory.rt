@@ -3,7 +3,7 @@ ghost use Rattle.std.specs.Option.{option_map};
 ghost use Rattle.std.specs.Str.{bytes_eq};
 ghost use Rattle.std.specs.FinMap.{entries, get, insert, len, contains_key};
 ghost use Rattle.fe_words.specs.Table.{table};
-ghost use Rattle.fe_state.specs.Directory.{first_directory, named, creation, accessed, access, at_once, answer_of, answer_in, word_in};
+ghost use Rattle.fe_state.specs.Directory.{first_directory, named, creation, accessed, access, at_once, answer_of, answer_in, word_in, words_in};
 ghost use Rattle.fe_state.specs.Effect.{created, new_array, put_word, operated_on, performed, CreatesArray};
 ghost use Rattle.fe_state.specs.Change.{restored, CanRestore, MayCome, shown};
 ghost use Rattle.fe_state.specs.Table.{shown_entry};
@@ -279,6 +279,13 @@ impl Directory {
         ensures { result ≡ word_in (get self.now.arrays array) index }
     {
         self.arrays.get(array)?.words.get(index)
+    }
+
+    /// How many words an array has, if it is there.
+    pub fn length(&self, array: u64) -> Option<u32>
+        ensures { result ≡ words_in (get self.now.arrays array) }
+    {
+        Some(self.arrays.get(array)?.words.len())
     }
 
     /// The array at a place of the ascending order of ids, counted from zero: its id, its name and its length in words.

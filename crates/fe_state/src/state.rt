@@ -2,7 +2,7 @@ ghost use Rattle.std.specs.Prelude.{◌≡◌, ℕ, ◌+◌, ◌-◌, ◌^◌, �
 ghost use Rattle.std.specs.Option.{option_map};
 ghost use Rattle.std.specs.FinMap.{get, keys, entries, len, empty, insert};
 ghost use Rattle.fe_state.specs.Change.{MayCome, restored, CanRestore, shown};
-ghost use Rattle.fe_state.specs.Directory.{word_in};
+ghost use Rattle.fe_state.specs.Directory.{word_in, words_in};
 ghost use Rattle.fe_state.specs.Effect.{CreatesArray, new_array, put_word};
 ghost use Rattle.fe_state.specs.Sessions.{kept_in, IsInWindow, keeping, put_session};
 ghost use Rattle.fe_state.specs.State.{first_state, reply, IsLegal, IsAnswered, after, directory_of, directory_after, with_arrays, with_sessions, IsWithinLimits, MakesArray, OnFinished};
@@ -192,6 +192,13 @@ impl State {
         ensures { result ≡ word_in (get self.now.arrays array) index }
     {
         self.directory.word(array, index)
+    }
+
+    /// How many words an array has, if it is there.
+    pub fn length(&self, array: u64) -> Option<u32>
+        ensures { result ≡ words_in (get self.now.arrays array) }
+    {
+        self.directory.length(array)
     }
 
     /// What is kept for a number of a session.

@@ -1,0 +1,54 @@
+-- What is quiet once a request finished, and where requests wait in a quiet service.
+use Rattle.std.proofs.Common.{◌≡◌, ◌≢◌, ℕ, inl, inr, Option, Some, None, refl, sym, ap, subst, ◌∙◌}
+use Rattle.std.specs.Ordering.{nat_cmp}
+use Rattle.std.specs.FinMap.{FinMap, get}
+use Rattle.fe_words.specs.declared.word.Word.{Word}
+use Rattle.fe_words.specs.Table.{row}
+use Rattle.fe_waits.specs.Waiting.{Waiter, IsOn, NoneOnWord, NoneOnArray}
+use Rattle.fe_waits.proofs.MemberLemmas.{none_some, some_same}
+use Rattle.fe_state.specs.Directory.{Directory, word_in, words_in}
+use Rattle.fe_state.specs.OtherWords.{IsOwnWord}
+use Rattle.fe_state.specs.State.{ServerState, after, directory_of}
+use Rattle.fe_state.specs.declared.array.Array.{Array}
+use Rattle.fe_state.specs.declared.answer.Answer.{Answer}
+use Rattle.fe_state.specs.declared.request.Request.{Request}
+use Rattle.fe_state.specs.declared.entry.Entry.TheVariants.{Finished}
+use Rattle.fe_service.specs.Service.{Waiters, IsQuiet}
+use Rattle.fe_service.specs.Parts.{IsQuietAt, WaitAtTag}
+use Rattle.fe_service.proofs.Replies.{waits_there, other_waits, waits_by_tag}
+
+-- a request that finished leaves the words quiet that it is not about
+pub own_beside : (s : ServerState) (waiting : Waiters) (session number : ℕ) (request : Request) (answer : Answer) → IsQuiet s waiting → (b j : ℕ) → ¬ IsOwnWord (directory_of s) request b j
+    → IsQuietAt (after s (Finished session number request answer)) waiting b j
+own_beside s waiting session number request answer quiet b j other key w waits on =
+    other_waits
+    (directory_of s)
+    request
+    w.array
+    w.index
+    w.op
+    (λ own. other (subst (λ a. IsOwnWord (directory_of s) request a j) on.0 (subst (λ i. IsOwnWord (directory_of s) request w.array i) on.1 own)))
+    (quiet key w waits)
+
+-- all that wait on a word wait where it has the tag that it has
+pub quiet_tag : (s : ServerState) (waiting : Waiters) (a i : ℕ) (word : Word) → IsQuiet s waiting → word_in (get s.arrays a) i ≡ Some word → WaitAtTag waiting a i word.tag
+quiet_tag s waiting a i word quiet there key w waits on =
+    let at = waits_there (directory_of s) w.array w.index w.op (quiet key w waits) in
+    let same : at.word ≡ word = some_same (sym at.there ∙ ap (λ a. word_in (get s.arrays a) w.index) on.0 ∙ ap (λ i. word_in (get s.arrays a) i) on.1 ∙ there) in
+    subst (λ (word : Word). row w.op word.tag 0 ≡ None) same (waits_by_tag w.op at.word.tag at.word.value 0 at.undefined)
+
+-- nobody waits on a word that is not there
+pub none_there : (s : ServerState) (waiting : Waiters) (a i : ℕ) → IsQuiet s waiting → word_in (get s.arrays a) i ≡ None → NoneOnWord waiting a i
+none_there s waiting a i quiet absent key w waits on =
+    let at = waits_there (directory_of s) w.array w.index w.op (quiet key w waits) in
+    none_some (sym absent ∙ sym (ap (λ a. word_in (get s.arrays a) w.index) on.0 ∙ ap (λ i. word_in (get s.arrays a) i) on.1) ∙ at.there)
+
+-- nor on an array that is not there
+pub none_on_absent : (s : ServerState) (waiting : Waiters) (a : ℕ) → IsQuiet s waiting → words_in (get s.arrays a) ≡ None → NoneOnArray waiting a
+none_on_absent s waiting a quiet absent key w waits same =
+    let at = waits_there (directory_of s) w.array w.index w.op (quiet key w waits) in
+    by_array (get s.arrays a) absent (sym (ap (λ a. word_in (get s.arrays a) w.index) same) ∙ at.there)
+  where
+    by_array : (here : Option Array) {index : ℕ} {word : Word} → words_in here ≡ None → word_in here index ≡ Some word → ⊥
+    by_array None e at = none_some at
+    by_array (Some x) e at = none_some (sym e)

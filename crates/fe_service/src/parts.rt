@@ -1,0 +1,113 @@
+ghost use Rattle.std.specs.Prelude.{◌≡◌, ◌≢◌, ◌+◌, ◌-◌, ◌^◌, ◌<◌, ◌≤◌, ℕ, true, false, List, [], ◌∷◌, ◌++◌, length as length_of, Some};
+ghost use Rattle.std.specs.FinMap.{get, len};
+ghost use Rattle.fe_words.specs.declared.word.Tag.{Tag};
+ghost use Rattle.fe_waits.specs.Waiting.{IsWord};
+ghost use Rattle.fe_state.specs.State.{IsLegal, MakesArray, after};
+ghost use Rattle.fe_state.specs.declared.entry.Entry.{Entry};
+ghost use Rattle.fe_service.specs.Seating.{waiter_of};
+ghost use Rattle.fe_service.specs.Service.{AreUsable, request_of};
+ghost use Rattle.fe_service.specs.Parts.{IsQuietAt, WaitAtTag, IsAtRest, TakesTurn, TakesTurns};
+
+use crate::seats::Seats;
+use crate::turn::Turn;
+use fe_state::{Entries, Entry, Request, State};
+
+/// The state, the seats with what waits, and the entries made since the last cut.
+#[derive(Drop)]
+pub(crate) struct Parts {
+    pub(crate) state: State,
+    pub(crate) seats: Seats,
+    pub(crate) pending: Entries,
+}
+
+/// The request of one that waits.
+pub(crate) fn request_of(turn: &Turn) -> Request
+    ensures { result ≡ request_of (waiter_of turn.now) }
+{
+    Request::Access {
+        array: turn.array,
+        index: turn.index,
+        op: turn.op,
+        no_wait: false,
+    }
+}
+
+impl Parts {
+    /// Makes a legal entry, for which no memory is needed.
+    pub(crate) fn enter(&mut self, entry: Entry)
+        requires legal { IsLegal self.old.state entry }
+        requires memory { MakesArray entry → ⊥ }
+        requires room { length_of self.old.pending < 4097 }
+        ensures state { self.new.state ≡ after self.old.state entry }
+        ensures seats { self.new.seats ≡ self.old.seats }
+        ensures pending { self.new.pending ≡ self.old.pending ++ entry ∷ [] }
+    {
+        let made = entry;
+        if self.state.advance(made).is_err() {
+            unreachable!();
+        }
+        self.pending.push(entry);
+    }
+
+    /// Serves the first one that waits on the word, if it may be served.
+    pub(crate) fn serve_first(&mut self, array: u64, index: u32) -> bool
+        requires word { IsWord self.old.seats.arrays array index }
+        requires usable { AreUsable self.old.state self.old.seats.waiting }
+        requires places { self.old.state.place + len self.old.seats.waiting ≤ 2 ^ 63 - 1 }
+        requires room { length_of self.old.pending + len self.old.seats.waiting ≤ 4097 }
+        ensures served { result ≡ true → (e : Entry) × TakesTurn self.old self.new array index e }
+        ensures still { result ≡ false → self.new ≡ self.old }
+        ensures rest { result ≡ false → IsAtRest self.old.state self.old.seats.waiting array index }
+    {
+        let Some(node) = self.seats.first_on(array, index) else {
+            return false;
+        };
+        let turn = self.seats.turn(node);
+        let request = request_of(&turn);
+        let Some(answer) = self.state.answer_to(&request) else {
+            return false;
+        };
+        self.seats.finish(node);
+        self.enter(Entry::Finished {
+            session: turn.session,
+            number: turn.number,
+            request,
+            answer,
+        });
+        true
+    }
+
+    /// Serves those that wait on the word, until none may be served. It counts them.
+    pub(crate) fn serve_word(&mut self, array: u64, index: u32) -> u32
+        requires word { IsWord self.old.seats.arrays array index }
+        requires usable { AreUsable self.old.state self.old.seats.waiting }
+        requires places { self.old.state.place + len self.old.seats.waiting ≤ 2 ^ 63 - 1 }
+        requires room { length_of self.old.pending + len self.old.seats.waiting ≤ 4097 }
+        ensures served { (es : List Entry) × TakesTurns self.old self.new es × (result ≡ length_of es) }
+        ensures here { (tag : Tag) → WaitAtTag self.old.seats.waiting array index tag → IsQuietAt self.new.state self.new.seats.waiting array index }
+        ensures beside { (b j : ℕ) → ¬ ((b ≡ array) × (j ≡ index)) → IsQuietAt self.old.state self.old.seats.waiting b j → IsQuietAt self.new.state self.new.seats.waiting b j }
+    {
+        let mut count = 0;
+        while self.serve_first(array, index) {
+            count += 1;
+        }
+        count
+    }
+
+    /// Serves those that wait on the words of an array that is gone, which has so many. It counts them.
+    pub(crate) fn serve_array(&mut self, array: u64, length: u32) -> u32
+        requires there { get self.old.seats.arrays array ≡ Some length }
+        requires usable { AreUsable self.old.state self.old.seats.waiting }
+        requires places { self.old.state.place + len self.old.seats.waiting ≤ 2 ^ 63 - 1 }
+        requires room { length_of self.old.pending + len self.old.seats.waiting ≤ 4097 }
+        ensures served { (es : List Entry) × TakesTurns self.old self.new es × (result ≡ length_of es) }
+        ensures here { (tag : ℕ → Tag) (j : ℕ) → j < length → WaitAtTag self.old.seats.waiting array j (tag j) → IsQuietAt self.new.state self.new.seats.waiting array j }
+        ensures beside { (b j : ℕ) → b ≢ array → IsQuietAt self.old.state self.old.seats.waiting b j → IsQuietAt self.new.state self.new.seats.waiting b j }
+    {
+        let mut count = 0;
+        for index in 0..length {
+            count += self.serve_word(array, index);
+        }
+        count
+    }
+}
