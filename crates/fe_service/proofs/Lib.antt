@@ -1,3 +1,4 @@
+pub mod Completing
 pub mod Lengths
 pub mod Quiet
 pub mod Replies

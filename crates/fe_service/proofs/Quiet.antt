@@ -1,11 +1,13 @@
 -- What is quiet once a request finished, and where requests wait in a quiet service.
-use Rattle.std.proofs.Common.{◌≡◌, ◌≢◌, ℕ, inl, inr, Option, Some, None, refl, sym, ap, subst, ◌∙◌}
+use Rattle.std.proofs.Common.{◌≡◌, ◌≢◌, ℕ, zero, suc, ◌<◌, inl, inr, Option, Some, None, Bool, true, false, List, [], ◌∷◌, length, arith, refl, sym, ap, subst, ◌∙◌}
+use Rattle.std.specs.Prelude.{is_some, slice_get}
 use Rattle.std.specs.Ordering.{nat_cmp}
 use Rattle.std.specs.FinMap.{FinMap, get}
 use Rattle.fe_words.specs.declared.word.Word.{Word}
 use Rattle.fe_words.specs.Table.{row}
 use Rattle.fe_waits.specs.Waiting.{Waiter, IsOn, NoneOnWord, NoneOnArray}
 use Rattle.fe_waits.proofs.MemberLemmas.{none_some, some_same}
+use Rattle.fe_state.proofs.Maps.{same_or_other}
 use Rattle.fe_state.specs.Directory.{Directory, word_in, words_in}
 use Rattle.fe_state.specs.OtherWords.{IsOwnWord}
 use Rattle.fe_state.specs.State.{ServerState, after, directory_of}
@@ -47,8 +49,50 @@ none_there s waiting a i quiet absent key w waits on =
 pub none_on_absent : (s : ServerState) (waiting : Waiters) (a : ℕ) → IsQuiet s waiting → words_in (get s.arrays a) ≡ None → NoneOnArray waiting a
 none_on_absent s waiting a quiet absent key w waits same =
     let at = waits_there (directory_of s) w.array w.index w.op (quiet key w waits) in
-    by_array (get s.arrays a) absent (sym (ap (λ a. word_in (get s.arrays a) w.index) same) ∙ at.there)
+    by_array (get s.arrays a) w.index at.word absent (sym (ap (λ a. word_in (get s.arrays a) w.index) same) ∙ at.there)
   where
-    by_array : (here : Option Array) {index : ℕ} {word : Word} → words_in here ≡ None → word_in here index ≡ Some word → ⊥
-    by_array None e at = none_some at
-    by_array (Some x) e at = none_some (sym e)
+    by_array : (here : Option Array) (index : ℕ) (word : Word) → words_in here ≡ None → word_in here index ≡ Some word → ⊥
+    by_array None index word e at = none_some at
+    by_array (Some x) index word e at = none_some (sym e)
+
+-- a word that is there is one of its array
+index_below : (words : List Word) (i : ℕ) (word : Word) → slice_get words i ≡ Some word → i < length words
+index_below [] i word e = none_some e
+index_below (x ∷ words) zero word e = omega arith
+index_below (x ∷ words) (suc i) word e = let below = index_below words i word e in omega (arith, below)
+
+pub word_below : (here : Option Array) (index : ℕ) (word : Word) → word_in here index ≡ Some word → (n : ℕ) × (words_in here ≡ Some n) × (index < n)
+word_below None index word e = none_some e
+word_below (Some a) index word e = (length a.words, refl, index_below a.words index word e)
+
+pub some_word : (here : Option Word) → is_some here ≡ true → (word : Word) × (here ≡ Some word)
+some_word None e = cc
+some_word (Some word) e = (word, refl)
+
+pub no_word : (here : Option Word) → is_some here ≡ false → here ≡ None
+no_word None e = refl
+no_word (Some word) e = cc
+
+-- a word on which nobody waited is quiet, and so is each other one
+pub quiet_unless_there : (s' : ServerState) (waiting waiting' : Waiters) (a i b j : ℕ) → NoneOnWord waiting a i → waiting' ≡ waiting → (¬ ((b ≡ a) × (j ≡ i)) → IsQuietAt s' waiting' b j) → IsQuietAt s' waiting' b j
+quiet_unless_there s' waiting waiting' a i b j none same beside =
+    elim (same_or_other b a) as (λ _. IsQuietAt s' waiting' b j) [
+      | inl array ↦
+          elim (same_or_other j i) as (λ _. IsQuietAt s' waiting' b j) [
+            | inl index ↦ λ key w waits on. absurd (none key w (subst (λ m. get m key ≡ Some w) same waits) (on.0 ∙ array, on.1 ∙ index))
+            | inr other ↦ beside (λ own. other own.1)
+          ]
+      | inr other ↦ beside (λ own. other own.0)
+    ]
+
+-- a word that is quiet, and each other one
+pub quiet_there_and : (s' : ServerState) (waiting' : Waiters) (a i b j : ℕ) → IsQuietAt s' waiting' a i → (¬ ((b ≡ a) × (j ≡ i)) → IsQuietAt s' waiting' b j) → IsQuietAt s' waiting' b j
+quiet_there_and s' waiting' a i b j here beside =
+    elim (same_or_other b a) as (λ _. IsQuietAt s' waiting' b j) [
+      | inl array ↦
+          elim (same_or_other j i) as (λ _. IsQuietAt s' waiting' b j) [
+            | inl index ↦ λ key w waits on. here key w waits (on.0 ∙ array, on.1 ∙ index)
+            | inr other ↦ beside (λ own. other own.1)
+          ]
+      | inr other ↦ beside (λ own. other own.0)
+    ]

@@ -4,7 +4,7 @@ ghost use Rattle.fe_words.specs.declared.word.Tag.{Tag};
 ghost use Rattle.fe_waits.specs.Waiting.{IsWord};
 ghost use Rattle.fe_state.specs.State.{IsLegal, MakesArray, after};
 ghost use Rattle.fe_state.specs.declared.entry.Entry.{Entry};
-ghost use Rattle.fe_service.specs.Seating.{waiter_of};
+ghost use Rattle.fe_service.specs.Seating.{waiter_of, IsWithinLimits};
 ghost use Rattle.fe_service.specs.Service.{AreUsable, request_of};
 ghost use Rattle.fe_service.specs.Parts.{IsQuietAt, WaitAtTag, IsAtRest, TakesTurn, TakesTurns};
 
@@ -33,6 +33,13 @@ pub(crate) fn request_of(turn: &Turn) -> Request
 }
 
 impl Parts {
+    /// What is always true of the seats and of what waits.
+    pub(crate) fn limits(&self)
+        ensures { IsWithinLimits self.now.seats }
+    {
+        let _ = self.seats.len();
+    }
+
     /// Makes a legal entry, for which no memory is needed.
     pub(crate) fn enter(&mut self, entry: Entry)
         requires legal { IsLegal self.old.state entry }

@@ -1,0 +1,113 @@
+-- What an entry of its own and the turns behind it leave of a service.
+use Rattle.std.proofs.Common.{◌≡◌, ℕ, ◌+◌, ◌-◌, ◌^◌, ◌≤◌, inl, inr, Option, Some, None, Bool, true, List, [], ◌∷◌, ◌++◌, length, refl, sym, ap, subst, ◌∙◌, arith}
+use Rattle.std.specs.Prelude.{IsSomeAnd, is_some}
+use Rattle.std.specs.Option.{option_map}
+use Rattle.std.specs.Ordering.{nat_cmp}
+use Rattle.std.specs.FinMap.{FinMap, get, insert}
+use Rattle.fe_state.proofs.Maps.{get_inserted, get_beside, same_or_other}
+use Rattle.fe_state.specs.Sessions.{Session, keeping, put_session}
+use Rattle.fe_state.specs.SessionEffect.{IsUsable}
+use Rattle.fe_state.specs.State.{ServerState, IsLegal, reply, after, after_all, directory_of}
+use Rattle.fe_state.specs.OtherWords.{IsOwnWord}
+use Rattle.fe_state.specs.declared.kept.Kept.{Kept}
+use Rattle.fe_state.specs.declared.answer.Answer.{Answer}
+use Rattle.fe_state.specs.declared.request.Request.{Request}
+use Rattle.fe_state.specs.declared.entry.Entry.{Entry}
+use Rattle.fe_state.specs.declared.entry.Entry.TheVariants.{Finished}
+use Rattle.fe_service.specs.Service.{Waiters, AreUsable, IsQuiet, IsTurn, AreTurns, without_turn, without_turns}
+use Rattle.fe_service.specs.ServiceState.{ServiceState, IsService, is_open, service_of}
+use Rattle.fe_service.specs.Events.{IsFree, HasRoom, Completes}
+use Rattle.fe_service.specs.Parts.{IsQuietAt, TakesTurns}
+use Rattle.fe_service.specs.declared.parts.Parts.{Parts}
+use Rattle.fe_service.proofs.Quiet.{own_beside}
+use Rattle.fe_service.proofs.Turns.{finished_usable, turns_usable}
+use Rattle.fe_service.proofs.Serving.{taken_usable}
+
+-- a session that finishes a number stays where it is, and no session comes or goes
+put_present : (sessions : FinMap nat_cmp Session) (session number other : ℕ) (k : Kept) (here : Option Session) → get sessions session ≡ here
+    → is_some (get (put_session sessions session (option_map (λ x. keeping x number k) here)) other) ≡ is_some (get sessions other)
+put_present sessions session number other k None is = refl
+put_present sessions session number other k (Some x) is =
+    elim (same_or_other other session) as (λ _. is_some (get (insert sessions session (keeping x number k)) other) ≡ is_some (get sessions other)) [
+      | inl same ↦
+          ap (λ n. is_some (get (insert sessions session (keeping x number k)) n)) same
+          ∙ ap is_some (get_inserted sessions session (keeping x number k))
+          ∙ sym (ap is_some is)
+          ∙ ap (λ n. is_some (get sessions n)) (sym same)
+      | inr differs ↦ ap is_some (get_beside sessions session (keeping x number k) other differs)
+    ]
+
+pub finished_present : (s : ServerState) (session number : ℕ) (request : Request) (answer : Answer) (other : ℕ) → is_some (get (after s (Finished session number request answer)).sessions other) ≡ is_some (get s.sessions other)
+finished_present s session number request answer other =
+    put_present s.sessions session number other (record { request = request; answer = answer; place = s.place }) (get s.sessions session) refl
+
+turn_present : (s : ServerState) (waiting : Waiters) (e : Entry) → IsTurn s waiting e → (other : ℕ) → is_some (get (after s e).sessions other) ≡ is_some (get s.sessions other)
+turn_present s waiting e t other = subst (λ (e : Entry). is_some (get (after s e).sessions other) ≡ is_some (get s.sessions other)) (sym t.entry) (finished_present s t.session t.number _ t.answer other)
+
+pub turns_present : (s : ServerState) (waiting : Waiters) (es : List Entry) → AreTurns s waiting es → (other : ℕ) → is_some (get (after_all s es).sessions other) ≡ is_some (get s.sessions other)
+turns_present s waiting [] turns other = refl
+turns_present s waiting (e ∷ es) turns other = turns_present (after s e) (without_turn waiting e) es turns.1 other ∙ turn_present s waiting e turns.0 other
+
+-- the entry of its own is legal
+pub own_legal : (s : ServiceState) (session number : ℕ) (request : Request) (answer : Answer) → IsFree s session number → reply s.state request ≡ Some answer → HasRoom s → IsLegal s.state (Finished session number request answer)
+own_legal s session number request answer free answered room = record { has_place = omega (arith, room.places); allowed = free.usable; answered = answered }
+
+-- what is known once it is entered
+pub record IsEntered (old mid : Parts) (own : Entry) : Type 0 where
+  pub state : mid.state ≡ after old.state own
+  pub waiting : mid.seats.waiting ≡ old.seats.waiting
+  pub seats : mid.seats.seats ≡ old.seats.seats
+  pub pending : mid.pending ≡ old.pending ++ own ∷ []
+
+pub entered_usable : (old mid : Parts) (session number : ℕ) (request : Request) (answer : Answer) → AreUsable old.state old.seats.waiting → IsFree (service_of old) session number
+    → IsEntered old mid (Finished session number request answer) → AreUsable mid.state mid.seats.waiting
+entered_usable old mid session number request answer usable free e =
+    subst
+    (λ s. AreUsable s mid.seats.waiting)
+    (sym e.state)
+    (subst (λ w. AreUsable (after old.state (Finished session number request answer)) w) (sym e.waiting) (finished_usable old.state old.seats.waiting session number request answer usable free.new))
+
+append_one : (xs : List Entry) (x : Entry) (ys : List Entry) → (xs ++ x ∷ []) ++ ys ≡ xs ++ x ∷ ys
+append_one [] x ys = refl
+append_one (z ∷ xs) x ys = ap (λ rest. z ∷ rest) (append_one xs x ys)
+
+-- with turns behind it, and quiet at the end, it completes
+pub entered_completes : (old mid new : Parts) (own : Entry) (es : List Entry) → IsEntered old mid own → TakesTurns mid new es → IsQuiet new.state new.seats.waiting → Completes (service_of old) (service_of new) own es
+entered_completes old mid new own es e t quiet = record {
+  serves = record {
+    turns = subst (λ w. AreTurns (after old.state own) w es) e.waiting (subst (λ s. AreTurns s mid.seats.waiting es) e.state t.turns);
+    state = t.state ∙ ap (λ s. after_all s es) e.state;
+    rest = t.waiting ∙ ap (λ w. without_turns w es) e.waiting;
+    quiet = quiet;
+  };
+  pending = t.pending ∙ ap (λ p. p ++ es) e.pending ∙ append_one old.pending own es;
+  seats = t.seats ∙ e.seats;
+}
+
+-- and the parts are those of a service
+pub entered_service : (old mid new : Parts) (session number : ℕ) (request : Request) (answer : Answer) (es : List Entry) → IsService (service_of old) → IsFree (service_of old) session number
+    → IsEntered old mid (Finished session number request answer) → TakesTurns mid new es → IsQuiet new.state new.seats.waiting → IsService (service_of new)
+entered_service old mid new session number request answer es service free e t quiet = record {
+  usable = taken_usable mid new es (entered_usable old mid session number request answer service.usable free e) t;
+  quiet = quiet;
+  seated = λ other.
+      ap (λ s. is_some (get s.sessions other)) t.state
+      ∙ turns_present mid.state mid.seats.waiting es t.turns other
+      ∙ ap (λ s. is_some (get s.sessions other)) e.state
+      ∙ finished_present old.state session number request answer other
+      ∙ service.seated other
+      ∙ sym (ap (λ seats. is_open seats other) (t.seats ∙ e.seats));
+}
+
+-- the words that it is not about are quiet still
+pub entered_quiet_at : (old mid : Parts) (session number : ℕ) (request : Request) (answer : Answer) → IsQuiet old.state old.seats.waiting → IsEntered old mid (Finished session number request answer)
+    → (b j : ℕ) → ¬ IsOwnWord (directory_of old.state) request b j → IsQuietAt mid.state mid.seats.waiting b j
+entered_quiet_at old mid session number request answer quiet e b j other =
+    subst
+    (λ s. IsQuietAt s mid.seats.waiting b j)
+    (sym e.state)
+    (subst (λ w. IsQuietAt (after old.state (Finished session number request answer)) w b j) (sym e.waiting) (own_beside old.state old.seats.waiting session number request answer quiet b j other))
+
+-- what is quiet on each word is quiet
+pub quiet_everywhere : (s : ServerState) (waiting : Waiters) → ((b j : ℕ) → IsQuietAt s waiting b j) → IsQuiet s waiting
+quiet_everywhere s waiting at key w waits = at w.array w.index key w waits (refl, refl)

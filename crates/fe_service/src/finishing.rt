@@ -1,0 +1,98 @@
+ghost use Rattle.std.specs.Prelude.{◌≡◌, ◌+◌, List, [], length as length_of, Some, OnOk, OnErr, IfOk};
+ghost use Rattle.fe_state.specs.State.{reply, MakesArray};
+ghost use Rattle.fe_state.specs.declared.entry.Entry.{Entry};
+ghost use Rattle.fe_state.specs.declared.entry.Entry.TheVariants.{Finished};
+ghost use Rattle.fe_state.specs.declared.request.Request.TheVariants as requests;
+ghost use Rattle.fe_state.specs.declared.answer.Answer.TheVariants as answers;
+ghost use Rattle.fe_service.specs.ServiceState.{service_of, AreSound};
+ghost use Rattle.fe_service.specs.Events.{IsFree, HasRoom, Completes};
+
+use crate::parts::Parts;
+use fe_state::{Answer, Entry, Name, Request};
+use fe_words::{Op, Tag};
+use std::alloc::AllocError;
+
+impl Parts {
+    /// Finishes an access, and serves those that wait on its word. It counts the entries.
+    fn finish_access(
+        &mut self,
+        session: u64,
+        number: u64,
+        array: u64,
+        index: u32,
+        op: Op,
+        no_wait: bool,
+        answer: Answer,
+    ) -> u32
+        requires sound { AreSound self.old }
+        requires free { IsFree (service_of self.old) session number }
+        requires answered { reply self.old.state (requests.Access array index op no_wait) ≡ Some answer }
+        requires room { HasRoom (service_of self.old) }
+        ensures sound { AreSound self.new }
+        ensures completes { (served : List Entry) × Completes (service_of self.old) (service_of self.new) (Finished session number (requests.Access array index op no_wait) answer) served × (result ≡ 1 + length_of served) }
+    {
+        self.limits();
+        let is_there = self.state.word(array, index).is_some();
+        let request = Request::Access {
+            array,
+            index,
+            op,
+            no_wait,
+        };
+        self.enter(Entry::Finished {
+            session,
+            number,
+            request,
+            answer,
+        });
+        if is_there {
+            1 + self.serve_word(array, index)
+        } else {
+            1
+        }
+    }
+
+    /// Finishes a removal, and serves those that wait on the array's words. It counts the entries.
+    fn finish_remove(&mut self, session: u64, number: u64, array: u64, answer: Answer) -> u32
+        requires sound { AreSound self.old }
+        requires free { IsFree (service_of self.old) session number }
+        requires answered { reply self.old.state (requests.Remove array) ≡ Some answer }
+        requires room { HasRoom (service_of self.old) }
+        ensures sound { AreSound self.new }
+        ensures completes { (served : List Entry) × Completes (service_of self.old) (service_of self.new) (Finished session number (requests.Remove array) answer) served × (result ≡ 1 + length_of served) }
+    {
+        self.limits();
+        let length = self.state.length(array);
+        self.enter(Entry::Finished {
+            session,
+            number,
+            request: Request::Remove { array },
+            answer,
+        });
+        match length {
+            Some(length) => {
+                let served = self.serve_array(array, length);
+                self.seats.drop_array(array);
+                1 + served
+            }
+            None => 1,
+        }
+    }
+
+    /// Finishes a look-up by name.
+    fn finish_find(&mut self, session: u64, number: u64, name: Name, answer: Answer)
+        requires sound { AreSound self.old }
+        requires free { IsFree (service_of self.old) session number }
+        requires answered { reply self.old.state (requests.Find name) ≡ Some answer }
+        requires room { HasRoom (service_of self.old) }
+        ensures sound { AreSound self.new }
+        ensures completes { Completes (service_of self.old) (service_of self.new) (Finished session number (requests.Find name) answer) [] }
+    {
+        self.enter(Entry::Finished {
+            session,
+            number,
+            request: Request::Find { name },
+            answer,
+        });
+    }
+}
