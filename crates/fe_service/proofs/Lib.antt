@@ -1,6 +1,9 @@
 pub mod Completing
+pub mod Creating
 pub mod Lengths
 pub mod Quiet
+pub mod Removing
 pub mod Replies
 pub mod Serving
+pub mod Sizes
 pub mod Turns

@@ -5,6 +5,8 @@ use Rattle.std.specs.Ordering.{nat_cmp}
 use Rattle.std.specs.FinMap.{FinMap, get}
 use Rattle.fe_words.specs.declared.word.Word.{Word}
 use Rattle.fe_words.specs.Table.{row}
+use Rattle.fe_words.specs.declared.word.Tag.{Tag}
+use Rattle.fe_words.specs.declared.word.Tag.TheVariants.{Empty}
 use Rattle.fe_waits.specs.Waiting.{Waiter, IsOn, NoneOnWord, NoneOnArray}
 use Rattle.fe_waits.proofs.MemberLemmas.{none_some, some_same}
 use Rattle.fe_state.proofs.Maps.{same_or_other}
@@ -96,3 +98,23 @@ quiet_there_and s' waiting' a i b j here beside =
           ]
       | inr other ↦ beside (λ own. other own.0)
     ]
+
+-- the tag of a word, if it is there
+abbrev pub tag_in : Option Word → Tag
+tag_in None = Empty
+tag_in (Some word) = word.tag
+
+pub waits_at_tag : (s : ServerState) (waiting : Waiters) (a i : ℕ) → IsQuiet s waiting → WaitAtTag waiting a i (tag_in (word_in (get s.arrays a) i))
+waits_at_tag s waiting a i quiet = by_word (word_in (get s.arrays a) i) refl
+  where
+    by_word : (here : Option Word) → word_in (get s.arrays a) i ≡ here → WaitAtTag waiting a i (tag_in here)
+    by_word None is = λ key w waits on. absurd (none_there s waiting a i quiet is key w waits on)
+    by_word (Some word) is = quiet_tag s waiting a i word quiet is
+
+-- one that waits on an array does so below its length
+pub waits_below : (s : ServerState) (waiting : Waiters) (a n : ℕ) → IsQuiet s waiting → words_in (get s.arrays a) ≡ Some n → (key : ℕ × ℕ) (w : Waiter) → get waiting key ≡ Some w → w.array ≡ a → w.index < n
+waits_below s waiting a n quiet long key w waits same =
+    let at = waits_there (directory_of s) w.array w.index w.op (quiet key w waits) in
+    let (m, length, below) = word_below (get s.arrays w.array) w.index at.word at.there in
+    let equal : m ≡ n = some_same (sym length ∙ ap (λ a. words_in (get s.arrays a)) same ∙ long) in
+    subst (λ n. w.index < n) equal below

@@ -1,5 +1,6 @@
 ghost use Rattle.std.specs.Prelude.{◌≡◌, ◌+◌, List, [], length as length_of, Some, OnOk, OnErr, IfOk};
-ghost use Rattle.fe_state.specs.State.{reply, MakesArray};
+ghost use Rattle.fe_state.specs.Effect.{IsNewArray};
+ghost use Rattle.fe_state.specs.State.{reply};
 ghost use Rattle.fe_state.specs.declared.entry.Entry.{Entry};
 ghost use Rattle.fe_state.specs.declared.entry.Entry.TheVariants.{Finished};
 ghost use Rattle.fe_state.specs.declared.request.Request.TheVariants as requests;
@@ -94,5 +95,67 @@ impl Parts {
             request: Request::Find { name },
             answer,
         });
+    }
+
+    /// Finishes a creation that is refused.
+    fn finish_refused(
+        &mut self,
+        session: u64,
+        number: u64,
+        name: Name,
+        length: u32,
+        tag: Tag,
+        answer: Answer,
+    )
+        requires sound { AreSound self.old }
+        requires free { IsFree (service_of self.old) session number }
+        requires answered { reply self.old.state (requests.Create name length tag) ≡ Some answer }
+        requires refused { IsNewArray answer → ⊥ }
+        requires room { HasRoom (service_of self.old) }
+        ensures sound { AreSound self.new }
+        ensures completes { Completes (service_of self.old) (service_of self.new) (Finished session number (requests.Create name length tag) answer) [] }
+    {
+        self.limits();
+        self.enter(Entry::Finished {
+            session,
+            number,
+            request: Request::Create { name, length, tag },
+            answer,
+        });
+    }
+
+    /// Makes an array. The one error is that memory is short; then all is as it was.
+    fn finish_create(
+        &mut self,
+        session: u64,
+        number: u64,
+        name: Name,
+        length: u32,
+        tag: Tag,
+        id: u64,
+    ) -> Result<(), AllocError>
+        requires sound { AreSound self.old }
+        requires free { IsFree (service_of self.old) session number }
+        requires answered { reply self.old.state (requests.Create name length tag) ≡ Some (answers.Array id length) }
+        requires room { HasRoom (service_of self.old) }
+        ensures sound { AreSound self.new }
+        ensures completes { OnOk result (Completes (service_of self.old) (service_of self.new) (Finished session number (requests.Create name length tag) (answers.Array id length)) []) }
+        ensures err { OnErr result (service_of self.new ≡ service_of self.old) }
+    {
+        self.limits();
+        self.seats.add_array(id, length)?;
+        let entry = Entry::Finished {
+            session,
+            number,
+            request: Request::Create { name, length, tag },
+            answer: Answer::Array { id, length },
+        };
+        let made = entry;
+        if let Err(fault) = self.state.advance(made) {
+            self.seats.drop_array(id);
+            return Err(fault);
+        }
+        self.pending.push(entry);
+        Ok(())
     }
 }

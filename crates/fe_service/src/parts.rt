@@ -2,6 +2,7 @@ ghost use Rattle.std.specs.Prelude.{◌≡◌, ◌≢◌, ◌+◌, ◌-◌, ◌^
 ghost use Rattle.std.specs.FinMap.{get, len};
 ghost use Rattle.fe_words.specs.declared.word.Tag.{Tag};
 ghost use Rattle.fe_waits.specs.Waiting.{IsWord};
+ghost use Rattle.fe_state.specs.State as state_limits;
 ghost use Rattle.fe_state.specs.State.{IsLegal, MakesArray, after};
 ghost use Rattle.fe_state.specs.declared.entry.Entry.{Entry};
 ghost use Rattle.fe_service.specs.Seating.{waiter_of, IsWithinLimits};
@@ -33,10 +34,12 @@ pub(crate) fn request_of(turn: &Turn) -> Request
 }
 
 impl Parts {
-    /// What is always true of the seats and of what waits.
+    /// What is always true of the state, of the seats and of what waits.
     pub(crate) fn limits(&self)
-        ensures { IsWithinLimits self.now.seats }
+        ensures state { state_limits.IsWithinLimits self.now.state }
+        ensures seats { IsWithinLimits self.now.seats }
     {
+        let _ = self.state.place();
         let _ = self.seats.len();
     }
 

@@ -34,7 +34,7 @@ overflow_add-result c =
     let (es, t, counted) = c.serve_word.ensures.served in
     let fewer = taken_len c.enter.new.self c.serve_word.new.self es t in
     let same = ap (λ s. len s.waiting) c.enter.ensures.seats in
-    omega (arith, counted, fewer, same, c.limits.ensures.all)
+    omega (arith, counted, fewer, same, c.limits.ensures.seats.all)
 
 pub returns-then-is_there-clause-sound : goal.returns-then-is_there-clause-sound
 returns-then-is_there-clause-sound c =
@@ -51,15 +51,15 @@ returns-then-is_there-clause-sound c =
     let (es, t, counted) = c.serve_word.ensures.served in
     let (word, is) = some_word (word_in (get old.state.arrays c.args.array) c.args.index) (sym (ap is_some c.word.ensures) ∙ sym c.is_some-is_there.ensures ∙ c.if-is_there.true) in
     let at : WaitAtTag mid.seats.waiting c.args.array c.args.index word.tag =
-        subst
-        (λ w. WaitAtTag w c.args.array c.args.index word.tag)
-        (sym entered.waiting)
-        (quiet_tag old.state old.seats.waiting c.args.array c.args.index word c.requires.sound.service.quiet is)
+    subst
+    (λ w. WaitAtTag w c.args.array c.args.index word.tag)
+    (sym entered.waiting)
+    (quiet_tag old.state old.seats.waiting c.args.array c.args.index word c.requires.sound.service.quiet is)
     in
     let quiet = quiet_everywhere new.state new.seats.waiting (λ b j.
-        quiet_there_and new.state new.seats.waiting c.args.array c.args.index b j (c.serve_word.ensures.here word.tag at)
-        (λ differs. c.serve_word.ensures.beside b j differs
-        (entered_quiet_at old mid c.args.session c.args.number request c.args.answer c.requires.sound.service.quiet entered b j differs))) in
+    quiet_there_and new.state new.seats.waiting c.args.array c.args.index b j (c.serve_word.ensures.here word.tag at)
+    (λ differs. c.serve_word.ensures.beside b j differs
+    (entered_quiet_at old mid c.args.session c.args.number request c.args.answer c.requires.sound.service.quiet entered b j differs))) in
     record {
       service = entered_service old mid new c.args.session c.args.number request c.args.answer es c.requires.sound.service c.requires.free entered t quiet;
       arrays = λ id.
@@ -97,8 +97,8 @@ returns-else-is_there-clause-sound c =
     let absent = no_word here (sym (ap is_some c.word.ensures) ∙ sym c.is_some-is_there.ensures ∙ c.if-is_there.false) in
     let none = none_there old.state old.seats.waiting c.args.array c.args.index c.requires.sound.service.quiet absent in
     let quiet = quiet_everywhere mid.state mid.seats.waiting (λ b j.
-        quiet_unless_there mid.state old.seats.waiting mid.seats.waiting c.args.array c.args.index b j none entered.waiting
-        (entered_quiet_at old mid c.args.session c.args.number request c.args.answer c.requires.sound.service.quiet entered b j)) in
+    quiet_unless_there mid.state old.seats.waiting mid.seats.waiting c.args.array c.args.index b j none entered.waiting
+    (entered_quiet_at old mid c.args.session c.args.number request c.args.answer c.requires.sound.service.quiet entered b j)) in
     record {
       service = entered_service old mid mid c.args.session c.args.number request c.args.answer [] c.requires.sound.service c.requires.free entered (none_taken mid) quiet;
       arrays = λ id.

@@ -1,0 +1,82 @@
+use Rattle.std.proofs.Common.{◌≡◌, ◌≢◌, ◌<◌, ℕ, inl, inr, Some, None, [], refl, sym, ap, subst, ◌∙◌, arith}
+use Rattle.std.specs.FinMap.{get, len, insert, remove}
+use Rattle.fe_state.proofs.Undone.{remove-insert}
+use Rattle.fe_state.specs.Directory.{words_in}
+use Rattle.fe_state.specs.declared.answer.Answer.TheVariants as answers
+use Rattle.fe_state.specs.declared.request.Request.TheVariants.{Create}
+use Rattle.fe_service.specs.ServiceState.{IsService, AreSound}
+use Rattle.fe_service.specs.declared.parts.Parts.{Parts}
+use Rattle.fe_service.proofs.Quiet.{none_on_absent}
+use Rattle.fe_service.proofs.Completing.{IsEntered, entered_service, entered_completes}
+use Rattle.fe_service.proofs.Creating.{created_is, created_quiet, created_lengths, few_arrays, id_absent}
+use Rattle.fe_service.proofs.Serving.{none_taken}
+use Rattle.fe_service.proofs.parts.Parts.finish_create.Goals as goal
+
+pub add_array-requires-clause-new : goal.add_array-requires-clause-new
+add_array-requires-clause-new c = id_absent c.args.self.now c.args.name c.args.length c.args.tag c.args.id c.args.length c.requires.sound c.limits.ensures.state c.requires.answered
+
+pub add_array-requires-clause-room : goal.add_array-requires-clause-room
+add_array-requires-clause-room c =
+    let (next, same, few) = created_is c.args.self.now.state c.args.name c.args.length c.args.tag c.args.id c.args.length c.requires.answered in
+    few_arrays c.args.self.now c.requires.sound few
+
+pub drop_array-requires : goal.drop_array-requires
+drop_array-requires c =
+    let old = c.args.self.now in
+    let absent = sym (c.requires.sound.arrays c.args.id) ∙ id_absent old c.args.name c.args.length c.args.tag c.args.id c.args.length c.requires.sound c.limits.ensures.state c.requires.answered in
+    let none = none_on_absent old.state old.seats.waiting c.args.id c.requires.sound.service.quiet absent in
+    record { unused = λ key w waits. none key w (subst (λ m. get m key ≡ Some w) c.in_ok-add_array.ensures.waiting waits) }
+
+pub returns-in-Err-clause-sound : goal.returns-in-Err-clause-sound
+returns-in-Err-clause-sound c =
+    let old = c.args.self.now in
+    let arrays =
+        c.drop_array.ensures.arrays
+        ∙ ap (λ m. remove m c.args.id) c.in_ok-add_array.ensures.ok
+        ∙ remove-insert old.seats.arrays c.args.id c.args.length (id_absent old c.args.name c.args.length c.args.tag c.args.id c.args.length c.requires.sound c.limits.ensures.state c.requires.answered)
+    in
+    record {
+      service =
+          subst
+          IsService
+          (λ i. record {
+            state = sym c.in-Err.ensures.err i;
+            seats = sym (c.drop_array.ensures.seats ∙ c.in_ok-add_array.ensures.seats) i;
+            waiting = sym (c.drop_array.ensures.waiting ∙ c.in_ok-add_array.ensures.waiting) i;
+            pending = old.pending;
+          })
+          c.requires.sound.service;
+      arrays = λ id. ap (λ m. get m id) arrays ∙ c.requires.sound.arrays id ∙ sym (ap (λ s. words_in (get s.arrays id)) c.in-Err.ensures.err);
+    }
+
+pub returns-clause-sound : goal.returns-clause-sound
+returns-clause-sound c =
+    let old = c.args.self.now in
+    let new : Parts = record { state = c.advance.new.self; seats = c.add_array.new.self; pending = c.push.new.self } in
+    let answer = answers.Array c.args.id c.args.length in
+    let entered : IsEntered old new _ = record {
+      state = c.in_default.ensures.ok;
+      waiting = c.in_ok-add_array.ensures.waiting;
+      seats = c.in_ok-add_array.ensures.seats;
+      pending = c.push.ensures;
+    } in
+    let quiet = created_quiet old new c.args.session c.args.number c.args.name c.args.length c.args.tag answer c.limits.ensures.state c.requires.sound.service.quiet entered in
+    record {
+      service = entered_service old new new c.args.session c.args.number (Create c.args.name c.args.length c.args.tag) answer [] c.requires.sound.service c.requires.free entered (none_taken new) quiet;
+      arrays = λ id.
+          ap (λ m. get m id) c.in_ok-add_array.ensures.ok
+          ∙ created_lengths old.state old.seats.arrays c.args.session c.args.number c.args.name c.args.length c.args.tag c.args.id c.args.length c.requires.answered c.requires.sound.arrays id
+          ∙ sym (ap (λ s. words_in (get s.arrays id)) c.in_default.ensures.ok);
+    }
+
+pub returns-clause-completes : goal.returns-clause-completes
+returns-clause-completes c =
+    let old = c.args.self.now in
+    let new : Parts = record { state = c.advance.new.self; seats = c.add_array.new.self; pending = c.push.new.self } in
+    let entered : IsEntered old new _ = record {
+      state = c.in_default.ensures.ok;
+      waiting = c.in_ok-add_array.ensures.waiting;
+      seats = c.in_ok-add_array.ensures.seats;
+      pending = c.push.ensures;
+    } in
+    entered_completes old new new _ [] entered (none_taken new) (returns-clause-sound c).service.quiet
