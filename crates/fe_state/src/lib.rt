@@ -32,5 +32,6 @@ pub use name::{NAME_BYTES, Name};
 pub use request::Request;
 pub use session::Session;
 pub use state::{GREATEST_PLACE, Illegal, State};
+pub use table::Table;
 pub use undo_log::UndoLog;
 pub use words::Words;
