@@ -32,9 +32,13 @@ rekeyed key value m = from_entries (map (λ e. (key e.0, value e.1)) (entries m)
 abbrev pub seats_of : FinMap nat_cmp Place → FinMap nat_cmp Seat
 seats_of places = rekeyed (λ session. session) (λ place. place.seat) places
 
--- the requests with the session in place of its slot
+-- the key of a request, with the session in place of its slot
+abbrev pub session_key : List (Option ℕ) → ℕ × ℕ → ℕ × ℕ
+session_key owners key = (owner_of owners key.0, key.1)
+
+-- the requests by session
 abbrev pub by_session : List (Option ℕ) → FinMap pair_cmp Waiter → FinMap pair_cmp Waiter
-by_session owners members = rekeyed (λ key. (owner_of owners key.0, key.1)) (λ waiter. waiter) members
+by_session owners members = rekeyed (session_key owners) (λ waiter. waiter) members
 
 abbrev pub turn_from : List (Option ℕ) → Row → Turn
 turn_from owners row = record { session = owner_of owners row.slot; number = row.number; array = row.array; index = row.index; op = row.op }

@@ -3,9 +3,9 @@ ghost use Rattle.std.specs.FinMap as map;
 ghost use Rattle.fe_waits.specs.Waiting.{IsWord, NoneOnWord, NoneOnArray};
 ghost use Rattle.fe_seats.specs.Seating.{free_seat, with_holder, with_closing, key_of, waiter_of, turn_of, turn_at, count_of, without_session, IsNodeOn, NoneOfSession, IsWithinLimits};
 
-use crate::place::Place;
+use crate::place::{Place, Places, SEATS, slot_of};
 use crate::seat::Seat;
-use crate::slots::{SLOTS, all_slots, owner};
+use crate::slots::{all_slots, owner};
 use crate::turn::Turn;
 use fe_pool::Node;
 use fe_state::Table;
@@ -14,9 +14,6 @@ use fe_words::Op;
 use std::alloc::{AllocError, Global};
 use std::marker::Model;
 
-/// How many sessions may have a seat.
-const SEATS: usize = SLOTS as usize;
-
 /// The seats of the sessions, and the requests that wait, each on a word and in its session.
 ///
 /// Only `new` and `add_array` take memory. A session is found by halving at most 64. A node is good
@@ -24,7 +21,7 @@ const SEATS: usize = SLOTS as usize;
 #[derive(Drop)]
 pub struct Seats {
     waits: Waits,
-    places: Table<Place, SEATS>,
+    places: Places,
     /// The session that has each slot of the waiting lists.
     owners: Vec<Option<u64>>,
     /// The slots that no session has.
@@ -169,7 +166,7 @@ impl Seats {
         ensures seats { self.new.seats ≡ self.old.seats }
         ensures arrays { self.new.arrays ≡ self.old.arrays }
     {
-        let slot = self.places.get(session).unwrap().slot;
+        let slot = slot_of(&self.places, session).unwrap();
         self.waits.add(slot, number, array, index, op);
     }
 
@@ -177,8 +174,8 @@ impl Seats {
     pub fn count_of(&self, session: u64) -> u32
         ensures { result ≡ count_of self.now.waiting session }
     {
-        match self.places.get(session) {
-            Some(place) => self.waits.count_of(place.slot),
+        match slot_of(&self.places, session) {
+            Some(slot) => self.waits.count_of(slot),
             None => 0,
         }
     }
@@ -219,8 +216,8 @@ impl Seats {
     pub fn find(&self, session: u64, number: u64) -> Option<Turn>
         ensures turn { result ≡ turn_at self.now.waiting session number }
     {
-        let place = self.places.get(session)?;
-        let row = self.waits.find(place.slot, number)?;
+        let slot = slot_of(&self.places, session)?;
+        let row = self.waits.find(slot, number)?;
         Some(Turn::of(session, row))
     }
 
@@ -231,7 +228,7 @@ impl Seats {
         ensures seats { self.new.seats ≡ self.old.seats }
         ensures arrays { self.new.arrays ≡ self.old.arrays }
     {
-        let slot = self.places.get(session)?.slot;
+        let slot = slot_of(&self.places, session)?;
         let row = self.waits.cancel(slot, number)?;
         Some(Turn::of(session, row))
     }
@@ -243,10 +240,9 @@ impl Seats {
         ensures seats { self.new.seats ≡ self.old.seats }
         ensures arrays { self.new.arrays ≡ self.old.arrays }
     {
-        let slot = match self.places.get(session) {
-            Some(place) => place.slot,
-            None => return 0,
-        };
-        self.waits.drop_session(slot)
+        match slot_of(&self.places, session) {
+            Some(slot) => self.waits.drop_session(slot),
+            None => 0,
+        }
     }
 }
