@@ -1,9 +1,9 @@
 -- What is always true of the seats, where a session sits down or leaves, and where a request comes or goes.
-use Rattle.std.proofs.Common.{◌≡◌, ◌≢◌, ℕ, zero, suc, ◌<◌, ◌≤◌, ◌+◌, ◌-◌, ◌⊎◌, inl, inr, List, [], ◌∷◌, ◌++◌, length, set, slice_get, Option, Some, None, IsSome, is_some, refl, sym, ap, subst, ◌∙◌, arith, length-append}
+use Rattle.std.proofs.Common.{◌≡◌, ◌≢◌, ℕ, zero, suc, ◌<◌, ◌≤◌, ◌+◌, ◌-◌, ◌⊎◌, inl, inr, List, [], ◌∷◌, ◌++◌, length, replicate, set, slice_get, Option, Some, None, IsSome, is_some, refl, sym, ap, subst, ◌∙◌, arith, add-one, length-append}
 use Rattle.std.specs.Prelude.{◌↔◌}
 use Rattle.std.specs.Option.{option_map}
 use Rattle.std.specs.Ordering.{nat_cmp}
-use Rattle.std.specs.FinMap.{FinMap, get, insert, remove, len, same_map, empty_of_len, get-empty}
+use Rattle.std.specs.FinMap.{FinMap, empty, get, insert, remove, len, same_map, empty_of_len, get-empty, len-empty}
 use Rattle.std.proofs.lemmas.Bool.{cases_eq}
 use Rattle.std.proofs.lemmas.List.{get_or-set_same, get_or-set_other}
 use Rattle.std.proofs.Math.ListN.{length-set}
@@ -12,7 +12,7 @@ use Rattle.fe_waits.specs.Waiting.{Waiter, Waiting}
 use Rattle.fe_waits.proofs.MemberLemmas.{none_some, some_same}
 use Rattle.fe_seats.specs.declared.place.Place.{Place}
 use Rattle.fe_seats.specs.Seating.{NoneOfSession}
-use Rattle.fe_seats.specs.Inner.{owner_at, slot_in, by_session, AreFree, AreSeats}
+use Rattle.fe_seats.specs.Inner.{owner_at, slot_in, by_session, slots_below, AreFree, AreSeats}
 use Rattle.fe_seats.proofs.OwnerLemmas.{Agree, AreOwned, seen, some_is, none_or_some, get-by_session, get-of_owner}
 use Rattle.fe_seats.proofs.SeatLemmas.{no_slot, slot-insert_here, slot-insert_other, slot-remove_here, slot-remove_other, len-insert_new, len-insert_old, len-remove_old}
 
@@ -43,6 +43,38 @@ pushed_cases (z ∷ xs) x (suc i) y e =
       | inr last ↦ inr (ap suc last.0, last.1)
     ]
 
+-- ---- the slots below a number
+
+length-slots_below : (n : ℕ) → length (slots_below n) ≡ n
+unfolding slots_below
+length-slots_below zero = refl
+length-slots_below (suc n) = let rest = length-slots_below n in length-append (slots_below n) (n ∷ []) ∙ omega arith
+
+-- each stands at its own place
+slot-at : (n i slot : ℕ) → slice_get (slots_below n) i ≡ Some slot → (i ≡ slot) × (slot < n)
+unfolding slots_below
+slot-at zero i slot e = none_some e
+slot-at (suc n) i slot e =
+    elim (pushed_cases (slots_below n) n i slot e) as (λ _. (i ≡ slot) × (slot < suc n)) [
+      | inl before ↦ let rest = slot-at n i slot before in (rest.0, omega (arith, rest.1))
+      | inr last ↦ (last.0 ∙ length-slots_below n ∙ last.1, omega (arith, last.1))
+    ]
+
+pub slots_below-zero : [] ≡ slots_below 0
+unfolding slots_below
+slots_below-zero = refl
+
+pub slots_below-more : (n : ℕ) → slots_below n ++ n ∷ [] ≡ slots_below (n + 1)
+unfolding slots_below
+slots_below-more n = ap slots_below (sym (add-one n))
+
+-- ---- owners
+
+no_owner : (n slot : ℕ) → owner_at (replicate n None) slot ≡ None
+no_owner zero slot = refl
+no_owner (suc n) zero = refl
+no_owner (suc n) (suc slot) = no_owner n slot
+
 pub owner-below : (owners : List (Option ℕ)) (slot session : ℕ) → owner_at owners slot ≡ Some session → slot < length owners
 owner-below [] slot session e = none_some e
 owner-below (o ∷ owners) zero session e = omega arith
@@ -53,6 +85,30 @@ owner-set_here owners slot o below = get_or-set_same owners slot o None below
 
 owner-set_other : (owners : List (Option ℕ)) (slot t : ℕ) (o : Option ℕ) → t ≢ slot → owner_at (set owners slot o) t ≡ owner_at owners t
 owner-set_other owners slot t o other = get_or-set_other owners slot t o None other
+
+-- ---- nobody sits, and nothing waits
+
+pub kept-new : (waits : Waiting) (places : FinMap nat_cmp Place) (owners : List (Option ℕ)) (slots : List ℕ) (capacity : ℕ) → waits.members ≡ empty → places ≡ empty → owners ≡ replicate 64 None → slots ≡ slots_below 64 → 64 ≤ capacity → AreSeats waits places owners slots capacity
+kept-new waits places owners slots capacity no_members no_places no_owners all reserved = record {
+  sized = ap length no_owners;
+  agree = λ session slot.
+      (λ e. none_some (sym (ap (λ m. slot_in m session) no_places ∙ no_slot empty session (get-empty nat_cmp session)) ∙ e),
+      λ e. none_some (sym (unowned slot) ∙ e));
+  free = record {
+    below = λ i slot e. (at i slot e).1;
+    vacant = λ i slot e. unowned slot;
+    once = λ i j slot e f. (at i slot e).0 ∙ sym (at j slot f).0;
+  };
+  counted = let long = ap length all ∙ length-slots_below 64 in let none = ap len no_places ∙ len-empty nat_cmp Place in omega arith;
+  reserved = reserved;
+  owned = λ key waiter e. none_some (sym (ap (λ m. get m key) no_members ∙ get-empty pair_cmp key) ∙ e);
+}
+  where
+    unowned : (slot : ℕ) → owner_at owners slot ≡ None
+    unowned slot = ap (λ l. owner_at l slot) no_owners ∙ no_owner 64 slot
+
+    at : (i slot : ℕ) → slice_get slots i ≡ Some slot → (i ≡ slot) × (slot < 64)
+    at i slot e = slot-at 64 i slot (ap (λ l. slice_get l i) (sym all) ∙ e)
 
 module _ (waits : Waiting) (places : FinMap nat_cmp Place) (owners : List (Option ℕ)) (slots : List ℕ) (capacity : ℕ) (kept : AreSeats waits places owners slots capacity) where
   pub slot-below : (session slot : ℕ) → slot_in places session ≡ Some slot → slot < 64
@@ -190,6 +246,17 @@ module _ (waits : Waiting) (places : FinMap nat_cmp Place) (owners : List (Optio
     pub leave-below : place.slot < length owners
     leave-below = owner-below owners place.slot session own
 
+    leave_some : 0 < len places
+    leave_some =
+        elim (cases_eq (len places) 0) as (λ _. 0 < len places) [
+          | inl none ↦ none_some (sym (ap (λ m. get m session) (empty_of_len places none) ∙ get-empty nat_cmp session) ∙ there)
+          | inr more ↦ omega arith
+        ]
+
+    -- there is memory for one more free slot
+    pub leave-room : length slots < capacity
+    leave-room = let some = leave_some in omega (arith, kept.counted, kept.reserved)
+
     -- the slot was not on the list
     not_free : (i : ℕ) → slice_get slots i ≡ Some place.slot → ⊥
     not_free i e = none_some (sym (kept.free.vacant i place.slot e) ∙ own)
@@ -259,19 +326,12 @@ module _ (waits : Waiting) (places : FinMap nat_cmp Place) (owners : List (Optio
       free = leave_free;
       counted =
           let fewer = len-remove_old places session place there in
-          let some = some_places in
+          let some = leave_some in
           let long = length-append slots (place.slot ∷ []) in
           omega (arith, kept.counted);
       reserved = reserved;
       owned = leave_owned;
     }
-      where
-        some_places : 0 < len places
-        some_places =
-            elim (cases_eq (len places) 0) as (λ _. 0 < len places) [
-              | inl none ↦ none_some (sym (ap (λ m. get m session) (empty_of_len places none) ∙ get-empty nat_cmp session) ∙ there)
-              | inr more ↦ omega arith
-            ]
 
     pub waiting-leave : by_session (set owners place.slot None) waits.members ≡ by_session owners waits.members
     waiting-leave = same_map pair_cmp_total pair_cmp-IsAntisymmetric _ _ (λ q.

@@ -40,6 +40,14 @@ same_option (Some x) = refl
 pub owner_is : (owners : List (Option ℕ)) (slot session : ℕ) → owner_at owners slot ≡ Some session → owner_of owners slot ≡ session
 owner_is owners slot session e = ap (λ o. unwrap_or o 0) e
 
+pub by_session-empty : (owners : List (Option ℕ)) → by_session owners empty ≡ empty
+by_session-empty owners = same_map pair_cmp_total pair_cmp-IsAntisymmetric _ _ (λ q.
+    get-rekeyed_none pair_cmp_total pair_cmp_total (session_key owners) (λ waiter. waiter) empty q (λ x there. absurd (none_there x there))
+    ∙ sym (get-empty pair_cmp q))
+  where
+    none_there : (x : ℕ × ℕ) → IsSome (get (empty {X = Waiter} {R = pair_cmp}) x) → ⊥
+    none_there x there = true≢false (sym there ∙ ap is_some (get-empty pair_cmp x))
+
 module _ (places : FinMap nat_cmp Place) (owners : List (Option ℕ)) (agree : Agree places owners) where
   -- a slot has one session, and a session one slot
   pub one_slot : (a b session : ℕ) → owner_at owners a ≡ Some session → owner_at owners b ≡ Some session → a ≡ b

@@ -1,6 +1,6 @@
 -- The seats and the slots of the places, where a place comes, goes or changes.
-use Rattle.std.proofs.Common.{◌≡◌, ◌≢◌, ℕ, ◌+◌, ◌-◌, inl, inr, Bool, true, false, cond, Option, Some, None, IsSome, is_some, refl, sym, ap, ◌∙◌}
-use Rattle.std.specs.Option.{option_map}
+use Rattle.std.proofs.Common.{◌≡◌, ◌≢◌, ℕ, ◌+◌, ◌-◌, inl, inr, Bool, true, false, cond, List, Option, Some, None, IsSome, is_some, refl, sym, ap, ◌∙◌}
+use Rattle.std.specs.Option.{option_map, option_map_or, option_and_then}
 use Rattle.std.specs.Ordering.{nat_cmp}
 use Rattle.std.specs.Cmp.{nat_cmp_total}
 use Rattle.std.specs.FinMap.{FinMap, empty, get, insert, remove, len, get-empty, len-insert, len-remove, same_map, nat_cmp-IsAntisymmetric}
@@ -9,7 +9,9 @@ use Rattle.fe_waits.proofs.MemberLemmas.{none_some}
 use Rattle.fe_waits.proofs.WordLemmas.{get-insert_here, get-insert_other, get-remove_here, get-remove_other}
 use Rattle.fe_seats.specs.declared.place.Place.{Place}
 use Rattle.fe_seats.specs.declared.seat.Seat.{Seat}
-use Rattle.fe_seats.specs.Inner.{slot_in, seats_of}
+use Rattle.fe_waits.specs.Waiting.{Waiting}
+use Rattle.fe_seats.specs.Seating.{Seating, with_holder, with_closing}
+use Rattle.fe_seats.specs.Inner.{slot_in, seats_of, seating_of}
 use Rattle.fe_seats.proofs.KeyLemmas.{get-rekeyed, len-rekeyed}
 use Rattle.fe_seats.proofs.OwnerLemmas.{none_or_some}
 
@@ -117,3 +119,22 @@ module _ (places : FinMap nat_cmp Place) (session : ℕ) where
 
   pub len-remove_old : (old : Place) → get places session ≡ Some old → len (remove places session) ≡ len places - 1
   len-remove_old old there = len-remove nat_cmp_total places session ∙ ap (λ o. cond (is_some o) (len places - 1) (len places)) there
+
+  -- what else is known of a session stays, where its holder or its closing changes
+  module _ (place : Place) (there : get places session ≡ Some place) where
+    seat_there : get (seats_of places) session ≡ Some place.seat
+    seat_there = get-seats places session ∙ ap (option_map seat_of) there
+
+    pub seats-holder : (holder : Option ℕ) → seats_of (insert places session (record { slot = place.slot; seat = record { holder = holder; closing = place.seat.closing } })) ≡ with_holder (seats_of places) session holder
+    seats-holder holder =
+        seats-insert (record { slot = place.slot; seat = record { holder = holder; closing = place.seat.closing } })
+        ∙ ap (λ closing. insert (seats_of places) session (record { holder = holder; closing = closing })) (sym (ap (λ o. option_map_or (λ seat. seat.closing) o false) seat_there))
+
+    pub seats-closing : seats_of (insert places session (record { slot = place.slot; seat = record { holder = place.seat.holder; closing = true } })) ≡ with_closing (seats_of places) session
+    seats-closing =
+        seats-insert (record { slot = place.slot; seat = record { holder = place.seat.holder; closing = true } })
+        ∙ ap (λ holder. insert (seats_of places) session (record { holder = holder; closing = true })) (sym (ap (option_and_then (λ seat. seat.holder)) seat_there))
+
+-- a change of the places alone, which leaves each slot, changes the seats alone
+pub seating-reseated : (waits : Waiting) (places places' : FinMap nat_cmp Place) (owners : List (Option ℕ)) (seats : FinMap nat_cmp Seat) → seats_of places' ≡ seats → seating_of waits places' owners ≡ record (seating_of waits places owners) { seats = seats }
+seating-reseated waits places places' owners seats e = ap (λ s. record (seating_of waits places owners) { seats = s }) e

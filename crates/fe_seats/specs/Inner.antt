@@ -47,7 +47,7 @@ abbrev pub turns_from : List (Option ℕ) → List (Option Row) → List (Option
 turns_from owners nodes = map (option_map (turn_from owners)) nodes
 
 -- the slots below a number, in ascending order
-abbrev pub slots_below : ℕ → List ℕ
+unfoldable pub slots_below : ℕ → List ℕ
 slots_below zero = []
 slots_below (suc n) = slots_below n ++ n ∷ []
 

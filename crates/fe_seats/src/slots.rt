@@ -1,4 +1,4 @@
-ghost use Rattle.std.specs.Prelude.{◌≡◌, IsSome, Some, IfOk};
+ghost use Rattle.std.specs.Prelude.{◌≡◌, ◌≤◌, IsSome, Some, IfOk, vec_capacity};
 ghost use Rattle.fe_seats.specs.Inner.{owner_at, slots_below};
 
 use std::alloc::{AllocError, Global};
@@ -8,7 +8,8 @@ pub(crate) const SLOTS: u8 = 64;
 
 // The slots 0 to 63.
 pub(crate) fn all_slots(alloc: Global) -> Result<Vec<u8>, AllocError>
-    ensures { IfOk result (λ slots. slots.items ≡ slots_below 64) }
+    ensures slots { IfOk result (λ slots. slots.items ≡ slots_below 64) }
+    ensures reserved { IfOk result (λ slots. 64 ≤ vec_capacity slots) }
 {
     let mut slots = Vec::with_capacity(alloc, SLOTS as usize)?;
     for slot in 0..SLOTS {
