@@ -1,6 +1,5 @@
 -- What is always true of the seats, where a session sits down or leaves, and where a request comes or goes.
-use Rattle.std.proofs.Common.{◌≡◌, ◌≢◌, ℕ, zero, suc, ◌<◌, ◌≤◌, ◌+◌, ◌-◌, ◌⊎◌, inl, inr, List, [], ◌∷◌, ◌++◌, length, replicate, set, slice_get, Option, Some, None, IsSome, is_some, refl, sym, ap, subst, ◌∙◌, arith, add-one, length-append}
-use Rattle.std.specs.Prelude.{◌↔◌}
+use Rattle.std.proofs.Common.{◌≡◌, ◌≢◌, ℕ, zero, suc, ◌<◌, ◌≤◌, ◌+◌, ◌⊎◌, inl, inr, List, [], ◌∷◌, ◌++◌, length, replicate, set, slice_get, Option, Some, None, IsSome, is_some, refl, sym, ap, ◌∙◌, arith, add-one, length-append}
 use Rattle.std.specs.Option.{option_map}
 use Rattle.std.specs.Ordering.{nat_cmp}
 use Rattle.std.specs.FinMap.{FinMap, empty, get, insert, remove, len, same_map, empty_of_len, get-empty, len-empty}
@@ -8,7 +7,7 @@ use Rattle.std.proofs.lemmas.Bool.{cases_eq}
 use Rattle.std.proofs.lemmas.List.{get_or-set_same, get_or-set_other}
 use Rattle.std.proofs.Math.ListN.{length-set}
 use Rattle.fe_waits.specs.Pair.{pair_cmp, pair_cmp_total, pair_cmp-IsAntisymmetric}
-use Rattle.fe_waits.specs.Waiting.{Waiter, Waiting}
+use Rattle.fe_waits.specs.Waiting.{Waiting}
 use Rattle.fe_waits.proofs.MemberLemmas.{none_some, some_same}
 use Rattle.fe_seats.specs.declared.place.Place.{Place}
 use Rattle.fe_seats.specs.Seating.{NoneOfSession}
@@ -91,9 +90,10 @@ owner-set_other owners slot t o other = get_or-set_other owners slot t o None ot
 pub kept-new : (waits : Waiting) (places : FinMap nat_cmp Place) (owners : List (Option ℕ)) (slots : List ℕ) (capacity : ℕ) → waits.members ≡ empty → places ≡ empty → owners ≡ replicate 64 None → slots ≡ slots_below 64 → 64 ≤ capacity → AreSeats waits places owners slots capacity
 kept-new waits places owners slots capacity no_members no_places no_owners all reserved = record {
   sized = ap length no_owners;
-  agree = λ session slot.
-      (λ e. none_some (sym (ap (λ m. slot_in m session) no_places ∙ no_slot empty session (get-empty nat_cmp session)) ∙ e),
-      λ e. none_some (sym (unowned slot) ∙ e));
+  agree = λ session slot. (
+    λ e. none_some (sym (ap (λ m. slot_in m session) no_places ∙ no_slot empty session (get-empty nat_cmp session)) ∙ e),
+    λ e. none_some (sym (unowned slot) ∙ e),
+  );
   free = record {
     below = λ i slot e. (at i slot e).1;
     vacant = λ i slot e. unowned slot;

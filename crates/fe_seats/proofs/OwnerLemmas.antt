@@ -1,10 +1,10 @@
 -- The requests by session against those by slot, where places and owners say the same.
-use Rattle.std.proofs.Common.{◌≡◌, ◌≢◌, ℕ, ◌<◌, ◌⊎◌, inl, inr, Bool, true, false, cond, not, List, Option, Some, None, IsSome, is_some, true≢false, refl, sym, ap, subst, ◌∙◌}
+use Rattle.std.proofs.Common.{◌≡◌, ◌≢◌, ℕ, ◌⊎◌, inl, inr, Bool, true, false, cond, List, Option, Some, None, IsSome, is_some, true≢false, refl, sym, ap, ◌∙◌}
 use Rattle.std.specs.Prelude.{◌==◌, ◌↔◌, unwrap_or}
 use Rattle.std.specs.Option.{option_map, option_and_then}
-use Rattle.std.specs.Ordering.{nat_cmp, eq_by_cmp}
+use Rattle.std.specs.Ordering.{nat_cmp}
 use Rattle.std.specs.declared.cmp.Ordering.TheVariants.{Equal}
-use Rattle.std.specs.FinMap.{FinMap, empty, get, insert, remove, retain_keys, len, get-empty, get-insert, get-remove, get-retain_keys, same_map}
+use Rattle.std.specs.FinMap.{FinMap, empty, get, insert, remove, retain_keys, len, get-empty, get-retain_keys, same_map}
 use Rattle.std.proofs.lemmas.Bool.{cases_eq, ne_eqb, eq-eqb}
 use Rattle.fe_waits.specs.Pair.{pair_cmp, pair_cmp_total, pair_cmp-IsAntisymmetric}
 use Rattle.fe_waits.specs.Waiting.{Waiter}
@@ -82,9 +82,9 @@ module _ (places : FinMap nat_cmp Place) (owners : List (Option ℕ)) (agree : A
     at_none session number none =
         get-rekeyed_none pair_cmp_total pair_cmp_total (session_key owners) (λ waiter. waiter) members (session, number)
         (λ x there. miss pair_cmp-IsAntisymmetric (session, number) (session_key owners x) (λ e.
-            let owner = owner_there x there in
-            let same : session ≡ owner.0 = ap (λ (p : ℕ × ℕ). p.0) e ∙ owner_is owners x.0 owner.0 owner.1 in
-            none_some (sym none ∙ (agree session x.0).1 (owner.1 ∙ ap Some (sym same)))))
+        let owner = owner_there x there in
+        let same : session ≡ owner.0 = ap (λ (p : ℕ × ℕ). p.0) e ∙ owner_is owners x.0 owner.0 owner.1 in
+        none_some (sym none ∙ (agree session x.0).1 (owner.1 ∙ ap Some (sym same)))))
 
     -- what waits of a session is what waits in its slot
     pub get-by_session : (q : ℕ × ℕ) → get (by_session owners members) q ≡ seen members (slot_in places q.0) q.1

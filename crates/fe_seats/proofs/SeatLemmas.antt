@@ -1,5 +1,5 @@
 -- The seats and the slots of the places, where a place comes, goes or changes.
-use Rattle.std.proofs.Common.{◌≡◌, ◌≢◌, ℕ, ◌+◌, ◌-◌, inl, inr, Bool, true, false, cond, List, Option, Some, None, IsSome, is_some, refl, sym, ap, ◌∙◌}
+use Rattle.std.proofs.Common.{◌≡◌, ◌≢◌, ℕ, ◌+◌, ◌-◌, inl, inr, true, false, cond, List, Option, Some, None, IsSome, is_some, refl, sym, ap, ◌∙◌}
 use Rattle.std.specs.Option.{option_map, option_map_or, option_and_then}
 use Rattle.std.specs.Ordering.{nat_cmp}
 use Rattle.std.specs.Cmp.{nat_cmp_total}
@@ -10,10 +10,9 @@ use Rattle.fe_waits.proofs.WordLemmas.{get-insert_here, get-insert_other, get-re
 use Rattle.fe_seats.specs.declared.place.Place.{Place}
 use Rattle.fe_seats.specs.declared.seat.Seat.{Seat}
 use Rattle.fe_waits.specs.Waiting.{Waiting}
-use Rattle.fe_seats.specs.Seating.{Seating, with_holder, with_closing}
+use Rattle.fe_seats.specs.Seating.{with_holder, with_closing}
 use Rattle.fe_seats.specs.Inner.{slot_in, seats_of, seating_of}
 use Rattle.fe_seats.proofs.KeyLemmas.{get-rekeyed, len-rekeyed}
-use Rattle.fe_seats.proofs.OwnerLemmas.{none_or_some}
 
 abbrev seat_of : Place → Seat
 seat_of place = place.seat

@@ -1,8 +1,7 @@
 -- What a crate above asks of the requests of a session.
-use Rattle.std.proofs.Common.{◌≡◌, ℕ, ◌<◌, ◌≤◌, ◌+◌, true, false, cond, not, Some, None, refl, ap, sym, ◌∙◌}
+use Rattle.std.proofs.Common.{◌≡◌, ℕ, ◌<◌, ◌≤◌, ◌+◌, cond, not, Some, None, refl, ap, sym, ◌∙◌}
 use Rattle.std.specs.FinMap.{FinMap, get, empty_of_len, get-empty}
 use Rattle.std.proofs.lemmas.Bool.{eq-eqb}
-use Rattle.std.specs.Prelude.{◌==◌}
 use Rattle.fe_waits.specs.Pair.{pair_cmp}
 use Rattle.fe_waits.specs.Waiting.{Waiter}
 use Rattle.fe_waits.proofs.MemberLemmas.{get-of_slot, get-without_slot}

@@ -1,19 +1,19 @@
 -- The requests that a call tells, and how many they are, by session against by slot.
-use Rattle.std.proofs.Common.{◌≡◌, ℕ, ◌<◌, ◌≤◌, ◌⊎◌, inl, inr, Bool, not, List, [], ◌∷◌, map, Option, Some, None, IsSome, is_some, true≢false, refl, sym, ap, subst, ◌∙◌, arith, zero, suc}
-use Rattle.std.specs.Prelude.{◌==◌, ◌↔◌, IfSome, IsNone}
+use Rattle.std.proofs.Common.{◌≡◌, ℕ, ◌≤◌, inl, inr, not, List, [], ◌∷◌, Option, Some, None, IsSome, is_some, refl, sym, ap, subst, ◌∙◌, arith, zero, suc}
+use Rattle.std.specs.Prelude.{IfSome}
 use Rattle.std.specs.Option.{option_map}
 use Rattle.std.specs.Ordering.{nat_cmp}
-use Rattle.std.specs.FinMap.{FinMap, empty, get, len, len-empty, same_map, get-empty}
+use Rattle.std.specs.FinMap.{FinMap, empty, get, len, len-empty}
 use Rattle.fe_waits.specs.declared.row.Row.{Row}
-use Rattle.fe_waits.specs.Pair.{pair_cmp, pair_cmp_total, pair_cmp-IsAntisymmetric}
+use Rattle.fe_waits.specs.Pair.{pair_cmp}
 use Rattle.fe_waits.specs.Waiting.{Waiter, Waiting, IsWord, IsOn, NoneOnWord, NoneOnArray, row_at, row_of, of_slot, without_slot}
 use Rattle.fe_waits.specs.Waiting as waits
 use Rattle.fe_waits.proofs.MemberLemmas.{none_some, some_same, of_slot-none, without-none}
 use Rattle.fe_seats.specs.declared.place.Place.{Place}
 use Rattle.fe_seats.specs.declared.turn.Turn.{Turn}
 use Rattle.fe_seats.specs.Seating.{key_of, waiter_of, turn_of, turn_at, count_of, without_session, IsNodeOn, IsWithinLimits}
-use Rattle.fe_seats.specs.Inner.{owner_at, owner_of, slot_in, by_session, seats_of, seating_of, turn_from, turns_from, AreSeats}
-use Rattle.fe_seats.proofs.OwnerLemmas.{Agree, AreOwned, some_is, none_or_some, owner_is, get-by_session, get-in_slot, get-unseated, get-of_owner, len-by_session, owned-kept, by_session-kept}
+use Rattle.fe_seats.specs.Inner.{owner_at, owner_of, slot_in, by_session, seating_of, turn_from, turns_from, AreSeats}
+use Rattle.fe_seats.proofs.OwnerLemmas.{Agree, AreOwned, some_is, none_or_some, owner_is, get-in_slot, get-unseated, get-of_owner, len-by_session, owned-kept, by_session-kept}
 use Rattle.fe_seats.proofs.SeatLemmas.{len-seats, has_seat}
 
 -- the request of a row, for a session

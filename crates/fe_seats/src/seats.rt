@@ -208,8 +208,8 @@ impl Seats {
         ensures seats { self.new.seats ≡ self.old.seats }
         ensures arrays { self.new.arrays ≡ self.old.arrays }
     {
-        let row = self.waits.finish(node);
-        Turn::of(owner(&self.owners, row.slot), row)
+        let gone = self.waits.finish(node);
+        Turn::of(owner(&self.owners, gone.slot), gone)
     }
 
     /// The request of a session and a number, if it waits.

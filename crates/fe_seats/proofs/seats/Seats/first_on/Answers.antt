@@ -6,6 +6,7 @@ returns-clause-on_word c = rw (← c.self.view_is) (node-on c.self.inside.waits 
 
 pub returns-clause-none : goal.returns-clause-none
 returns-clause-none c =
-    rw (← c.self.view_is)
-    (λ is. none-on_word _ _ c.self.invariant.agree _ c.self.invariant.owned c.args.array c.args.index (c.first_on.ensures.none.0 is),
-    λ none. c.first_on.ensures.none.1 (none-on_word_back _ _ c.self.invariant.agree _ c.self.invariant.owned c.args.array c.args.index none))
+    rw (← c.self.view_is) (
+      λ is. none-on_word _ _ c.self.invariant.agree _ c.self.invariant.owned c.args.array c.args.index (c.first_on.ensures.none.0 is),
+      λ none. c.first_on.ensures.none.1 (none-on_word_back _ _ c.self.invariant.agree _ c.self.invariant.owned c.args.array c.args.index none),
+    )

@@ -14,10 +14,11 @@ pub index_mut-requires : goal.index_mut-requires
 index_mut-requires c =
     let asked = rw (← c.self.view_is) at c.requires in
     let popped = rw c.unwrap-slot.ensures at c.pop.ensures.items in
-    omega
-    (arith,
-    sit-below _ _ _ _ _ c.self.invariant c.args.session c.unwrap-slot.result _ (record { slot = c.unwrap-slot.result; seat = free_seat }) (no_place _ _ asked.new) popped refl,
-    c.self.inside.owners.ok.0)
+    omega (
+      arith,
+      sit-below _ _ _ _ _ c.self.invariant c.args.session c.unwrap-slot.result _ (record { slot = c.unwrap-slot.result; seat = free_seat }) (no_place _ _ asked.new) popped refl,
+      c.self.inside.owners.ok.0,
+    )
 
 pub insert-requires : goal.insert-requires
 insert-requires c =

@@ -1,5 +1,4 @@
-use Rattle.std.proofs.Common.{ap, sym, ◌∙◌}
-use Rattle.fe_seats.specs.Inner.{owner_at}
+use Rattle.std.proofs.Common.{◌∙◌}
 use Rattle.fe_seats.proofs.OwnerLemmas.{get-of_owner}
 use Rattle.fe_seats.proofs.seats.Seats.turn.Goals as goal
 
