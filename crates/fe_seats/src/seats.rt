@@ -240,9 +240,9 @@ impl Seats {
         ensures seats { self.new.seats ≡ self.old.seats }
         ensures arrays { self.new.arrays ≡ self.old.arrays }
     {
-        match slot_of(&self.places, session) {
-            Some(slot) => self.waits.drop_session(slot),
-            None => 0,
-        }
+        let Some(slot) = slot_of(&self.places, session) else {
+            return 0;
+        };
+        self.waits.drop_session(slot)
     }
 }

@@ -12,17 +12,17 @@ pub invariant_of-self : goal.invariant_of-self
 invariant_of-self c =
     kept-waits _ _ _ _ _ c.self.invariant _ (rw c.drop_session.ensures.removed (owned-kept _ _ c.self.invariant.agree _ c.self.invariant.owned (λ b. not b) c.in-Some.slot))
 
-pub returns-in-Some-clause-count : goal.returns-in-Some-clause-count
-returns-in-Some-clause-count c =
+pub returns-clause-count : goal.returns-clause-count
+returns-clause-count c =
     rw (← c.self.view_is) (c.drop_session.ensures.count ∙ sym (count-in_slot _ _ c.self.invariant.agree _ c.self.invariant.owned _ _ (sym c.in-Some.ensures)))
 
-pub returns-in-Some-clause-removed : goal.returns-in-Some-clause-removed
-returns-in-Some-clause-removed c =
+pub returns-clause-removed : goal.returns-clause-removed
+returns-clause-removed c =
     rw (← c.self.view_is)
     (ap (by_session c.self.inside.owners.items) c.drop_session.ensures.removed ∙ without-in_slot _ _ c.self.invariant.agree _ c.self.invariant.owned _ _ (sym c.in-Some.ensures))
 
-pub returns-in-None-clause-count : goal.returns-in-None-clause-count
-returns-in-None-clause-count c = rw (← c.self.view_is) (sym (count-unseated _ _ c.self.invariant.agree _ c.self.invariant.owned _ (sym c.in-None.ensures)))
+pub returns-in_default-clause-count : goal.returns-in_default-clause-count
+returns-in_default-clause-count c = rw (← c.self.view_is) (sym (count-unseated _ _ c.self.invariant.agree _ c.self.invariant.owned _ (sym c.in_default.ensures)))
 
-pub returns-in-None-clause-removed : goal.returns-in-None-clause-removed
-returns-in-None-clause-removed c = rw (← c.self.view_is) (sym (without-unseated _ _ c.self.invariant.agree _ c.self.invariant.owned _ (sym c.in-None.ensures)))
+pub returns-in_default-clause-removed : goal.returns-in_default-clause-removed
+returns-in_default-clause-removed c = rw (← c.self.view_is) (sym (without-unseated _ _ c.self.invariant.agree _ c.self.invariant.owned _ (sym c.in_default.ensures)))
