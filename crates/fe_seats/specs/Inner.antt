@@ -1,0 +1,74 @@
+-- How the sessions stand for the slots of the waiting lists. No public clause cites this module.
+use Rattle.std.specs.Prelude.{◌≡◌, ◌↔◌, ℕ, ◌+◌, ◌<◌, ◌≤◌, List, [], ◌∷◌, ◌++◌, zero, suc, map, length, Option, Some, None, IsSome, slice_get, slice_index_or, unwrap_or}
+use Rattle.std.specs.Option.{option_map}
+use Rattle.std.specs.Ordering.{nat_cmp}
+use Rattle.std.specs.declared.cmp.Ordering.{Ordering}
+use Rattle.std.specs.FinMap.{FinMap, get, len, entries, from_entries}
+use Rattle.fe_waits.specs.declared.row.Row.{Row}
+use Rattle.fe_waits.specs.Pair.{pair_cmp}
+use Rattle.fe_waits.specs.Waiting.{Waiter, Waiting}
+use Rattle.fe_seats.specs.declared.place.Place.{Place}
+use Rattle.fe_seats.specs.declared.seat.Seat.{Seat}
+use Rattle.fe_seats.specs.declared.turn.Turn.{Turn}
+use Rattle.fe_seats.specs.Seating.{Seating}
+
+-- the session that has a slot, if one has it
+abbrev pub owner_at : List (Option ℕ) → ℕ → Option ℕ
+owner_at owners slot = slice_index_or owners slot None
+
+-- the session of a slot that one has
+abbrev pub owner_of : List (Option ℕ) → ℕ → ℕ
+owner_of owners slot = unwrap_or (owner_at owners slot) 0
+
+-- the slot of a session, if it has a place
+abbrev pub slot_in : FinMap nat_cmp Place → ℕ → Option ℕ
+slot_in places session = option_map (λ place. place.slot) (get places session)
+
+-- a map with other keys, and other values, by entry
+abbrev pub rekeyed : {K L X Y : Type 0} {R : K → K → Ordering} {S : L → L → Ordering} → (K → L) → (X → Y) → FinMap R X → FinMap S Y
+rekeyed key value m = from_entries (map (λ e. (key e.0, value e.1)) (entries m))
+
+-- the seats of the places
+abbrev pub seats_of : FinMap nat_cmp Place → FinMap nat_cmp Seat
+seats_of places = rekeyed (λ session. session) (λ place. place.seat) places
+
+-- the key of a request, with the session in place of its slot
+abbrev pub session_key : List (Option ℕ) → ℕ × ℕ → ℕ × ℕ
+session_key owners key = (owner_of owners key.0, key.1)
+
+-- the requests by session
+abbrev pub by_session : List (Option ℕ) → FinMap pair_cmp Waiter → FinMap pair_cmp Waiter
+by_session owners members = rekeyed (session_key owners) (λ waiter. waiter) members
+
+abbrev pub turn_from : List (Option ℕ) → Row → Turn
+turn_from owners row = record { session = owner_of owners row.slot; number = row.number; array = row.array; index = row.index; op = row.op }
+
+abbrev pub turns_from : List (Option ℕ) → List (Option Row) → List (Option Turn)
+turns_from owners nodes = map (option_map (turn_from owners)) nodes
+
+-- the slots below a number, in ascending order
+unfoldable pub slots_below : ℕ → List ℕ
+slots_below zero = []
+slots_below (suc n) = slots_below n ++ n ∷ []
+
+-- the free slots: each is below 64, has no owner, and is on the list once
+pub record AreFree (owners : List (Option ℕ)) (slots : List ℕ) : Type 0 where
+  pub below : (i slot : ℕ) → slice_get slots i ≡ Some slot → slot < 64
+  pub vacant : (i slot : ℕ) → slice_get slots i ≡ Some slot → owner_at owners slot ≡ None
+  pub once : (i j slot : ℕ) → slice_get slots i ≡ Some slot → slice_get slots j ≡ Some slot → i ≡ j
+
+-- what is always true of the waiting lists, the places, the slots' owners and the free slots, for
+-- which so much memory is there: places and owners say the same, a slot is free or has a place, and
+-- requests wait in slots that have an owner
+pub record AreSeats (waits : Waiting) (places : FinMap nat_cmp Place) (owners : List (Option ℕ)) (slots : List ℕ) (capacity : ℕ) : Type 0 where
+  pub sized : length owners ≡ 64
+  pub agree : (session slot : ℕ) → (slot_in places session ≡ Some slot) ↔ (owner_at owners slot ≡ Some session)
+  pub free : AreFree owners slots
+  pub counted : length slots + len places ≡ 64
+  pub reserved : 64 ≤ capacity
+  pub owned : (key : ℕ × ℕ) (waiter : Waiter) → get waits.members key ≡ Some waiter → IsSome (owner_at owners key.0)
+
+-- what a contract sees of them
+abbrev pub seating_of : Waiting → FinMap nat_cmp Place → List (Option ℕ) → Seating
+seating_of waits places owners =
+    record { arrays = waits.arrays; seats = seats_of places; waiting = by_session owners waits.members; turns = turns_from owners waits.nodes }

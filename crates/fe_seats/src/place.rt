@@ -1,0 +1,27 @@
+ghost use Rattle.std.specs.Prelude.{◌≡◌};
+ghost use Rattle.fe_seats.specs.Inner.{slot_in};
+
+use crate::seat::Seat;
+use fe_state::Table;
+
+/// How many sessions may have a seat.
+pub(crate) const SEATS: usize = 64;
+
+/// The places of the sessions.
+pub(crate) type Places = Table<Place, SEATS>;
+
+/// Where the requests of a session wait, and its seat.
+#[derive(Clone, Copy)]
+pub(crate) struct Place {
+    /// The slot of the session's requests, 0 to 63.
+    pub(crate) slot: u8,
+    pub(crate) seat: Seat,
+}
+
+// The slot of a session that has a place.
+pub(crate) fn slot_of(places: &Places, session: u64) -> Option<u8>
+    ensures { result ≡ slot_in places.now session }
+{
+    let place = places.get(session)?;
+    Some(place.slot)
+}

@@ -1,0 +1,8 @@
+/// What is known of a session that has a seat.
+#[derive(Clone, Copy, Debug, PartialEq, Eq)]
+pub struct Seat {
+    /// The connection that has the session, if one has it.
+    pub holder: Option<u64>,
+    /// Its close is made and not yet posted.
+    pub closing: bool,
+}

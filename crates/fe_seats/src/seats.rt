@@ -1,0 +1,248 @@
+ghost use Rattle.std.specs.Prelude.{◌≡◌, ◌↔◌, ◌<◌, ◌≤◌, Some, None, IfOk, OnErr, IfSome, IsSome, IsNone};
+ghost use Rattle.std.specs.FinMap as map;
+ghost use Rattle.fe_waits.specs.Waiting.{IsWord, NoneOnWord, NoneOnArray};
+ghost use Rattle.fe_seats.specs.Seating.{free_seat, with_holder, with_closing, key_of, waiter_of, turn_of, turn_at, count_of, without_session, IsNodeOn, NoneOfSession, IsWithinLimits};
+
+use crate::place::{Place, Places, SEATS, slot_of};
+use crate::seat::Seat;
+use crate::slots::{all_slots, owner};
+use crate::turn::Turn;
+use fe_pool::Node;
+use fe_state::Table;
+use fe_waits::Waits;
+use fe_words::Op;
+use std::alloc::{AllocError, Global};
+use std::marker::Model;
+
+/// The seats of the sessions, and the requests that wait, each on a word and in its session.
+///
+/// Only `new` and `add_array` take memory. A session is found by halving at most 64. A node is good
+/// until the next change.
+#[derive(Drop)]
+pub struct Seats {
+    waits: Waits,
+    places: Places,
+    /// The session that has each slot of the waiting lists.
+    owners: Vec<Option<u64>>,
+    /// The slots that no session has.
+    slots: Vec<u8>,
+}
+
+impl Model for Seats {
+    ghost use Rattle.std.specs.Prelude.{vec_capacity};
+    ghost use Rattle.fe_seats.specs.Seating.{Seating, seating_code};
+
+    ghost Value = { Seating };
+
+    ghost coded = { seating_code };
+
+    ghost use Rattle.fe_seats.specs.Inner.{AreSeats, seating_of};
+
+    ghost view = { λ s. seating_of s.waits s.places s.owners.items };
+
+    ghost invariant = { λ s. AreSeats s.waits s.places s.owners.items s.slots.items (vec_capacity s.slots) };
+}
+
+impl Seats {
+    /// No arrays, no seats, and nothing waits. It takes the memory of all; the one error is that
+    /// there is too little.
+    pub fn new(alloc: Global) -> Result<Seats, AllocError>
+        ensures arrays { IfOk result (λ seats. seats.arrays ≡ map.empty) }
+        ensures seats { IfOk result (λ seats. seats.seats ≡ map.empty) }
+        ensures waiting { IfOk result (λ seats. seats.waiting ≡ map.empty) }
+    {
+        let waits = Waits::new(alloc)?;
+        let places = Table::new(alloc)?;
+        let owners = vec![in alloc; None; SEATS]?;
+        let slots = all_slots(alloc)?;
+        Ok(Seats {
+            waits,
+            places,
+            owners,
+            slots,
+        })
+    }
+
+    /// How many requests wait, 0 to 2,048.
+    pub fn len(&self) -> u32
+        ensures len { result ≡ map.len self.now.waiting }
+        ensures limits { IsWithinLimits self.now }
+    {
+        self.waits.len()
+    }
+
+    /// How many sessions have a seat, 0 to 64.
+    pub fn seat_count(&self) -> usize
+        ensures count { result ≡ map.len self.now.seats }
+        ensures fits { result ≤ 64 }
+    {
+        self.places.len()
+    }
+
+    /// The seat of a session, if it has one.
+    pub fn seat(&self, session: u64) -> Option<Seat>
+        ensures { result ≡ map.get self.now.seats session }
+    {
+        let place = self.places.get(session)?;
+        Some(place.seat)
+    }
+
+    /// A session takes a seat, which nobody has yet.
+    pub fn sit(&mut self, session: u64)
+        requires new { map.get self.old.seats session ≡ None }
+        requires room { map.len self.old.seats < 64 }
+        ensures seats { self.new.seats ≡ map.insert self.old.seats session free_seat }
+        ensures waiting { self.new.waiting ≡ self.old.waiting }
+        ensures arrays { self.new.arrays ≡ self.old.arrays }
+    {
+        let slot = self.slots.pop().unwrap();
+        self.owners[slot as usize] = Some(session);
+        let seat = Seat {
+            holder: None,
+            closing: false,
+        };
+        self.places.insert(session, Place { slot, seat });
+    }
+
+    /// A session of which nothing waits leaves its seat.
+    pub fn leave(&mut self, session: u64)
+        requires seated { IsSome (map.get self.old.seats session) }
+        requires idle { NoneOfSession self.old.waiting session }
+        ensures seats { self.new.seats ≡ map.remove self.old.seats session }
+        ensures waiting { self.new.waiting ≡ self.old.waiting }
+        ensures arrays { self.new.arrays ≡ self.old.arrays }
+    {
+        let place = self.places.remove(session).unwrap();
+        self.owners[place.slot as usize] = None;
+        self.slots.push(place.slot).unwrap();
+    }
+
+    /// A connection has the session from now on, or none.
+    pub fn set_holder(&mut self, session: u64, holder: Option<u64>)
+        requires seated { IsSome (map.get self.old.seats session) }
+        ensures { self.new ≡ record self.old { seats = with_holder self.old.seats session holder } }
+    {
+        self.places.get_mut(session).seat.holder = holder;
+    }
+
+    /// The session is closing from now on.
+    pub fn set_closing(&mut self, session: u64)
+        requires seated { IsSome (map.get self.old.seats session) }
+        ensures { self.new ≡ record self.old { seats = with_closing self.old.seats session } }
+    {
+        self.places.get_mut(session).seat.closing = true;
+    }
+
+    /// Adds an array of so many words, on which nothing waits. The one error is that memory is
+    /// short.
+    pub fn add_array(&mut self, array: u64, length: u32) -> Result<(), AllocError>
+        requires new { map.get self.old.arrays array ≡ None }
+        requires room { map.len self.old.arrays < 64 }
+        ensures ok { IfOk result (λ _. self.new.arrays ≡ map.insert self.old.arrays array length) }
+        ensures seats { self.new.seats ≡ self.old.seats }
+        ensures waiting { self.new.waiting ≡ self.old.waiting }
+        ensures err { OnErr result (self.new ≡ self.old) }
+    {
+        self.waits.add_array(array, length)
+    }
+
+    /// Drops an array on which nothing waits.
+    pub fn drop_array(&mut self, array: u64)
+        requires unused { NoneOnArray self.old.waiting array }
+        ensures arrays { self.new.arrays ≡ map.remove self.old.arrays array }
+        ensures seats { self.new.seats ≡ self.old.seats }
+        ensures waiting { self.new.waiting ≡ self.old.waiting }
+    {
+        self.waits.drop_array(array);
+    }
+
+    /// The request of a new number of a session waits from now on, behind the others on its word.
+    pub fn add(&mut self, session: u64, number: u64, array: u64, index: u32, op: Op)
+        requires seated { IsSome (map.get self.old.seats session) }
+        requires new { map.get self.old.waiting (session, number) ≡ None }
+        requires room { count_of self.old.waiting session < 32 }
+        requires word { IsWord self.old.arrays array index }
+        ensures added { self.new.waiting ≡ map.insert self.old.waiting (session, number) (record { array = array; index = index; op = op }) }
+        ensures seats { self.new.seats ≡ self.old.seats }
+        ensures arrays { self.new.arrays ≡ self.old.arrays }
+    {
+        let slot = slot_of(&self.places, session).unwrap();
+        self.waits.add(slot, number, array, index, op);
+    }
+
+    /// How many requests of a session wait, 0 to 32. None do where it has no seat.
+    pub fn count_of(&self, session: u64) -> u32
+        ensures { result ≡ count_of self.now.waiting session }
+    {
+        match slot_of(&self.places, session) {
+            Some(slot) => self.waits.count_of(slot),
+            None => 0,
+        }
+    }
+
+    /// A node of a request that waits on the word: the one that waits longest.
+    pub fn first_on(&self, array: u64, index: u32) -> Option<Node>
+        requires word { IsWord self.now.arrays array index }
+        ensures on_word { IfSome result (IsNodeOn self.now array index) }
+        ensures none { IsNone result ↔ NoneOnWord self.now.waiting array index }
+    {
+        self.waits.first_on(array, index)
+    }
+
+    /// The request for which the node stands.
+    pub fn turn(&self, node: Node) -> Turn
+        requires { IsSome (turn_of self.now node) }
+        ensures turn { turn_of self.now node ≡ Some result }
+        ensures waiting { map.get self.now.waiting (key_of result) ≡ Some (waiter_of result) }
+    {
+        let row = self.waits.row(node);
+        Turn::of(owner(&self.owners, row.slot), row)
+    }
+
+    /// Takes out the request for which the node stands.
+    pub fn finish(&mut self, node: Node) -> Turn
+        requires { IsSome (turn_of self.old node) }
+        ensures turn { turn_of self.old node ≡ Some result }
+        ensures waiting { map.get self.old.waiting (key_of result) ≡ Some (waiter_of result) }
+        ensures removed { self.new.waiting ≡ map.remove self.old.waiting (key_of result) }
+        ensures seats { self.new.seats ≡ self.old.seats }
+        ensures arrays { self.new.arrays ≡ self.old.arrays }
+    {
+        let gone = self.waits.finish(node);
+        Turn::of(owner(&self.owners, gone.slot), gone)
+    }
+
+    /// The request of a session and a number, if it waits.
+    pub fn find(&self, session: u64, number: u64) -> Option<Turn>
+        ensures turn { result ≡ turn_at self.now.waiting session number }
+    {
+        let slot = slot_of(&self.places, session)?;
+        let row = self.waits.find(slot, number)?;
+        Some(Turn::of(session, row))
+    }
+
+    /// Takes out the request of a session and a number, if it waits.
+    pub fn cancel(&mut self, session: u64, number: u64) -> Option<Turn>
+        ensures turn { result ≡ turn_at self.old.waiting session number }
+        ensures removed { self.new.waiting ≡ map.remove self.old.waiting (session, number) }
+        ensures seats { self.new.seats ≡ self.old.seats }
+        ensures arrays { self.new.arrays ≡ self.old.arrays }
+    {
+        let slot = slot_of(&self.places, session)?;
+        let row = self.waits.cancel(slot, number)?;
+        Some(Turn::of(session, row))
+    }
+
+    /// Takes out all requests of a session, and counts them. It keeps its seat.
+    pub fn drop_session(&mut self, session: u64) -> u32
+        ensures count { result ≡ count_of self.old.waiting session }
+        ensures removed { self.new.waiting ≡ without_session self.old.waiting session }
+        ensures seats { self.new.seats ≡ self.old.seats }
+        ensures arrays { self.new.arrays ≡ self.old.arrays }
+    {
+        let Some(slot) = slot_of(&self.places, session) else {
+            return 0;
+        };
+        self.waits.drop_session(slot)
+    }
+}
