@@ -1,7 +1,5 @@
-pub mod Parts
 pub mod Events
-pub mod Inner
 pub mod Laws
-pub mod Seating
+pub mod Parts
 pub mod Service
 pub mod ServiceState

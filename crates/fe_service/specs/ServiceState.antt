@@ -12,8 +12,8 @@ use Rattle.fe_state.specs.declared.entry.Entry.{Entry}
 use Rattle.fe_state.specs.contracts.entry.Entry.{the_row as entry_row}
 use Rattle.fe_service.specs.Service.{Waiters, AreUsable, IsQuiet}
 use Rattle.fe_service.specs.declared.parts.Parts.{Parts}
-use Rattle.fe_service.specs.declared.seat.Seat.{Seat}
-use Rattle.fe_service.specs.contracts.seat.Seat.{the_row as seat_row}
+use Rattle.fe_seats.specs.declared.seat.Seat.{Seat}
+use Rattle.fe_seats.specs.contracts.seat.Seat.{the_row as seat_row}
 
 -- the state; the seats, by session; what waits; and the entries made since they were last taken
 pub record ServiceState : Type 0 where

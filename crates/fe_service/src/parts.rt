@@ -5,12 +5,11 @@ ghost use Rattle.fe_waits.specs.Waiting.{IsWord};
 ghost use Rattle.fe_state.specs.State as state_limits;
 ghost use Rattle.fe_state.specs.State.{IsLegal, MakesArray, after};
 ghost use Rattle.fe_state.specs.declared.entry.Entry.{Entry};
-ghost use Rattle.fe_service.specs.Seating.{waiter_of, IsWithinLimits};
+ghost use Rattle.fe_seats.specs.Seating.{waiter_of, IsWithinLimits};
 ghost use Rattle.fe_service.specs.Service.{AreUsable, request_of};
 ghost use Rattle.fe_service.specs.Parts.{IsQuietAt, WaitAtTag, IsAtRest, TakesTurn, TakesTurns};
 
-use crate::seats::Seats;
-use crate::turn::Turn;
+use fe_seats::{Seats, Turn};
 use fe_state::{Entries, Entry, Request, State};
 
 /// The state, the seats with what waits, and the entries made since the last cut.

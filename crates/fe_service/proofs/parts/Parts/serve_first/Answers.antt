@@ -4,8 +4,8 @@ use Rattle.fe_waits.specs.Waiting.{IsOn}
 use Rattle.fe_waits.proofs.MemberLemmas.{some_same, len-positive}
 use Rattle.fe_state.specs.State.{reply}
 use Rattle.fe_state.specs.declared.entry.Entry.TheVariants.{Finished}
-use Rattle.fe_service.specs.Seating.{key_of, waiter_of}
-use Rattle.fe_service.specs.declared.turn.Turn.{Turn}
+use Rattle.fe_seats.specs.Seating.{key_of, waiter_of}
+use Rattle.fe_seats.specs.declared.turn.Turn.{Turn}
 use Rattle.fe_service.proofs.parts.Parts.serve_first.Goals as goal
 
 pub enter-requires-clause-legal : goal.enter-requires-clause-legal
