@@ -1,9 +1,16 @@
 -- What the events leave of a service.
-use Rattle.std.specs.Prelude.{◌≡◌, ℕ, ◌+◌, ◌-◌, ◌^◌, ◌≤◌, List, [], ◌∷◌, ◌++◌, length, Some, None, IsSomeAnd}
-use Rattle.std.specs.FinMap.{get}
+use Rattle.std.specs.Prelude.{◌≡◌, ℕ, ◌+◌, ◌-◌, ◌^◌, ◌<◌, ◌≤◌, List, [], ◌∷◌, ◌++◌, length, false, Option, Some, None, IsSomeAnd}
+use Rattle.std.specs.Option.{option_map, option_map_or}
+use Rattle.std.specs.Ordering.{nat_cmp}
+use Rattle.std.specs.FinMap.{FinMap, get, insert, remove, len}
+use Rattle.fe_waits.specs.Waiting.{Waiter}
+use Rattle.fe_seats.specs.Seating.{without_session, with_holder, with_closing, is_closing, free_seat}
+use Rattle.fe_seats.specs.declared.seat.Seat.{Seat}
+use Rattle.fe_state.specs.Sessions.{Session, MayRise}
 use Rattle.fe_state.specs.SessionEffect.{IsUsable}
 use Rattle.fe_state.specs.State.{ServerState, after}
 use Rattle.fe_state.specs.declared.entry.Entry.{Entry}
+use Rattle.fe_state.specs.declared.entry.Entry.TheVariants.{Attached, Closed, Settled}
 use Rattle.fe_service.specs.Service.{Serves}
 use Rattle.fe_service.specs.ServiceState.{ServiceState}
 
@@ -22,3 +29,57 @@ pub record Completes (old new : ServiceState) (own : Entry) (served : List Entry
   pub serves : Serves (after old.state own) old.waiting served new.state new.waiting
   pub pending : new.pending ≡ old.pending ++ own ∷ served
   pub seats : new.seats ≡ old.seats
+
+-- an entry that is made
+abbrev pub entered : ServiceState → Entry → ServiceState
+entered s e = record s { state = after s.state e; pending = s.pending ++ e ∷ [] }
+
+-- the floor of a session, 1 where it begins
+abbrev pub floor_of : ServiceState → ℕ → ℕ
+floor_of s session = option_map_or (λ x. x.floor) (get s.state.sessions session) 1
+
+-- the service after a connection attached a session
+abbrev pub attached : ServiceState → ℕ → ℕ → ServiceState
+attached s session conn =
+    record (entered s (Attached session (floor_of s session))) { seats = insert s.seats session (record { holder = Some conn; closing = false }) }
+
+-- the service after a session's floor rose
+abbrev pub settled : ServiceState → ℕ → ℕ → ServiceState
+settled s session floor = entered s (Settled session floor)
+
+-- the service after a session was closed: nothing of it waits, and it is closing
+abbrev pub closed : ServiceState → ℕ → ServiceState
+closed s session = record (entered s (Closed session)) { waiting = without_session s.waiting session; seats = with_closing s.seats session }
+
+-- the service after what waits of a session was withdrawn, all of it or one request
+abbrev pub withdrawn : ServiceState → ℕ → ServiceState
+withdrawn s session = record s { waiting = without_session s.waiting session }
+
+abbrev pub cancelled : ServiceState → ℕ → ℕ → ServiceState
+cancelled s session number = record s { waiting = remove s.waiting (session, number) }
+
+-- the service after a connection got a session, or lost it
+abbrev pub held : ServiceState → ℕ → Option ℕ → ServiceState
+held s session holder = record s { seats = with_holder s.seats session holder }
+
+-- the service after a session that is closing left
+abbrev pub left : ServiceState → ℕ → ServiceState
+left s session = record s { seats = remove s.seats session }
+
+-- the service after a request began to wait
+abbrev pub waited : ServiceState → ℕ → ℕ → Waiter → ServiceState
+waited s session number waiter = record s { waiting = insert s.waiting (session, number) waiter }
+
+-- a session's requests wait at its new floor or above, to which it may rise
+pub record MaySettle (s : ServiceState) (session floor : ℕ) : Type 0 where
+  pub rises : IsSomeAnd (get s.state.sessions session) (λ x. MayRise x.floor floor)
+  pub above : (number : ℕ) (w : Waiter) → get s.waiting (session, number) ≡ Some w → floor ≤ number
+
+-- a session has a seat, or there is one for it, and it is not closing
+pub record MaySit (s : ServiceState) (session : ℕ) : Type 0 where
+  pub not_closing : is_closing s.seats session ≡ false
+  pub seat : get s.seats session ≡ None → len s.seats < 64
+
+-- one seat for each session of a state, which nobody has
+abbrev pub IsSeated : FinMap nat_cmp Session → FinMap nat_cmp Seat → Type 0
+IsSeated sessions seats = (session : ℕ) → get seats session ≡ option_map (λ _. free_seat) (get sessions session)

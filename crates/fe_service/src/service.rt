@@ -1,0 +1,185 @@
+ghost use Rattle.std.specs.Prelude.{◌≡◌, ◌≢◌, ◌+◌, ◌<◌, ◌≤◌, ◌↔◌, ℕ, List, [], length, Some, None, IsSome, IsTrue, IfOk, OnOk, OnErr, is_some, true, false};
+ghost use Rattle.std.specs.FinMap.{get, len, empty};
+ghost use Rattle.fe_waits.specs.Waiting.{Waiter};
+ghost use Rattle.fe_state.specs.State as states;
+ghost use Rattle.fe_state.specs.State.{reply, MakesArray};
+ghost use Rattle.fe_state.specs.declared.entry.Entry.{Entry};
+ghost use Rattle.fe_state.specs.declared.entry.Entry.TheVariants.{Finished};
+ghost use Rattle.fe_state.specs.declared.request.Request.TheVariants as requests;
+ghost use Rattle.fe_seats.specs.Seating.{turn_at, count_of, is_closing};
+ghost use Rattle.fe_service.specs.ServiceState.{IsService, is_open};
+ghost use Rattle.fe_service.specs.Events.{IsFree, HasRoom, MaySettle, MaySit, Completes, IsSeated, attached, settled, closed, withdrawn, cancelled, held, left, waited};
+
+use crate::parts::Parts;
+use fe_seats::{Seat, Seats, Turn};
+use fe_state::{Answer, Entries, Entry, Request, State};
+use fe_words::Op;
+use std::alloc::{AllocError, Global};
+use std::marker::Model;
+
+/// The state of the server with the sessions' seats, what waits, and the entries that were made and not yet taken.
+///
+/// After each call none of those that wait may be served. Only `new` and a request that makes an array take memory.
+#[derive(Drop)]
+pub struct Service {
+    parts: Parts,
+}
+
+impl Model for Service {
+    ghost use Rattle.fe_service.specs.ServiceState.{ServiceState, service_code, service_of, AreSound};
+
+    ghost Value = { ServiceState };
+
+    ghost coded = { service_code };
+
+    ghost view = { λ s. service_of s.parts };
+
+    ghost invariant = { λ s. AreSound s.parts };
+}
+
+impl Service {
+    /// The state, or what is known of it: which sessions are there, and that nobody who waits may be served.
+    pub fn state(&self) -> &State
+        ensures state { result.now ≡ self.now.state }
+        ensures service { IsService self.now }
+        ensures limits { states.IsWithinLimits self.now.state }
+    {
+        self.parts.limits();
+        &self.parts.state
+    }
+
+    /// What a session's seat is, if it has one.
+    pub fn seat(&self, session: u64) -> Option<Seat>
+        ensures { result ≡ get self.now.seats session }
+    {
+        self.parts.seats.seat(session)
+    }
+
+    /// How many sessions have a seat, 0 to 64.
+    pub fn seat_count(&self) -> usize
+        ensures count { result ≡ len self.now.seats }
+        ensures fits { result ≤ 64 }
+    {
+        self.parts.seats.seat_count()
+    }
+
+    /// How many requests wait, 0 to 2,048.
+    pub fn waiting_count(&self) -> u32
+        ensures count { result ≡ len self.now.waiting }
+        ensures few { result ≤ 2048 }
+    {
+        self.parts.seats.len()
+    }
+
+    /// The request of a session and a number, if it waits.
+    pub fn find(&self, session: u64, number: u64) -> Option<Turn>
+        ensures { result ≡ turn_at self.now.waiting session number }
+    {
+        self.parts.seats.find(session, number)
+    }
+
+    /// How many entries were made and not yet taken.
+    pub fn pending_count(&self) -> usize
+        ensures count { result ≡ length self.now.pending }
+        ensures few { result ≤ 4097 }
+    {
+        self.parts.pending.as_slice().len()
+    }
+
+    /// A connection has a session from now on: an entry that attaches it. A session that is new begins.
+    pub fn attach(&mut self, session: u64, conn: u64)
+        requires sit { MaySit self.old session }
+        requires room { HasRoom self.old }
+        ensures { self.new ≡ attached self.old session conn }
+    {
+        self.parts.attach(session, conn);
+    }
+
+    /// A session's floor rises: an entry that settles it.
+    pub fn settle(&mut self, session: u64, floor: u64)
+        requires settle { MaySettle self.old session floor }
+        requires room { HasRoom self.old }
+        ensures { self.new ≡ settled self.old session floor }
+    {
+        self.parts.settle(session, floor);
+    }
+
+    /// A session ends: what waits of it is withdrawn and counted, an entry closes it, and it is closing from now on.
+    pub fn close(&mut self, session: u64) -> u32
+        requires open { IsSome (get self.old.state.sessions session) }
+        requires room { HasRoom self.old }
+        ensures count { result ≡ count_of self.old.waiting session }
+        ensures closed { self.new ≡ closed self.old session }
+    {
+        self.parts.close(session)
+    }
+
+    /// Withdraws what waits of a session, and counts it.
+    pub fn withdraw(&mut self, session: u64) -> u32
+        ensures count { result ≡ count_of self.old.waiting session }
+        ensures withdrawn { self.new ≡ withdrawn self.old session }
+    {
+        self.parts.withdraw(session)
+    }
+
+    /// Withdraws the request of a session and a number, if it waits.
+    pub fn cancel(&mut self, session: u64, number: u64) -> bool
+        ensures waited { result ≡ is_some (get self.old.waiting (session, number)) }
+        ensures cancelled { self.new ≡ cancelled self.old session number }
+    {
+        self.parts.cancel(session, number)
+    }
+
+    /// A connection has the session from now on, or none.
+    pub fn set_holder(&mut self, session: u64, holder: Option<u64>)
+        requires { IsSome (get self.old.seats session) }
+        ensures { self.new ≡ held self.old session holder }
+    {
+        self.parts.set_holder(session, holder);
+    }
+
+    /// A session that is closing leaves its seat.
+    pub fn leave(&mut self, session: u64)
+        requires { is_closing self.old.seats session ≡ true }
+        ensures { self.new ≡ left self.old session }
+    {
+        self.parts.leave(session);
+    }
+
+    /// A request completes with its reply: its own entry, and those of the requests that are served then. It counts the
+    /// entries, 1 to 2,049. The one error is that memory is short, for the words of a new array; then all is as it was.
+    pub fn complete(
+        &mut self,
+        session: u64,
+        number: u64,
+        request: Request,
+        answer: Answer,
+    ) -> Result<u32, AllocError>
+        requires free { IsFree self.old session number }
+        requires answered { reply self.old.state request ≡ Some answer }
+        requires room { HasRoom self.old }
+        ensures completes { IfOk result (λ count. (served : List Entry) × Completes self.old self.new (Finished session number request answer) served × (count ≡ 1 + length served)) }
+        ensures memory { OnErr result (MakesArray (Finished session number request answer)) }
+        ensures err { OnErr result (self.new ≡ self.old) }
+    {
+        self.parts.complete(session, number, request, answer)
+    }
+
+    /// A request waits from now on, which has no reply yet.
+    pub fn wait(&mut self, session: u64, number: u64, array: u64, index: u32, op: Op)
+        requires free { IsFree self.old session number }
+        requires waits { reply self.old.state (requests.Access array index op false) ≡ None }
+        ensures { self.new ≡ waited self.old session number (record { array = array; index = index; op = op }) }
+    {
+        self.parts.wait(session, number, array, index, op);
+    }
+
+    /// Takes the entries that were made, and goes on with others, of which there are none yet.
+    pub fn take_pending(&mut self, spare: Entries) -> Entries
+        requires { spare ≡ [] }
+        ensures entries { result ≡ self.old.pending }
+        ensures taken { self.new ≡ record self.old { pending = [] } }
+    {
+        self.parts.take_pending(spare)
+    }
+}
