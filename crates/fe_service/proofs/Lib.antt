@@ -4,6 +4,8 @@ pub mod Lengths
 pub mod Quiet
 pub mod Removing
 pub mod Replies
+pub mod Seating
 pub mod Serving
 pub mod Sizes
+pub mod Staying
 pub mod Turns

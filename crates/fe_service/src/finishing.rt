@@ -15,7 +15,7 @@ use std::alloc::AllocError;
 
 impl Parts {
     /// Finishes an access, and serves those that wait on its word. It counts the entries.
-    fn finish_access(
+    pub(crate) fn finish_access(
         &mut self,
         session: u64,
         number: u64,
@@ -54,7 +54,13 @@ impl Parts {
     }
 
     /// Finishes a removal, and serves those that wait on the array's words. It counts the entries.
-    fn finish_remove(&mut self, session: u64, number: u64, array: u64, answer: Answer) -> u32
+    pub(crate) fn finish_remove(
+        &mut self,
+        session: u64,
+        number: u64,
+        array: u64,
+        answer: Answer,
+    ) -> u32
         requires sound { AreSound self.old }
         requires free { IsFree (service_of self.old) session number }
         requires answered { reply self.old.state (requests.Remove array) ≡ Some answer }
@@ -81,7 +87,7 @@ impl Parts {
     }
 
     /// Finishes a look-up by name.
-    fn finish_find(&mut self, session: u64, number: u64, name: Name, answer: Answer)
+    pub(crate) fn finish_find(&mut self, session: u64, number: u64, name: Name, answer: Answer)
         requires sound { AreSound self.old }
         requires free { IsFree (service_of self.old) session number }
         requires answered { reply self.old.state (requests.Find name) ≡ Some answer }
@@ -98,7 +104,7 @@ impl Parts {
     }
 
     /// Finishes a creation that is refused.
-    fn finish_refused(
+    pub(crate) fn finish_refused(
         &mut self,
         session: u64,
         number: u64,
@@ -125,7 +131,7 @@ impl Parts {
     }
 
     /// Makes an array. The one error is that memory is short; then all is as it was.
-    fn finish_create(
+    pub(crate) fn finish_create(
         &mut self,
         session: u64,
         number: u64,

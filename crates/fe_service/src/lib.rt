@@ -1,8 +1,11 @@
 //! The service of what waits: which requests complete, and what that leaves.
 #![tactic(auto)]
 
+mod events;
 mod finishing;
 mod laws;
 mod parts;
+mod service;
 
 pub use laws::service_is_legal;
+pub use service::Service;

@@ -31,9 +31,9 @@ pub returns-in-Err-clause-sound : goal.returns-in-Err-clause-sound
 returns-in-Err-clause-sound c =
     let old = c.args.self.now in
     let arrays =
-        c.drop_array.ensures.arrays
-        ∙ ap (λ m. remove m c.args.id) c.in_ok-add_array.ensures.ok
-        ∙ remove-insert old.seats.arrays c.args.id c.args.length (id_absent old c.args.name c.args.length c.args.tag c.args.id c.args.length c.requires.sound c.limits.ensures.state c.requires.answered)
+    c.drop_array.ensures.arrays
+    ∙ ap (λ m. remove m c.args.id) c.in_ok-add_array.ensures.ok
+    ∙ remove-insert old.seats.arrays c.args.id c.args.length (id_absent old c.args.name c.args.length c.args.tag c.args.id c.args.length c.requires.sound c.limits.ensures.state c.requires.answered)
     in
     record {
       service =
