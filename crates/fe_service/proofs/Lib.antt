@@ -2,6 +2,7 @@ pub mod Completing
 pub mod Creating
 pub mod Lengths
 pub mod Quiet
+pub mod Remade
 pub mod Removing
 pub mod Replies
 pub mod Seating

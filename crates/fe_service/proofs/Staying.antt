@@ -3,8 +3,9 @@ use Rattle.std.proofs.Common.{◌≡◌, ◌≢◌, ℕ, ◌+◌, ◌≤◌, ◌
 use Rattle.std.specs.Prelude.{◌==◌, is_some, IsSome, IsSomeAnd, nat_le}
 use Rattle.std.specs.Option.{option_map, option_map_or}
 use Rattle.std.specs.Ordering.{nat_cmp}
-use Rattle.std.specs.FinMap.{FinMap, get, insert, remove, retain_keys}
+use Rattle.std.specs.FinMap.{FinMap, empty, get, get-empty, insert, remove, retain_keys}
 use Rattle.std.proofs.lemmas.Bool.Decides.{nat_tests}
+use Rattle.fe_waits.specs.Pair.{pair_cmp}
 use Rattle.fe_waits.specs.Waiting.{Waiter}
 use Rattle.fe_waits.proofs.MemberLemmas.{key_cases, none_some, some_same, get-insert_here, get-remove_here, get-remove_other, get-insert_other, get-without_slot}
 use Rattle.fe_seats.specs.Seating.{without_session, with_holder, with_closing, is_closing, holder_of, count_of}
@@ -235,3 +236,7 @@ room_for s session number h free = by_session (get s.state.sessions session) ref
         free.new
         usable.in_window.not_below
         usable.in_window.not_beyond
+
+-- nobody waits where nothing does
+pub none_waiting : {P : Type 0} (m : Waiters) → m ≡ empty → (key : ℕ × ℕ) (w : Waiter) → get m key ≡ Some w → P
+none_waiting m none key w waits = none_some (sym (get-empty pair_cmp key) ∙ sym (ap (λ m. get m key) none) ∙ waits)

@@ -1,6 +1,7 @@
 //! The service of what waits: which requests complete, and what that leaves.
 #![tactic(auto)]
 
+mod beginning;
 mod events;
 mod finishing;
 mod laws;

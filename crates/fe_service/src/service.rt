@@ -10,6 +10,7 @@ ghost use Rattle.fe_seats.specs.Seating.{turn_at, count_of, is_closing};
 ghost use Rattle.fe_service.specs.ServiceState.{IsService, is_open};
 ghost use Rattle.fe_service.specs.Events.{IsFree, HasRoom, MaySettle, MaySit, Completes, IsSeated, attached, settled, closed, withdrawn, cancelled, held, left, waited};
 
+use crate::beginning::{add_arrays, seat_sessions};
 use crate::parts::Parts;
 use fe_seats::{Seat, Seats, Turn};
 use fe_state::{Answer, Entries, Entry, Request, State};
@@ -38,6 +39,26 @@ impl Model for Service {
 }
 
 impl Service {
+    /// The service of a state in which nothing waits. It takes the memory of all seats and waiting lists, and of the entries
+    /// that are made; the one error is that there is too little.
+    pub fn new(alloc: Global, state: State) -> Result<Service, AllocError>
+        ensures state { IfOk result (λ service. service.state ≡ state) }
+        ensures seats { IfOk result (λ service. IsSeated state.sessions service.seats) }
+        ensures waiting { IfOk result (λ service. service.waiting ≡ empty) }
+        ensures pending { IfOk result (λ service. service.pending ≡ []) }
+    {
+        let pending = Entries::new(alloc)?;
+        let mut seats = Seats::new(alloc)?;
+        seat_sessions(&state, &mut seats);
+        add_arrays(&state, &mut seats)?;
+        let parts = Parts {
+            state,
+            seats,
+            pending,
+        };
+        Ok(Service { parts })
+    }
+
     /// The state, or what is known of it: which sessions are there, and that nobody who waits may be served.
     pub fn state(&self) -> &State
         ensures state { result.now ≡ self.now.state }

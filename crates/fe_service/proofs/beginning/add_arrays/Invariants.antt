@@ -1,0 +1,13 @@
+use Rattle.std.proofs.Common.{◌≡◌, ◌≤◌, ℕ}
+use Rattle.std.specs.FinMap.{get, len}
+use Rattle.fe_state.proofs.TableCopyLemmas.{made}
+use Rattle.fe_state.specs.Directory.{words_in}
+use Rattle.fe_service.proofs.beginning.add_arrays.Given as goal
+
+abbrev pub invariant-loop-k : goal.invariant-loop-k
+invariant-loop-k l = record {
+  tied : (id : ℕ) → get l.seats.arrays id ≡ words_in (get (made l.state.arrays l.k) id);
+  few : len l.seats.arrays ≤ l.k;
+  waiting : l.seats.waiting ≡ l.fn.seats.waiting;
+  seats : l.seats.seats ≡ l.fn.seats.seats;
+}
