@@ -1,12 +1,11 @@
 -- What an entry of its own and the turns behind it leave of a service.
-use Rattle.std.proofs.Common.{◌≡◌, ℕ, ◌+◌, ◌-◌, ◌^◌, ◌≤◌, inl, inr, Option, Some, None, Bool, true, List, [], ◌∷◌, ◌++◌, length, refl, sym, ap, subst, ◌∙◌, arith}
-use Rattle.std.specs.Prelude.{IsSomeAnd, is_some}
+use Rattle.std.proofs.Common.{◌≡◌, ℕ, inl, inr, Option, Some, None, List, [], ◌∷◌, ◌++◌, refl, sym, ap, subst, ◌∙◌, arith}
+use Rattle.std.specs.Prelude.{is_some}
 use Rattle.std.specs.Option.{option_map}
 use Rattle.std.specs.Ordering.{nat_cmp}
 use Rattle.std.specs.FinMap.{FinMap, get, insert}
 use Rattle.fe_state.proofs.Maps.{get_inserted, get_beside, same_or_other}
 use Rattle.fe_state.specs.Sessions.{Session, keeping, put_session}
-use Rattle.fe_state.specs.SessionEffect.{IsUsable}
 use Rattle.fe_state.specs.State.{ServerState, IsLegal, reply, after, after_all, directory_of}
 use Rattle.fe_state.specs.OtherWords.{IsOwnWord}
 use Rattle.fe_state.specs.declared.kept.Kept.{Kept}
@@ -20,7 +19,7 @@ use Rattle.fe_service.specs.Events.{IsFree, HasRoom, Completes}
 use Rattle.fe_service.specs.Parts.{IsQuietAt, TakesTurns}
 use Rattle.fe_service.specs.declared.parts.Parts.{Parts}
 use Rattle.fe_service.proofs.Quiet.{own_beside}
-use Rattle.fe_service.proofs.Turns.{finished_usable, turns_usable}
+use Rattle.fe_service.proofs.Turns.{finished_usable}
 use Rattle.fe_service.proofs.Serving.{taken_usable}
 
 -- a session that finishes a number stays where it is, and no session comes or goes

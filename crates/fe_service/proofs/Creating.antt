@@ -1,5 +1,5 @@
 -- What a creation leaves of a service.
-use Rattle.std.proofs.Common.{◌≡◌, ◌≢◌, ℕ, ◌<◌, inl, inr, Option, Some, None, Bool, true, List, [], refl, sym, ap, subst, ◌∙◌, arith}
+use Rattle.std.proofs.Common.{◌≡◌, ◌≢◌, ℕ, ◌<◌, inl, inr, Option, Some, None, true, List, refl, sym, ap, subst, ◌∙◌, arith}
 use Rattle.std.specs.Prelude.{is_some}
 use Rattle.std.proofs.lemmas.List.{length-replicate}
 use Rattle.std.specs.Ordering.{nat_cmp}
@@ -16,10 +16,9 @@ use Rattle.fe_state.specs.declared.answer.Answer.{Answer}
 use Rattle.fe_state.specs.declared.answer.Answer.TheVariants as answers
 use Rattle.fe_state.specs.declared.request.Request.TheVariants.{Create}
 use Rattle.fe_state.specs.declared.entry.Entry.TheVariants.{Finished}
-use Rattle.fe_waits.proofs.MemberLemmas.{none_some, some_same}
+use Rattle.fe_waits.proofs.MemberLemmas.{some_same}
 use Rattle.fe_service.specs.Service.{IsQuiet}
 use Rattle.fe_service.specs.ServiceState.{AreSound}
-use Rattle.fe_service.specs.Parts.{IsQuietAt}
 use Rattle.fe_service.specs.declared.parts.Parts.{Parts}
 use Rattle.fe_service.proofs.Quiet.{none_on_absent}
 use Rattle.fe_service.proofs.Completing.{IsEntered, entered_quiet_at}

@@ -1,16 +1,16 @@
 -- Accesses leave the lengths of all arrays.
-use Rattle.std.proofs.Common.{◌≡◌, ℕ, inl, inr, Option, Some, None, List, [], ◌∷◌, length, refl, sym, ap, subst, ◌∙◌, length-set}
+use Rattle.std.proofs.Common.{◌≡◌, ℕ, inl, inr, Option, Some, None, List, [], ◌∷◌, refl, sym, ap, subst, ◌∙◌, length-set}
 use Rattle.std.specs.Ordering.{nat_cmp}
 use Rattle.std.specs.FinMap.{FinMap, get, insert}
 use Rattle.fe_words.specs.declared.word.Word.{Word}
 use Rattle.fe_words.specs.declared.word.Reply.{Reply}
 use Rattle.fe_state.proofs.Maps.{get_inserted, get_beside, same_or_other}
-use Rattle.fe_state.specs.Directory.{Directory, words_in}
-use Rattle.fe_state.specs.Effect.{performed, operated, put_word, with_word}
-use Rattle.fe_state.specs.State.{ServerState, after, after_all, directory_of}
+use Rattle.fe_state.specs.Directory.{words_in}
+use Rattle.fe_state.specs.Effect.{operated, put_word, with_word}
+use Rattle.fe_state.specs.State.{ServerState, after, after_all}
 use Rattle.fe_state.specs.declared.array.Array.{Array}
 use Rattle.fe_state.specs.declared.entry.Entry.{Entry}
-use Rattle.fe_service.specs.Service.{Waiters, request_of, IsTurn, AreTurns, without_turn}
+use Rattle.fe_service.specs.Service.{Waiters, IsTurn, AreTurns, without_turn}
 
 put_lengths : (m : FinMap nat_cmp Array) (id index : ℕ) (w : Word) (here : Option Array) → get m id ≡ here → (a : ℕ) → words_in (get (put_word m id index w here) a) ≡ words_in (get m a)
 put_lengths m id index w None is a = refl

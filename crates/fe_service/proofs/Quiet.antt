@@ -1,16 +1,15 @@
 -- What is quiet once a request finished, and where requests wait in a quiet service.
-use Rattle.std.proofs.Common.{◌≡◌, ◌≢◌, ℕ, zero, suc, ◌<◌, inl, inr, Option, Some, None, Bool, true, false, List, [], ◌∷◌, length, arith, refl, sym, ap, subst, ◌∙◌}
+use Rattle.std.proofs.Common.{◌≡◌, ℕ, zero, suc, ◌<◌, inl, inr, Option, Some, None, true, false, List, [], ◌∷◌, length, arith, refl, sym, ap, subst, ◌∙◌}
 use Rattle.std.specs.Prelude.{is_some, slice_get}
-use Rattle.std.specs.Ordering.{nat_cmp}
-use Rattle.std.specs.FinMap.{FinMap, get}
+use Rattle.std.specs.FinMap.{get}
 use Rattle.fe_words.specs.declared.word.Word.{Word}
 use Rattle.fe_words.specs.Table.{row}
 use Rattle.fe_words.specs.declared.word.Tag.{Tag}
 use Rattle.fe_words.specs.declared.word.Tag.TheVariants.{Empty}
-use Rattle.fe_waits.specs.Waiting.{Waiter, IsOn, NoneOnWord, NoneOnArray}
+use Rattle.fe_waits.specs.Waiting.{Waiter, NoneOnWord, NoneOnArray}
 use Rattle.fe_waits.proofs.MemberLemmas.{none_some, some_same}
 use Rattle.fe_state.proofs.Maps.{same_or_other}
-use Rattle.fe_state.specs.Directory.{Directory, word_in, words_in}
+use Rattle.fe_state.specs.Directory.{word_in, words_in}
 use Rattle.fe_state.specs.OtherWords.{IsOwnWord}
 use Rattle.fe_state.specs.State.{ServerState, after, directory_of}
 use Rattle.fe_state.specs.declared.array.Array.{Array}

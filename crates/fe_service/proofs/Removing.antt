@@ -1,8 +1,7 @@
 -- What a removal leaves of a service.
-use Rattle.std.proofs.Common.{◌≡◌, ◌≢◌, ℕ, ◌<◌, inl, inr, Option, Some, None, List, refl, sym, ap, subst, ◌∙◌}
-use Rattle.std.specs.FinMap.{get, remove}
+use Rattle.std.proofs.Common.{◌≡◌, ◌≢◌, ℕ, ◌<◌, inl, inr, Some, None, List, refl, sym, ap, subst, ◌∙◌}
+use Rattle.std.specs.FinMap.{get}
 use Rattle.fe_words.specs.declared.word.Tag.{Tag}
-use Rattle.fe_waits.specs.Waiting.{Waiter, NoneOnArray}
 use Rattle.fe_state.proofs.Maps.{same_or_other, get_removed, get_left}
 use Rattle.fe_state.specs.Directory.{word_in, words_in}
 use Rattle.fe_state.specs.State.{reply}
@@ -10,13 +9,12 @@ use Rattle.fe_state.specs.declared.answer.Answer.{Answer}
 use Rattle.fe_state.specs.declared.request.Request.TheVariants.{Remove}
 use Rattle.fe_state.specs.declared.entry.Entry.{Entry}
 use Rattle.fe_state.specs.declared.entry.Entry.TheVariants.{Finished}
-use Rattle.fe_service.specs.Service.{Waiters, request_of, IsQuiet}
-use Rattle.fe_service.specs.ServiceState.{service_of, AreSound}
+use Rattle.fe_service.specs.Service.{request_of, IsQuiet}
 use Rattle.fe_service.specs.Parts.{IsQuietAt, WaitAtTag, TakesTurns}
 use Rattle.fe_service.specs.declared.parts.Parts.{Parts}
 use Rattle.fe_service.proofs.Quiet.{tag_in, waits_at_tag, waits_below, none_on_absent}
 use Rattle.fe_service.proofs.Completing.{IsEntered, entered_quiet_at}
-use Rattle.fe_service.proofs.Serving.{taken_lengths, taken_within}
+use Rattle.fe_service.proofs.Serving.{taken_within}
 
 -- the words of the array are quiet once they are served, and the others were
 pub removed_quiet : (old mid new : Parts) (session number array n : ℕ) (answer : Answer) (es : List Entry) → IsQuiet old.state old.seats.waiting → IsEntered old mid (Finished session number (Remove array) answer)

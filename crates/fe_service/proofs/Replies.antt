@@ -1,9 +1,8 @@
 -- When an access waits, and which requests leave it waiting.
-use Rattle.std.proofs.Common.{◌≡◌, ◌≢◌, ℕ, inl, inr, Option, Some, None, refl, sym, ap, subst, ◌∙◌}
+use Rattle.std.proofs.Common.{◌≡◌, ℕ, Option, Some, None, refl, sym, ap, ◌∙◌}
 use Rattle.std.specs.Prelude.{false, slice_get}
 use Rattle.std.specs.Option.{option_map}
-use Rattle.std.specs.Ordering.{nat_cmp}
-use Rattle.std.specs.FinMap.{FinMap, get}
+use Rattle.std.specs.FinMap.{get}
 use Rattle.fe_words.specs.Table.{table, row}
 use Rattle.fe_words.specs.declared.word.Word.{Word}
 use Rattle.fe_words.specs.declared.word.Reply.{Reply}
@@ -15,7 +14,6 @@ use Rattle.fe_state.specs.Directory.{Directory, word_in, answer_in, answer_of, a
 use Rattle.fe_state.specs.Effect.{performed}
 use Rattle.fe_state.specs.OtherWords.{IsOwnWord}
 use Rattle.fe_state.specs.declared.array.Array.{Array}
-use Rattle.fe_state.specs.declared.answer.Answer.{Answer}
 use Rattle.fe_state.specs.declared.request.Request.{Request}
 use Rattle.fe_state.specs.declared.request.Request.TheVariants.{Access}
 use Rattle.fe_state.proofs.OtherWordLemmas.{performed_beside}

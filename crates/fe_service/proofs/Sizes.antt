@@ -1,11 +1,11 @@
 -- Where the keys of one map are keys of another, that has as many at least.
-use Rattle.std.proofs.Common.{◌≡◌, ◌≢◌, ℕ, zero, suc, ◌+◌, ◌-◌, ◌≤◌, inl, inr, Option, Some, None, Bool, true, false, cond, List, [], ◌∷◌, length, refl, sym, ap, subst, ◌∙◌, arith, rules}
+use Rattle.std.proofs.Common.{◌≡◌, ℕ, zero, suc, ◌-◌, ◌≤◌, inl, inr, Some, true, cond, List, [], ◌∷◌, length, refl, sym, ap, ◌∙◌, arith}
 use Rattle.std.specs.Prelude.{is_some}
 use Rattle.std.specs.Ordering.{nat_cmp}
 use Rattle.std.specs.Cmp.{nat_cmp_total, nat_cmp_is}
-use Rattle.std.specs.FinMap.{FinMap, empty, get, remove, len, entries, get-empty, get-entries, len-entries, len-remove, empty_of_len}
+use Rattle.std.specs.FinMap.{FinMap, get, remove, len, entries, get-empty, get-entries, len-entries, len-remove, empty_of_len}
 use Rattle.std.specs.FinMap.Entries.{find}
-use Rattle.std.specs.declared.cmp.Ordering.TheVariants.{Less, Equal, Greater}
+use Rattle.std.specs.declared.cmp.Ordering.TheVariants.{Equal}
 use Rattle.fe_state.proofs.Maps.{get_removed, get_left, same_or_other}
 
 same : (k : ℕ) → Equal ≡ nat_cmp k k

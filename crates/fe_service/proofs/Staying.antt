@@ -1,9 +1,9 @@
 -- What leaves a service one.
-use Rattle.std.proofs.Common.{◌≡◌, ◌≢◌, ℕ, ◌+◌, ◌≤◌, ◌<◌, inl, inr, Option, Some, None, Bool, true, false, not, cond, refl, sym, ap, subst, ◌∙◌, arith}
+use Rattle.std.proofs.Common.{◌≡◌, ◌≢◌, ℕ, ◌≤◌, ◌<◌, inl, inr, Option, Some, None, Bool, true, false, not, cond, refl, sym, ap, subst, ◌∙◌, arith}
 use Rattle.std.specs.Prelude.{◌==◌, is_some, IsSome, IsSomeAnd, nat_le}
 use Rattle.std.specs.Option.{option_map, option_map_or}
 use Rattle.std.specs.Ordering.{nat_cmp}
-use Rattle.std.specs.FinMap.{FinMap, empty, get, get-empty, insert, remove, retain_keys}
+use Rattle.std.specs.FinMap.{FinMap, empty, get, get-empty, insert, remove}
 use Rattle.std.proofs.lemmas.Bool.Decides.{nat_tests}
 use Rattle.fe_waits.specs.Pair.{pair_cmp}
 use Rattle.fe_waits.specs.Waiting.{Waiter}
@@ -15,8 +15,8 @@ use Rattle.fe_seats.proofs.OwnerLemmas.{some_is}
 use Rattle.fe_state.proofs.Maps.{get_inserted, get_beside, get_removed, get_left, get_retained, same_or_other}
 use Rattle.fe_state.specs.Sessions.{Session, MayRise, raised, put_session, opened, first_session}
 use Rattle.fe_state.specs.SessionEffect.{IsUsable}
-use Rattle.fe_state.specs.State.{ServerState, reply}
-use Rattle.fe_service.specs.Service.{Waiters, request_of, AreUsable}
+use Rattle.fe_state.specs.State.{reply}
+use Rattle.fe_service.specs.Service.{Waiters, request_of}
 use Rattle.fe_service.specs.Events.{IsFree, MaySettle, held, left, waited, settled, closed, attached}
 use Rattle.fe_service.specs.ServiceState.{ServiceState, IsService, is_open}
 

@@ -8,7 +8,7 @@ use Rattle.fe_seats.specs.Seating.{without_session, with_holder, with_closing, i
 use Rattle.fe_seats.specs.declared.seat.Seat.{Seat}
 use Rattle.fe_state.specs.Sessions.{Session, MayRise}
 use Rattle.fe_state.specs.SessionEffect.{IsUsable}
-use Rattle.fe_state.specs.State.{ServerState, after}
+use Rattle.fe_state.specs.State.{after}
 use Rattle.fe_state.specs.declared.entry.Entry.{Entry}
 use Rattle.fe_state.specs.declared.entry.Entry.TheVariants.{Attached, Closed, Settled}
 use Rattle.fe_service.specs.Service.{Serves}

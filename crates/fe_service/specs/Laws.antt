@@ -1,5 +1,5 @@
 -- Laws of the service.
-use Rattle.std.specs.Prelude.{◌≡◌, ℕ, ◌+◌, ◌-◌, ◌^◌, ◌≤◌, List, length}
+use Rattle.std.specs.Prelude.{◌+◌, ◌-◌, ◌^◌, ◌≤◌, List, length}
 use Rattle.fe_state.specs.State.{ServerState}
 use Rattle.fe_state.specs.History.{AreLegal}
 use Rattle.fe_state.specs.declared.entry.Entry.{Entry}

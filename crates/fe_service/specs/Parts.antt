@@ -1,6 +1,6 @@
 -- How the parts of a service go on while it serves. No public clause cites this module.
-use Rattle.std.specs.Prelude.{◌≡◌, ℕ, ◌≤◌, ◌⊎◌, List, [], ◌∷◌, ◌++◌, Some, None}
-use Rattle.std.specs.FinMap.{FinMap, get}
+use Rattle.std.specs.Prelude.{◌≡◌, ℕ, ◌⊎◌, List, [], ◌∷◌, ◌++◌, Some, None}
+use Rattle.std.specs.FinMap.{get}
 use Rattle.fe_words.specs.Table.{row}
 use Rattle.fe_words.specs.declared.word.Tag.{Tag}
 use Rattle.fe_waits.specs.Waiting.{Waiter, IsOn, NoneOnWord}

@@ -1,5 +1,5 @@
 -- The requests that wait by session and number, which of them may be served, and what serving them leaves.
-use Rattle.std.specs.Prelude.{◌≡◌, ℕ, Option, Some, None, IsSome, IsSomeAnd, false, List, [], ◌∷◌}
+use Rattle.std.specs.Prelude.{◌≡◌, ℕ, Some, None, IsSome, IsSomeAnd, false, List, [], ◌∷◌}
 use Rattle.std.specs.FinMap.{FinMap, get, remove}
 use Rattle.fe_waits.specs.Pair.{pair_cmp}
 use Rattle.fe_waits.specs.Waiting.{Waiter}

@@ -1,4 +1,4 @@
-use Rattle.std.proofs.Common.{◌≡◌, sym, ap, subst, ◌∙◌}
+use Rattle.std.proofs.Common.{sym, ap, subst, ◌∙◌}
 use Rattle.std.specs.Prelude.{is_some}
 use Rattle.std.specs.FinMap.{get}
 use Rattle.fe_state.specs.Directory.{words_in}
@@ -6,7 +6,6 @@ use Rattle.fe_state.specs.State.{ServerState, IsLegal, after}
 use Rattle.fe_state.specs.declared.entry.Entry.TheVariants.{Attached}
 use Rattle.fe_service.specs.Service.{AreUsable, IsQuiet}
 use Rattle.fe_service.specs.ServiceState.{is_open, service_of}
-use Rattle.fe_service.specs.Events.{floor_of}
 use Rattle.fe_service.proofs.Seating.{attach_legal}
 use Rattle.fe_service.proofs.Staying.{attached_service}
 use Rattle.fe_service.proofs.parts.Parts.attach.Goals as goal

@@ -1,11 +1,9 @@
-use Rattle.std.proofs.Common.{◌≡◌, ◌+◌, ◌-◌, ◌^◌, ◌≤◌, ◌<◌, ℕ, inl, inr, Some, None, List, [], length, length-append, refl, sym, ap, subst, ◌∙◌, arith}
+use Rattle.std.proofs.Common.{[], length, sym, ap, subst, ◌∙◌, arith}
 use Rattle.std.specs.Prelude.{is_some}
 use Rattle.std.specs.FinMap.{get, len}
-use Rattle.fe_state.proofs.Maps.{same_or_other}
 use Rattle.fe_state.specs.Directory.{word_in, words_in}
 use Rattle.fe_state.specs.declared.request.Request.TheVariants.{Access}
-use Rattle.fe_state.specs.declared.entry.Entry.TheVariants.{Finished}
-use Rattle.fe_service.specs.Parts.{IsQuietAt, WaitAtTag}
+use Rattle.fe_service.specs.Parts.{WaitAtTag}
 use Rattle.fe_service.proofs.Lengths.{operated_lengths}
 use Rattle.fe_service.proofs.Quiet.{quiet_tag, none_there, word_below, some_word, no_word, quiet_unless_there, quiet_there_and}
 use Rattle.fe_service.proofs.Completing.{IsEntered, entered_usable, entered_service, entered_completes, entered_quiet_at, quiet_everywhere}

@@ -1,10 +1,10 @@
-use Rattle.std.proofs.Common.{◌≡◌, ◌≢◌, ◌<◌, ℕ, inl, inr, Some, None, [], refl, sym, ap, subst, ◌∙◌, arith}
-use Rattle.std.specs.FinMap.{get, len, insert, remove}
+use Rattle.std.proofs.Common.{◌≡◌, Some, [], sym, ap, subst, ◌∙◌}
+use Rattle.std.specs.FinMap.{get, remove}
 use Rattle.fe_state.proofs.Undone.{remove-insert}
 use Rattle.fe_state.specs.Directory.{words_in}
 use Rattle.fe_state.specs.declared.answer.Answer.TheVariants as answers
 use Rattle.fe_state.specs.declared.request.Request.TheVariants.{Create}
-use Rattle.fe_service.specs.ServiceState.{IsService, AreSound}
+use Rattle.fe_service.specs.ServiceState.{IsService}
 use Rattle.fe_service.specs.declared.parts.Parts.{Parts}
 use Rattle.fe_service.proofs.Quiet.{none_on_absent}
 use Rattle.fe_service.proofs.Completing.{IsEntered, entered_service, entered_completes}

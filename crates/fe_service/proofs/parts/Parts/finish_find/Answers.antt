@@ -1,4 +1,4 @@
-use Rattle.std.proofs.Common.{◌≡◌, refl, sym, ap, ◌∙◌, []}
+use Rattle.std.proofs.Common.{sym, ap, ◌∙◌, []}
 use Rattle.std.specs.FinMap.{get}
 use Rattle.fe_state.specs.Directory.{words_in}
 use Rattle.fe_state.specs.declared.request.Request.TheVariants.{Find}

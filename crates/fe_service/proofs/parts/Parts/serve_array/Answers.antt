@@ -1,8 +1,8 @@
-use Rattle.std.proofs.Common.{◌≡◌, ◌≢◌, ◌+◌, ◌<◌, ◌≤◌, ◌++◌, ℕ, inl, inr, length, length-append, refl, sym, ap, subst, ◌∙◌, arith}
-use Rattle.std.specs.FinMap.{get, len}
+use Rattle.std.proofs.Common.{◌++◌, inl, inr, length-append, sym, ap, subst, ◌∙◌, arith}
+use Rattle.std.specs.FinMap.{get}
 use Rattle.fe_state.proofs.Maps.{same_or_other}
 use Rattle.fe_service.specs.Parts.{IsQuietAt, WaitAtTag}
-use Rattle.fe_service.proofs.Serving.{none_taken, taken_join, taken_usable, taken_len, taken_places, taken_room, taken_within, fewer_at_tag}
+use Rattle.fe_service.proofs.Serving.{taken_join, taken_usable, taken_len, taken_places, taken_room, taken_within, fewer_at_tag}
 use Rattle.fe_service.proofs.parts.Parts.serve_array.Goals as goal
 
 pub serve_word-count-requires-clause-word : goal.serve_word-count-requires-clause-word

@@ -1,9 +1,8 @@
-use Rattle.std.proofs.Common.{◌≡◌, Option, Some, None, Bool, true, false, not, refl, sym, ap, subst, ◌∙◌}
+use Rattle.std.proofs.Common.{◌≡◌, Some, false, not, sym, ap, ◌∙◌}
 use Rattle.std.specs.Prelude.{is_some, IsSome}
 use Rattle.std.specs.FinMap.{get, insert}
 use Rattle.fe_state.proofs.Maps.{get_inserted}
 use Rattle.fe_seats.specs.Seating.{free_seat, with_holder}
-use Rattle.fe_seats.specs.declared.seat.Seat.{Seat}
 use Rattle.fe_service.specs.declared.parts.Parts.{Parts}
 use Rattle.fe_service.proofs.Seating.{new_seat, old_seat}
 use Rattle.fe_service.proofs.parts.Parts.take_seat.Goals as goal

@@ -1,7 +1,6 @@
-use Rattle.std.proofs.Common.{◌≡◌, ℕ, Some, sym, ap, subst, ◌∙◌}
+use Rattle.std.proofs.Common.{sym, ap, subst, ◌∙◌}
 use Rattle.std.specs.FinMap.{get}
 use Rattle.fe_waits.specs.Waiting.{Waiter}
-use Rattle.fe_state.specs.Directory.{words_in}
 use Rattle.fe_state.specs.State.{directory_of}
 use Rattle.fe_service.specs.ServiceState.{IsService, service_of}
 use Rattle.fe_service.proofs.Quiet.{word_below}

@@ -1,11 +1,10 @@
-use Rattle.std.proofs.Common.{◌≡◌, Option, Some, None, Bool, true, false, not, refl, sym, ap, subst, ◌∙◌}
+use Rattle.std.proofs.Common.{◌≡◌, Option, Some, None, false, not, sym, ap, ◌∙◌}
 use Rattle.std.specs.Prelude.{is_some}
 use Rattle.std.specs.Option.{option_map, option_map_or}
-use Rattle.std.specs.FinMap.{get, empty}
+use Rattle.std.specs.FinMap.{get}
 use Rattle.fe_seats.specs.Seating.{free_seat}
 use Rattle.fe_seats.specs.declared.seat.Seat.{Seat}
 use Rattle.fe_state.specs.Sessions.{Session}
-use Rattle.fe_service.specs.ServiceState.{is_open}
 use Rattle.fe_service.proofs.Staying.{none_waiting}
 use Rattle.fe_service.proofs.service.Service.new.Goals as goal
 
