@@ -1,0 +1,51 @@
+ghost use Rattle.std.specs.Prelude.{◌≡◌, ◌≤◌, string_bytes, string_len, length};
+
+use std::marker::Model;
+
+/// How many bytes a report has at most.
+pub const REPORT_BYTES: usize = 262144;
+
+/// The text of a report: 1 to 262,144 bytes.
+#[derive(Debug, Drop)]
+pub struct ReportText {
+    text: String,
+}
+
+impl Model for ReportText {
+    ghost use Rattle.std.specs.Prelude.{List, ℕ, ◌≤◌, string_bytes, string_len};
+
+    ghost Value = { List ℕ };
+
+    ghost view = { λ a. string_bytes a.text };
+
+    ghost invariant = { λ a. (1 ≤ string_len a.text) × (string_len a.text ≤ 262144) };
+}
+
+impl ReportText {
+    /// Keeps a text.
+    pub fn new(text: String) -> ReportText
+        requires some { 1 ≤ string_len text }
+        requires few { string_len text ≤ 262144 }
+        ensures { result ≡ string_bytes text }
+    {
+        ReportText { text }
+    }
+
+    pub fn as_str(&self) -> &str
+        ensures text { result.now ≡ self.now }
+        ensures some { 1 ≤ length result.now }
+        ensures few { length result.now ≤ 262144 }
+    {
+        self.text.as_str()
+    }
+
+    /// Gives the text back.
+    pub fn into_string(self) -> String
+        ensures text { string_bytes result ≡ self }
+        ensures some { 1 ≤ string_len result }
+        ensures few { string_len result ≤ 262144 }
+    {
+        let ReportText { text } = self;
+        text
+    }
+}
