@@ -32,8 +32,8 @@ pub record AddUp (b : Books) : Type 0 where
 -- books that balance where so many calls wait and so many mails stand in boxes
 pub record Balances (b : Books) (waiting left : ℕ) : Type 0 where
   pub columns : AddUp b
-  pub waiting : b.spent ≡ false → b.waiting ≡ waiting
-  pub left : b.spent ≡ false → b.left ≡ left
+  pub waiting_is : b.spent ≡ false → b.waiting ≡ waiting
+  pub left_is : b.spent ≡ false → b.left ≡ left
 
 -- books that have seen no call and no mail
 abbrev pub first_books : Books
