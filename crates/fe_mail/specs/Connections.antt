@@ -1,5 +1,5 @@
 -- The connections with their sessions and boxes, and how many mails stand in all boxes.
-use Rattle.std.specs.Prelude.{ℕ, List, [], length, Option, Some, None, option_and_then}
+use Rattle.std.specs.Prelude.{ℕ, List, [], length, Option, None, option_and_then}
 use Rattle.std.specs.Option.{option_map_or}
 use Rattle.std.specs.Ordering.{nat_cmp}
 use Rattle.std.specs.FinMap.{FinMap, get, insert}

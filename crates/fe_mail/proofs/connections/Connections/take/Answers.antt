@@ -1,4 +1,4 @@
-use Rattle.std.proofs.Common.{◌≡◌, Some, None, IsSome, drop, slice_get, refl, sym, ap, subst, ◌∙◌}
+use Rattle.std.proofs.Common.{IsSome, drop, slice_get, refl, sym, ap, subst, ◌∙◌}
 use Rattle.std.specs.FinMap.{insert, from_entries}
 use Rattle.fe_mail.specs.Connections.{with_mails}
 use Rattle.fe_mail.specs.declared.connections.Connections.TheInside.{Inside}
