@@ -1,5 +1,4 @@
 pub mod Front
 pub mod FrontFields
 pub mod Mail
-pub mod Refusal
 pub mod Words

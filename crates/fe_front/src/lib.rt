@@ -5,17 +5,10 @@
 mod connection;
 mod front;
 mod laws;
-mod mail;
 mod mailbox;
 mod outcome;
-mod refusal;
-mod report_text;
 mod waiting;
 
 pub use front::{Front, ROOM};
 pub use laws::other_words_stay;
-pub use mail::Mail;
-pub use mailbox::MAILS;
 pub use outcome::{Outcome, StrangeBatch};
-pub use refusal::Refusal;
-pub use report_text::{REPORT_BYTES, ReportText};
