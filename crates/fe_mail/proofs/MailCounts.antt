@@ -16,12 +16,9 @@ count c = length c.mails
 pub mails_in-empty : mails_in empty ≡ 0
 mails_in-empty = rw (entries-empty {X = Connection}) refl
 
-length_rest : {X : Type 0} (xs : List X) (x : X) → slice_get xs 0 ≡ Some x → length (drop 1 xs) + 1 ≡ length xs
-length_rest [] x e = absurd cc
-length_rest (y ∷ ys) x e = omega arith
-
-no_first : {X : Type 0} (x : X) → slice_get [] 0 ≡ Some x → ⊥
-no_first x e = cc
+length_rest : {X : Type 0} (xs : List X) → IsSome (slice_get xs 0) → length (drop 1 xs) + 1 ≡ length xs
+length_rest [] first = absurd (true≢false (sym first))
+length_rest (x ∷ xs) first = omega arith
 
 module _ (m : FinMap nat_cmp Connection) (conn : ℕ) where
   -- a connection comes with an empty box
@@ -49,11 +46,11 @@ module _ (m : FinMap nat_cmp Connection) (conn : ℕ) where
   mails_in-put mail there = omega (arith, mails_in-with_mails (mails_on m conn ++ mail ∷ []) there, length-append (mails_on m conn) (mail ∷ []))
 
   -- the first mail of a box is taken
-  pub mails_in-take : (mail : Mail) → slice_get (mails_on m conn) 0 ≡ Some mail → mails_in (with_mails m conn (drop 1 (mails_on m conn))) + 1 ≡ mails_in m
-  mails_in-take mail first = omega (arith, mails_in-with_mails (drop 1 (mails_on m conn)) there, length_rest (mails_on m conn) mail first)
+  pub mails_in-take : IsSome (slice_get (mails_on m conn) 0) → mails_in (with_mails m conn (drop 1 (mails_on m conn))) + 1 ≡ mails_in m
+  mails_in-take first = omega (arith, mails_in-with_mails (drop 1 (mails_on m conn)) there, length_rest (mails_on m conn) first)
     where
       by : (o : Option Connection) → get m conn ≡ o → IsSome o
-      by None is = absurd (no_first mail (sym (ap (λ mails. slice_get mails 0) (mails_on-none m conn is)) ∙ first))
+      by None is = absurd (true≢false (sym first ∙ ap (λ mails. is_some (slice_get mails 0)) (mails_on-none m conn is)))
       by (Some c) is = refl
 
       there : IsSome (get m conn)
