@@ -16,12 +16,12 @@ use Rattle.fe_front.specs.declared.connection.Connection.{Connection}
 use Rattle.fe_front.specs.contracts.connection.Connection.{the_row as connection_row}
 use Rattle.fe_front.specs.declared.front.Out.{Out}
 use Rattle.fe_front.specs.contracts.front.Out.{the_row as out_row}
-use Rattle.fe_front.specs.declared.mail.Mail.{Mail}
-use Rattle.fe_front.specs.declared.mail.Mail.TheVariants.{Refused}
+use Rattle.fe_mail.specs.declared.mail.Mail.{Mail}
+use Rattle.fe_mail.specs.declared.mail.Mail.TheVariants.{Refused}
 use Rattle.fe_front.specs.declared.outcome.Outcome.{Outcome}
 use Rattle.fe_front.specs.declared.outcome.Outcome.TheVariants as outcome
-use Rattle.fe_front.specs.declared.refusal.Refusal.{Refusal}
-use Rattle.fe_front.specs.declared.refusal.Refusal.TheVariants.{NotAttached, SessionLimit, BelowFloor, BeyondWindow, Spent}
+use Rattle.fe_mail.specs.declared.refusal.Refusal.{Refusal}
+use Rattle.fe_mail.specs.declared.refusal.Refusal.TheVariants.{NotAttached, SessionLimit, BelowFloor, BeyondWindow, Spent}
 use Rattle.fe_front.specs.declared.waiting.Waiting.{Waiting}
 use Rattle.fe_front.specs.contracts.waiting.Waiting.{the_row as waiting_row}
 

@@ -1,4 +1,3 @@
 pub mod Front
 pub mod FrontFields
 pub mod Mail
-pub mod Refusal

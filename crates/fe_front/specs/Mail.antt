@@ -1,23 +1,8 @@
--- The mail of an entry, and the mails that a session gets for entries that follow one another.
+-- The mails that a session gets for entries that follow one another.
 use Rattle.std.specs.Prelude.{ℕ, ◌+◌, ◌==◌, if◌then◌else◌, List, [], ◌∷◌}
 use Rattle.fe_state.specs.declared.entry.Entry.{Entry}
-use Rattle.fe_state.specs.declared.entry.Entry.TheVariants.{Attached, Closed, Settled, Finished}
-use Rattle.fe_front.specs.declared.mail.Mail.{Mail}
-use Rattle.fe_front.specs.declared.mail.Mail.TheVariants as mail
-
--- the session that an entry is of
-abbrev pub session_of : Entry → ℕ
-session_of (Attached session floor) = session
-session_of (Closed session) = session
-session_of (Settled session floor) = session
-session_of (Finished session number request answer) = session
-
--- the mail of an entry that stands at a place
-abbrev pub mail_of : Entry → ℕ → Mail
-mail_of (Attached session floor) place = mail.Welcome session floor
-mail_of (Closed session) place = mail.Goodbye session
-mail_of (Settled session floor) place = mail.Settled floor
-mail_of (Finished session number request answer) place = mail.Answer session number answer place
+use Rattle.fe_mail.specs.Mail.{session_of, mail_of}
+use Rattle.fe_mail.specs.declared.mail.Mail.{Mail}
 
 -- the mails for a session's entries among those that stand at this place and at those after it, in order
 abbrev pub mails_of : ℕ → ℕ → List Entry → List Mail

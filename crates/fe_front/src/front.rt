@@ -5,11 +5,10 @@ ghost use Rattle.fe_state.specs.Effect.{CreatesArray};
 ghost use Rattle.fe_front.specs.Front.{first_front, connected, has_room, is_spent, session_on, attach_refusal, attached, admission, answered, finished, called, outcome_of, TakesMemory, IsServed, next_batch, cut, IsOut, posted, mails_on, taken, refusal_mailed};
 
 use crate::connection::Connection;
-use crate::mail::Mail;
 use crate::mailbox::Mailbox;
 use crate::outcome::{Outcome, StrangeBatch};
-use crate::refusal::Refusal;
 use crate::waiting::Waiting;
+use fe_mail::{Mail, Refusal};
 use fe_state::{Answer, Batch, Directory, Entries, Entry, GREATEST_PLACE, Request};
 use std::alloc::{AllocError, Global};
 use std::marker::Model;

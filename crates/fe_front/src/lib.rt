@@ -4,16 +4,9 @@
 
 mod connection;
 mod front;
-mod mail;
 mod mailbox;
 mod outcome;
-mod refusal;
-mod report_text;
 mod waiting;
 
 pub use front::{Front, ROOM};
-pub use mail::Mail;
-pub use mailbox::MAILS;
 pub use outcome::{Outcome, StrangeBatch};
-pub use refusal::Refusal;
-pub use report_text::{REPORT_BYTES, ReportText};

@@ -1,14 +1,11 @@
 ghost use Rattle.std.specs.Prelude.{◌≡◌, ◌+◌, ◌^◌, ◌<◌, ◌≤◌, [], ◌∷◌, ◌++◌, length, take, drop, slice_get, IfOk};
 ghost use Rattle.fe_front.specs.Mail.{mails_of};
 
-use crate::mail::{Mail, session_of};
+use fe_mail::{MAILS, Mail, session_of};
 use fe_state::{Entry, Request};
 use std::alloc::{AllocError, Global};
 use std::collections::VecDeque;
 use std::marker::Model;
-
-/// How many mails stand unread at most.
-pub const MAILS: usize = 128;
 
 /// The mails of a connection that it has not taken yet: at most 128, with room for as many.
 #[derive(Debug, Drop)]
@@ -19,7 +16,7 @@ pub(crate) struct Mailbox {
 impl Model for Mailbox {
     ghost use Rattle.std.specs.Prelude.{◌≤◌, List};
     ghost use Rattle.std.specs.VecDeque.{deque_len, deque_capacity};
-    ghost use Rattle.fe_front.specs.declared.mail.Mail.{Mail};
+    ghost use Rattle.fe_mail.specs.declared.mail.Mail.{Mail};
 
     ghost Value = { List Mail };
 

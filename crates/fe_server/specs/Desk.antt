@@ -6,11 +6,11 @@ use Rattle.fe_wire.specs.Spelling.{reply_spelling, ReplyFits}
 use Rattle.fe_wire.specs.Stream.{Decoding, HasRead}
 use Rattle.fe_wire.specs.declared.version.Version.TheVariants.{Two}
 use Rattle.fe_front.specs.Front.{FrontState, has_room, attach_refusal, attached, admission, called, TakesMemory, next_batch, cut, posted, mails_on, with_mails, refusal_mailed}
-use Rattle.fe_front.specs.Refusal.{code_of}
-use Rattle.fe_front.specs.declared.mail.Mail.{Mail}
-use Rattle.fe_front.specs.declared.mail.Mail.TheVariants as mail
-use Rattle.fe_front.specs.declared.refusal.Refusal.{Refusal}
-use Rattle.fe_front.specs.declared.refusal.Refusal.TheVariants.{NoMemory}
+use Rattle.fe_mail.specs.Refusal.{code_of}
+use Rattle.fe_mail.specs.declared.mail.Mail.{Mail}
+use Rattle.fe_mail.specs.declared.mail.Mail.TheVariants as mail
+use Rattle.fe_mail.specs.declared.refusal.Refusal.{Refusal}
+use Rattle.fe_mail.specs.declared.refusal.Refusal.TheVariants.{NoMemory}
 use Rattle.fe_state.specs.declared.batch.Batch.{Batch}
 use Rattle.fe_state.specs.declared.request.Request.{Request}
 use Rattle.fe_state.specs.declared.request.Request.TheVariants.{Remove}

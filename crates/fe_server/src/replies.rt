@@ -5,7 +5,7 @@ ghost use Rattle.fe_server.specs.Desk.{reply_of};
 ghost use Rattle.fe_wire.specs.Codes.{answer_number, answer_length};
 ghost use Rattle.fe_wire.specs.Spelling.{ReplyFits};
 
-use fe_front::Mail;
+use fe_mail::Mail;
 use fe_state::Answer;
 use fe_wire::ServerMessage;
 

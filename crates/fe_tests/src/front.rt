@@ -1,7 +1,8 @@
 //! The front in its first form: want of memory, a full box, the names of refusals.
 ghost use Rattle.fe_front.specs.Front.{IsServed};
 
-use fe_front::{Front, Mail, Outcome, Refusal, ReportText};
+use fe_front::{Front, Outcome};
+use fe_mail::{Mail, Refusal, ReportText};
 use fe_state::{Answer, Name, Request};
 use fe_words::{Op, Tag};
 use std::process::Abort;

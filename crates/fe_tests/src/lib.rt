@@ -10,6 +10,8 @@ mod disk;
 #[cfg(test)]
 mod front;
 #[cfg(test)]
+mod mail;
+#[cfg(test)]
 mod seats;
 #[cfg(test)]
 mod server;

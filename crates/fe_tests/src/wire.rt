@@ -2,10 +2,11 @@
 
 ghost use Rattle.fe_wire.specs.Spelling.{HasRefusalCode};
 
+use fe_mail::ReportText;
 use fe_state::{Answer, Name, Request};
 use fe_wire::{
-    BadFrame, ClientMessage, Decoder, Fed, ReportText, ServerMessage, Version, put_message,
-    put_reply, read_reply,
+    BadFrame, ClientMessage, Decoder, Fed, ServerMessage, Version, put_message, put_reply,
+    read_reply,
 };
 use fe_words::{Op, Tag};
 use std::alloc::{AllocError, Global};

@@ -14,7 +14,6 @@ mod messages;
 mod place;
 mod putting;
 mod replies;
-mod report_text;
 mod server_message;
 mod version;
 
@@ -24,6 +23,5 @@ pub use fed::{BadFrame, Fed};
 pub use laws::{has_reading, one_outcome, one_reading, one_spelling};
 pub use putting::{put_message, put_reply};
 pub use replies::read_reply;
-pub use report_text::{REPORT_BYTES, ReportText};
 pub use server_message::ServerMessage;
 pub use version::Version;

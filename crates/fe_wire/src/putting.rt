@@ -7,8 +7,8 @@ use crate::client_message::ClientMessage;
 use crate::codes::{answer_code, answer_length, answer_number};
 use crate::frame::Frame;
 use crate::message_frames::message_frame;
-use crate::report_text::ReportText;
 use crate::server_message::ServerMessage;
+use fe_mail::ReportText;
 use fe_state::Answer;
 use std::alloc::AllocError;
 

@@ -6,8 +6,8 @@ ghost use Rattle.fe_wire.specs.Reading.{Gives, answered_of, refused_of, report_o
 ghost use Rattle.fe_wire.specs.declared.server_message.ServerMessage.{ServerMessage as Reply};
 
 use crate::fields::{answer_of, byte_at, ended, number_of, two_numbers_of, u32_at, u64_at};
-use crate::report_text::{REPORT_BYTES, ReportText};
 use crate::server_message::ServerMessage;
+use fe_mail::{REPORT_BYTES, ReportText};
 use std::alloc::{AllocError, Global};
 
 /// The kind of a report.

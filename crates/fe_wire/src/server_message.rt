@@ -1,4 +1,4 @@
-use crate::report_text::ReportText;
+use fe_mail::ReportText;
 use fe_state::Answer;
 
 /// A message to a client.

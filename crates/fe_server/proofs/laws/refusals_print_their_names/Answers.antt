@@ -1,7 +1,7 @@
 use Rattle.std.proofs.Common.{◌≡◌, refl}
-use Rattle.fe_front.specs.Refusal.{code_of, name_of}
-use Rattle.fe_front.specs.declared.refusal.Refusal.{Refusal}
-use Rattle.fe_front.specs.declared.refusal.Refusal.TheVariants.{NotAttached, SessionLimit, BelowFloor, BeyondWindow, NumberUsed, StillWaiting, Closing, NoMemory, Spent, NotWaiting}
+use Rattle.fe_mail.specs.Refusal.{code_of, name_of}
+use Rattle.fe_mail.specs.declared.refusal.Refusal.{Refusal}
+use Rattle.fe_mail.specs.declared.refusal.Refusal.TheVariants.{NotAttached, SessionLimit, BelowFloor, BeyondWindow, NumberUsed, StillWaiting, Closing, NoMemory, Spent, NotWaiting}
 use Rattle.fe_server.specs.Printed.{refusal_text}
 use Rattle.fe_server.proofs.laws.refusals_print_their_names.Goals as goal
 

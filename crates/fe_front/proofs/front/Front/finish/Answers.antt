@@ -1,7 +1,5 @@
-use Rattle.std.proofs.Common.{◌≡◌, ℕ, ◌+◌, ◌-◌, ◌^◌, ◌≤◌, length, sym, subst, arith, rules}
-use Rattle.std.proofs.lemmas.Bool.Decides.{nat_tests}
+use Rattle.std.proofs.Common.{◌≡◌, sym, subst, rules}
 use Rattle.std.specs.Prelude.{IsTrue, false}
-use Rattle.fe_state.specs.Directory.{Directory}
 use Rattle.fe_state.specs.Effect.{performed}
 use Rattle.fe_front.specs.Front.{FrontState, has_room, is_spent}
 use Rattle.fe_front.specs.FrontFields.{state_of}

@@ -1,7 +1,7 @@
 -- What a refusal is called in frames and in print.
 use Rattle.std.specs.Prelude.{ℕ, List, codes}
-use Rattle.fe_front.specs.declared.refusal.Refusal.{Refusal}
-use Rattle.fe_front.specs.declared.refusal.Refusal.TheVariants.{NotAttached, SessionLimit, BelowFloor, BeyondWindow, NumberUsed, StillWaiting, Closing, NoMemory, Spent, NotWaiting}
+use Rattle.fe_mail.specs.declared.refusal.Refusal.{Refusal}
+use Rattle.fe_mail.specs.declared.refusal.Refusal.TheVariants.{NotAttached, SessionLimit, BelowFloor, BeyondWindow, NumberUsed, StillWaiting, Closing, NoMemory, Spent, NotWaiting}
 
 -- the code in frames
 abbrev pub code_of : Refusal → ℕ

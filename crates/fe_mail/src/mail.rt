@@ -1,5 +1,5 @@
 ghost use Rattle.std.specs.Prelude.{◌≡◌};
-ghost use Rattle.fe_front.specs.Mail.{mail_of, session_of};
+ghost use Rattle.fe_mail.specs.Mail.{mail_of, session_of};
 
 use crate::refusal::Refusal;
 use crate::report_text::ReportText;
@@ -37,12 +37,13 @@ pub enum Mail {
         number: u64,
         refusal: Refusal,
     },
+    /// The text of a report that was asked for.
     Report(ReportText),
 }
 
 impl Mail {
     /// The mail of an entry that stands at that place.
-    pub(crate) fn of(entry: &Entry, place: u64) -> Mail
+    pub fn of(entry: &Entry, place: u64) -> Mail
         ensures { result ≡ mail_of entry.now place }
     {
         match *entry {
@@ -65,7 +66,7 @@ impl Mail {
 }
 
 /// The session that an entry is of.
-pub(crate) fn session_of(entry: &Entry) -> u64
+pub fn session_of(entry: &Entry) -> u64
     ensures { result ≡ session_of entry.now }
 {
     match *entry {

@@ -1,5 +1,5 @@
 ghost use Rattle.std.specs.Prelude.{◌≡◌, ◌≤◌};
-ghost use Rattle.fe_front.specs.Refusal.{code_of, name_of};
+ghost use Rattle.fe_mail.specs.Refusal.{code_of, name_of};
 
 /// Why an event was refused. A refused event changes nothing.
 #[derive(Clone, Copy, Debug, PartialEq, Eq)]

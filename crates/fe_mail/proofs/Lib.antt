@@ -1,0 +1,4 @@
+pub mod ConnectionLemmas
+pub mod HashedMaps
+pub mod Lookups
+pub mod MailCounts

@@ -1,0 +1,20 @@
+-- The session that an entry is of, and the mail of an entry.
+use Rattle.std.specs.Prelude.{ℕ}
+use Rattle.fe_state.specs.declared.entry.Entry.{Entry}
+use Rattle.fe_state.specs.declared.entry.Entry.TheVariants.{Attached, Closed, Settled, Finished}
+use Rattle.fe_mail.specs.declared.mail.Mail.{Mail}
+use Rattle.fe_mail.specs.declared.mail.Mail.TheVariants as mail
+
+-- the session that an entry is of
+abbrev pub session_of : Entry → ℕ
+session_of (Attached session floor) = session
+session_of (Closed session) = session
+session_of (Settled session floor) = session
+session_of (Finished session number request answer) = session
+
+-- the mail of an entry that stands at a place
+abbrev pub mail_of : Entry → ℕ → Mail
+mail_of (Attached session floor) place = mail.Welcome session floor
+mail_of (Closed session) place = mail.Goodbye session
+mail_of (Settled session floor) place = mail.Settled floor
+mail_of (Finished session number request answer) place = mail.Answer session number answer place

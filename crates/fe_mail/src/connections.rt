@@ -1,0 +1,133 @@
+ghost use Rattle.std.specs.Prelude.{◌≡◌, ◌↔◌, ◌<◌, ◌≤◌, [], ◌∷◌, ◌++◌, length, nat_lt, drop, slice_get, is_some, None, IfOk, IfErr, IfNone, OnOk, OnErr, IsOk, IsSome};
+ghost use Rattle.std.specs.FinMap as map;
+ghost use Rattle.fe_mail.specs.Connections.{first_connection, session_on, mails_on, with_session, with_mails};
+
+use crate::connection::Connection;
+use crate::mail::Mail;
+use crate::mailbox::Mailbox;
+use indexmap::IndexMap;
+use std::alloc::{AllocError, Global};
+use std::marker::Model;
+
+/// The connections by number: the session that each has, and the box in which its mails wait.
+///
+/// A connection is found by its hash. `connect` makes the room for 128 mails; nothing else takes memory.
+#[derive(Drop)]
+pub struct Connections {
+    connections: IndexMap<u64, Connection>,
+    alloc: Global,
+}
+
+impl Model for Connections {
+    ghost use Rattle.std.specs.FinMap.{FinMap, code, from_entries};
+    ghost use Rattle.std.specs.Ordering.{nat_cmp};
+    ghost use Rattle.std.specs.Coded.{coded_ℕ};
+    ghost use Rattle.fe_mail.specs.declared.connection.Connection as declared;
+    ghost use Rattle.fe_mail.specs.contracts.connection.Connection.{the_row};
+
+    ghost Value = { FinMap nat_cmp declared.Connection };
+
+    ghost coded = { code coded_ℕ the_row.coded };
+
+    ghost view = { λ a. from_entries a.connections.entries };
+}
+
+impl Connections {
+    /// No connection.
+    pub fn new(alloc: Global) -> Connections
+        ensures { result ≡ map.empty }
+    {
+        Connections {
+            connections: IndexMap::new(alloc),
+            alloc,
+        }
+    }
+
+    /// Adds a connection with no session and an empty box. The one error is that memory is short.
+    pub fn connect(&mut self, conn: u64) -> Result<(), AllocError>
+        requires unconnected { map.get self.old conn ≡ None }
+        ensures connected { OnOk result (self.new ≡ map.insert self.old conn first_connection) }
+        ensures err { OnErr result (self.new ≡ self.old) }
+    {
+        let mails = Mailbox::new(self.alloc)?;
+        let connection = Connection {
+            session: None,
+            mails,
+        };
+        self.connections.insert(conn, connection)?;
+        Ok(())
+    }
+
+    /// Whether the connection is there.
+    pub fn is_connected(&self, conn: u64) -> bool
+        ensures { result ≡ is_some (map.get self.now conn) }
+    {
+        self.connections.contains_key(&conn)
+    }
+
+    /// The session that a connection has. `None` also where it is not connected.
+    pub fn session_of(&self, conn: u64) -> Option<u64>
+        ensures { result ≡ session_on self.now conn }
+    {
+        match self.connections.get(&conn) {
+            Some(connection) => connection.session,
+            None => None,
+        }
+    }
+
+    /// Whether a mail stands in a connection's box. `false` also where it is not connected.
+    pub fn has_mail(&self, conn: u64) -> bool
+        ensures { result ≡ nat_lt 0 (length (mails_on self.now conn)) }
+    {
+        match self.connections.get(&conn) {
+            Some(connection) => connection.mails.len() > 0,
+            None => false,
+        }
+    }
+
+    /// Gives a connection another session, or none.
+    pub fn set_session(&mut self, conn: u64, session: Option<u64>)
+        requires connected { IsSome (map.get self.old conn) }
+        ensures { self.new ≡ with_session self.old conn session }
+    {
+        let connection = self.connections.get_mut(&conn).unwrap();
+        connection.session = session;
+    }
+
+    /// Puts a mail behind the others in a connection's box. A box with 128 mails gives it back.
+    pub fn put(&mut self, conn: u64, mail: Mail) -> Result<(), Mail>
+        requires connected { IsSome (map.get self.old conn) }
+        ensures room { IsOk result ↔ (length (mails_on self.old conn) < 128) }
+        ensures put { OnOk result (self.new ≡ with_mails self.old conn (mails_on self.old conn ++ mail ∷ [])) }
+        ensures full { OnErr result (length (mails_on self.old conn) ≡ 128) }
+        ensures returned { IfErr result (λ back. back ≡ mail) }
+        ensures err { OnErr result (self.new ≡ self.old) }
+    {
+        let connection = self.connections.get_mut(&conn).unwrap();
+        connection.mails.put(mail)
+    }
+
+    /// Takes the first mail out of a connection's box. `None` where there is none, or the connection is not there.
+    pub fn take(&mut self, conn: u64) -> Option<Mail>
+        ensures mail { result ≡ slice_get (mails_on self.old conn) 0 }
+        ensures taken { self.new ≡ with_mails self.old conn (drop 1 (mails_on self.old conn)) }
+        ensures none { IfNone result (self.new ≡ self.old) }
+    {
+        match self.connections.get_mut(&conn) {
+            Some(connection) => connection.mails.take(),
+            None => None,
+        }
+    }
+
+    /// Takes a connection away with its box, and counts the mails that it had, 128 at most. 0 where it is not there.
+    pub fn remove(&mut self, conn: u64) -> u32
+        ensures mails { result ≡ length (mails_on self.old conn) }
+        ensures few { result ≤ 128 }
+        ensures removed { self.new ≡ map.remove self.old conn }
+    {
+        match self.connections.swap_remove(&conn) {
+            Some(connection) => connection.mails.len(),
+            None => 0,
+        }
+    }
+}

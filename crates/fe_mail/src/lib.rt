@@ -1,0 +1,17 @@
+//! What connections are told, the boxes in which it waits for them, and the books of calls and mails.
+#![tactic(auto)]
+
+mod books;
+mod connection;
+mod connections;
+mod mail;
+mod mailbox;
+mod refusal;
+mod report_text;
+
+pub use books::Books;
+pub use connections::Connections;
+pub use mail::{Mail, session_of};
+pub use mailbox::MAILS;
+pub use refusal::Refusal;
+pub use report_text::{REPORT_BYTES, ReportText};

@@ -1,0 +1,70 @@
+ghost use Rattle.std.specs.Prelude.{◌≡◌, ◌↔◌, ◌<◌, ◌≤◌, [], ◌∷◌, ◌++◌, length, nat_lt, drop, slice_get, IfOk, IfErr, OnOk, OnErr, IsOk};
+
+use crate::mail::Mail;
+use std::alloc::{AllocError, Global};
+use std::collections::VecDeque;
+use std::marker::Model;
+
+/// How many mails stand unread in one box at most.
+pub const MAILS: usize = 128;
+
+/// The mails of a connection that it has not taken yet, at most 128, with room for as many.
+#[derive(Debug, Drop)]
+pub(crate) struct Mailbox {
+    mails: VecDeque<Mail>,
+}
+
+impl Model for Mailbox {
+    ghost use Rattle.std.specs.Prelude.{◌≤◌, List};
+    ghost use Rattle.std.specs.VecDeque.{deque_len, deque_capacity};
+    ghost use Rattle.fe_mail.specs.declared.mail.Mail.{Mail};
+
+    ghost Value = { List Mail };
+
+    ghost view = { λ a. a.mails.items };
+
+    ghost invariant = { λ a. (deque_len a.mails ≤ 128) × (128 ≤ deque_capacity a.mails) };
+}
+
+impl Mailbox {
+    /// An empty box. It makes the room for 128 mails.
+    pub fn new(alloc: Global) -> Result<Mailbox, AllocError>
+        ensures { IfOk result (λ mailbox. mailbox ≡ []) }
+    {
+        Ok(Mailbox {
+            mails: VecDeque::with_capacity(alloc, MAILS)?,
+        })
+    }
+
+    /// How many mails stand in the box.
+    pub fn len(&self) -> u32
+        ensures len { result ≡ length self.now }
+        ensures few { result ≤ 128 }
+    {
+        self.mails.len() as u32
+    }
+
+    /// Puts a mail behind the others. A full box gives it back.
+    pub fn put(&mut self, mail: Mail) -> Result<(), Mail>
+        ensures room { IsOk result ↔ (length self.old < 128) }
+        ensures put { OnOk result (self.new ≡ self.old ++ mail ∷ []) }
+        ensures full { OnErr result (length self.old ≡ 128) }
+        ensures returned { IfErr result (λ back. back ≡ mail) }
+        ensures err { OnErr result (self.new ≡ self.old) }
+    {
+        if self.mails.len() < MAILS {
+            self.mails.push_back_reserved(mail);
+            Ok(())
+        } else {
+            Err(mail)
+        }
+    }
+
+    /// The first mail, which leaves the box.
+    pub fn take(&mut self) -> Option<Mail>
+        ensures first { result ≡ slice_get self.old 0 }
+        ensures rest { self.new ≡ drop 1 self.old }
+    {
+        self.mails.pop_front()
+    }
+}
