@@ -1,0 +1,41 @@
+// Formatting and opening where memory ends: the disk comes back, and what was asked is done once there is
+// memory. `rt try --test --fail-alloc N`, for N from 1 on, takes each allocation away in turn; where all are
+// granted, each call has to do it at once.
+use super::{NEW, is_held};
+use fe_disk::{Disk, MemoryDisk};
+use fe_journal::{StoreFault, find, format};
+use std::process::Abort;
+use std::test::Fail;
+
+// The journal wants memory, or the disk for its record of the call, which is then a fault of the device.
+fn wants_memory(fault: StoreFault, disk: &MemoryDisk) -> bool {
+    match fault {
+        StoreFault::NoMemory => disk.failures() == 0,
+        StoreFault::Device => disk.failures() == 1,
+        StoreFault::Unformatted | StoreFault::Damaged { offset: _ } => false,
+    }
+}
+
+#[test]
+fn store_where_memory_ends(rt: HostRuntime) -> Result<(), Fail> {
+    let disk = match MemoryDisk::new(rt.alloc(), 4_202_496) {
+        Ok(disk) => disk,
+        Err(_) => MemoryDisk::new(rt.alloc(), 4_202_496)?,
+    };
+    let journal = match format(rt.alloc(), disk) {
+        Ok(journal) => journal,
+        Err((fault, disk)) => {
+            assert!(rt; wants_memory(fault, &disk));
+            format(rt.alloc(), disk).ok().expect(&rt, "formatted")
+        }
+    };
+    let found = match find(rt.alloc(), journal.into_disk()) {
+        Ok(found) => found,
+        Err((fault, disk)) => {
+            assert!(rt; wants_memory(fault, &disk));
+            find(rt.alloc(), disk).ok().expect(&rt, "found")
+        }
+    };
+    assert!(rt; is_held(found, &NEW));
+    Ok(())
+}
