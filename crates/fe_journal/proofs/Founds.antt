@@ -1,10 +1,10 @@
 -- What a store that was read makes of its journal.
-use Rattle.std.proofs.Common.{◌≡◌, ◌≢◌, ◌⊎◌, inl, inr, [], ◌∷◌, ℕ, ◌+◌, ◌-◌, ◌*◌, ◌<◌, ◌≤◌, Bool, false, List, length, Option, Some, None, sym, ◌∙◌, ap, subst, refl, arith, vec_len}
+use Rattle.std.proofs.Common.{◌≡◌, ◌⊎◌, inl, inr, [], ◌∷◌, ℕ, ◌+◌, ◌-◌, ◌<◌, ◌≤◌, false, List, length, None, sym, ◌∙◌, ap, subst, refl, arith}
 use Rattle.std.proofs.lemmas.Bool.{cases_lt, cases_eq}
 use Rattle.std.proofs.lemmas.Option.{none-some}
 use Rattle.fe_disk.specs.Disk.{LeavesJust, bytes_at}
 use Rattle.fe_disk.proofs.Images.{length-bytes_at}
-use Rattle.fe_journal.specs.Layout.{header_of, image_of, area_of, area_bytes, device_bytes, other_than, number_at, magic_of, IsOpen, IsShut, IsImageLength}
+use Rattle.fe_journal.specs.Layout.{header_of, image_of, area_of, device_bytes, number_at, magic_of, IsOpen, IsShut, IsImageLength}
 use Rattle.fe_journal.specs.Groups.{IsGroup, StandFrom, HoldsGroups, Fits, end_of}
 use Rattle.fe_journal.specs.Contents.{Contents, Holds, IsValidAs, Counts, generation_at, image_length_at}
 use Rattle.fe_journal.specs.Cursor.{Cursor, Lists}

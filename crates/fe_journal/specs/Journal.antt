@@ -1,5 +1,5 @@
 -- A journal as its callers see it, and how it stands to the images that its disk may leave.
-use Rattle.std.specs.Prelude.{◌≡◌, ◌+◌, ◌-◌, ◌≤◌, ℕ, Bool, List, [], ◌∷◌, ◌++◌, length, Option, Some, None, IsSome, false}
+use Rattle.std.specs.Prelude.{◌≡◌, ◌+◌, ◌≤◌, ℕ, Bool, List, [], ◌∷◌, ◌++◌, length, Option, Some, None, IsSome, false}
 use Rattle.fe_disk.specs.Disk.{bytes_at, LeavesJust}
 use Rattle.fe_journal.specs.Layout.{header_of, gate_of, image_of, other_than, number_at, magic_of, IsShut, IsImageLength, IsPayloadLength}
 use Rattle.fe_journal.specs.Groups.{end_of}
