@@ -96,6 +96,7 @@ fn write_store<D: Disk>(alloc: Global, format: Format, disk: &mut D) -> Result<V
 fn shut_both<D: Disk>(disk: &mut D) -> Result<(), DeviceFault>
     requires device { D.size disk.old ≡ device_bytes }
     ensures cleared { D.honest disk.old → OnOk result (IsCleared (D.seen disk.new)) }
+    ensures settled { D.honest disk.old → OnOk result (LeavesJust (D.seen disk.new) (D.may_leave disk.new)) }
 
     ensures fault { IsErr result ↔ Rises (D.failures disk.old) (D.failures disk.new) }
     ensures still { OnOk result (D.failures disk.new ≡ D.failures disk.old) }
@@ -107,9 +108,11 @@ fn shut_both<D: Disk>(disk: &mut D) -> Result<(), DeviceFault>
     disk.sync()
 }
 
-// Writes the first slot's header and the empty image. Two device calls.
+// Writes the first slot's header and the empty image, once the gates are closed on the disk. Two device
+// calls.
 fn write_first<D: Disk>(disk: &mut D, format: Format) -> Result<(), DeviceFault>
     requires device { D.size disk.old ≡ device_bytes }
+    requires settled { D.honest disk.old → LeavesJust (D.seen disk.old) (D.may_leave disk.old) }
     ensures first { D.honest disk.old → IsCleared (D.seen disk.old) → OnOk result (IsFirst format (D.seen disk.new)) }
 
     ensures fault { IsErr result ↔ Rises (D.failures disk.old) (D.failures disk.new) }

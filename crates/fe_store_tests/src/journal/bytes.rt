@@ -1,11 +1,11 @@
 // The bytes of a new store and of its first record, at their places on the device.
 use super::pieces::Piece;
 use super::steps::append;
-use super::{new_store, read};
+use super::{found, new_store, read};
 use fe_disk::MemoryDisk;
-use fe_journal::{Format, find};
+use fe_journal::Format;
+use std::alloc::Global;
 use std::process::Abort;
-use std::test::Fail;
 
 const MAGIC: [(Format, &'static [u8; 8]); 2] = [
     (Format::One, b"FEMEMST1"),
@@ -21,7 +21,7 @@ fn stands(rt: &impl Abort, disk: &mut MemoryDisk, at: usize, bytes: &[u8]) -> bo
 }
 
 #[test]
-fn bytes_of_new_store(rt: HostRuntime) -> Result<(), Fail> {
+fn bytes_of_new_store(rt: HostRuntime) {
     for (format, magic) in MAGIC {
         let mut disk = new_store(&rt, rt.alloc(), format).into_disk();
         assert!(rt; stands(&rt, &mut disk, 0, magic));
@@ -31,7 +31,6 @@ fn bytes_of_new_store(rt: HostRuntime) -> Result<(), Fail> {
         assert!(rt; stands(&rt, &mut disk, 1_052_672, &[0]));
         assert!(rt; stands(&rt, &mut disk, 2_105_343, &[0]));
     }
-    Ok(())
 }
 
 // A format, the payload of one record, the gate and length before it, the place of the gate behind it,
@@ -53,20 +52,29 @@ const RECORDS: [(Format, Piece, Piece, usize, u32); 2] = [
     ),
 ];
 
+// The disk of a store that was found new, once one record was appended.
+fn disk_with(
+    rt: &impl Abort,
+    alloc: Global,
+    format: Format,
+    payload: Piece,
+    room: u32,
+) -> MemoryDisk {
+    let disk = new_store(rt, alloc, format).into_disk();
+    let mut journal = found(rt, alloc, disk).journal;
+    assert_eq!(rt; journal.room(), 1_048_570);
+    assert!(rt; append(rt, &mut journal, payload.bytes()));
+    assert_eq!(rt; journal.room(), room);
+    journal.into_disk()
+}
+
 #[test]
-fn bytes_of_one_record(rt: HostRuntime) -> Result<(), Fail> {
+fn bytes_of_one_record(rt: HostRuntime) {
     for (format, payload, head, gate, room) in RECORDS {
-        let disk = new_store(&rt, rt.alloc(), format).into_disk();
-        let mut journal = find(rt.alloc(), disk).ok().expect(&rt, "found").journal;
-        assert_eq!(rt; journal.room(), 1_048_570);
-        assert!(rt; append(&rt, &mut journal, payload.bytes()));
-        assert_eq!(rt; journal.room(), room);
-        let mut disk = journal.into_disk();
+        let mut disk = disk_with(&rt, rt.alloc(), format, payload, room);
         assert!(rt; stands(&rt, &mut disk, 1_052_672, head.bytes()));
         assert!(rt; stands(&rt, &mut disk, 1_052_677, payload.bytes()));
         assert!(rt; stands(&rt, &mut disk, gate, &[0]));
-        let groups = find(rt.alloc(), disk).ok().expect(&rt, "found").groups;
-        assert_eq!(rt; groups.offset(), 1_052_677);
+        assert_eq!(rt; found(&rt, rt.alloc(), disk).groups.offset(), 1_052_677);
     }
-    Ok(())
 }

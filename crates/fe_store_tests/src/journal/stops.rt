@@ -1,12 +1,11 @@
 // A stop at each device call of each call of a journal.
 use super::pieces::Piece;
 use super::steps::{Step, make};
-use super::{Held, NEW, is_held, new_store};
-use fe_disk::{Disk, Fuse, Torn};
+use super::{Held, NEW, found, is_held, new_store};
+use fe_disk::{Disk, Fuse, MemoryDisk, Torn};
 use fe_journal::{Format, Journal, find};
 use std::alloc::Global;
 use std::process::Abort;
-use std::test::Fail;
 
 const TORN: [Torn; 4] = [Torn::Kept, Torn::Lost, Torn::Byte(0x01), Torn::Byte(0x37)];
 
@@ -134,46 +133,53 @@ fn held_after(row: &Row, calls: u64, torn: Torn) -> &Held {
     }
 }
 
-fn stop_in(rt: &impl Abort, alloc: Global, row: &Row) -> Result<(), Fail> {
+// The disk of a new store on which so many device calls of the run were made.
+fn disk_after(rt: &impl Abort, alloc: Global, calls: u64) -> MemoryDisk {
+    let fuse = Fuse::new(new_store(rt, alloc, Format::Two).into_disk(), calls);
+    let mut journal = find(alloc, fuse).ok().expect(rt, "opened").journal;
+    run(rt, &mut journal);
+    journal.into_disk().into_inner()
+}
+
+fn is_left(rt: &impl Abort, alloc: Global, disk: &MemoryDisk, torn: Torn, held: &Held) -> bool {
+    let left = disk.stopped(torn).ok().expect(rt, "stopped");
+    is_held(found(rt, alloc, left), held)
+}
+
+fn stop_in(rt: &impl Abort, alloc: Global, row: &Row) {
     for calls in 0..=row.calls {
-        let disk = new_store(rt, alloc, Format::Two).into_disk();
-        let fuse = Fuse::new(disk, row.passed.saturating_add(calls));
-        let mut journal = find(alloc, fuse).ok().expect(rt, "opened").journal;
-        run(rt, &mut journal);
-        let disk = journal.into_disk().into_inner();
+        let disk = disk_after(rt, alloc, row.passed.saturating_add(calls));
         for torn in TORN {
-            let found = find(alloc, disk.stopped(torn)?).ok().expect(rt, "found");
+            let held = held_after(row, calls, torn);
             assert!(rt;
-                is_held(found, held_after(row, calls, torn)),
-                "{torn:?} after {calls} from {}",
-                row.passed
+                is_left(rt, alloc, &disk, torn, held),
+                "{torn:?} after {calls}"
             );
         }
     }
-    Ok(())
 }
 
 #[test]
-fn stop_in_append(rt: HostRuntime) -> Result<(), Fail> {
-    stop_in(&rt, rt.alloc(), &ROWS[0])?;
-    stop_in(&rt, rt.alloc(), &ROWS[3])
+fn stop_in_append(rt: HostRuntime) {
+    stop_in(&rt, rt.alloc(), &ROWS[0]);
+    stop_in(&rt, rt.alloc(), &ROWS[3]);
 }
 
 #[test]
-fn stop_in_slot_close(rt: HostRuntime) -> Result<(), Fail> {
-    stop_in(&rt, rt.alloc(), &ROWS[1])?;
-    stop_in(&rt, rt.alloc(), &ROWS[6])
+fn stop_in_slot_close(rt: HostRuntime) {
+    stop_in(&rt, rt.alloc(), &ROWS[1]);
+    stop_in(&rt, rt.alloc(), &ROWS[6]);
 }
 
 #[test]
-fn stop_in_slot_write(rt: HostRuntime) -> Result<(), Fail> {
-    stop_in(&rt, rt.alloc(), &ROWS[2])?;
-    stop_in(&rt, rt.alloc(), &ROWS[4])?;
-    stop_in(&rt, rt.alloc(), &ROWS[7])
+fn stop_in_slot_write(rt: HostRuntime) {
+    stop_in(&rt, rt.alloc(), &ROWS[2]);
+    stop_in(&rt, rt.alloc(), &ROWS[4]);
+    stop_in(&rt, rt.alloc(), &ROWS[7]);
 }
 
 #[test]
-fn stop_in_slot_finish(rt: HostRuntime) -> Result<(), Fail> {
-    stop_in(&rt, rt.alloc(), &ROWS[5])?;
-    stop_in(&rt, rt.alloc(), &ROWS[8])
+fn stop_in_slot_finish(rt: HostRuntime) {
+    stop_in(&rt, rt.alloc(), &ROWS[5]);
+    stop_in(&rt, rt.alloc(), &ROWS[8]);
 }

@@ -3,8 +3,10 @@
 use super::pieces::Piece;
 use super::steps::append;
 use super::{Held, is_held, new_store, write};
+use fe_disk::MemoryDisk;
 use fe_journal::{Format, StoreFault, find};
-use std::test::Fail;
+use std::alloc::Global;
+use std::process::Abort;
 
 const ONE_GROUP: Held = Held {
     generation: 1,
@@ -68,23 +70,29 @@ const CASES: [Case; 4] = [
     },
 ];
 
-#[test]
-fn torn_gates(rt: HostRuntime) -> Result<(), Fail> {
-    for case in &CASES {
-        let mut journal = new_store(&rt, rt.alloc(), Format::One);
-        assert!(rt;
-            append(&rt, &mut journal, Piece::Record.bytes())
-                && append(&rt, &mut journal, Piece::OtherRecord.bytes())
-        );
-        let mut disk = journal.into_disk();
-        for (at, bytes) in case.bytes {
-            write(&rt, &mut disk, at, bytes.bytes())?;
-        }
-        match (find(rt.alloc(), disk), &case.found) {
-            (Ok(found), Ok(held)) => assert!(rt; is_held(found, held)),
-            (Err((fault, _)), Err(want)) => assert_eq!(rt; fault, *want),
-            (_, _) => assert!(rt; false, "another outcome"),
-        }
+fn disk_of(rt: &impl Abort, alloc: Global, case: &Case) -> MemoryDisk {
+    let mut journal = new_store(rt, alloc, Format::One);
+    assert!(rt; append(rt, &mut journal, Piece::Record.bytes()));
+    assert!(rt; append(rt, &mut journal, Piece::OtherRecord.bytes()));
+    let mut disk = journal.into_disk();
+    for (at, piece) in case.bytes {
+        assert!(rt; write(rt, &mut disk, at, piece.bytes()).is_ok());
     }
-    Ok(())
+    disk
+}
+
+fn is_found(alloc: Global, disk: MemoryDisk, want: &Result<Held, StoreFault>) -> bool {
+    match (find(alloc, disk), want) {
+        (Ok(found), Ok(held)) => is_held(found, held),
+        (Err((fault, _)), Err(want)) => fault == *want,
+        (_, _) => false,
+    }
+}
+
+#[test]
+fn torn_gates(rt: HostRuntime) {
+    for case in &CASES {
+        let disk = disk_of(&rt, rt.alloc(), case);
+        assert!(rt; is_found(rt.alloc(), disk, &case.found));
+    }
 }
