@@ -1,5 +1,5 @@
 pub mod Images
 pub mod Moments
-mod Outcomes
+pub mod Outcomes
 mod Stops
 mod Tears

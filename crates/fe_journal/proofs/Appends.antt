@@ -1,16 +1,15 @@
 -- What a stop leaves while a group is appended.
-use Rattle.std.proofs.Common.{◌≡◌, ◌≢◌, ◌⊎◌, ℕ, ◌+◌, ◌-◌, ◌*◌, ◌<◌, ◌≤◌, List, [], ◌∷◌, ◌++◌, length, get_or, inl, inr, ⊎_elim, sym, ◌∙◌, ap, subst, refl, arith}
+use Rattle.std.proofs.Common.{◌≡◌, ◌⊎◌, ℕ, ◌+◌, ◌<◌, ◌≤◌, List, [], ◌∷◌, ◌++◌, length, get_or, inl, inr, ⊎_elim, sym, ◌∙◌, ap, subst, refl, arith}
 use Rattle.std.proofs.lemmas.Bool.{cases_lt, cases_eq}
 use Rattle.fe_disk.specs.Disk.{IsTorn, bytes_at, after_write}
-use Rattle.fe_disk.proofs.Images.{length-after_write, IsTorn-after_write, IsTorn-same}
-use Rattle.fe_journal.specs.Layout.{header_of, gate_of, area_of, other_than, IsOpen, IsShut, number_at}
-use Rattle.fe_journal.specs.Groups.{IsGroup, Fits, HoldsGroups, end_of, behind_gate}
+use Rattle.fe_disk.proofs.Images.{length-after_write, IsTorn-after_write}
+use Rattle.fe_journal.specs.Layout.{header_of, area_of, other_than, IsOpen, IsShut, number_at}
+use Rattle.fe_journal.specs.Groups.{IsGroup, Fits, end_of, behind_gate}
 use Rattle.fe_journal.specs.Contents.{Contents, Holds, HoldsEither, with_group}
 use Rattle.fe_journal.specs.Steps.{IsLeftInCommit, after_commit}
-use Rattle.fe_journal.specs.declared.store_format.Format.{Format}
 use Rattle.fe_journal.proofs.Bytes.{SameBytes, same_part, same_byte, same_through, same_back, torn_same, written_same}
 use Rattle.fe_journal.proofs.Frames.{groups_same, stand_same, stand_more, end_of-more, NoRise, same_no_rise, holds_as, holds_same}
-use Rattle.fe_journal.proofs.Spelled.{length-behind_gate, IsSpelled, spelled}
+use Rattle.fe_journal.proofs.Spelled.{length-behind_gate, spelled}
 
 -- a range in the one slot is apart from the other slot
 pub slots_apart : (slot at n a m : ℕ) → slot < 2 → header_of slot ≤ at → at + n ≤ header_of slot + 2101248 → header_of (other_than slot) ≤ a → a + m ≤ header_of (other_than slot) + 2101248 → (a + m ≤ at) ⊎ (at + n ≤ a)

@@ -1,5 +1,5 @@
 -- What the calls that make the other slot ready keep.
-use Rattle.std.proofs.Common.{◌≡◌, ◌≢◌, ◌⊎◌, ℕ, ◌+◌, ◌-◌, ◌*◌, ◌<◌, ◌≤◌, ◌^◌, Bool, List, [], ◌∷◌, ◌++◌, length, length-append, Option, Some, None, IsSome, inl, inr, sym, ◌∙◌, ap, subst, refl, arith}
+use Rattle.std.proofs.Common.{◌≡◌, ℕ, ◌+◌, ◌-◌, ◌<◌, ◌≤◌, ◌^◌, Bool, List, ◌++◌, length, length-append, Option, Some, None, inl, inr, sym, ◌∙◌, ap, subst, refl, arith}
 use Rattle.std.specs.Option.{ForSome}
 use Rattle.fe_disk.specs.Disk.{IsTorn, Follows, Elapses, LeavesJust, LeavesOnly, after_write, bytes_at}
 use Rattle.fe_disk.proofs.Images.{length-after_write, IsTorn-after_write}
@@ -11,9 +11,9 @@ use Rattle.fe_journal.specs.Journal.{JournalState, Draft, IsDraft, IsLeft, Keeps
 use Rattle.fe_journal.specs.Steps.{header_fields, area_start, IsLeftInCommit, IsLeftInBeginning, IsHeaderTorn, IsBegun, after_commit}
 use Rattle.fe_journal.specs.declared.store_format.Format.{Format}
 use Rattle.fe_journal.specs.declared.begun.Begun.{Begun}
-use Rattle.fe_journal.proofs.Bytes.{SameBytes, same_part, same_bytes_at, torn_same, written_same, joined_same, known_same}
+use Rattle.fe_journal.proofs.Bytes.{SameBytes, same_bytes_at, torn_same, written_same, joined_same, known_same}
 use Rattle.fe_journal.proofs.Frames.{draft_same, image_short}
-use Rattle.fe_journal.proofs.Spelled.{HasFields, fields_spelled, bytes_whole, length-header_fields}
+use Rattle.fe_journal.proofs.Spelled.{fields_spelled, bytes_whole, length-header_fields}
 use Rattle.fe_journal.proofs.Slots.{begin_holds, slice_left, left_in_finish, finished_last}
 use Rattle.fe_journal.proofs.Journals.{nothing_done}
 

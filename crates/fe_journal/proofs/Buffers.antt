@@ -1,7 +1,7 @@
 -- The bytes of the buffer that go onto the device.
 use Rattle.std.proofs.Common.{◌≡◌, ℕ, ◌+◌, ◌-◌, ◌≤◌, List, [], ◌∷◌, ◌++◌, length, take, drop, set, append_assoc, length-append, sym, ◌∙◌, ap, subst, refl, arith}
 use Rattle.std.proofs.lemmas.List.{length-take-le, take_all, take_at, take-append-le}
-use Rattle.fe_disk.specs.Disk.{bytes_at, after_write}
+use Rattle.fe_disk.specs.Disk.{after_write}
 use Rattle.fe_disk.proofs.Images.{length-after_write}
 use Rattle.fe_journal.specs.Groups.{behind_gate, end_of}
 use Rattle.fe_journal.specs.Journal.{catch_up_groups}

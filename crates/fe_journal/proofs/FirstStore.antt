@@ -1,10 +1,10 @@
 -- What is read of a store just formatted.
-use Rattle.std.proofs.Common.{◌≡◌, ℕ, ◌+◌, ◌≤◌, List, [], ◌∷◌, length, get_or, None, false, inl, inr, sym, ◌∙◌, ap, subst, refl, arith}
+use Rattle.std.proofs.Common.{◌≡◌, ℕ, ◌+◌, ◌≤◌, List, [], ◌∷◌, length, get_or, None, inl, inr, sym, ◌∙◌, ap, subst, refl, arith}
 use Rattle.fe_disk.specs.Disk.{IsTorn, LeavesJust, bytes_at, after_write}
 use Rattle.fe_disk.proofs.Images.{IsTorn-after_write, bytes_at-after_write, bytes_at_elsewhere}
 use Rattle.fe_journal.specs.Layout.{header_of, gate_of, image_of, area_of, IsOpen, IsShut, IsImageLength}
 use Rattle.fe_journal.specs.Contents.{Holds, empty_image, first_contents}
-use Rattle.fe_journal.specs.Journal.{JournalState, Keeps}
+use Rattle.fe_journal.specs.Journal.{JournalState, Keeps, new_journal}
 use Rattle.fe_journal.specs.Steps.{header_fields, after_commit, IsCleared, IsFirst}
 use Rattle.fe_journal.specs.declared.store_format.Format.{Format}
 use Rattle.fe_journal.specs.declared.store_format.Format.TheVariants.{One, Two}
@@ -103,7 +103,7 @@ module _ (format : Format) (seen : List ℕ) (area gate : ℕ) (whole : length s
 
 -- the journal of a new store
 pub first_keeps : {D : Type 0} (seen : D → List ℕ) (may_leave : D → List ℕ → Type 0) (journal : JournalState D) (disk : D) (format : Format)
-    → journal ≡ record { disk = disk; slot = 0; format = format; generation = 1; used = 0; begun = None; has_failed = false }
+    → journal ≡ new_journal format disk
     → Holds (first_contents format) (seen disk) → LeavesJust (seen disk) (may_leave disk) → Keeps seen may_leave journal (first_contents format) None
 first_keeps {D} seen may_leave journal disk format journal_is holds just =
     subst (λ (j : JournalState D). Keeps seen may_leave j (first_contents format) None) (sym journal_is)

@@ -1,14 +1,14 @@
 -- What a store that was read makes of its journal.
-use Rattle.std.proofs.Common.{◌≡◌, ◌≢◌, ◌⊎◌, inl, inr, [], ◌∷◌, ℕ, ◌+◌, ◌-◌, ◌*◌, ◌<◌, ◌≤◌, Bool, false, List, length, Option, Some, None, sym, ◌∙◌, ap, subst, refl, arith, vec_len}
+use Rattle.std.proofs.Common.{◌≡◌, ◌⊎◌, inl, inr, [], ◌∷◌, ℕ, ◌+◌, ◌-◌, ◌<◌, ◌≤◌, false, List, length, None, sym, ◌∙◌, ap, subst, refl, arith}
 use Rattle.std.proofs.lemmas.Bool.{cases_lt, cases_eq}
 use Rattle.std.proofs.lemmas.Option.{none-some}
 use Rattle.fe_disk.specs.Disk.{LeavesJust, bytes_at}
 use Rattle.fe_disk.proofs.Images.{length-bytes_at}
-use Rattle.fe_journal.specs.Layout.{header_of, image_of, area_of, area_bytes, device_bytes, other_than, number_at, magic_of, IsOpen, IsShut, IsImageLength}
+use Rattle.fe_journal.specs.Layout.{header_of, image_of, area_of, device_bytes, number_at, magic_of, IsOpen, IsShut, IsImageLength}
 use Rattle.fe_journal.specs.Groups.{IsGroup, StandFrom, HoldsGroups, Fits, end_of}
 use Rattle.fe_journal.specs.Contents.{Contents, Holds, IsValidAs, Counts, generation_at, image_length_at}
 use Rattle.fe_journal.specs.Cursor.{Cursor, Lists}
-use Rattle.fe_journal.specs.Damage.{Tells, IsDamagedAt, NoGeneration, OddImage, OddGroup}
+use Rattle.fe_journal.specs.Damage.{Tells, IsUnformatted, IsDamagedAt, NoGeneration, OddImage, OddGroup}
 use Rattle.fe_journal.specs.Found.{IsFound}
 use Rattle.fe_journal.specs.Journal.{JournalState, IsLeft, Keeps}
 use Rattle.fe_journal.specs.Store.{IsStore, IsWhole}
@@ -141,14 +141,14 @@ one_format Two One same = absurd (omega (arith, same))
 one_format Two Two same = refl
 
 module _ (c : Contents) (image : List ℕ) (holds : Holds c image) where
-  slot_same : (slot : ℕ) (f : Format) → Counts image slot f → slot ≡ c.slot
+  pub slot_same : (slot : ℕ) (f : Format) → Counts image slot f → slot ≡ c.slot
   slot_same slot f counts = counts_one image slot c.slot f c.format counts holds.counts
 
-  format_same : (slot : ℕ) (f : Format) → Counts image slot f → f ≡ c.format
+  pub format_same : (slot : ℕ) (f : Format) → Counts image slot f → f ≡ c.format
   format_same slot f counts =
       one_format f c.format (sym (subst (λ (k : ℕ). number_at image (header_of k) 8 ≡ magic_of f) (slot_same slot f counts) counts.valid.magic) ∙ holds.counts.valid.magic)
 
-  undamaged : (offset : ℕ) → IsDamagedAt image offset → ⊥
+  pub undamaged : (offset : ℕ) → IsDamagedAt image offset → ⊥
   undamaged offset (NoGeneration slot f counts none at) =
       let is : generation_at image c.slot ≡ 0 = subst (λ (k : ℕ). generation_at image k ≡ 0) (slot_same slot f counts) none in
       let zero : c.generation ≡ 0 = sym holds.generation_is ∙ is in
@@ -164,10 +164,13 @@ module _ (c : Contents) (image : List ℕ) (holds : Holds c image) where
       odd_none f image (area_of slot) 0 groups c.groups stand (subst (λ (k : ℕ). IsOpen image (area_of slot + k)) place is_open)
       (λ there. odd (subst (λ (k : ℕ). Fits f k (number_at image (area_of slot + k + 1) 4)) (sym place) there)) held
 
+  pub formatted : IsUnformatted image → ⊥
+  formatted (inl odd) = odd holds.whole
+  formatted (inr none) = none c.slot c.format holds.counts.is_slot holds.counts.valid
+
   -- contents are refused only for the device or for memory
   pub refused_only : (fault : StoreFault) → Tells fault image → (fault ≡ Device) ⊎ (fault ≡ NoMemory)
-  refused_only Unformatted (inl odd) = absurd (odd holds.whole)
-  refused_only Unformatted (inr none) = absurd (none c.slot c.format holds.counts.is_slot holds.counts.valid)
+  refused_only Unformatted told = absurd (formatted told)
   refused_only (Damaged offset) told = absurd (undamaged offset told)
   refused_only Device told = inl refl
   refused_only NoMemory told = inr refl

@@ -1,21 +1,16 @@
 -- What the calls of a journal keep, from what each step left.
-use Rattle.std.proofs.Common.{◌≡◌, ◌≢◌, ◌⊎◌, ℕ, ◌+◌, ◌-◌, ◌*◌, ◌<◌, ◌≤◌, Bool, false, List, [], ◌∷◌, ◌++◌, length, get_or, Option, Some, None, IsSome, Result, Ok, Err, OnOk, inl, inr, ⊎_elim, sym, ◌∙◌, ap, subst, refl, arith}
-use Rattle.std.specs.Result.{is_err}
-use Rattle.fe_disk.specs.Disk.{IsTorn, LeavesJust, LeavesOnly, after_write, bytes_at}
+use Rattle.std.proofs.Common.{◌≡◌, ℕ, ◌+◌, Bool, List, length, Option, sym, ◌∙◌, subst, refl, arith}
+use Rattle.fe_disk.specs.Disk.{LeavesJust, LeavesOnly}
 use Rattle.fe_disk.proofs.Moments.{started, weaker}
-use Rattle.fe_journal.specs.Layout.{header_of, gate_of, image_of, area_of, other_than, IsShut, longest_image, IsImageLength}
+use Rattle.fe_journal.specs.Layout.{header_of, gate_of, image_of, area_of, other_than}
 use Rattle.fe_journal.specs.Groups.{Fits, end_of, behind_gate}
 use Rattle.fe_journal.specs.Contents.{Contents, Holds, HoldsEither, with_group}
 use Rattle.fe_journal.specs.Journal.{JournalState, Draft, IsDraft, IsLeft, Keeps}
 use Rattle.fe_journal.specs.Steps.{IsLeftInCommit, after_commit}
 use Rattle.fe_journal.specs.declared.store_format.Format.{Format}
-use Rattle.fe_journal.proofs.Bytes.{SameBytes, same_part, same_byte}
+use Rattle.fe_journal.proofs.Bytes.{same_part, same_byte}
 use Rattle.fe_journal.proofs.Frames.{draft_same, end_of-more, image_short}
 use Rattle.fe_journal.proofs.Appends.{left_in_append, appended_holds, appended_other}
-
-pub at_ok : {T E P : Type 0} (r : Result T E) → is_err r ≡ false → OnOk r P → P
-at_ok (Ok x) is clause = clause
-at_ok (Err e) is clause = cc
 
 module _ {D : Type 0} (moment : D → ℕ) (left_since : D → ℕ → List ℕ → Type 0) (seen : D → List ℕ) (may_leave : D → List ℕ → Type 0) where
   -- a call that does nothing

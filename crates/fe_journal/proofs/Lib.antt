@@ -11,3 +11,4 @@ mod Begins
 mod Openings
 mod Readings
 mod Founds
+mod Contents

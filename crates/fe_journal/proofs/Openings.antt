@@ -1,11 +1,11 @@
 -- What the parts of opening read.
-use Rattle.std.proofs.Common.{◌≡◌, ◌≢◌, ◌⊎◌, ℕ, ◌+◌, ◌-◌, ◌*◌, ◌<◌, ◌≤◌, List, [], ◌∷◌, ◌++◌, length, get_or, take, drop, Option, Some, None, inl, inr, ⊎_elim, sym, ◌∙◌, ap, subst, refl, arith}
+use Rattle.std.proofs.Common.{◌≡◌, ℕ, ◌+◌, List, [], ◌∷◌, ◌++◌, length, get_or, drop, None, sym, ◌∙◌, ap, subst, refl, arith}
 use Rattle.byteorder.specs.Endian.{big_number}
 use Rattle.byteorder.specs.Numbers.{big_from-take}
 use Rattle.fe_disk.specs.Disk.{bytes_at}
 use Rattle.fe_disk.proofs.Images.{length-bytes_at}
 use Rattle.fe_journal.specs.Layout.{number_at, IsOpen, IsShut, magic_of}
-use Rattle.fe_journal.specs.Groups.{IsGroup, StandFrom, HoldsGroups, Fits, end_of}
+use Rattle.fe_journal.specs.Groups.{IsGroup, HoldsGroups, Fits, end_of}
 use Rattle.fe_journal.specs.Reading.{IsFormatOf, Reaches, EndsAt, IsOddAt}
 use Rattle.fe_journal.specs.declared.store_format.Format.{Format}
 use Rattle.fe_journal.specs.declared.store_format.Format.TheVariants.{One, Two}

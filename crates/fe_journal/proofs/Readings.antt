@@ -1,12 +1,12 @@
 -- What opening reads of the slots of a store.
-use Rattle.std.proofs.Common.{◌≡◌, ◌≢◌, ◌⊎◌, ◌↔◌, OnOk, ℕ, ◌+◌, ◌-◌, ◌*◌, ◌<◌, ◌≤◌, List, length, get_or, Option, Some, None, Result, Ok, Err, inl, inr, ⊎_elim, sym, ◌∙◌, ap, subst, refl, arith}
+use Rattle.std.proofs.Common.{◌≡◌, ◌⊎◌, ◌↔◌, OnOk, ℕ, ◌+◌, ◌<◌, ◌≤◌, List, length, Option, Some, None, Result, Ok, Err, inl, inr, ⊎_elim, sym, ◌∙◌, subst, refl, arith}
 use Rattle.std.proofs.lemmas.Bool.{cases_lt}
-use Rattle.fe_disk.specs.Disk.{LeavesOnly, Rises, bytes_at}
+use Rattle.fe_disk.specs.Disk.{Rises, bytes_at}
 use Rattle.fe_disk.proofs.Moments.{joined, weaker}
-use Rattle.fe_journal.specs.Layout.{header_of, area_of, area_bytes, device_bytes, number_at, IsOpen, IsShut, magic_of, IsImageLength}
-use Rattle.fe_journal.specs.Groups.{StandFrom, Fits, end_of}
-use Rattle.fe_journal.specs.Contents.{IsValidAs, Counts, generation_at, image_length_at}
-use Rattle.fe_journal.specs.Damage.{Tells, IsDamagedAt, NoGeneration, OddImage, OddGroup}
+use Rattle.fe_journal.specs.Layout.{header_of, area_of, area_bytes, device_bytes, number_at, IsImageLength}
+use Rattle.fe_journal.specs.Groups.{Fits, end_of}
+use Rattle.fe_journal.specs.Contents.{IsValidAs, generation_at}
+use Rattle.fe_journal.specs.Damage.{Tells, NoGeneration, OddImage, OddGroup}
 use Rattle.fe_journal.specs.Reading.{IsHeader, IsHeaderAt, IsCounting, IsOddAt, HeaderFault, GroupFault}
 use Rattle.fe_journal.specs.Steps.{OnlyReads}
 use Rattle.fe_journal.specs.Store.{CountsAs}

@@ -1,8 +1,8 @@
 -- What a stop leaves in the steps of `commit` and of `shut`.
-use Rattle.std.proofs.Common.{◌≡◌, ◌≢◌, ℕ, ◌+◌, ◌<◌, ◌≤◌, List, [], ◌∷◌, length, get_or, inl, inr, add-zero, sym, ◌∙◌, ap, subst, arith}
-use Rattle.fe_disk.specs.Disk.{IsTorn, Follows, AddsNone, LeavesJust, bytes_at, after_write}
+use Rattle.std.proofs.Common.{◌≡◌, ℕ, ◌≤◌, List, length, get_or, inl, add-zero, sym, ◌∙◌, ap, subst, arith}
+use Rattle.fe_disk.specs.Disk.{IsTorn, Follows, LeavesJust, bytes_at}
 use Rattle.fe_disk.proofs.Images.{IsTorn-same, torn_left, torn_again, torn_wider, get_or-bytes_at}
-use Rattle.fe_journal.specs.Layout.{header_of, gate_of, IsOpen, IsShut}
+use Rattle.fe_journal.specs.Layout.{header_of, gate_of, IsShut}
 use Rattle.fe_journal.specs.Steps.{IsLeftInCommit, IsLeftInShutting, IsHeaderTorn}
 
 module _ (before : List ℕ → Type 0) (seen : List ℕ) (at : ℕ) (bytes : List ℕ) (gate : ℕ) where
@@ -11,9 +11,6 @@ module _ (before : List ℕ → Type 0) (seen : List ℕ) (at : ℕ) (bytes : Li
 
   pub bytes_torn : (new : List ℕ → Type 0) → Follows (IsTorn at (length bytes)) before new → (image : List ℕ) → new image → IsLeftInCommit before seen at bytes gate image
   bytes_torn new follows image may = inl (follows image may)
-
-  pub gate_torn : (old new : List ℕ → Type 0) → LeavesJust (after_write seen at bytes) old → Follows (IsTorn gate 1) old new → (image : List ℕ) → new image → IsLeftInCommit before seen at bytes gate image
-  gate_torn old new just follows image may = inr (torn_left (after_write seen at bytes) gate 1 old new just follows image may)
 
 -- a gate that is left alone
 pub shut_still : (seen : List ℕ) (gate : ℕ) (image : List ℕ) → image ≡ seen → IsLeftInShutting seen gate image

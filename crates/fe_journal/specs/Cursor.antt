@@ -1,5 +1,5 @@
 -- The groups of a journal area, read one after the other.
-use Rattle.std.specs.Prelude.{◌≡◌, ◌+◌, ℕ, List, [], ◌∷◌, length, Option, IfSome, IsNone}
+use Rattle.std.specs.Prelude.{ℕ, List}
 use Rattle.fe_journal.specs.Groups.{HoldsGroups}
 use Rattle.fe_journal.specs.declared.store_format.Format.{Format}
 

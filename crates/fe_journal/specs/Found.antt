@@ -1,14 +1,9 @@
 -- What opening and formatting give.
-use Rattle.std.specs.Prelude.{◌≡◌, ◌≢◌, ◌⊎◌, ◌<◌, ◌≤◌, ◌+◌, ℕ, List, [], length, Option, Some, None, Result, Ok, Err, vec_len}
-use Rattle.fe_disk.specs.Disk.{LeavesJust}
-use Rattle.fe_journal.specs.Layout.{area_of, area_bytes}
-use Rattle.fe_journal.specs.Contents.{Contents, Holds, IsValidAs, Counts, generation_at, image_length_at}
+use Rattle.std.specs.Prelude.{◌≡◌, ℕ, List, None, Result, Ok, Err}
+use Rattle.fe_journal.specs.Layout.{area_of}
+use Rattle.fe_journal.specs.Contents.{Contents, Holds}
 use Rattle.fe_journal.specs.Cursor.{Lists}
-use Rattle.fe_journal.specs.Groups.{end_of}
 use Rattle.fe_journal.specs.Journal.{Keeps}
-use Rattle.fe_journal.specs.Reading.{EndsAt}
-use Rattle.fe_journal.specs.declared.store_format.Format.{Format}
-use Rattle.fe_journal.specs.declared.header.Header.{Header}
 use Rattle.fe_journal.specs.declared.opening.Found.{Found}
 use Rattle.fe_journal.specs.declared.fault.StoreFault.{StoreFault}
 

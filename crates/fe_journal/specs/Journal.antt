@@ -1,5 +1,5 @@
 -- A journal as its callers see it, and how it stands to the images that its disk may leave.
-use Rattle.std.specs.Prelude.{◌≡◌, ◌+◌, ◌-◌, ◌≤◌, ℕ, Bool, List, [], ◌∷◌, ◌++◌, length, Option, Some, None, IsSome}
+use Rattle.std.specs.Prelude.{◌≡◌, ◌+◌, ◌≤◌, ℕ, Bool, List, [], ◌∷◌, ◌++◌, length, Option, Some, None, IsSome, false}
 use Rattle.fe_disk.specs.Disk.{bytes_at, LeavesJust}
 use Rattle.fe_journal.specs.Layout.{header_of, gate_of, image_of, other_than, number_at, magic_of, IsShut, IsImageLength, IsPayloadLength}
 use Rattle.fe_journal.specs.Groups.{end_of}
@@ -16,6 +16,15 @@ pub record JournalState (D : Type 0) : Type 0 where
   pub used : ℕ
   pub begun : Option Begun
   pub has_failed : Bool
+
+-- the journal of a store just formatted
+abbrev pub new_journal : {D : Type 0} → Format → D → JournalState D
+new_journal format disk = record { disk = disk; slot = 0; format = format; generation = 1; used = 0; begun = None; has_failed = false }
+
+-- no slot is begun, and no call has failed
+pub record IsReady {D : Type 0} (journal : JournalState D) : Type 0 where
+  pub none_begun : journal.begun ≡ None
+  pub works : journal.has_failed ≡ false
 
 -- a slot begun and not finished, with the bytes of its image that were written so far
 pub record Draft : Type 0 where

@@ -2,6 +2,7 @@ pub mod Layout
 pub mod Groups
 pub mod Contents
 pub mod Damage
+pub mod Laws
 pub mod Reading
 pub mod Journal
 pub mod Store

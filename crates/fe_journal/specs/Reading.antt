@@ -1,6 +1,6 @@
 -- What the parts of opening read of a store.
-use Rattle.std.specs.Prelude.{◌≡◌, ◌⊎◌, ◌≤◌, ◌<◌, ◌+◌, ◌*◌, ℕ, List, length, Option, Some, None}
-use Rattle.fe_journal.specs.Layout.{number_at, IsOpen, IsShut, magic_of, header_of, area_of, area_bytes, IsImageLength}
+use Rattle.std.specs.Prelude.{◌≡◌, ◌⊎◌, ◌≤◌, ◌<◌, ◌+◌, ℕ, List, Option, Some, None}
+use Rattle.fe_journal.specs.Layout.{number_at, IsOpen, magic_of, header_of, area_of, area_bytes, IsImageLength}
 use Rattle.fe_journal.specs.Groups.{StandFrom, HoldsGroups, end_of, Fits}
 use Rattle.fe_journal.specs.declared.store_format.Format.{Format}
 use Rattle.fe_journal.specs.declared.header.Header.{Header}

@@ -1,8 +1,8 @@
 -- What single steps of the journal do to a disk, byte by byte.
-use Rattle.std.specs.Prelude.{◌≡◌, ◌⊎◌, ◌≤◌, ℕ, ◌+◌, List, [], ◌∷◌, ◌++◌, length}
+use Rattle.std.specs.Prelude.{◌≡◌, ◌⊎◌, ℕ, List, [], ◌∷◌, ◌++◌, length}
 use Rattle.byteorder.specs.Endian.{big_bytes}
 use Rattle.fe_disk.specs.Disk.{IsTorn, AddsNone, LeavesOnly, bytes_at, after_write}
-use Rattle.fe_journal.specs.Layout.{magic_of, IsOpen, IsShut, header_of, gate_of, image_of, area_of}
+use Rattle.fe_journal.specs.Layout.{magic_of, IsOpen, IsShut, header_of, gate_of, image_of}
 use Rattle.fe_journal.specs.Groups.{behind_gate}
 use Rattle.fe_journal.specs.Contents.{empty_image}
 use Rattle.fe_journal.specs.declared.store_format.Format.{Format}

@@ -1,9 +1,8 @@
 -- What opening has read of a store, part by part.
-use Rattle.std.specs.Prelude.{◌≡◌, ◌<◌, ◌≤◌, ◌+◌, ℕ, List, length, Option, Some, None, vec_len}
+use Rattle.std.specs.Prelude.{◌≡◌, ◌<◌, ◌≤◌, ℕ, List, Option, Some, None, vec_len}
 use Rattle.fe_disk.specs.Disk.{bytes_at}
 use Rattle.fe_journal.specs.Layout.{area_of, image_of, area_bytes, IsImageLength}
-use Rattle.fe_journal.specs.Contents.{Contents, Holds, IsValidAs, Counts, generation_at, image_length_at}
-use Rattle.fe_journal.specs.Groups.{end_of}
+use Rattle.fe_journal.specs.Contents.{IsValidAs, Counts, generation_at, image_length_at}
 use Rattle.fe_journal.specs.Reading.{EndsAt}
 use Rattle.fe_journal.specs.declared.store_format.Format.{Format}
 use Rattle.fe_journal.specs.declared.header.Header.{Header}

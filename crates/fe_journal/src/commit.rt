@@ -1,6 +1,6 @@
 // The two orders of writing on which all crash promises rest.
-ghost use Rattle.std.specs.Prelude.{◌≡◌, ◌↔◌, ◌+◌, ◌≤◌, length, IsErr, OnOk};
-ghost use Rattle.fe_disk.specs.Disk.{IsTorn, LeavesJust, LeavesOnly, Rises};
+ghost use Rattle.std.specs.Prelude.{◌≡◌, ◌↔◌, ◌+◌, ◌≤◌, [], ◌∷◌, length, IsErr, OnOk};
+ghost use Rattle.fe_disk.specs.Disk.{IsTorn, LeavesJust, LeavesOnly, Rises, after_write};
 ghost use Rattle.fe_journal.specs.Layout.{IsShut};
 ghost use Rattle.fe_journal.specs.Steps.{after_commit, IsLeftInCommit, IsLeftInShutting};
 
@@ -28,6 +28,22 @@ pub fn commit<D: Disk>(
 {
     disk.write_at(at, bytes)?;
     disk.sync()?;
+    open_gate(disk, gate)
+}
+
+// Opens a gate, once all that was written is on the disk. Two device calls.
+fn open_gate<D: Disk>(disk: &mut D, gate: usize) -> Result<(), DeviceFault>
+    requires gate_fits { gate + 1 ≤ D.size disk.old }
+    requires settled { D.honest disk.old → LeavesJust (D.seen disk.old) (D.may_leave disk.old) }
+    ensures any_moment { D.honest disk.old → LeavesOnly D.moment D.left_since disk.old disk.new (IsTorn gate 1 (D.seen disk.old)) }
+    ensures opened { D.honest disk.old → OnOk result (D.seen disk.new ≡ after_write (D.seen disk.old) gate (1 ∷ [])) }
+    ensures durable { D.honest disk.old → OnOk result (LeavesJust (D.seen disk.new) (D.may_leave disk.new)) }
+
+    ensures fault { IsErr result ↔ Rises (D.failures disk.old) (D.failures disk.new) }
+    ensures still { OnOk result (D.failures disk.new ≡ D.failures disk.old) }
+    ensures honesty { D.honest disk.new ↔ D.honest disk.old }
+    ensures size { D.size disk.new ≡ D.size disk.old }
+{
     disk.write_at(gate, &[1])?;
     disk.sync()
 }

@@ -1,7 +1,7 @@
-ghost use Rattle.std.specs.Prelude.{◌≡◌, ◌≢◌, ◌↔◌, false, None, IfOk, IfErr, IsErr, OnOk, vec_len};
+ghost use Rattle.std.specs.Prelude.{◌≡◌, ◌≢◌, ◌↔◌, None, IfOk, IfErr, IsErr, OnOk, vec_len};
 ghost use Rattle.fe_disk.specs.Disk.{LeavesJust, Rises};
 ghost use Rattle.fe_journal.specs.Layout.{device_bytes, area_bytes};
-ghost use Rattle.fe_journal.specs.Journal.{Keeps};
+ghost use Rattle.fe_journal.specs.Journal.{Keeps, new_journal};
 ghost use Rattle.fe_journal.specs.Contents.{Holds, first_contents};
 ghost use Rattle.fe_journal.specs.Steps.{IsCleared, IsFirst, IsFormatFault};
 ghost use Rattle.fe_journal.specs.declared.store_format.Format.TheVariants.{Two};
@@ -25,13 +25,18 @@ const EMPTY_IMAGE: [u8; 24] = [
 /// whose formatting was stopped or failed: it is formatted again.
 pub fn format<D: Disk>(alloc: Global, disk: D) -> Result<Journal<D>, (StoreFault, D)>
     ensures formatted { D.honest disk → IfOk result (λ journal. Keeps D.seen D.may_leave journal (first_contents Two) None) }
-    ensures ready { IfOk result (λ journal. journal.has_failed ≡ false) }
+
+    // Over any disk: a journal that stands at the beginning.
+    ensures value { IfOk result (λ journal. journal ≡ new_journal Two journal.disk) }
+    ensures still { IfOk result (λ journal. D.failures journal.disk ≡ D.failures disk) }
+
     ensures unformatted { IfErr result (λ e. (e.0 ≡ Unformatted) ↔ (D.size disk ≢ device_bytes)) }
     ensures device { IfErr result (λ e. e.0 ≡ Device → Rises (D.failures disk) (D.failures e.1)) }
     ensures untouched { IfErr result (λ e. e.0 ≢ Device → e.1 ≡ disk) }
     ensures refused { IfErr result (λ e. IsFormatFault e.0) }
     ensures honesty { IfOk result (λ journal. D.honest journal.disk ↔ D.honest disk) }
     ensures honesty_back { IfErr result (λ e. D.honest e.1 ↔ D.honest disk) }
+    ensures size_back { IfErr result (λ e. D.size e.1 ≡ D.size disk) }
 {
     format_in(alloc, Format::Two, disk)
 }
@@ -43,13 +48,18 @@ pub fn format_in<D: Disk>(
     disk: D,
 ) -> Result<Journal<D>, (StoreFault, D)>
     ensures formatted { D.honest disk → IfOk result (λ journal. Keeps D.seen D.may_leave journal (first_contents format) None) }
-    ensures ready { IfOk result (λ journal. journal.has_failed ≡ false) }
+
+    // Over any disk: a journal that stands at the beginning.
+    ensures value { IfOk result (λ journal. journal ≡ new_journal format journal.disk) }
+    ensures still { IfOk result (λ journal. D.failures journal.disk ≡ D.failures disk) }
+
     ensures unformatted { IfErr result (λ e. (e.0 ≡ Unformatted) ↔ (D.size disk ≢ device_bytes)) }
     ensures device { IfErr result (λ e. e.0 ≡ Device → Rises (D.failures disk) (D.failures e.1)) }
     ensures untouched { IfErr result (λ e. e.0 ≢ Device → e.1 ≡ disk) }
     ensures refused { IfErr result (λ e. IsFormatFault e.0) }
     ensures honesty { IfOk result (λ journal. D.honest journal.disk ↔ D.honest disk) }
     ensures honesty_back { IfErr result (λ e. D.honest e.1 ↔ D.honest disk) }
+    ensures size_back { IfErr result (λ e. D.size e.1 ≡ D.size disk) }
 {
     let mut disk = disk;
     match write_store(alloc, format, &mut disk) {
@@ -68,7 +78,9 @@ fn write_store<D: Disk>(alloc: Global, format: Format, disk: &mut D) -> Result<V
     ensures device { IfErr result (λ fault. fault ≡ Device → Rises (D.failures disk.old) (D.failures disk.new)) }
     ensures untouched { IfErr result (λ fault. fault ≢ Device → disk.new ≡ disk.old) }
     ensures refused { IfErr result IsFormatFault }
+    ensures still { OnOk result (D.failures disk.new ≡ D.failures disk.old) }
     ensures honesty { D.honest disk.new ↔ D.honest disk.old }
+    ensures size { D.size disk.new ≡ D.size disk.old }
 {
     if disk.size() != DEVICE_BYTES {
         return Err(StoreFault::Unformatted);
@@ -84,6 +96,7 @@ fn write_store<D: Disk>(alloc: Global, format: Format, disk: &mut D) -> Result<V
 fn shut_both<D: Disk>(disk: &mut D) -> Result<(), DeviceFault>
     requires device { D.size disk.old ≡ device_bytes }
     ensures cleared { D.honest disk.old → OnOk result (IsCleared (D.seen disk.new)) }
+    ensures settled { D.honest disk.old → OnOk result (LeavesJust (D.seen disk.new) (D.may_leave disk.new)) }
 
     ensures fault { IsErr result ↔ Rises (D.failures disk.old) (D.failures disk.new) }
     ensures still { OnOk result (D.failures disk.new ≡ D.failures disk.old) }
@@ -95,9 +108,11 @@ fn shut_both<D: Disk>(disk: &mut D) -> Result<(), DeviceFault>
     disk.sync()
 }
 
-// Writes the first slot's header and the empty image. Two device calls.
+// Writes the first slot's header and the empty image, once the gates are closed on the disk. Two device
+// calls.
 fn write_first<D: Disk>(disk: &mut D, format: Format) -> Result<(), DeviceFault>
     requires device { D.size disk.old ≡ device_bytes }
+    requires settled { D.honest disk.old → LeavesJust (D.seen disk.old) (D.may_leave disk.old) }
     ensures first { D.honest disk.old → IsCleared (D.seen disk.old) → OnOk result (IsFirst format (D.seen disk.new)) }
 
     ensures fault { IsErr result ↔ Rises (D.failures disk.old) (D.failures disk.new) }

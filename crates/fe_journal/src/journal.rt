@@ -110,7 +110,8 @@ impl<D: Disk> Journal<D> {
 
     /// The disk, as the calls of the journal left it.
     pub fn into_disk(self) -> D
-        ensures { result ≡ self.disk }
+        ensures disk { result ≡ self.disk }
+        ensures size { D.size result ≡ device_bytes }
     {
         let Journal { disk, .. } = self;
         disk

@@ -3,6 +3,7 @@ ghost use Rattle.fe_disk.specs.Disk.{LeavesJust, Rises};
 ghost use Rattle.fe_journal.specs.Contents.{Contents, Holds};
 ghost use Rattle.fe_journal.specs.Damage.{Tells};
 ghost use Rattle.fe_journal.specs.Layout.{device_bytes};
+ghost use Rattle.fe_journal.specs.Journal.{IsReady};
 ghost use Rattle.fe_journal.specs.Steps.{OnlyReads};
 ghost use Rattle.fe_journal.specs.Store.{IsStore, IsWhole};
 ghost use Rattle.fe_journal.specs.Found.{IsFound, disk_after};
@@ -38,9 +39,12 @@ pub fn find<D: Disk>(alloc: Global, disk: D) -> Result<Found<D>, (StoreFault, D)
     // No stop leaves what could not be left before, and what is read stays the same.
     ensures reads { D.honest disk → OnlyReads D.seen D.may_leave D.moment D.left_since disk (disk_after result) }
 
+    // Over any disk: a journal with no slot begun that has not failed.
+    ensures ready { IfOk result (λ found. IsReady found.journal) }
     ensures device { IfErr result (λ e. (e.0 ≡ Device) ↔ Rises (D.failures disk) (D.failures e.1)) }
     ensures still { IfOk result (λ found. D.failures found.journal.disk ≡ D.failures disk) }
     ensures honesty { D.honest (disk_after result) ↔ D.honest disk }
+    ensures size { D.size (disk_after result) ≡ D.size disk }
 {
     let mut disk = disk;
     match read_store(alloc, &mut disk) {
@@ -53,6 +57,7 @@ fn found_in<D: Disk>(store: Store, disk: D) -> Found<D>
     requires device { D.size disk ≡ device_bytes }
     requires whole { IsWhole store }
     ensures disk { result.journal.disk ≡ disk }
+    ensures ready { IsReady result.journal }
     ensures found { D.honest disk → IsStore (D.seen disk) store → LeavesJust (D.seen disk) (D.may_leave disk) → IsFound D.seen D.may_leave (D.seen disk) result }
 {
     let Store {

@@ -44,6 +44,7 @@ pub fn read_store<D: Disk>(alloc: Global, disk: &mut D) -> Result<Store, StoreFa
     ensures fault { IsErrOf result Device ↔ Rises (D.failures disk.old) (D.failures disk.new) }
     ensures still { OnOk result (D.failures disk.new ≡ D.failures disk.old) }
     ensures honesty { D.honest disk.new ↔ D.honest disk.old }
+    ensures size { D.size disk.new ≡ D.size disk.old }
 {
     disk.sync()?;
     if disk.size() != DEVICE_BYTES {
@@ -52,9 +53,10 @@ pub fn read_store<D: Disk>(alloc: Global, disk: &mut D) -> Result<Store, StoreFa
     read_synced(alloc, disk)
 }
 
-// The store on a device of its size.
+// The store on a device of its size, on which all that was written is synced.
 fn read_synced<D: Disk>(alloc: Global, disk: &mut D) -> Result<Store, StoreFault>
     requires device { D.size disk.old ≡ device_bytes }
+    requires settled { D.honest disk.old → LeavesJust (D.seen disk.old) (D.may_leave disk.old) }
     ensures store { D.honest disk.old → IfOk result (IsStore (D.seen disk.old)) }
     ensures faults { D.honest disk.old → IfErr result (λ fault. Tells fault (D.seen disk.old)) }
     ensures whole { IfOk result IsWhole }

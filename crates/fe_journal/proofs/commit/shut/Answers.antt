@@ -1,6 +1,4 @@
-use Rattle.std.proofs.Common.{◌≡◌, ℕ, ◌+◌, List, [], ◌∷◌, length, get_or, add-zero, sym, ◌∙◌, ap, subst, arith}
-use Rattle.fe_disk.specs.Disk.{LeavesJust, bytes_at, after_write}
-use Rattle.fe_disk.proofs.Images.{get_or-bytes_at}
+use Rattle.std.proofs.Common.{ℕ, List, ◌∙◌}
 use Rattle.fe_disk.proofs.Moments.{started, goes_on}
 use Rattle.fe_journal.specs.Steps.{IsLeftInShutting}
 use Rattle.fe_journal.proofs.Steps.{shut_still, shut_torn, byte_read}

@@ -1,5 +1,4 @@
-use Rattle.std.proofs.Common.{◌≡◌, ℕ, List, Err, sym, ◌∙◌, ap, subst}
-use Rattle.fe_disk.specs.Disk.{LeavesJust}
+use Rattle.std.proofs.Common.{ℕ, List, Err, sym, ◌∙◌, ap, subst}
 use Rattle.fe_journal.specs.Found.{IsFound}
 use Rattle.fe_journal.specs.Steps.{OnlyReads}
 use Rattle.fe_journal.specs.Store.{IsStore}

@@ -1,4 +1,4 @@
-use Rattle.std.proofs.Common.{◌≡◌, ℕ, ◌+◌, List, length, sym, ◌∙◌, ap, refl}
+use Rattle.std.proofs.Common.{◌≡◌, ℕ, length, ◌∙◌, ap, refl}
 use Rattle.fe_journal.specs.Cursor.{Cursor}
 use Rattle.fe_journal.proofs.Founds.{is_found}
 use Rattle.fe_journal.proofs.opening.found_in.Goals as goal

@@ -1,4 +1,4 @@
-use Rattle.std.proofs.Common.{ℕ, ◌+◌, ◌<◌, arith}
+use Rattle.std.proofs.Common.{arith}
 use Rattle.fe_journal.proofs.Openings.{reaches_none, reaches_more, reaches_end, reaches_odd}
 use Rattle.fe_journal.proofs.scan.scan.Goals as goal
 

@@ -1,4 +1,4 @@
-use Rattle.std.proofs.Common.{ℕ, ◌-◌, ◌<◌}
+use Rattle.std.proofs.Common.{◌-◌, ◌<◌}
 use Rattle.fe_journal.specs.Reading.{Reaches}
 use Rattle.fe_journal.proofs.scan.scan.Given as goal
 

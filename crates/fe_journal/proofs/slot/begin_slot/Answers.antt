@@ -1,10 +1,10 @@
-use Rattle.std.proofs.Common.{◌≡◌, ◌↔◌, ℕ, ◌+◌, ◌≤◌, List, length, inl, inr, sym, ◌∙◌, ap, subst, refl, arith}
+use Rattle.std.proofs.Common.{◌≡◌, ℕ, ◌+◌, ◌≤◌, List, length, inl, inr, ◌∙◌, ap, subst, arith}
 use Rattle.std.proofs.lemmas.Result.{on_ok_weaker}
-use Rattle.fe_disk.specs.Disk.{IsTorn, Follows, LeavesJust, LeavesOnly, bytes_at, after_write}
-use Rattle.fe_disk.proofs.Images.{torn_left, bytes_at-after_write}
+use Rattle.fe_disk.specs.Disk.{IsTorn, Follows, LeavesOnly, bytes_at, after_write}
+use Rattle.fe_disk.proofs.Images.{bytes_at-after_write}
 use Rattle.fe_disk.proofs.Moments.{goes_on, weaker}
 use Rattle.fe_journal.specs.Layout.{header_of, gate_of, IsShut}
-use Rattle.fe_journal.specs.Steps.{header_fields, IsLeftInShutting, IsLeftInBeginning, IsHeaderTorn, IsBegun}
+use Rattle.fe_journal.specs.Steps.{IsLeftInShutting, IsLeftInBeginning}
 use Rattle.fe_journal.proofs.Steps.{header_torn, header_left}
 use Rattle.fe_journal.proofs.slot.begin_slot.Goals as goal
 

@@ -1,8 +1,7 @@
-use Rattle.std.proofs.Common.{◌≡◌, ◌↔◌, ℕ, ◌+◌, ◌-◌, ◌≤◌, min, List, length, take, Option, length-take, sym, ◌∙◌, ap, subst, refl, arith}
+use Rattle.std.proofs.Common.{ℕ, List, length-take, subst, refl, arith}
 use Rattle.std.proofs.lemmas.Result.{err_from_is_err_and}
 use Rattle.fe_journal.specs.Layout.{header_of}
 use Rattle.fe_journal.specs.Reading.{IsHeader}
-use Rattle.fe_journal.specs.declared.header.Header.{Header}
 use Rattle.fe_journal.proofs.Readings.{counts_as}
 use Rattle.fe_journal.proofs.store.read_counting.Goals as goal
 

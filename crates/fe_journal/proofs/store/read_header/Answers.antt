@@ -1,4 +1,4 @@
-use Rattle.std.proofs.Common.{◌≡◌, ℕ, ◌+◌, ◌≤◌, List, length, sym, ◌∙◌, ap, subst, arith}
+use Rattle.std.proofs.Common.{◌≡◌, ℕ, length, ◌∙◌, ap, arith}
 use Rattle.fe_disk.specs.Disk.{bytes_at}
 use Rattle.fe_journal.specs.Layout.{header_of}
 use Rattle.fe_journal.proofs.Readings.{header_there}

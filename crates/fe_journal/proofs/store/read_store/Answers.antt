@@ -1,12 +1,10 @@
-use Rattle.std.proofs.Common.{◌≡◌, ◌↔◌, ℕ, List, sym, ◌∙◌, ap, subst}
+use Rattle.std.proofs.Common.{ℕ, List, sym, ◌∙◌, subst}
 use Rattle.std.proofs.lemmas.Result.{IfOk-weaker}
 use Rattle.std.specs.Prelude.{IfOk, IfErr}
 use Rattle.fe_disk.specs.Disk.{LeavesJust}
 use Rattle.fe_journal.specs.Damage.{Tells}
-use Rattle.fe_journal.specs.Layout.{device_bytes}
 use Rattle.fe_journal.specs.Store.{IsStore, IsWhole}
-use Rattle.fe_journal.specs.declared.fault.StoreFault.{StoreFault}
-use Rattle.fe_journal.proofs.Readings.{reads_again, counted, still_after}
+use Rattle.fe_journal.proofs.Readings.{counted, still_after}
 use Rattle.fe_journal.proofs.store.read_store.Goals as goal
 
 pub returns-clause-store : goal.returns-clause-store

@@ -1,4 +1,4 @@
-use Rattle.std.proofs.Common.{◌≡◌, ℕ, List, Some, Err, sym, ◌∙◌, ap, subst}
+use Rattle.std.proofs.Common.{ℕ, List, Some, Err, sym, ◌∙◌, ap, subst}
 use Rattle.std.proofs.lemmas.Result.{err_from_is_err_and}
 use Rattle.fe_disk.specs.Disk.{Rises}
 use Rattle.fe_journal.specs.Damage.{Tells}

@@ -1,12 +1,13 @@
-use Rattle.std.proofs.Common.{◌≡◌, ◌↔◌, ℕ, ◌+◌, ◌-◌, ◌≤◌, List, length, take, drop, Option, sym, ◌∙◌, ap, subst, refl, arith}
+use Rattle.std.proofs.Common.{◌≡◌, ℕ, ◌+◌, ◌-◌, ◌≤◌, List, length, take, drop, sym, ◌∙◌, ap, subst, arith}
 use Rattle.fe_disk.specs.Disk.{LeavesOnly}
 use Rattle.fe_journal.specs.Layout.{area_of}
-use Rattle.fe_journal.specs.Groups.{Fits, behind_gate}
-use Rattle.fe_journal.specs.Contents.{Contents, HoldsEither, with_group}
-use Rattle.fe_journal.specs.Journal.{JournalState, Draft, Keeps}
+use Rattle.fe_journal.specs.Groups.{Fits}
+use Rattle.fe_journal.specs.Contents.{with_group}
+use Rattle.fe_journal.specs.Journal.{JournalState, Keeps}
 use Rattle.fe_journal.specs.Steps.{IsLeftInCommit, after_commit}
 use Rattle.fe_journal.proofs.Buffers.{buffer_whole, buffer_tail}
-use Rattle.fe_journal.proofs.Journals.{at_ok, append_moments, append_keeps}
+use Rattle.fe_disk.proofs.Outcomes.{at_ok}
+use Rattle.fe_journal.proofs.Journals.{append_moments, append_keeps}
 use Rattle.fe_journal.proofs.journal.Journal.append_group.Goals as goal
 
 pub returns-clause-any_moment : goal.returns-clause-any_moment

@@ -1,14 +1,9 @@
-use Rattle.std.proofs.Common.{◌≡◌, ◌↔◌, ℕ, ◌+◌, ◌-◌, ◌<◌, ◌≤◌, ◌^◌, Bool, List, length, take, drop, Option, Some, None, IfSome, sym, ◌∙◌, ap, subst, refl, arith}
-use Rattle.fe_disk.specs.Disk.{IsTorn, Follows, Elapses, LeavesJust, LeavesOnly, after_write}
-use Rattle.fe_journal.specs.Layout.{area_of, gate_of, image_of}
-use Rattle.fe_journal.specs.Groups.{end_of}
-use Rattle.fe_journal.specs.Contents.{Contents, Holds, HoldsEither}
-use Rattle.fe_journal.specs.Journal.{JournalState, Draft, Keeps, new_draft, with_slice, catch_up_groups, finished}
-use Rattle.fe_journal.specs.Steps.{area_start, header_fields, IsLeftInCommit, IsLeftInBeginning, IsHeaderTorn, IsBegun, after_commit}
-use Rattle.fe_journal.specs.declared.begun.Begun.{Begun}
-use Rattle.fe_journal.proofs.Buffers.{buffer_whole, start_end}
-use Rattle.fe_journal.proofs.Journals.{at_ok}
-use Rattle.fe_journal.proofs.Begins.{finish_moments, finish_keeps, write_moments, write_keeps, begin_moments, begin_keeps}
+use Rattle.std.proofs.Common.{◌≡◌, ℕ, ◌-◌, ◌<◌, ◌^◌, List, Some, sym, ◌∙◌, ap, subst, refl, arith}
+use Rattle.fe_disk.specs.Disk.{LeavesJust, LeavesOnly}
+use Rattle.fe_journal.specs.Journal.{JournalState, Keeps, new_draft}
+use Rattle.fe_journal.specs.Steps.{header_fields, IsLeftInBeginning, IsHeaderTorn, IsBegun}
+use Rattle.fe_disk.proofs.Outcomes.{at_ok}
+use Rattle.fe_journal.proofs.Begins.{begin_moments, begin_keeps}
 use Rattle.fe_journal.proofs.journal.Journal.slot_close.Goals as goal
 
 pub returns-clause-any_moment : goal.returns-clause-any_moment

@@ -1,15 +1,12 @@
-use Rattle.std.proofs.Common.{◌≡◌, ◌↔◌, ℕ, ◌+◌, ◌-◌, ◌≤◌, Bool, List, length, take, drop, Option, Some, None, IfSome, sym, ◌∙◌, ap, subst, refl, arith}
-use Rattle.fe_disk.specs.Disk.{IsTorn, Follows, Elapses, LeavesOnly, after_write}
-use Rattle.fe_journal.specs.Layout.{area_of, gate_of, image_of}
-use Rattle.fe_journal.specs.Groups.{end_of}
-use Rattle.fe_journal.specs.Contents.{Contents, Holds, HoldsEither}
-use Rattle.fe_journal.specs.Journal.{JournalState, Draft, Keeps, new_draft, with_slice, catch_up_groups, finished}
-use Rattle.fe_journal.specs.Steps.{area_start, header_fields, IsLeftInCommit, IsLeftInBeginning, IsHeaderTorn, IsBegun, after_commit}
-use Rattle.fe_journal.specs.declared.begun.Begun.{Begun}
-use Rattle.fe_journal.proofs.Buffers.{buffer_whole, start_end}
-use Rattle.fe_journal.proofs.Journals.{at_ok, nothing_done}
+use Rattle.std.proofs.Common.{◌≡◌, ◌+◌, ◌-◌, length, Some, sym, ◌∙◌, ap, subst, arith}
+use Rattle.fe_disk.specs.Disk.{IsTorn, Follows, Elapses, after_write}
+use Rattle.fe_journal.specs.Layout.{image_of}
+use Rattle.fe_journal.specs.Contents.{Holds}
+use Rattle.fe_journal.specs.Journal.{JournalState, Keeps, with_slice}
+use Rattle.fe_disk.proofs.Outcomes.{at_ok}
+use Rattle.fe_journal.proofs.Journals.{nothing_done}
 use Rattle.fe_journal.proofs.Frames.{image_short}
-use Rattle.fe_journal.proofs.Begins.{finish_moments, finish_keeps, write_moments, write_keeps, within_more, begin_moments, begin_keeps}
+use Rattle.fe_journal.proofs.Begins.{write_moments, write_keeps, within_more}
 use Rattle.fe_journal.proofs.journal.Journal.slot_write.Goals as goal
 
 pub returns-clause-any_moment : goal.returns-clause-any_moment

@@ -1,0 +1,12 @@
+-- Laws of what an image holds, which public functions name.
+use Rattle.std.specs.Prelude.{◌≡◌, ℕ, List}
+use Rattle.fe_journal.specs.Contents.{Contents, Holds}
+use Rattle.fe_journal.specs.Damage.{IsUnformatted, IsDamagedAt}
+
+-- An image holds at most one contents.
+abbrev pub HasOneContents : Type 0
+HasOneContents = (c d : Contents) (image : List ℕ) → Holds c image → Holds d image → c ≡ d
+
+-- An image that holds contents is not unformatted, and damaged nowhere.
+abbrev pub IsHeldOrRefused : Type 0
+IsHeldOrRefused = (c : Contents) (image : List ℕ) → Holds c image → (IsUnformatted image → ⊥) × ((offset : ℕ) → IsDamagedAt image offset → ⊥)

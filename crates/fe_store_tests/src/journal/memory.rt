@@ -1,0 +1,49 @@
+// Formatting and opening where memory ends: the disk comes back, and what was asked is done once there is
+// memory. `rt try --test --fail-alloc N`, for N from 1 on, takes each allocation away in turn; where all are
+// granted, each call has to do it at once.
+use super::{NEW, found, is_held};
+use fe_disk::{Disk, MemoryDisk};
+use fe_journal::{Found, StoreFault, find, format};
+use std::alloc::Global;
+use std::process::Abort;
+use std::test::Fail;
+
+// The journal wants memory, or the disk for its record of the call, which is then a fault of the device.
+fn wants_memory(fault: StoreFault, disk: &MemoryDisk) -> bool {
+    match fault {
+        StoreFault::NoMemory => disk.failures() == 0,
+        StoreFault::Device => disk.failures() == 1,
+        StoreFault::Unformatted | StoreFault::Damaged { offset: _ } => false,
+    }
+}
+
+fn formatted(rt: &impl Abort, alloc: Global, disk: MemoryDisk) -> MemoryDisk {
+    match format(alloc, disk) {
+        Ok(journal) => journal.into_disk(),
+        Err((fault, disk)) => {
+            assert!(rt; wants_memory(fault, &disk));
+            format(alloc, disk).ok().expect(rt, "formatted").into_disk()
+        }
+    }
+}
+
+fn found_again(rt: &impl Abort, alloc: Global, disk: MemoryDisk) -> Found<MemoryDisk> {
+    match find(alloc, disk) {
+        Ok(found) => found,
+        Err((fault, disk)) => {
+            assert!(rt; wants_memory(fault, &disk));
+            found(rt, alloc, disk)
+        }
+    }
+}
+
+#[test]
+fn store_where_memory_ends(rt: HostRuntime) -> Result<(), Fail> {
+    let disk = match MemoryDisk::new(rt.alloc(), 4_202_496) {
+        Ok(disk) => disk,
+        Err(_) => MemoryDisk::new(rt.alloc(), 4_202_496)?,
+    };
+    let disk = formatted(&rt, rt.alloc(), disk);
+    assert!(rt; is_held(found_again(&rt, rt.alloc(), disk), &NEW));
+    Ok(())
+}
