@@ -4,3 +4,5 @@ pub mod GroupLaws
 pub mod Appends
 pub mod Elements
 pub mod Windows
+pub mod Repeats
+pub mod LoadingLemmas
