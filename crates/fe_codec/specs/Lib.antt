@@ -8,3 +8,4 @@ pub mod Appending
 pub mod FirstFault
 pub mod Given
 pub mod Loading
+pub mod Bytes

@@ -21,6 +21,6 @@ pub use entries::{put_entry, read_entry};
 pub use fault::ImageFault;
 pub use format::Format;
 pub use groups::put_group;
-pub use laws::{one_entry_spelling, one_group_spelling};
+pub use laws::{images_are_spelled, one_entry_spelling, one_group_spelling};
 pub use reading::read_image;
 pub use writing::put_image;

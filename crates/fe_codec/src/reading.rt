@@ -1,8 +1,9 @@
 //! Images of states, read.
 
-ghost use Rattle.std.specs.Prelude.{◌≡◌, ◌≤◌, length, Err, IsOk};
+ghost use Rattle.std.specs.Prelude.{◌≡◌, ℕ, ◌≤◌, length, Err, IsOk, IfOk};
 ghost use Rattle.fe_codec.specs.FirstFault.{header_at, ended, state_at, image_at};
 ghost use Rattle.fe_codec.specs.Given.{Gives, ImageGives};
+ghost use Rattle.fe_codec.specs.Image.{image_spelling, HasRoomFor};
 
 use crate::arrays::read_arrays;
 use crate::fault::{Fault, ImageFault};
@@ -28,14 +29,10 @@ fn state_at(alloc: Global, format: Format, bytes: &[u8]) -> Result<State, Fault>
     }
 }
 
-/// The state whose image the bytes are, `Damaged` with the offset of the first fault where they are
-/// no image (`docs/formats.md`, "Image"), or `NoMemory` where there is none for the state or the
-/// words of an array.
 #[tactic(auto, unfolding(crate::specs::FirstFault::image_at))]
-pub fn read_image(alloc: Global, format: Format, bytes: &[u8]) -> Result<State, ImageFault>
-    // Which state it is, and which fault.
-    ensures exact { ImageGives result (image_at format bytes.now) }
-    // Memory is taken only where the first four fields are right.
+fn image_of(alloc: Global, format: Format, bytes: &[u8]) -> Result<State, ImageFault>
+    ensures given { ImageGives result (image_at format bytes.now) }
+    ensures within { (offset : ℕ) → result ≡ Err (ImageFault.Damaged offset) → offset ≤ length bytes.now }
     ensures memory { result ≡ Err ImageFault.NoMemory → IsOk (header_at bytes.now) }
 {
     match state_at(alloc, format, bytes) {
@@ -47,4 +44,20 @@ pub fn read_image(alloc: Global, format: Format, bytes: &[u8]) -> Result<State, 
         }
         Err(Fault::NoMemory) => Err(ImageFault::NoMemory),
     }
+}
+
+/// The state whose image the bytes are, `Damaged` with the offset of the first fault where they are
+/// no image (`docs/formats.md`, "Image"), or `NoMemory` where there is none for the state or the
+/// words of an array.
+pub fn read_image(alloc: Global, format: Format, bytes: &[u8]) -> Result<State, ImageFault>
+    // What is read is spelled so.
+    ensures found { IfOk result (λ state. HasRoomFor format state × (bytes.now ≡ image_spelling format state)) }
+    // Which state it is, and which fault.
+    ensures exact { ImageGives result (image_at format bytes.now) }
+    // A fault is told within the image, or at its end.
+    ensures within { (offset : ℕ) → result ≡ Err (ImageFault.Damaged offset) → offset ≤ length bytes.now }
+    // Memory is taken only where the first four fields are right.
+    ensures memory { result ≡ Err ImageFault.NoMemory → IsOk (header_at bytes.now) }
+{
+    image_of(alloc, format, bytes)
 }
