@@ -3,7 +3,7 @@ use Rattle.std.proofs.Common.{◌≡◌, ℕ, zero, suc, ◌+◌, ◌-◌, ◌^�
 use Rattle.std.specs.Prelude.{is_some, nat_le}
 use Rattle.std.specs.List.{list_all}
 use Rattle.std.specs.Int.{Width, w32, w64, byte_len, from_be_bytes, to_be_bytes}
-use Rattle.std.proofs.lemmas.Bool.{cases_lt, ltb-false, ltb-true, le-ltb, leb-true, eqb-true}
+use Rattle.std.proofs.lemmas.Bool.{cases_lt, ltb-false, ltb-true, le-ltb, le-leb, lt-ltb, leb-true, eqb-true}
 use Rattle.std.proofs.lemmas.List.{take_at, drop_at, take-append-drop, length-append, length-take, length-drop, get_or-drop, get_or-take, get_or_past, append-nil}
 use Rattle.std.proofs.lemmas.Nat.{be_bytes_4, be_bytes_8, from_be_bytes-to_be_bytes_4, from_be_bytes-to_be_bytes_8}
 use Rattle.fe_words.specs.Table.{word}
@@ -131,3 +131,38 @@ row_takes n bytes x fits e =
     let long : n ≤ length bytes = ltb-false _ _ g.0 in
     subst (λ (y : List ℕ × List ℕ). Takes bytes y.0 y.1 × (length y.0 ≡ n)) g.1
     (record { parts = sym (take-append-drop n bytes); rest_fits = IsBytes-drop n bytes fits }, omega (arith, length-take n bytes))
+
+-- ---- what was spelled is read
+
+pub number_again : (w : Width) (limit : ℕ) (wide : IsField w limit) (n : ℕ) (rest : List ℕ) → n < limit → number w (to_be_bytes w n ++ rest) ≡ Ok (n, rest)
+unfolding number
+number_again w limit wide n rest lt =
+    let len = wide.len n in
+    let long : ltb (length (to_be_bytes w n ++ rest)) (byte_len w) ≡ false = le-ltb _ _ (omega (arith, length-append (to_be_bytes w n) rest)) in
+    rw (long, take_at (to_be_bytes w n) rest (byte_len w) len, drop_at (to_be_bytes w n) rest (byte_len w) len, wide.again n lt) refl
+
+-- a step that gives a value goes on from it
+pub goes_from : {A B : Type 0} (r : Result A ℕ) (f : A → Result B ℕ) (x : A) → r ≡ Ok x → (r >>= f) ≡ f x
+goes_from r f x e = ap (λ (t : Result _ ℕ). t >>= f) e
+
+pub passes : {A : Type 0} (r : Result A ℕ) (t : A → Bool) (d : ℕ) (x : A) → r ≡ Ok x → t x ≡ true → (r >>= λ n. cond (t n) (done n) (Err d)) ≡ Ok x
+passes r t d x e h = goes_from r (λ n. cond (t n) (done n) (Err d)) x e ∙ ap (λ (b : Bool). cond b (done x) (Err d)) h
+
+pub passes_not : {A : Type 0} (r : Result A ℕ) (t : A → Bool) (d : ℕ) (x : A) → r ≡ Ok x → t x ≡ false → (r >>= λ n. cond (t n) (Err d) (done n)) ≡ Ok x
+passes_not r t d x e h = goes_from r (λ n. cond (t n) (Err d) (done n)) x e ∙ ap (λ (b : Bool). cond b (Err d) (done x)) h
+
+pub and_true : (a b : Bool) → a ≡ true → b ≡ true → (a && b) ≡ true
+and_true true b p q = q
+and_true false b p q = absurd cc
+
+pub number_in_again : (w : Width) (limit : ℕ) (wide : IsField w limit) (least most n : ℕ) (rest : List ℕ) → n < limit → least ≤ n → n < most → number_in w least most (to_be_bytes w n ++ rest) ≡ Ok (n, rest)
+unfolding number_in
+number_in_again w limit wide least most n rest lt low high =
+    passes (number w (to_be_bytes w n ++ rest)) (λ m. nat_le least m.0 && ltb m.0 most) (length (to_be_bytes w n ++ rest)) (n, rest) (number_again w limit wide n rest lt)
+    (and_true (nat_le least n) (ltb n most) (le-leb least n low) (lt-ltb n most high))
+
+pub row_again : (n : ℕ) (cells rest : List ℕ) → length cells ≡ n → row n (cells ++ rest) ≡ Ok (cells, rest)
+unfolding row
+row_again n cells rest len =
+    let long : ltb (length (cells ++ rest)) n ≡ false = le-ltb _ _ (omega (arith, length-append cells rest, len)) in
+    rw (long, take_at cells rest n len, drop_at cells rest n len) refl

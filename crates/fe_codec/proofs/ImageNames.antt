@@ -5,8 +5,8 @@ use Rattle.std.specs.List.{list_all}
 use Rattle.std.specs.Ordering.{nat_cmp}
 use Rattle.std.specs.FinMap.{FinMap}
 use Rattle.std.specs.Int.{w32, w64, to_be_bytes}
-use Rattle.std.proofs.lemmas.Bool.{leb-true, eqb-true}
-use Rattle.std.proofs.lemmas.List.{take-append-drop, length-append, length-take, length-drop}
+use Rattle.std.proofs.lemmas.Bool.{le-leb, leb-true, eqb-true}
+use Rattle.std.proofs.lemmas.List.{take_at, drop_at, take-append-drop, length-append, length-take, length-drop}
 use Rattle.fe_words.specs.Table.{word}
 use Rattle.fe_words.specs.declared.word.Word.{Word}
 use Rattle.fe_words.specs.declared.word.Tag.{Tag}
@@ -23,7 +23,8 @@ use Rattle.fe_codec.specs.Image.{word_spelling}
 use Rattle.fe_codec.specs.declared.format.Format.{Format}
 use Rattle.fe_codec.specs.declared.format.Format.TheVariants.{One, Two}
 use Rattle.fe_codec.specs.FirstFault.{◌>>=◌, or_fault, row, number, number_in, is_after, id_at, session_at, name_length_at, is_name_row, name_at, new_name_at, tag_at, word_at}
-use Rattle.fe_codec.proofs.ImageFields.{IsBytes-rest, bind_ok, ok_is, tested, tested_not, guard_so, given, both_true, Takes, takes_then, field64, number_takes, number_in_takes, row_takes}
+use Rattle.fe_codec.proofs.RecordLaws.{tag_again, length-name_row}
+use Rattle.fe_codec.proofs.ImageFields.{IsBytes-rest, bind_ok, ok_is, tested, tested_not, guard_so, given, both_true, and_true, Takes, takes_then, field64, number_takes, number_in_takes, row_takes, goes_from, passes, passes_not, number_again, number_in_again, row_again}
 
 -- ---- ids
 
@@ -122,3 +123,65 @@ word_takes bytes x fits e =
     let second = number_takes w64 (2 ^ 64) field64 a.0.1 b.0 first.rest_fits b.1 in
     subst (λ (y : Word × List ℕ). Takes bytes (word_spelling y.0) y.1) (ok_is (word b.0.0 a.0.0, b.0.1) x b.2)
     (takes_then bytes (tag_code a.0.0 ∷ []) a.0.1 (to_be_bytes w64 b.0.0) b.0.1 first second)
+
+-- ---- what was spelled is read
+
+pub id_again : (previous : Option ℕ) (next id : ℕ) (rest : List ℕ) → id < 2 ^ 64 → 1 ≤ id → id < next → is_after previous id ≡ true → id_at previous next (to_be_bytes w64 id ++ rest) ≡ Ok (id, rest)
+unfolding id_at
+id_again previous next id rest lt least older after =
+    passes (number_in w64 1 next (to_be_bytes w64 id ++ rest)) (λ m. is_after previous m.0) (length (to_be_bytes w64 id ++ rest)) (id, rest) (number_in_again w64 (2 ^ 64) field64 1 next id rest lt least older) after
+
+pub session_again : (previous : Option ℕ) (session : ℕ) (rest : List ℕ) → session < 2 ^ 64 → is_after previous session ≡ true → session_at previous (to_be_bytes w64 session ++ rest) ≡ Ok (session, rest)
+unfolding session_at
+session_again previous session rest lt after =
+    passes (number w64 (to_be_bytes w64 session ++ rest)) (λ m. is_after previous m.0) (length (to_be_bytes w64 session ++ rest)) (session, rest) (number_again w64 (2 ^ 64) field64 session rest lt) after
+
+name_length_again : (format : Format) (n : ℕ) (bytes : List ℕ) → 1 ≤ n → n ≤ name_bytes format → name_length_at format (n ∷ bytes) ≡ Ok (n, bytes)
+unfolding name_length_at
+name_length_again format n bytes low high =
+    ap (λ (b : Bool). cond b (Ok (n, bytes)) (Err (length (n ∷ bytes)))) (and_true (nat_le 1 n) (nat_le n (name_bytes format)) (le-leb 1 n low) (le-leb n (name_bytes format) high))
+
+all_zero : (n : ℕ) → list_all (λ b. eqb b 0) (replicate n 0) ≡ true
+all_zero zero = refl
+all_zero (suc n) = all_zero n
+
+row_named : (name : List ℕ) (n : ℕ) → is_plain name ≡ true → is_name_row (length name) (name ++ replicate n 0) ≡ true
+row_named name n plain =
+    rw (take_at name (replicate n 0) (length name) refl, drop_at name (replicate n 0) (length name) refl) (and_true (is_plain name) (list_all (λ b. eqb b 0) (replicate n 0)) plain (all_zero n))
+
+plain_some : (name : List ℕ) → is_plain name ≡ true → 1 ≤ length name
+plain_some name e = leb-true 1 (length name) (both_true (nat_le 1 (length name)) (nat_le (length name) 32) (both_true (nat_le 1 (length name) && nat_le (length name) 32) _ e).0).0
+
+pub plain_most : (name : List ℕ) → is_plain name ≡ true → length name ≤ 32
+plain_most name e = leb-true (length name) 32 (both_true (nat_le 1 (length name)) (nat_le (length name) 32) (both_true (nat_le 1 (length name) && nat_le (length name) 32) _ e).0).1
+
+name_step_again : (name : List ℕ) (n : ℕ) (behind rest : List ℕ) → is_plain name ≡ true → name_step (length name, behind) (name ++ replicate n 0, rest) ≡ Ok (name, rest)
+unfolding name_step
+name_step_again name n behind rest plain =
+    ap (λ (b : Bool). cond b (Ok (take (length name) (name ++ replicate n 0), rest)) (Err (length behind))) (row_named name n plain)
+    ∙ ap (λ (t : List ℕ). Ok (t, rest)) (take_at name (replicate n 0) (length name) refl)
+
+name_again : (format : Format) (name rest : List ℕ) → is_plain name ≡ true → length name ≤ name_bytes format → name_at format (name_field format name ++ rest) ≡ Ok (name, rest)
+unfolding name_at name_step
+name_again format name rest plain le =
+    let cells : List ℕ = name_row format name in
+    let behind : List ℕ = cells ++ rest in
+    goes_from (name_length_at format (length name ∷ behind)) (λ n. row (name_bytes format) n.1 >>= name_step n) (length name, behind) (name_length_again format (length name) behind (plain_some name plain) le)
+    ∙ goes_from (row (name_bytes format) behind) (name_step (length name, behind)) (cells, rest) (row_again (name_bytes format) cells rest (length-name_row format name le))
+    ∙ name_step_again name (name_bytes format - length name) behind rest plain
+
+pub new_name_again : (format : Format) (arrays : FinMap nat_cmp Array) (name rest : List ℕ) → is_plain name ≡ true → length name ≤ name_bytes format → is_some (named arrays name) ≡ false → new_name_at format arrays (name_field format name ++ rest) ≡ Ok (name, rest)
+unfolding new_name_at
+new_name_again format arrays name rest plain le free =
+    passes_not (name_at format (name_field format name ++ rest)) (λ n. is_some (named arrays n.0)) (length (name_field format name ++ rest)) (name, rest) (name_again format name rest plain le) free
+
+tag_at_again : (tag : Tag) (rest : List ℕ) → tag_at (tag_code tag ∷ rest) ≡ Ok (tag, rest)
+unfolding tag_at
+tag_at_again tag rest = ap (λ (o : Option Tag). or_fault (length (tag_code tag ∷ rest)) o >>= λ t. Ok (t, rest)) (tag_again tag)
+
+pub word_again : (w : Word) (rest : List ℕ) → w.value < 2 ^ 64 → word_at (word_spelling w ++ rest) ≡ Ok (w, rest)
+unfolding word_at
+word_again w rest lt =
+    let behind : List ℕ = to_be_bytes w64 w.value ++ rest in
+    goes_from (tag_at (tag_code w.tag ∷ behind)) (λ tag. number w64 tag.1 >>= λ value. Ok (word value.0 tag.0, value.1)) (w.tag, behind) (tag_at_again w.tag behind)
+    ∙ goes_from (number w64 behind) (λ value. Ok (word value.0 w.tag, value.1)) (w.value, rest) (number_again w64 (2 ^ 64) field64 w.value rest lt)

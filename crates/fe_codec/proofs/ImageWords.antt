@@ -1,6 +1,7 @@
 -- The words of an array, loaded one after the other.
-use Rattle.std.proofs.Common.{◌≡◌, ℕ, zero, suc, ◌+◌, ◌<◌, List, [], ◌∷◌, ◌++◌, length, set, replicate, Option, Some, None, Result, Ok, Err, refl, sym, ap, subst, ◌∙◌, append_assoc, arith, inl, inr}
+use Rattle.std.proofs.Common.{◌≡◌, ℕ, zero, suc, ◌+◌, ◌^◌, ◌<◌, List, [], ◌∷◌, ◌++◌, length, set, replicate, Option, Some, None, Result, Ok, Err, refl, sym, ap, subst, ◌∙◌, append_assoc, arith, inl, inr}
 use Rattle.std.specs.Prelude.{flat_map}
+use Rattle.std.specs.List.{AllByRecursion}
 use Rattle.std.specs.Ordering.{nat_cmp}
 use Rattle.std.specs.Cmp.{nat_cmp_total}
 use Rattle.std.specs.FinMap.{FinMap, get, insert, same_map, nat_cmp-IsAntisymmetric}
@@ -15,8 +16,8 @@ use Rattle.fe_state.specs.declared.array.Array.{Array}
 use Rattle.fe_codec.specs.Bytes.{IsBytes}
 use Rattle.fe_codec.specs.Image.{word_spelling}
 use Rattle.fe_codec.specs.FirstFault.{◌>>=◌, repeated, word_at, with_word_at, next_word}
-use Rattle.fe_codec.proofs.ImageFields.{bind_ok, ok_is, Takes, takes_then}
-use Rattle.fe_codec.proofs.ImageNames.{word_takes}
+use Rattle.fe_codec.proofs.ImageFields.{bind_ok, ok_is, Takes, takes_then, goes_from}
+use Rattle.fe_codec.proofs.ImageNames.{word_takes, word_again}
 
 -- ---- maps
 
@@ -91,3 +92,31 @@ loads_words id name front (suc n) i s bytes y fits at is e =
           ∙ ap (λ (ws : List Word). holding s id (record { name = name; words = ws })) (append_assoc front (w ∷ []) more.words);
       text = takes_then bytes (word_spelling w) b.0.1 (flat_map word_spelling more.words) y.2 first more.text;
     }
+
+-- ---- what was spelled is read
+
+pub words_again : (id : ℕ) (name : List ℕ) (ws front : List Word) (i : ℕ) (s : ServerState) (rest : List ℕ) → AllByRecursion (λ w. w.value < 2 ^ 64) ws → i ≡ length front → get s.arrays id ≡ Some (in_part name front (length ws))
+    → repeated (next_word id) (length ws) (i, s, flat_map word_spelling ws ++ rest) ≡ Ok (i + length ws, holding s id (record { name = name; words = front ++ ws }), rest)
+unfolding repeated next_word
+words_again id name [] front i s rest fit at is =
+    let same : holding s id (in_part name front zero) ≡ s = ap (with_arrays s) (insert_same s.arrays id (in_part name front zero) is) in
+    let count : i ≡ i + 0 = omega arith in
+    ap (λ (z : ServerState). Ok (i, z, rest)) (sym same) ∙ ap (λ (k : ℕ). Ok (k, holding s id (record { name = name; words = front ++ [] }), rest)) count
+words_again id name (w ∷ ws) front i s rest fit at is =
+    let behind : List ℕ = flat_map word_spelling ws ++ rest in
+    let grouped : flat_map word_spelling (w ∷ ws) ++ rest ≡ word_spelling w ++ behind = append_assoc (word_spelling w) (flat_map word_spelling ws) rest in
+    let n : ℕ = length ws in
+    let s' : ServerState = holding s id (in_part name (front ++ w ∷ []) n) in
+    let state_is : with_word_at s id i w ≡ s' = ap (λ (k : ℕ). with_word_at s id k w) at ∙ one_word s id n name front w is in
+    let step : next_word id (i, s, flat_map word_spelling (w ∷ ws) ++ rest) ≡ Ok (i + 1, s', behind) =
+    goes_from (word_at (flat_map word_spelling (w ∷ ws) ++ rest)) (λ w. Ok (i + 1, with_word_at s id i w.0, w.1)) (w, behind) (ap word_at grouped ∙ word_again w behind fit.0)
+    ∙ ap (λ (z : ServerState). Ok (i + 1, z, behind)) state_is in
+    let more = words_again id name ws (front ++ w ∷ []) (i + 1) s' rest fit.1 (omega (arith, at, length-append front (w ∷ []))) (get_inserted s.arrays id (in_part name (front ++ w ∷ []) n)) in
+    let last : holding s' id (record { name = name; words = (front ++ w ∷ []) ++ ws }) ≡ holding s id (record { name = name; words = front ++ w ∷ ws }) =
+    ap (with_arrays s) (insert_twice s.arrays id (in_part name (front ++ w ∷ []) n) (record { name = name; words = (front ++ w ∷ []) ++ ws }))
+    ∙ ap (λ (t : List Word). holding s id (record { name = name; words = t })) (append_assoc front (w ∷ []) ws) in
+    let count : (i + 1) + n ≡ i + suc n = omega arith in
+    goes_from (next_word id (i, s, flat_map word_spelling (w ∷ ws) ++ rest)) (repeated (next_word id) n) (i + 1, s', behind) step
+    ∙ more
+    ∙ ap (λ (z : ServerState). Ok ((i + 1) + n, z, rest)) last
+    ∙ ap (λ (k : ℕ). Ok (k, holding s id (record { name = name; words = front ++ w ∷ ws }), rest)) count

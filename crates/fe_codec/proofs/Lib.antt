@@ -14,3 +14,4 @@ pub mod ImageWords
 pub mod ImageArrays
 pub mod ImageSessions
 pub mod ImageFound
+pub mod ImageOnly

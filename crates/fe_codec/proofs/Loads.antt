@@ -7,7 +7,7 @@ use Rattle.fe_state.specs.State.{ServerState}
 use Rattle.fe_codec.specs.Bytes.{IsBytes}
 use Rattle.fe_codec.specs.FirstFault.{◌>>=◌, is_after, repeated}
 use Rattle.fe_codec.proofs.InOrder.{Rises}
-use Rattle.fe_codec.proofs.ImageFields.{bind_ok, ok_is, Takes, takes_then}
+use Rattle.fe_codec.proofs.ImageFields.{bind_ok, ok_is, Takes, takes_then, goes_from}
 
 -- the key of the part before, the state, and the bytes so far
 abbrev pub Walk : Type 0
@@ -54,3 +54,25 @@ module _ {X : Type 0} (step : Walk → Result Walk ℕ) (load : ServerState → 
           text = takes_then x.2 (spelled one.entry) one.rest (flat_map spelled more.entries) y.2 one.text more.text;
           good = (one.good, more.good);
         }
+
+-- ---- what was spelled is loaded
+
+module _ {X : Type 0} (step : Walk → Result Walk ℕ) (load : ServerState → ℕ × X → ServerState) (spelled : ℕ × X → List ℕ) where
+  abbrev pub last_key : Option ℕ → List (ℕ × X) → Option ℕ
+  last_key previous [] = previous
+  last_key previous (e ∷ es) = last_key (Some e.0) es
+
+  -- parts that may come one after the other are loaded from their spellings
+  pub again_all : (May : Option ℕ → ServerState → List (ℕ × X) → Type 0)
+      → ((previous : Option ℕ) (s : ServerState) (e : ℕ × X) (es : List (ℕ × X)) (rest : List ℕ) → May previous s (e ∷ es) → (step (previous, s, spelled e ++ rest) ≡ Ok (Some e.0, load s e, rest)) × May (Some e.0) (load s e) es)
+      → (es : List (ℕ × X)) (previous : Option ℕ) (s : ServerState) (rest : List ℕ) → May previous s es
+      → repeated step (length es) (previous, s, flat_map spelled es ++ rest) ≡ Ok (last_key previous es, load_all step load spelled s es, rest)
+  unfolding repeated
+  again_all May each [] previous s rest may = refl
+  again_all May each (e ∷ es) previous s rest may =
+      let behind : List ℕ = flat_map spelled es ++ rest in
+      let grouped : flat_map spelled (e ∷ es) ++ rest ≡ spelled e ++ behind = append_assoc (spelled e) (flat_map spelled es) rest in
+      let one = each previous s e es behind may in
+      ap (λ (t : List ℕ). step (previous, s, t) >>= repeated step (length es)) grouped
+      ∙ goes_from (step (previous, s, spelled e ++ behind)) (repeated step (length es)) (Some e.0, load s e, behind) one.0
+      ∙ again_all May each es (Some e.0) (load s e) rest one.1

@@ -4,7 +4,7 @@ use Rattle.fe_state.specs.declared.entry.Entry.{Entry}
 use Rattle.fe_codec.specs.Record.{entry_spelling, group_spelling, FitsRecord, FitsGroup}
 use Rattle.fe_state.specs.State.{ServerState}
 use Rattle.fe_codec.specs.Bytes.{IsBytes}
-use Rattle.fe_codec.specs.Image.{image_spelling, HasRoomFor}
+use Rattle.fe_codec.specs.Image.{image_spelling, HasRoomFor, FitsImage}
 use Rattle.fe_codec.specs.FirstFault.{image_at}
 use Rattle.fe_codec.specs.declared.format.Format.{Format}
 
@@ -19,3 +19,11 @@ GroupHasOneSpelling = (format : Format) (group other : List Entry) → FitsGroup
 -- Bytes that stand for a state are the state's spelling.
 abbrev pub ImageIsSpelled : Type 0
 ImageIsSpelled = (format : Format) (bytes : List ℕ) (s : ServerState) → IsBytes bytes → image_at format bytes ≡ Ok s → HasRoomFor format s × (bytes ≡ image_spelling format s)
+
+-- The spelling of a state stands for it.
+abbrev pub SpellingIsRead : Type 0
+SpellingIsRead = (format : Format) (s : ServerState) → FitsImage format s → image_at format (image_spelling format s) ≡ Ok s
+
+-- No two states have one image.
+abbrev pub ImageHasOneSpelling : Type 0
+ImageHasOneSpelling = (format : Format) (s t : ServerState) → FitsImage format s → FitsImage format t → image_spelling format s ≡ image_spelling format t → s ≡ t

@@ -21,6 +21,9 @@ pub use entries::{put_entry, read_entry};
 pub use fault::ImageFault;
 pub use format::Format;
 pub use groups::put_group;
-pub use laws::{images_are_spelled, one_entry_spelling, one_group_spelling};
+pub use laws::{
+    images_are_spelled, one_entry_spelling, one_group_spelling, one_image_spelling,
+    spelled_images_are_read,
+};
 pub use reading::read_image;
 pub use writing::put_image;

@@ -3,7 +3,8 @@
 ghost use Rattle.std.specs.Prelude.{◌≡◌, ℕ, ◌≤◌, length, Err, IsOk, IfOk};
 ghost use Rattle.fe_codec.specs.FirstFault.{header_at, ended, state_at, image_at};
 ghost use Rattle.fe_codec.specs.Given.{Gives, ImageGives};
-ghost use Rattle.fe_codec.specs.Image.{image_spelling, HasRoomFor};
+ghost use Rattle.fe_codec.specs.Image.{image_spelling, HasRoomFor, FitsImage};
+ghost use Rattle.fe_state.specs.State.{ServerState};
 
 use crate::arrays::read_arrays;
 use crate::fault::{Fault, ImageFault};
@@ -52,6 +53,8 @@ fn image_of(alloc: Global, format: Format, bytes: &[u8]) -> Result<State, ImageF
 pub fn read_image(alloc: Global, format: Format, bytes: &[u8]) -> Result<State, ImageFault>
     // What is read is spelled so.
     ensures found { IfOk result (λ state. HasRoomFor format state × (bytes.now ≡ image_spelling format state)) }
+    // What is spelled so is read, unless memory runs out.
+    ensures only { (state : ServerState) → FitsImage format state → bytes.now ≡ image_spelling format state → ImageGives result (Ok state) }
     // Which state it is, and which fault.
     ensures exact { ImageGives result (image_at format bytes.now) }
     // A fault is told within the image, or at its end.
