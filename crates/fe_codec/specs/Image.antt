@@ -76,6 +76,10 @@ StateOfFormat Two s = Unit {0}
 abbrev pub ArrayFits : ℕ × Array → Type 0
 ArrayFits e = AllByRecursion (λ w. w.value < 2 ^ 64) e.1.words
 
+abbrev pub SlotFits : ℕ → ℕ → Option Kept → Type 0
+SlotFits session number None = Unit {0}
+SlotFits session number (Some kept) = FieldsFit (entry_of_kept session (number, kept))
+
 abbrev pub SessionFits : ℕ × Session → Type 0
 SessionFits e = (e.0 < 2 ^ 64) × AllByRecursion (λ k. FieldsFit (entry_of_kept e.0 k)) (entries e.1.kept)
 
