@@ -136,7 +136,7 @@ pub record Remains (format : Format) (whole : ServerState) (previous : Option �
   pub short : AllByRecursion (ArrayOfFormat format) es
   pub values : AllByRecursion (λ e. AllByRecursion (λ w. w.value < 2 ^ 64) e.1.words) es
 
-row_holds : (format : Format) (name : List ℕ) → is_plain name ≡ true → IsShort format name → length name ≤ name_bytes format
+pub row_holds : (format : Format) (name : List ℕ) → is_plain name ≡ true → IsShort format name → length name ≤ name_bytes format
 row_holds One name plain short = short
 row_holds Two name plain short = plain_most name plain
 

@@ -30,7 +30,7 @@ use Rattle.fe_codec.proofs.Windows.{holds_each}
 
 -- ---- lists of facts
 
-all_both : {X : Type 0} (P Q R : X → Type 0) → ((x : X) → P x → Q x → R x) → (xs : List X) → AllByRecursion P xs → AllByRecursion Q xs → AllByRecursion R xs
+pub all_both : {X : Type 0} (P Q R : X → Type 0) → ((x : X) → P x → Q x → R x) → (xs : List X) → AllByRecursion P xs → AllByRecursion Q xs → AllByRecursion R xs
 all_both P Q R f [] p q = tt
 all_both P Q R f (x ∷ xs) p q = (f x p.0 q.0, all_both P Q R f xs p.1 q.1)
 
@@ -38,7 +38,7 @@ all_and : {X : Type 0} (P Q : X → Type 0) (xs : List X) → AllByRecursion P x
 all_and P Q xs p q = all_both P Q (λ x. P x × Q x) (λ x a b. (a, b)) xs p q
 
 -- each entry is found at its key
-each_there : {X : Type 0} (m : FinMap nat_cmp X) → AllByRecursion (λ e. get m e.0 ≡ Some e.1) (entries m)
+pub each_there : {X : Type 0} (m : FinMap nat_cmp X) → AllByRecursion (λ e. get m e.0 ≡ Some e.1) (entries m)
 each_there m = holds_each (λ e. get m e.0 ≡ Some e.1) (entries m) (entries_sorted m) (λ q x is. get-entries m q ∙ is)
 
 -- ---- the parts of a state that has an image
@@ -74,7 +74,7 @@ session_may format s fits e here both =
       each = kept_may format s.place e.0 e.1 within both.0 both.1.1;
     }
 
-sessions_remain : (format : Format) (s : ServerState) → FitsImage format s → (before : ServerState) → before.place ≡ s.place → SessionsRemain format s.place None before (entries s.sessions)
+pub sessions_remain : (format : Format) (s : ServerState) → FitsImage format s → (before : ServerState) → before.place ≡ s.place → SessionsRemain format s.place None before (entries s.sessions)
 sessions_remain format s fits before at = record {
   rises = entries-Rises s.sessions;
   place = at;

@@ -15,3 +15,4 @@ pub mod ImageArrays
 pub mod ImageSessions
 pub mod ImageFound
 pub mod ImageOnly
+pub mod ImageSizes
