@@ -1,9 +1,10 @@
 -- Elements of lists by their places.
-use Rattle.std.proofs.Common.{◌≡◌, ℕ, zero, suc, ◌<◌, List, [], ◌∷◌, length, Option, Some, None, sym, subst, ◌∙◌, arith}
+use Rattle.std.proofs.Common.{◌≡◌, ℕ, zero, suc, ◌+◌, ◌<◌, ◌≤◌, List, [], ◌∷◌, ◌++◌, length, take, get_or, Option, Some, None, sym, subst, ◌∙◌, arith}
 use Rattle.std.specs.Prelude.{slice_get}
 use Rattle.std.specs.List.{AllByRecursion}
 use Rattle.std.specs.Option.{option_map}
-use Rattle.std.proofs.lemmas.Option.{same_Some, none-some, slice_get-get_or}
+use Rattle.std.proofs.lemmas.List.{take_more, take_all}
+use Rattle.std.proofs.lemmas.Option.{same_Some, none-some, slice_get-get_or, slice_get_within, get_or_from_slice_get}
 
 -- what holds of each element holds of the one at a place
 pub all_at : {X : Type 0} (P : X → Type 0) (xs : List X) (i : ℕ) (x : X) → AllByRecursion P xs → slice_get xs i ≡ Some x → P x
@@ -16,3 +17,18 @@ pub found_within : {X Y : Type 0} (f : X → Y) (o : Option X) (xs : List Y) (i 
 found_within f (Some x) xs i e lt none = none-some x (sym none)
 found_within f None [] i e lt none = omega arith
 found_within f None (y ∷ ys) i e lt none = none-some _ (e ∙ slice_get-get_or (y ∷ ys) i y lt)
+
+-- what holds of the elements so far, and of one more
+module _ {X : Type 0} (P : X → Type 0) where
+  all_push : (xs : List X) (x : X) → AllByRecursion P xs → P x → AllByRecursion P (xs ++ x ∷ [])
+  all_push [] x h p = (p, tt)
+  all_push (y ∷ ys) x h p = (h.0, all_push ys x h.1 p)
+
+  pub all_more : (xs : List X) (i : ℕ) (d : X) → i < length xs → AllByRecursion P (take i xs) → P (get_or xs i d) → AllByRecursion P (take (i + 1) xs)
+  all_more xs i d lt h p = subst (AllByRecursion P) (sym (take_more xs i d lt)) (all_push (take i xs) (get_or xs i d) h p)
+
+  pub all_found : (xs : List X) (i : ℕ) (x : X) → slice_get xs i ≡ Some x → AllByRecursion P (take i xs) → P x → AllByRecursion P (take (i + 1) xs)
+  all_found xs i x found h p = all_more xs i x (slice_get_within xs i x found) h (subst P (sym (get_or_from_slice_get xs i x x found)) p)
+
+  pub all_taken : (xs : List X) (i : ℕ) → length xs ≤ i → AllByRecursion P (take i xs) → AllByRecursion P xs
+  all_taken xs i le h = subst (AllByRecursion P) (take_all i xs le) h

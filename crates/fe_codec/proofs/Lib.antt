@@ -4,3 +4,15 @@ pub mod GroupLaws
 pub mod Appends
 pub mod Elements
 pub mod Windows
+pub mod Repeats
+pub mod LoadingLemmas
+pub mod InOrder
+pub mod ImageFields
+pub mod ImageNames
+pub mod Loads
+pub mod ImageWords
+pub mod ImageArrays
+pub mod ImageSessions
+pub mod ImageFound
+pub mod ImageOnly
+pub mod ImageSizes

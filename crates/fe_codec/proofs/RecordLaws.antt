@@ -25,7 +25,7 @@ use Rattle.fe_codec.proofs.FieldLaws.{bind_at, wide32, wide64, number_again}
 
 -- ---- codes
 
-tag_again : (tag : Tag) → tag_of (tag_code tag) ≡ Some tag
+pub tag_again : (tag : Tag) → tag_of (tag_code tag) ≡ Some tag
 unfolding tag_of
 tag_again Empty = refl
 tag_again Full = refl
@@ -126,7 +126,7 @@ module _ (format : Format) (kind request answer count tag flag session number : 
 
 -- ---- requests
 
-length-name_row : (format : Format) (name : List ℕ) → length name ≤ name_bytes format → length (name_row format name) ≡ name_bytes format
+pub length-name_row : (format : Format) (name : List ℕ) → length name ≤ name_bytes format → length (name_row format name) ≡ name_bytes format
 length-name_row format name le = omega (arith, length-append name (replicate (name_bytes format - length name) 0), length-replicate {A = ℕ} (name_bytes format - length name) 0)
 
 -- a name of at most 32 bytes that the format has room for is no longer than its row

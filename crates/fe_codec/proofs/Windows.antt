@@ -40,17 +40,17 @@ below_or : (a b : ℕ) → a ≤ b → (a ≡ b) ⊎ (a < b)
 below_or a b le = grind (arith, nat_tests)
 
 module _ {X : Type 0} where
-  abbrev AllAbove : ℕ → List (ℕ × X) → Type 0
+  abbrev pub AllAbove : ℕ → List (ℕ × X) → Type 0
   AllAbove k es = AllByRecursion (λ e. k < e.0) es
 
   above_each : (k : ℕ) (es : List (ℕ × X)) → T (below_all nat_cmp k es) → AllAbove k es
   above_each k [] h = tt
   above_each k (e ∷ es) h = (ranked k e.0 Less (sym (less _ (both_first _ _ h))), above_each k es (both_second _ _ h))
 
-  rises_first : (e : ℕ × X) (es : List (ℕ × X)) → T (is_sorted nat_cmp (e ∷ es)) → AllAbove e.0 es
+  pub rises_first : (e : ℕ × X) (es : List (ℕ × X)) → T (is_sorted nat_cmp (e ∷ es)) → AllAbove e.0 es
   rises_first e es h = above_each e.0 es (both_first _ _ h)
 
-  rises_rest : (e : ℕ × X) (es : List (ℕ × X)) → T (is_sorted nat_cmp (e ∷ es)) → T (is_sorted nat_cmp es)
+  pub rises_rest : (e : ℕ × X) (es : List (ℕ × X)) → T (is_sorted nat_cmp (e ∷ es)) → T (is_sorted nat_cmp es)
   rises_rest e es h = both_second _ _ h
 
   find_here : (q : ℕ) (e : ℕ × X) (es : List (ℕ × X)) → q ≡ e.0 → find nat_cmp q (e ∷ es) ≡ Some e.1

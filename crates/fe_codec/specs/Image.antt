@@ -1,17 +1,17 @@
 -- The one spelling of each state as an image, and which states have one in a format.
-use Rattle.std.specs.Prelude.{ℕ, List, [], ◌∷◌, ◌++◌, length, flat_map, Option, Some, None}
+use Rattle.std.specs.Prelude.{ℕ, ◌^◌, ◌<◌, List, [], ◌∷◌, ◌++◌, length, flat_map, Option, Some, None}
 use Rattle.std.specs.List.{AllByRecursion}
 use Rattle.std.specs.Int.{w32, w64, to_be_bytes}
 use Rattle.std.specs.FinMap.{entries, len}
 use Rattle.fe_words.specs.declared.word.Word.{Word}
 use Rattle.fe_state.specs.Sessions.{Session}
-use Rattle.fe_state.specs.State.{ServerState}
+use Rattle.fe_state.specs.State.{ServerState, IsWithinLimits}
 use Rattle.fe_state.specs.declared.array.Array.{Array}
 use Rattle.fe_state.specs.declared.kept.Kept.{Kept}
 use Rattle.fe_state.specs.declared.entry.Entry.{Entry}
 use Rattle.fe_state.specs.declared.entry.Entry.TheVariants.{Finished}
 use Rattle.fe_codec.specs.Codes.{tag_code}
-use Rattle.fe_codec.specs.Record.{entry_spelling, name_field, IsShort, IsOfFormat}
+use Rattle.fe_codec.specs.Record.{entry_spelling, name_field, IsShort, IsOfFormat, FieldsFit}
 use Rattle.fe_codec.specs.declared.format.Format.{Format}
 use Rattle.fe_codec.specs.declared.format.Format.TheVariants.{One, Two}
 
@@ -71,3 +71,21 @@ pub record HasRoomFor (format : Format) (s : ServerState) : Type 0 where
 abbrev pub StateOfFormat : Format → ServerState → Type 0
 StateOfFormat One s = HasRoomFor One s
 StateOfFormat Two s = Unit {0}
+
+-- the words of an array, and the fields of a session and of what it keeps, fit the bytes that they have
+abbrev pub ArrayFits : ℕ × Array → Type 0
+ArrayFits e = AllByRecursion (λ w. w.value < 2 ^ 64) e.1.words
+
+abbrev pub SlotFits : ℕ → ℕ → Option Kept → Type 0
+SlotFits session number None = Unit {0}
+SlotFits session number (Some kept) = FieldsFit (entry_of_kept session (number, kept))
+
+abbrev pub SessionFits : ℕ × Session → Type 0
+SessionFits e = (e.0 < 2 ^ 64) × AllByRecursion (λ k. FieldsFit (entry_of_kept e.0 k)) (entries e.1.kept)
+
+-- a state that has an image in the format
+pub record FitsImage (format : Format) (s : ServerState) : Type 0 where
+  pub limits : IsWithinLimits s
+  pub room : HasRoomFor format s
+  pub arrays : AllByRecursion ArrayFits (entries s.arrays)
+  pub sessions : AllByRecursion SessionFits (entries s.sessions)

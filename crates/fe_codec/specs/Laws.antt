@@ -1,7 +1,11 @@
 -- Laws of the grammar, which public functions name.
-use Rattle.std.specs.Prelude.{◌≡◌, ℕ, List, ◌++◌}
+use Rattle.std.specs.Prelude.{◌≡◌, ℕ, List, ◌++◌, Ok}
 use Rattle.fe_state.specs.declared.entry.Entry.{Entry}
 use Rattle.fe_codec.specs.Record.{entry_spelling, group_spelling, FitsRecord, FitsGroup}
+use Rattle.fe_state.specs.State.{ServerState}
+use Rattle.fe_codec.specs.Bytes.{IsBytes}
+use Rattle.fe_codec.specs.Image.{image_spelling, HasRoomFor, FitsImage}
+use Rattle.fe_codec.specs.FirstFault.{image_at}
 use Rattle.fe_codec.specs.declared.format.Format.{Format}
 
 -- No record begins another, and no two entries have one record.
@@ -11,3 +15,15 @@ EntryHasOneSpelling = (format : Format) (a b : Entry) (x y : List ℕ) → FitsR
 -- No two groups of entries have one spelling.
 abbrev pub GroupHasOneSpelling : Type 0
 GroupHasOneSpelling = (format : Format) (group other : List Entry) → FitsGroup format group → FitsGroup format other → group_spelling format group ≡ group_spelling format other → group ≡ other
+
+-- Bytes that stand for a state are the state's spelling.
+abbrev pub ImageIsSpelled : Type 0
+ImageIsSpelled = (format : Format) (bytes : List ℕ) (s : ServerState) → IsBytes bytes → image_at format bytes ≡ Ok s → HasRoomFor format s × (bytes ≡ image_spelling format s)
+
+-- The spelling of a state stands for it.
+abbrev pub SpellingIsRead : Type 0
+SpellingIsRead = (format : Format) (s : ServerState) → FitsImage format s → image_at format (image_spelling format s) ≡ Ok s
+
+-- No two states have one image.
+abbrev pub ImageHasOneSpelling : Type 0
+ImageHasOneSpelling = (format : Format) (s t : ServerState) → FitsImage format s → FitsImage format t → image_spelling format s ≡ image_spelling format t → s ≡ t

@@ -17,3 +17,8 @@ record_bytes Two = 80
 abbrev pub group_records : Format → ℕ
 group_records One = 16383
 group_records Two = 13107
+
+-- the longest image: its first fields, 64 arrays with 65,536 words, and 64 sessions with 32 answers each
+abbrev pub image_bytes : Format → ℕ
+image_bytes One = 740440
+image_bytes Two = 774232

@@ -1,5 +1,6 @@
--- What a record holds, without a look at its unused bytes.
-use Rattle.std.specs.Prelude.{ℕ, ◌+◌, List, take, drop, slice_index, Option, Some, None, nat_le, ◌==◌, if◌then◌else◌}
+-- What a record holds, first without a look at its unused bytes.
+use Rattle.std.specs.Prelude.{ℕ, ◌+◌, ◌^◌, Bool, true, ◌&&◌, List, length, take, drop, slice_index, Option, Some, None, nat_le, nat_lt, ◌==◌, if◌then◌else◌}
+use Rattle.std.specs.Str.{bytes_eq}
 use Rattle.std.specs.Int.{Width, w32, w64, byte_len, from_be_bytes}
 use Rattle.fe_words.specs.declared.word.Tag.{Tag}
 use Rattle.fe_words.specs.declared.word.Tag.TheVariants.{Full, Empty}
@@ -11,8 +12,11 @@ use Rattle.fe_state.specs.declared.request.Request.{Request}
 use Rattle.fe_state.specs.declared.request.Request.TheVariants.{Create, Find, Remove, Access}
 use Rattle.fe_state.specs.declared.entry.Entry.{Entry}
 use Rattle.fe_state.specs.declared.entry.Entry.TheVariants.{Attached, Closed, Settled, Finished}
-use Rattle.fe_codec.specs.Layout.{name_bytes}
+use Rattle.fe_state.specs.Format.{entry_fits_format_1}
+use Rattle.fe_codec.specs.Layout.{name_bytes, record_bytes}
+use Rattle.fe_codec.specs.Record.{entry_spelling}
 use Rattle.fe_codec.specs.declared.format.Format.{Format}
+use Rattle.fe_codec.specs.declared.format.Format.TheVariants.{One, Two}
 
 infixl 10 ◌>>=◌
 abbrev pub ◌>>=◌ : {A B : Type 0} → Option A → (A → Option B) → Option B
@@ -95,3 +99,27 @@ entry_of format bytes =
     else if slice_index bytes 0 == 3 then Some (Settled (number_at w64 bytes 8) (number_at w64 bytes 16))
     else if slice_index bytes 0 == 4 then finished_of format bytes
     else None
+
+-- the entry's number or floor is below 2^63
+abbrev pub is_numbered : Entry → Bool
+is_numbered (Attached session floor) = nat_lt floor (2 ^ 63)
+is_numbered (Closed session) = true
+is_numbered (Settled session floor) = nat_lt floor (2 ^ 63)
+is_numbered (Finished session number request answer) = nat_lt number (2 ^ 63)
+
+-- the format has room for the entry
+abbrev pub is_of_format : Format → Entry → Bool
+is_of_format One entry = entry_fits_format_1 entry
+is_of_format Two entry = true
+
+-- the bytes are the entry's record
+abbrev pub is_record : Format → Entry → List ℕ → Bool
+is_record format entry bytes = is_numbered entry && is_of_format format entry && bytes_eq (entry_spelling format entry) bytes
+
+abbrev pub if_record : Format → List ℕ → Option Entry → Option Entry
+if_record format bytes None = None
+if_record format bytes (Some entry) = if is_record format entry bytes then Some entry else None
+
+-- the entry whose record the bytes are
+unfoldable pub record_entry : Format → List ℕ → Option Entry
+record_entry format bytes = if length bytes == record_bytes format then if_record format bytes (entry_of format bytes) else None

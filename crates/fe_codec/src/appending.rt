@@ -1,6 +1,7 @@
 //! Fields appended to bytes.
 
-ghost use Rattle.std.specs.Prelude.{◌≡◌, ◌∷◌, [], flat_map, is_ok, vec_capacity};
+ghost use Rattle.std.specs.Prelude.{◌≡◌, ◌∷◌, ◌<◌, ◌^◌, [], flat_map, is_ok, OnOk, vec_capacity};
+ghost use Rattle.std.specs.List.{AllByRecursion};
 ghost use Rattle.std.specs.Int.{w32, w64, to_be_bytes};
 ghost use Rattle.fe_codec.specs.Appending.{Appends};
 ghost use Rattle.fe_codec.specs.Image.{word_spelling};
@@ -33,7 +34,8 @@ pub fn put_u64(out: &mut Vec<u8>, value: u64) -> Result<(), AllocError>
 }
 
 pub fn put_word(out: &mut Vec<u8>, word: Word) -> Result<(), AllocError>
-    ensures { Appends out.old.items out.new.items (vec_capacity out.old) (vec_capacity out.new) (is_ok result) (word_spelling word) }
+    ensures appends { Appends out.old.items out.new.items (vec_capacity out.old) (vec_capacity out.new) (is_ok result) (word_spelling word) }
+    ensures fits { word.value < 2 ^ 64 }
 {
     let mut bytes = [tag_code(word.tag), 0, 0, 0, 0, 0, 0, 0, 0];
     BigEndian::write_u64(&mut bytes[1..], word.value);
@@ -41,7 +43,8 @@ pub fn put_word(out: &mut Vec<u8>, word: Word) -> Result<(), AllocError>
 }
 
 pub fn put_words(out: &mut Vec<u8>, words: &[Word]) -> Result<(), AllocError>
-    ensures { Appends out.old.items out.new.items (vec_capacity out.old) (vec_capacity out.new) (is_ok result) (flat_map word_spelling words.now) }
+    ensures appends { Appends out.old.items out.new.items (vec_capacity out.old) (vec_capacity out.new) (is_ok result) (flat_map word_spelling words.now) }
+    ensures fits { OnOk result (AllByRecursion (λ w. w.value < 2 ^ 64) words.now) }
 {
     for word in words {
         put_word(out, *word)?;

@@ -2,6 +2,7 @@
 
 ghost use Rattle.std.specs.Prelude.{◌≡◌, ◌+◌, ◌<◌, ◌≤◌, ◌↔◌, ◌++◌, length, Some, IfSome, IsSome, OnOk, OnErr, IsOk, IsTrue, vec_len, vec_capacity};
 ghost use Rattle.fe_codec.specs.Layout.{record_bytes};
+ghost use Rattle.fe_codec.specs.Reading.{is_numbered, is_of_format, is_record, record_entry};
 ghost use Rattle.fe_codec.specs.Record.{entry_spelling, FitsRecord, IsOfFormat, IsNumbered, CanPut};
 ghost use Rattle.fe_state.specs.declared.entry.Entry.{Entry as Step};
 
@@ -31,7 +32,8 @@ pub fn put_entry(format: Format, entry: &Entry, out: &mut Vec<u8>) -> Result<(),
 
 /// Whether the number or floor is below 2^63.
 fn is_numbered(entry: &Entry) -> bool
-    ensures { IsTrue result ↔ IsNumbered entry.now }
+    ensures value { result ≡ is_numbered entry.now }
+    ensures fact { IsTrue result ↔ IsNumbered entry.now }
 {
     match entry {
         Entry::Attached { floor, .. } | Entry::Settled { floor, .. } => *floor < NUMBER_LIMIT,
@@ -42,7 +44,8 @@ fn is_numbered(entry: &Entry) -> bool
 
 /// Whether the format has room for the entry.
 fn is_of_format(format: Format, entry: &Entry) -> bool
-    ensures { IsTrue result ↔ IsOfFormat format entry.now }
+    ensures value { result ≡ is_of_format format entry.now }
+    ensures fact { IsTrue result ↔ IsOfFormat format entry.now }
 {
     match format {
         Format::One => entry.fits_format_1(),
@@ -52,17 +55,20 @@ fn is_of_format(format: Format, entry: &Entry) -> bool
 
 /// Whether the bytes are the record of the entry.
 fn is_record(format: Format, entry: &Entry, bytes: &[u8]) -> bool
-    ensures { IsTrue result ↔ (FitsRecord format entry.now × (bytes.now ≡ entry_spelling format entry.now)) }
+    ensures value { result ≡ is_record format entry.now bytes.now }
+    ensures fact { IsTrue result ↔ (FitsRecord format entry.now × (bytes.now ≡ entry_spelling format entry.now)) }
 {
     is_numbered(entry) && is_of_format(format, entry) && Record::of(format, entry).bytes() == bytes
 }
 
 /// The entry whose record the bytes are, or `None` where they are no entry's.
+#[tactic(auto, unfolding(crate::specs::Reading::record_entry))]
 pub fn read_entry(format: Format, bytes: &[u8]) -> Option<Entry>
     // What is read is spelled so.
     ensures found { IfSome result (λ entry. FitsRecord format entry × (bytes.now ≡ entry_spelling format entry)) }
     // What is spelled so is read, so that `None` comes only outside the grammar.
     ensures only { (entry : Step) → FitsRecord format entry → bytes.now ≡ entry_spelling format entry → result ≡ Some entry }
+    ensures exact { result ≡ record_entry format bytes.now }
 {
     if bytes.len() != format.record_bytes() {
         return None;

@@ -2,18 +2,28 @@
 #![tactic(auto)]
 
 mod appending;
+mod arrays;
 mod codes;
 mod entries;
 mod entry_of;
+mod fault;
 mod fields;
 mod format;
 mod groups;
+mod header;
 mod laws;
+mod reading;
 mod record;
+mod sessions;
 mod writing;
 
 pub use entries::{put_entry, read_entry};
+pub use fault::ImageFault;
 pub use format::Format;
 pub use groups::put_group;
-pub use laws::{one_entry_spelling, one_group_spelling};
+pub use laws::{
+    images_are_spelled, one_entry_spelling, one_group_spelling, one_image_spelling,
+    spelled_images_are_read,
+};
+pub use reading::read_image;
 pub use writing::put_image;

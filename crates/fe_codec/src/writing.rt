@@ -5,8 +5,9 @@ ghost use Rattle.std.specs.FinMap.{entries, len};
 ghost use Rattle.std.specs.List.{AllByRecursion};
 ghost use Rattle.fe_state.specs.declared.array.Array.{Array as Held};
 ghost use Rattle.fe_codec.specs.Appending.{Appends};
-ghost use Rattle.fe_codec.specs.Record.{IsShort, IsOfFormat};
-ghost use Rattle.fe_codec.specs.Image.{array_spelling, kept_spelling, slot_text, session_spelling, image_spelling, ArrayOfFormat, KeptOfFormat, SlotOfFormat, SessionOfFormat, HasRoomFor, StateOfFormat};
+ghost use Rattle.fe_codec.specs.Layout.{image_bytes};
+ghost use Rattle.fe_codec.specs.Record.{IsShort, IsOfFormat, FieldsFit};
+ghost use Rattle.fe_codec.specs.Image.{array_spelling, kept_spelling, slot_text, session_spelling, image_spelling, ArrayOfFormat, KeptOfFormat, SlotOfFormat, SessionOfFormat, HasRoomFor, StateOfFormat, entry_of_kept, ArrayFits, SlotFits, SessionFits, FitsImage};
 
 use crate::appending::{put_bytes, put_u32, put_u64, put_words};
 use crate::format::Format;
@@ -19,7 +20,8 @@ const WINDOW: u64 = 32;
 
 fn put_array(format: Format, id: u64, array: &Array, out: &mut Vec<u8>) -> Result<(), AllocError>
     requires { ArrayOfFormat format (id, array.now) }
-    ensures { Appends out.old.items out.new.items (vec_capacity out.old) (vec_capacity out.new) (is_ok result) (array_spelling format (id, array.now)) }
+    ensures appends { Appends out.old.items out.new.items (vec_capacity out.old) (vec_capacity out.new) (is_ok result) (array_spelling format (id, array.now)) }
+    ensures fits { OnOk result (ArrayFits (id, array.now)) }
 {
     put_u64(out, id)?;
     put_bytes(out, Record::of_name(format, &array.name).bytes())?;
@@ -29,7 +31,8 @@ fn put_array(format: Format, id: u64, array: &Array, out: &mut Vec<u8>) -> Resul
 
 fn put_arrays(format: Format, state: &State, out: &mut Vec<u8>) -> Result<(), AllocError>
     requires { AllByRecursion (ArrayOfFormat format) (entries state.now.arrays) }
-    ensures { Appends out.old.items out.new.items (vec_capacity out.old) (vec_capacity out.new) (is_ok result) (flat_map (array_spelling format) (entries state.now.arrays)) }
+    ensures appends { Appends out.old.items out.new.items (vec_capacity out.old) (vec_capacity out.new) (is_ok result) (flat_map (array_spelling format) (entries state.now.arrays)) }
+    ensures fits { OnOk result (AllByRecursion ArrayFits (entries state.now.arrays)) }
 {
     for k in 0..state.array_count() {
         if let Some((id, array)) = state.array_entry(k) {
@@ -47,7 +50,8 @@ fn put_kept(
     out: &mut Vec<u8>,
 ) -> Result<(), AllocError>
     requires { KeptOfFormat format session (number, kept.now) }
-    ensures { Appends out.old.items out.new.items (vec_capacity out.old) (vec_capacity out.new) (is_ok result) (kept_spelling format session (number, kept.now)) }
+    ensures appends { Appends out.old.items out.new.items (vec_capacity out.old) (vec_capacity out.new) (is_ok result) (kept_spelling format session (number, kept.now)) }
+    ensures fits { OnOk result (FieldsFit (entry_of_kept session (number, kept.now))) }
 {
     put_u64(out, kept.place)?;
     let entry = Entry::Finished {
@@ -68,7 +72,8 @@ fn put_slot(
     out: &mut Vec<u8>,
 ) -> Result<(), AllocError>
     requires { SlotOfFormat format session number kept }
-    ensures { Appends out.old.items out.new.items (vec_capacity out.old) (vec_capacity out.new) (is_ok result) (slot_text (kept_spelling format session) number kept) }
+    ensures appends { Appends out.old.items out.new.items (vec_capacity out.old) (vec_capacity out.new) (is_ok result) (slot_text (kept_spelling format session) number kept) }
+    ensures fits { OnOk result (SlotFits session number kept) }
 {
     match kept {
         Some(kept) => put_kept(format, session, number, &kept, out),
@@ -84,7 +89,8 @@ fn put_window(
     out: &mut Vec<u8>,
 ) -> Result<(), AllocError>
     requires { SessionOfFormat format (session, window.now) }
-    ensures { Appends out.old.items out.new.items (vec_capacity out.old) (vec_capacity out.new) (is_ok result) (flat_map (kept_spelling format session) (entries window.now.kept)) }
+    ensures appends { Appends out.old.items out.new.items (vec_capacity out.old) (vec_capacity out.new) (is_ok result) (flat_map (kept_spelling format session) (entries window.now.kept)) }
+    ensures fits { OnOk result (AllByRecursion (λ k. FieldsFit (entry_of_kept session k)) (entries window.now.kept)) }
 {
     let floor = window.floor();
     for step in 0..WINDOW {
@@ -127,7 +133,8 @@ fn put_session(
     out: &mut Vec<u8>,
 ) -> Result<(), AllocError>
     requires { SessionOfFormat format (session, window.now) }
-    ensures { Appends out.old.items out.new.items (vec_capacity out.old) (vec_capacity out.new) (is_ok result) (session_spelling format (session, window.now)) }
+    ensures appends { Appends out.old.items out.new.items (vec_capacity out.old) (vec_capacity out.new) (is_ok result) (session_spelling format (session, window.now)) }
+    ensures fits { OnOk result (SessionFits (session, window.now)) }
 {
     put_u64(out, session)?;
     put_u64(out, window.floor())?;
@@ -137,7 +144,8 @@ fn put_session(
 
 fn put_sessions(format: Format, state: &State, out: &mut Vec<u8>) -> Result<(), AllocError>
     requires { AllByRecursion (SessionOfFormat format) (entries state.now.sessions) }
-    ensures { Appends out.old.items out.new.items (vec_capacity out.old) (vec_capacity out.new) (is_ok result) (flat_map (session_spelling format) (entries state.now.sessions)) }
+    ensures appends { Appends out.old.items out.new.items (vec_capacity out.old) (vec_capacity out.new) (is_ok result) (flat_map (session_spelling format) (entries state.now.sessions)) }
+    ensures fits { OnOk result (AllByRecursion SessionFits (entries state.now.sessions)) }
 {
     for k in 0..state.session_count() {
         if let Some((session, window)) = state.session_entry(k) {
@@ -149,7 +157,8 @@ fn put_sessions(format: Format, state: &State, out: &mut Vec<u8>) -> Result<(), 
 
 fn put_state(format: Format, state: &State, out: &mut Vec<u8>) -> Result<(), AllocError>
     requires { HasRoomFor format state.now }
-    ensures { Appends out.old.items out.new.items (vec_capacity out.old) (vec_capacity out.new) (is_ok result) (image_spelling format state.now) }
+    ensures appends { Appends out.old.items out.new.items (vec_capacity out.old) (vec_capacity out.new) (is_ok result) (image_spelling format state.now) }
+    ensures fits { OnOk result (FitsImage format state.now) }
 {
     put_u64(out, state.place())?;
     put_u64(out, state.next_id())?;
@@ -168,6 +177,10 @@ pub fn put_image(format: Format, state: &State, out: &mut Vec<u8>) -> Result<(),
     ensures full { OnErr result (vec_capacity out.old < vec_len out.old + length (image_spelling format state.now)) }
     ensures room { vec_len out.old + length (image_spelling format state.now) ≤ vec_capacity out.old → IsOk result }
     ensures capacity { vec_capacity out.old ≤ vec_capacity out.new }
+    ensures least { OnOk result (24 ≤ length (image_spelling format state.now)) }
+    ensures most { OnOk result (length (image_spelling format state.now) ≤ image_bytes format) }
+    // What is put has its image in the grammar, so that it is read again.
+    ensures fits { OnOk result (FitsImage format state.now) }
 {
     let start = out.len();
     let put = put_state(format, state, out);

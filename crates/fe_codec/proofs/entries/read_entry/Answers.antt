@@ -27,4 +27,4 @@ returns-then-is_record-clause-only c = λ entry fits same. sym c.in_ok-entry.was
 pub returns-else-is_record-clause-only : goal.returns-else-is_record-clause-only
 returns-else-is_record-clause-only c = λ entry fits same.
     let is : c.in_ok-entry.entry ≡ entry = same_Some c.in_ok-entry.entry entry (sym c.in_ok-entry.was ∙ read c.args.format c.args.bytes.now c.entry_of.result entry c.entry_of.ensures fits same) in
-    absurd (refused c.args.format c.args.bytes.now c.in_ok-entry.entry entry _ is fits same c.is_record.ensures c.if-is_record.false)
+    absurd (refused c.args.format c.args.bytes.now c.in_ok-entry.entry entry _ is fits same c.is_record.ensures.fact c.if-is_record.false)

@@ -5,6 +5,7 @@ use Rattle.fe_state.specs.State.{ServerState}
 use Rattle.fe_codec.specs.Image.{HasRoomFor, StateOfFormat}
 use Rattle.fe_codec.specs.declared.format.Format.{Format}
 use Rattle.fe_codec.specs.declared.format.Format.TheVariants.{One, Two}
+use Rattle.fe_codec.proofs.ImageSizes.{sized_most}
 use Rattle.fe_codec.proofs.writing.put_image.Goals as goal
 
 -- what holds of everything holds of each element
@@ -18,3 +19,6 @@ has_room Two s h = record { arrays = all_of _ (entries s.arrays) (λ _. tt); ses
 
 pub put_state-put-requires : goal.put_state-put-requires
 put_state-put-requires c = has_room c.args.format c.args.state.now c.requires
+
+pub returns-else-is_err-clause-most : goal.returns-else-is_err-clause-most
+returns-else-is_err-clause-most c = sized_most c.args.format c.args.state.now c.put_state-put.result c.put_state-put.ensures.fits

@@ -3,10 +3,10 @@ use Rattle.std.specs.Prelude.{is_ok}
 use Rattle.fe_codec.proofs.Appends.{appends_both}
 use Rattle.fe_codec.proofs.writing.put_state.Goals as goal
 
-pub returns : goal.returns
-returns c =
+pub returns-clause-appends : goal.returns-clause-appends
+returns-clause-appends c =
     let two = appends_both _ _ _ _ _ _ true true _ _ refl c.in_ok-put_u64.ensures c.in_ok-put_u64-2.ensures in
     let three = appends_both _ _ _ _ _ _ true true _ _ refl two c.in_ok-put_u32.ensures in
     let four = appends_both _ _ _ _ _ _ true true _ _ refl three c.in_ok-put_u32-2.ensures in
-    let five = appends_both _ _ _ _ _ _ true true _ _ refl four c.in_ok-put_arrays.ensures in
-    rw (← c.place.ensures.place, ← c.next_id.ensures, ← c.array_count.ensures, ← c.session_count.ensures) (appends_both _ _ _ _ _ _ true (is_ok c.put_sessions.result) _ _ refl five c.put_sessions.ensures)
+    let five = appends_both _ _ _ _ _ _ true true _ _ refl four c.in_ok-put_arrays.ensures.appends in
+    rw (← c.place.ensures.place, ← c.next_id.ensures, ← c.array_count.ensures, ← c.session_count.ensures) (appends_both _ _ _ _ _ _ true (is_ok c.put_sessions.result) _ _ refl five c.put_sessions.ensures.appends)

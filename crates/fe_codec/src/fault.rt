@@ -1,0 +1,30 @@
+use std::alloc::AllocError;
+
+/// Why no state was read from an image.
+#[derive(Clone, Copy, Debug, PartialEq, Eq)]
+pub enum ImageFault {
+    /// The image is wrong, first at this offset (`docs/formats.md`, "Image").
+    Damaged { offset: usize },
+    /// There was no memory.
+    NoMemory,
+}
+
+/// Why a part of an image was not read.
+#[derive(Clone, Copy, Debug, PartialEq, Eq)]
+pub enum Fault {
+    /// The image is wrong, and has this many bytes from its first fault on.
+    Left(usize),
+    /// There was no memory.
+    NoMemory,
+}
+
+impl From<AllocError> for Fault {
+    ghost use Rattle.std.specs.Prelude.{◌≡◌};
+    ghost use Rattle.fe_codec.specs.declared.fault.Fault.TheVariants.{NoMemory};
+
+    ghost from_gives = { λ _ fault. fault ≡ NoMemory };
+
+    fn from(_error: AllocError) -> Fault {
+        Fault::NoMemory
+    }
+}

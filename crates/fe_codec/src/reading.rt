@@ -1,0 +1,66 @@
+//! Images of states, read.
+
+ghost use Rattle.std.specs.Prelude.{◌≡◌, ℕ, ◌≤◌, length, Err, IsOk, IfOk};
+ghost use Rattle.fe_codec.specs.FirstFault.{header_at, ended, state_at, image_at};
+ghost use Rattle.fe_codec.specs.Given.{Gives, ImageGives};
+ghost use Rattle.fe_codec.specs.Image.{image_spelling, HasRoomFor, FitsImage};
+ghost use Rattle.fe_state.specs.State.{ServerState};
+
+use crate::arrays::read_arrays;
+use crate::fault::{Fault, ImageFault};
+use crate::format::Format;
+use crate::header::header_at;
+use crate::sessions::read_sessions;
+use fe_state::State;
+use std::alloc::Global;
+
+#[tactic(auto, unfolding(crate::specs::FirstFault::state_at))]
+fn state_at(alloc: Global, format: Format, bytes: &[u8]) -> Result<State, Fault>
+    ensures given { Gives (λ state. state) result (state_at format bytes.now) }
+    ensures memory { result ≡ Err Fault.NoMemory → IsOk (header_at bytes.now) }
+{
+    let (header, rest) = header_at(bytes)?;
+    let mut state = State::starting(alloc, header.place, header.next_id)?;
+    let (_, rest) = read_arrays(format, header.arrays, &mut state, rest)?;
+    let (_, rest) = read_sessions(format, header.sessions, &mut state, rest)?;
+    if rest.is_empty() {
+        Ok(state)
+    } else {
+        Err(Fault::Left(rest.len()))
+    }
+}
+
+#[tactic(auto, unfolding(crate::specs::FirstFault::image_at))]
+fn image_of(alloc: Global, format: Format, bytes: &[u8]) -> Result<State, ImageFault>
+    ensures given { ImageGives result (image_at format bytes.now) }
+    ensures within { (offset : ℕ) → result ≡ Err (ImageFault.Damaged offset) → offset ≤ length bytes.now }
+    ensures memory { result ≡ Err ImageFault.NoMemory → IsOk (header_at bytes.now) }
+{
+    match state_at(alloc, format, bytes) {
+        Ok(state) => Ok(state),
+        Err(Fault::Left(left)) => {
+            Err(ImageFault::Damaged {
+                offset: bytes.len().saturating_sub(left),
+            })
+        }
+        Err(Fault::NoMemory) => Err(ImageFault::NoMemory),
+    }
+}
+
+/// The state whose image the bytes are, `Damaged` with the offset of the first fault where they are
+/// no image (`docs/formats.md`, "Image"), or `NoMemory` where there is none for the state or the
+/// words of an array.
+pub fn read_image(alloc: Global, format: Format, bytes: &[u8]) -> Result<State, ImageFault>
+    // What is read is spelled so.
+    ensures found { IfOk result (λ state. HasRoomFor format state × (bytes.now ≡ image_spelling format state)) }
+    // What is spelled so is read, unless memory runs out.
+    ensures only { (state : ServerState) → FitsImage format state → bytes.now ≡ image_spelling format state → ImageGives result (Ok state) }
+    // Which state it is, and which fault.
+    ensures exact { ImageGives result (image_at format bytes.now) }
+    // A fault is told within the image, or at its end.
+    ensures within { (offset : ℕ) → result ≡ Err (ImageFault.Damaged offset) → offset ≤ length bytes.now }
+    // Memory is taken only where the first four fields are right.
+    ensures memory { result ≡ Err ImageFault.NoMemory → IsOk (header_at bytes.now) }
+{
+    image_of(alloc, format, bytes)
+}

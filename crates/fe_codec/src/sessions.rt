@@ -1,0 +1,199 @@
+//! Sessions of images, read.
+
+ghost use Rattle.std.specs.Prelude.{◌≡◌, ℕ, ◌+◌, ◌-◌, ◌^◌, ◌≤◌, ◌<◌, true, IfOk, IfSome, OnOk, Some, None};
+ghost use Rattle.std.specs.Option.{option_map};
+ghost use Rattle.std.specs.FinMap.{get, len};
+ghost use Rattle.fe_state.specs.Sessions.{IsInWindow};
+ghost use Rattle.fe_codec.specs.FirstFault.{is_after, is_next_number, kept_of, kept_at, next_kept, session_at, next_session, repeated};
+ghost use Rattle.fe_codec.specs.Given.{Gives};
+ghost use Rattle.fe_codec.specs.Loading.{KeepsKeys, IsFresh};
+
+use crate::entries::read_entry;
+use crate::fault::Fault;
+use crate::format::Format;
+use crate::header::{is_after, row, u32_in, u64_in, u64_next};
+use fe_state::{Entry, Kept, State};
+
+/// How many numbers a session may use, from its floor on.
+const WINDOW: u64 = 32;
+
+/// Floors are below this.
+const FLOOR_LIMIT: u64 = 9223372036854775777;
+
+/// Fewer answers than this are kept.
+const KEPT_LIMIT: u32 = 33;
+
+/// Whether a number is in the window, and above the one before it.
+fn is_next_number(floor: u64, previous: Option<u64>, number: u64) -> bool
+    requires { floor < 2 ^ 63 }
+    ensures { result ≡ is_next_number floor previous number }
+{
+    floor <= number && number < floor + WINDOW && is_after(previous, number)
+}
+
+/// What an entry keeps for a number of a session, at its place.
+fn kept_of(
+    session: u64,
+    floor: u64,
+    previous: Option<u64>,
+    place: u64,
+    entry: Option<Entry>,
+) -> Option<(u64, Kept)>
+    requires { floor < 2 ^ 63 }
+    ensures value { result ≡ kept_of session floor previous place entry }
+    ensures window { IfSome result (λ x. IsInWindow floor x.0) }
+    ensures place { IfSome result (λ x. x.1.place ≡ place) }
+{
+    match entry {
+        Some(
+            Entry::Finished {
+                session: owner,
+                number,
+                request,
+                answer,
+            },
+        ) => {
+            if owner == session && is_next_number(floor, previous, number) {
+                Some((
+                    number,
+                    Kept {
+                        request,
+                        answer,
+                        place,
+                    },
+                ))
+            } else {
+                None
+            }
+        }
+        _ => None,
+    }
+}
+
+#[tactic(auto, unfolding(crate::specs::FirstFault::kept_at))]
+fn kept_at(
+    format: Format,
+    limit: u64,
+    session: u64,
+    floor: u64,
+    previous: Option<u64>,
+    bytes: &[u8],
+) -> Result<(u64, Kept, &[u8]), Fault>
+    requires { floor < 2 ^ 63 }
+    ensures given { Gives (λ x. ((x.0, x.1), x.2.now)) result (kept_at format limit session floor previous bytes.now) }
+    ensures window { IfOk result (λ x. IsInWindow floor x.0) }
+    ensures place { IfOk result (λ x. x.1.place < limit) }
+{
+    let (place, rest) = u64_in(0, limit, bytes)?;
+    let (cells, behind) = row(format.record_bytes(), rest)?;
+    match kept_of(session, floor, previous, place, read_entry(format, cells)) {
+        Some((number, kept)) => Ok((number, kept, behind)),
+        None => Err(Fault::Left(rest.len())),
+    }
+}
+
+/// Loads the next answer that a session keeps, and gives its number.
+#[tactic(auto, unfolding(crate::specs::FirstFault::next_kept))]
+fn next_kept<'a>(
+    format: Format,
+    session: u64,
+    floor: u64,
+    previous: Option<u64>,
+    state: &mut State,
+    bytes: &'a [u8],
+) -> Result<(u64, &'a [u8]), Fault>
+    requires floor { option_map (λ x. x.floor) (get state.old.sessions session) ≡ Some floor }
+    requires small { floor < 2 ^ 63 }
+    ensures given { Gives (λ x. (Some x.0, state.new, x.1.now)) result (next_kept format session floor (previous, state.old, bytes.now)) }
+    ensures floor { OnOk result (option_map (λ x. x.floor) (get state.new.sessions session) ≡ Some floor) }
+    ensures keys { OnOk result (KeepsKeys state.old.sessions state.new.sessions) }
+{
+    match kept_at(format, state.place(), session, floor, previous, bytes) {
+        Ok((number, kept, rest)) => {
+            state.load_kept(session, number, kept);
+            Ok((number, rest))
+        }
+        Err(fault) => Err(fault),
+    }
+}
+
+/// Loads as many answers as is said, and gives the last one's number.
+fn load_window<'a>(
+    format: Format,
+    session: u64,
+    floor: u64,
+    count: u32,
+    state: &mut State,
+    bytes: &'a [u8],
+) -> Result<(Option<u64>, &'a [u8]), Fault>
+    requires floor { option_map (λ x. x.floor) (get state.old.sessions session) ≡ Some floor }
+    requires small { floor < 2 ^ 63 }
+    ensures given { Gives (λ x. (x.0, state.new, x.1.now)) result (repeated (next_kept format session floor) count (None, state.old, bytes.now)) }
+    ensures keys { OnOk result (KeepsKeys state.old.sessions state.new.sessions) }
+{
+    let mut previous = None;
+    let mut rest = bytes;
+    for _ in 0..count {
+        let (number, behind) = next_kept(format, session, floor, previous, state, rest)?;
+        previous = Some(number);
+        rest = behind;
+    }
+    Ok((previous, rest))
+}
+
+#[tactic(auto, unfolding(crate::specs::FirstFault::session_at))]
+fn session_at(previous: Option<u64>, bytes: &[u8]) -> Result<(u64, &[u8]), Fault>
+    ensures given { Gives (λ x. (x.0, x.1.now)) result (session_at previous bytes.now) }
+    ensures after { IfOk result (λ x. is_after previous x.0 ≡ true) }
+{
+    let (session, rest) = u64_next(bytes)?;
+    if is_after(previous, session) {
+        Ok((session, rest))
+    } else {
+        Err(Fault::Left(bytes.len()))
+    }
+}
+
+/// Loads the next session, whose number is above the one before it.
+#[tactic(auto, unfolding(crate::specs::FirstFault::next_session))]
+fn next_session<'a>(
+    format: Format,
+    previous: Option<u64>,
+    state: &mut State,
+    bytes: &'a [u8],
+) -> Result<(u64, &'a [u8]), Fault>
+    requires fresh { IsFresh previous state.old.sessions }
+    requires few { len state.old.sessions < 64 }
+    ensures given { Gives (λ x. (Some x.0, state.new, x.1.now)) result (next_session format (previous, state.old, bytes.now)) }
+    ensures fresh { IfOk result (λ x. IsFresh (Some x.0) state.new.sessions) }
+    ensures few { OnOk result (len state.new.sessions ≤ len state.old.sessions + 1) }
+{
+    let (session, rest) = session_at(previous, bytes)?;
+    let (floor, rest) = u64_in(1, FLOOR_LIMIT, rest)?;
+    let (count, rest) = u32_in(0, KEPT_LIMIT, rest)?;
+    state.load_session(session, floor);
+    let (_, rest) = load_window(format, session, floor, count, state, rest)?;
+    Ok((session, rest))
+}
+
+/// Loads as many sessions as is said, and gives the last one's number.
+pub fn read_sessions<'a>(
+    format: Format,
+    count: u32,
+    state: &mut State,
+    bytes: &'a [u8],
+) -> Result<(Option<u64>, &'a [u8]), Fault>
+    requires fresh { IsFresh None state.old.sessions }
+    requires none { len state.old.sessions ≡ 0 }
+    requires few { count ≤ 64 }
+    ensures { Gives (λ x. (x.0, state.new, x.1.now)) result (repeated (next_session format) count (None, state.old, bytes.now)) }
+{
+    let mut previous = None;
+    let mut rest = bytes;
+    for _ in 0..count {
+        let (session, behind) = next_session(format, previous, state, rest)?;
+        previous = Some(session);
+        rest = behind;
+    }
+    Ok((previous, rest))
+}
