@@ -7,7 +7,7 @@ use Rattle.fe_wire.specs.declared.version.Version.TheVariants.{Two}
 use Rattle.fe_wire.specs.Stream.{Decoding, HasRead, HasReadFrom, fault_of}
 use Rattle.fe_wire.proofs.StreamLaws.{one_outcome, reads_message, nothing_unfinished}
 use Rattle.fe_wire.specs.declared.fed.BadFrame.{BadFrame}
-use Rattle.fe_front.specs.Front.{FrontState}
+use Rattle.fe_first_front.specs.Front.{FrontState}
 use Rattle.std.specs.List.{flat_map, AllByRecursion}
 use Rattle.std.proofs.lemmas.List.Concat.{flat_map-append}
 use Rattle.fe_wire.specs.declared.server_message.ServerMessage.{ServerMessage}

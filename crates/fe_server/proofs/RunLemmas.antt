@@ -5,7 +5,7 @@ use Rattle.std.proofs.Math.Seq.{take-append-add, take-length}
 use Rattle.std.proofs.KnownBytes.{Keeps-refl, Appends-nil, Appends-trans, Appends-kept}
 use Rattle.std.specs.Io.KnownBytes.{Keeps, Appends, IsAtEnd}
 use Rattle.std.specs.List.{flat_map}
-use Rattle.fe_front.specs.Front.{FrontState}
+use Rattle.fe_first_front.specs.Front.{FrontState}
 use Rattle.fe_wire.specs.declared.client_message.ClientMessage.{ClientMessage}
 use Rattle.fe_server.specs.Line.{parsed}
 use Rattle.fe_server.specs.Lines.{lines_of, LeavesLines}

@@ -5,7 +5,7 @@ use Rattle.std.specs.List.{flat_map, AllByRecursion}
 use Rattle.fe_wire.specs.Spelling.{reply_spelling, ReplyFits}
 use Rattle.fe_wire.specs.Stream.{Decoding, HasRead}
 use Rattle.fe_wire.specs.declared.version.Version.TheVariants.{Two}
-use Rattle.fe_front.specs.Front.{FrontState, has_room, attach_refusal, attached, admission, called, TakesMemory, next_batch, cut, posted, mails_on, with_mails, refusal_mailed}
+use Rattle.fe_first_front.specs.Front.{FrontState, has_room, attach_refusal, attached, admission, called, TakesMemory, next_batch, cut, posted, mails_on, with_mails, refusal_mailed}
 use Rattle.fe_mail.specs.Refusal.{code_of}
 use Rattle.fe_mail.specs.declared.mail.Mail.{Mail}
 use Rattle.fe_mail.specs.declared.mail.Mail.TheVariants as mail

@@ -1,13 +1,13 @@
 ghost use Rattle.std.specs.Prelude.{◌≡◌, [], ◌++◌, None, true, IsTrue, IfOk, IfErr, OnOk, MatchResult};
 ghost use Rattle.std.specs.List.{flat_map, AllByRecursion};
-ghost use Rattle.fe_front.specs.Front.{first_front, connected, has_room};
+ghost use Rattle.fe_first_front.specs.Front.{first_front, connected, has_room};
 ghost use Rattle.fe_wire.specs.Spelling.{spelling, Fits, reply_spelling, ReplyFits};
 ghost use Rattle.fe_server.specs.Desk.{replies_of, mails_of_desk, emptied, posted_all, roomy, Takes, TakesAll, IsReading, IsBetween, IsAnswered};
 ghost use Rattle.fe_wire.specs.declared.client_message.ClientMessage.{ClientMessage as Message};
 
 use crate::fault::Fault;
 use crate::replies::reply_of;
-use fe_front::Front;
+use fe_first_front::Front;
 use fe_state::Request;
 use fe_wire::{ClientMessage, Decoder, Version, put_reply};
 use std::alloc::Global;

@@ -4,11 +4,7 @@
 #![tactic(auto)]
 
 #[cfg(test)]
-mod codec;
-#[cfg(test)]
-mod disk;
-#[cfg(test)]
-mod front;
+mod first_front;
 #[cfg(test)]
 mod mail;
 #[cfg(test)]

@@ -1,5 +1,5 @@
 use Rattle.std.proofs.Common.{◌≡◌, None, drop}
-use Rattle.fe_front.specs.Front.{FrontState}
+use Rattle.fe_first_front.specs.Front.{FrontState}
 use Rattle.fe_server.specs.Desk.{TakesAll}
 use Rattle.fe_server.proofs.desk.Desk.take_all.Given as goal
 

@@ -1,6 +1,6 @@
 use Rattle.std.proofs.Common.{◌≡◌, ◌+◌, ◌≤◌, ◌++◌, length, take, drop}
-use Rattle.fe_front.specs.Mail.{mails_of}
-use Rattle.fe_front.proofs.mailbox.Mailbox.put_all.Given as goal
+use Rattle.fe_first_front.specs.Mail.{mails_of}
+use Rattle.fe_first_front.proofs.mailbox.Mailbox.put_all.Given as goal
 
 -- the mails put so far, and those of the entries that are left, are all mails
 abbrev pub invariant-loop-k : goal.invariant-loop-k

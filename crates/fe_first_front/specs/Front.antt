@@ -11,19 +11,19 @@ use Rattle.fe_state.specs.declared.entry.Entry.TheVariants.{Attached, Finished}
 use Rattle.fe_state.specs.contracts.entry.Entry.{the_row as entry_row}
 use Rattle.fe_state.specs.declared.request.Request.{Request}
 use Rattle.fe_state.specs.declared.request.Request.TheVariants.{Remove, Access}
-use Rattle.fe_front.specs.Mail.{mails_of}
-use Rattle.fe_front.specs.declared.connection.Connection.{Connection}
-use Rattle.fe_front.specs.contracts.connection.Connection.{the_row as connection_row}
-use Rattle.fe_front.specs.declared.front.Out.{Out}
-use Rattle.fe_front.specs.contracts.front.Out.{the_row as out_row}
+use Rattle.fe_first_front.specs.Mail.{mails_of}
+use Rattle.fe_first_front.specs.declared.connection.Connection.{Connection}
+use Rattle.fe_first_front.specs.contracts.connection.Connection.{the_row as connection_row}
+use Rattle.fe_first_front.specs.declared.front.Out.{Out}
+use Rattle.fe_first_front.specs.contracts.front.Out.{the_row as out_row}
 use Rattle.fe_mail.specs.declared.mail.Mail.{Mail}
 use Rattle.fe_mail.specs.declared.mail.Mail.TheVariants.{Refused}
-use Rattle.fe_front.specs.declared.outcome.Outcome.{Outcome}
-use Rattle.fe_front.specs.declared.outcome.Outcome.TheVariants as outcome
+use Rattle.fe_first_front.specs.declared.outcome.Outcome.{Outcome}
+use Rattle.fe_first_front.specs.declared.outcome.Outcome.TheVariants as outcome
 use Rattle.fe_mail.specs.declared.refusal.Refusal.{Refusal}
 use Rattle.fe_mail.specs.declared.refusal.Refusal.TheVariants.{NotAttached, SessionLimit, BelowFloor, BeyondWindow, Spent}
-use Rattle.fe_front.specs.declared.waiting.Waiting.{Waiting}
-use Rattle.fe_front.specs.contracts.waiting.Waiting.{the_row as waiting_row}
+use Rattle.fe_first_front.specs.declared.waiting.Waiting.{Waiting}
+use Rattle.fe_first_front.specs.contracts.waiting.Waiting.{the_row as waiting_row}
 
 -- The arrays; how many entries there are; the number of the last call that was not refused; the requests that
 -- wait, in order of their numbers; the connection with the session that it has and its mails; how many entries

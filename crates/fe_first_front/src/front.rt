@@ -2,7 +2,7 @@ ghost use Rattle.std.specs.Prelude.{◌≡◌, ◌+◌, ◌↔◌, false, length
 ghost use Rattle.std.specs.Result.{result_err};
 ghost use Rattle.fe_state.specs.Directory.{answer_in};
 ghost use Rattle.fe_state.specs.Effect.{CreatesArray};
-ghost use Rattle.fe_front.specs.Front.{first_front, connected, has_room, is_spent, session_on, attach_refusal, attached, admission, answered, finished, called, outcome_of, TakesMemory, IsServed, next_batch, cut, IsOut, posted, mails_on, taken, refusal_mailed};
+ghost use Rattle.fe_first_front.specs.Front.{first_front, connected, has_room, is_spent, session_on, attach_refusal, attached, admission, answered, finished, called, outcome_of, TakesMemory, IsServed, next_batch, cut, IsOut, posted, mails_on, taken, refusal_mailed};
 
 use crate::connection::Connection;
 use crate::mailbox::Mailbox;
@@ -44,8 +44,8 @@ pub struct Front {
 }
 
 impl Model for Front {
-    ghost use Rattle.fe_front.specs.Front.{FrontState, IsFront, front_code};
-    ghost use Rattle.fe_front.specs.FrontFields.{state_of, HasSpare};
+    ghost use Rattle.fe_first_front.specs.Front.{FrontState, IsFront, front_code};
+    ghost use Rattle.fe_first_front.specs.FrontFields.{state_of, HasSpare};
 
     ghost Value = { FrontState };
 

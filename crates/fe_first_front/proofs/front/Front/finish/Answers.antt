@@ -1,10 +1,10 @@
 use Rattle.std.proofs.Common.{◌≡◌, sym, subst, rules}
 use Rattle.std.specs.Prelude.{IsTrue, false}
 use Rattle.fe_state.specs.Effect.{performed}
-use Rattle.fe_front.specs.Front.{FrontState, has_room, is_spent}
-use Rattle.fe_front.specs.FrontFields.{state_of}
-use Rattle.fe_front.proofs.FrontLemmas.{finished_front, few_of, left_of}
-use Rattle.fe_front.proofs.front.Front.finish.Goals as goal
+use Rattle.fe_first_front.specs.Front.{FrontState, has_room, is_spent}
+use Rattle.fe_first_front.specs.FrontFields.{state_of}
+use Rattle.fe_first_front.proofs.FrontLemmas.{finished_front, few_of, left_of}
+use Rattle.fe_first_front.proofs.front.Front.finish.Goals as goal
 
 pub invariant_of-self-2 : goal.invariant_of-self-2
 invariant_of-self-2 c =

@@ -8,9 +8,9 @@ use Rattle.fe_state.specs.declared.entry.Entry.{Entry}
 use Rattle.fe_state.specs.declared.request.Request.{Request}
 use Rattle.fe_state.proofs.Limits.{performed_next}
 use Rattle.fe_state.specs.declared.batch.Batch.{Batch}
-use Rattle.fe_front.specs.Front.{FrontState, IsFront, IsOut, out_length, has_room, is_spent}
-use Rattle.fe_front.specs.declared.connection.Connection.{Connection}
-use Rattle.fe_front.specs.declared.front.Out.{Out}
+use Rattle.fe_first_front.specs.Front.{FrontState, IsFront, IsOut, out_length, has_room, is_spent}
+use Rattle.fe_first_front.specs.declared.connection.Connection.{Connection}
+use Rattle.fe_first_front.specs.declared.front.Out.{Out}
 
 out_first : (o : Option Out) (batch : Batch) (mark : ℕ) → IsOut o batch → IfSome o (λ x. x.first ≡ mark) → batch.first ≡ mark
 out_first None batch mark h e = absurd h

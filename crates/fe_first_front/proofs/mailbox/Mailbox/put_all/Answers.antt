@@ -1,7 +1,7 @@
 use Rattle.std.proofs.Common.{◌+◌, arith, sym, ◌∙◌}
-use Rattle.fe_front.proofs.BoxLemmas.{boxed_first, boxed_passed, nothing_left}
-use Rattle.fe_front.proofs.mailbox.Mailbox.put_all.Goals.{then-session_of-session, else-session_of-session}
-use Rattle.fe_front.proofs.mailbox.Mailbox.put_all.Goals as goal
+use Rattle.fe_first_front.proofs.BoxLemmas.{boxed_first, boxed_passed, nothing_left}
+use Rattle.fe_first_front.proofs.mailbox.Mailbox.put_all.Goals.{then-session_of-session, else-session_of-session}
+use Rattle.fe_first_front.proofs.mailbox.Mailbox.put_all.Goals as goal
 
 pub loop-k-preserved : goal.loop-k-preserved
 loop-k-preserved c = elim c.if-session_of-session.branch [

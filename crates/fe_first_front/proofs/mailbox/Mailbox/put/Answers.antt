@@ -1,6 +1,6 @@
 use Rattle.std.proofs.Common.{◌≡◌, ◌<◌, length, arith, sym}
-use Rattle.fe_front.proofs.BoxLemmas.{put_room, put_full}
-use Rattle.fe_front.proofs.mailbox.Mailbox.put.Goals as goal
+use Rattle.fe_first_front.proofs.BoxLemmas.{put_room, put_full}
+use Rattle.fe_first_front.proofs.mailbox.Mailbox.put.Goals as goal
 
 pub returns-then-len-lt-MAILS-clause-mails : goal.returns-then-len-lt-MAILS-clause-mails
 returns-then-len-lt-MAILS-clause-mails c =

@@ -1,5 +1,5 @@
 ghost use Rattle.std.specs.Prelude.{◌≡◌, ◌+◌, ◌^◌, ◌<◌, length};
-ghost use Rattle.fe_front.specs.Front.{has_another, receiving};
+ghost use Rattle.fe_first_front.specs.Front.{has_another, receiving};
 
 use crate::mailbox::Mailbox;
 use fe_state::{Entry, Request};

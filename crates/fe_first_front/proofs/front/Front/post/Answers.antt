@@ -1,8 +1,8 @@
 use Rattle.std.proofs.Common.{Some, sym, ap, subst}
-use Rattle.fe_front.specs.Front.{FrontState, IsOut}
-use Rattle.fe_front.proofs.FrontLemmas.{posted_front}
-use Rattle.fe_front.proofs.front.Front.post.Goals.{in-Some, in_default}
-use Rattle.fe_front.proofs.front.Front.post.Goals as goal
+use Rattle.fe_first_front.specs.Front.{FrontState, IsOut}
+use Rattle.fe_first_front.proofs.FrontLemmas.{posted_front}
+use Rattle.fe_first_front.proofs.front.Front.post.Goals.{in-Some, in_default}
+use Rattle.fe_first_front.proofs.front.Front.post.Goals as goal
 
 pub invariant_of-self : goal.invariant_of-self
 invariant_of-self c =

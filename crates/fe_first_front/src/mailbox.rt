@@ -1,5 +1,5 @@
 ghost use Rattle.std.specs.Prelude.{◌≡◌, ◌+◌, ◌^◌, ◌<◌, ◌≤◌, [], ◌∷◌, ◌++◌, length, take, drop, slice_get, IfOk};
-ghost use Rattle.fe_front.specs.Mail.{mails_of};
+ghost use Rattle.fe_first_front.specs.Mail.{mails_of};
 
 use fe_mail::{MAILS, Mail, session_of};
 use fe_state::{Entry, Request};

@@ -1,7 +1,7 @@
 -- How the fields of a `Front` give what callers see.
 use Rattle.std.specs.Prelude.{◌≡◌, [], Some, None}
-use Rattle.fe_front.specs.Front.{FrontState}
-use Rattle.fe_front.specs.declared.front.Front.TheInside.{Inside}
+use Rattle.fe_first_front.specs.Front.{FrontState}
+use Rattle.fe_first_front.specs.declared.front.Front.TheInside.{Inside}
 
 abbrev pub state_of : Inside → FrontState
 state_of f =

@@ -1,7 +1,7 @@
 //! The front in its first form: want of memory, a full box, the names of refusals.
-ghost use Rattle.fe_front.specs.Front.{IsServed};
+ghost use Rattle.fe_first_front.specs.Front.{IsServed};
 
-use fe_front::{Front, Outcome};
+use fe_first_front::{Front, Outcome};
 use fe_mail::{Mail, Refusal, ReportText};
 use fe_state::{Answer, Name, Request};
 use fe_words::{Op, Tag};

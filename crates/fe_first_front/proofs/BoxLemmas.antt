@@ -7,7 +7,7 @@ use Rattle.std.specs.Prelude.{◌==◌}
 use Rattle.fe_state.specs.declared.entry.Entry.{Entry}
 use Rattle.fe_mail.specs.Mail.{mail_of, session_of}
 use Rattle.fe_mail.specs.declared.mail.Mail.{Mail}
-use Rattle.fe_front.specs.Mail.{mails_of}
+use Rattle.fe_first_front.specs.Mail.{mails_of}
 
 -- what a full box dropped makes no difference to what it drops later
 take_again : {X : Type 0} (n : ℕ) (xs ys : List X) → take n (take n xs ++ ys) ≡ take n (xs ++ ys)
