@@ -1,6 +1,6 @@
-pub mod KeptLemmas
-pub mod KeyLemmas
-pub mod OwnerLemmas
-pub mod SeatLemmas
+mod KeptLemmas
+mod KeyLemmas
+mod OwnerLemmas
+mod SeatLemmas
 pub mod SessionLemmas
-pub mod TurnLemmas
+mod TurnLemmas
