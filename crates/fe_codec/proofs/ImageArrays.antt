@@ -1,10 +1,9 @@
 -- Arrays of an image that are read were spelled so.
-use Rattle.std.proofs.Common.{◌≡◌, ◌≢◌, ℕ, zero, suc, ◌+◌, ◌-◌, ◌^◌, ◌<◌, ◌≤◌, Bool, true, false, cond, List, [], ◌∷◌, ◌++◌, length, Option, Some, None, Result, Ok, Err, refl, sym, ap, subst, ◌∙◌, append_assoc, inl, inr, arith}
+use Rattle.std.proofs.Common.{◌≡◌, ◌≢◌, ℕ, ◌+◌, ◌-◌, ◌^◌, ◌<◌, ◌≤◌, Bool, true, false, cond, List, [], ◌∷◌, ◌++◌, length, Option, Some, None, Result, Ok, refl, sym, ap, subst, ◌∙◌, append_assoc, inl, inr, arith}
 use Rattle.std.specs.Prelude.{flat_map, find, is_some, sum_by}
 use Rattle.std.specs.List.{AllByRecursion}
 use Rattle.std.specs.Str.{bytes_eq}
-use Rattle.std.specs.Ordering.{nat_cmp}
-use Rattle.std.specs.FinMap.{FinMap, get, insert, entries, entries_sorted, get-entries}
+use Rattle.std.specs.FinMap.{get, insert, entries, entries_sorted, get-entries}
 use Rattle.std.proofs.lemmas.List.Sums.{sum_by-cons}
 use Rattle.std.proofs.lemmas.Option.{none-some}
 use Rattle.std.proofs.lemmas.Slice.Eq.{bytes_eq-Decides}
@@ -28,7 +27,7 @@ use Rattle.fe_codec.specs.FirstFault.{◌>>=◌, repeated, number_in, is_after, 
 use Rattle.fe_codec.proofs.InOrder.{Rises, put_all}
 use Rattle.fe_codec.proofs.ImageFields.{bind_ok, ok_is, Takes, takes_then, field32, number_in_takes, goes_from, number_in_again}
 use Rattle.fe_codec.proofs.ImageNames.{id_takes, new_name_takes, short_of, plain_most, id_again, new_name_again}
-use Rattle.fe_codec.proofs.ImageWords.{insert_twice, loads_words, in_part, holding, words_again}
+use Rattle.fe_codec.proofs.ImageWords.{insert_twice, loads_words, words_again}
 use Rattle.fe_codec.proofs.Loads.{Walk, Loads, load_all}
 use Rattle.fe_codec.proofs.LoadingLemmas.{fresh_next}
 use Rattle.fe_codec.proofs.Windows.{holds_each}

@@ -1,25 +1,12 @@
 -- A field of an image that is read was spelled so, and what was spelled is read.
-use Rattle.std.proofs.Common.{◌≡◌, ℕ, zero, suc, ◌+◌, ◌-◌, ◌^◌, ◌<◌, ◌≤◌, Bool, true, false, cond, ltb, eqb, ◌&&◌, List, [], ◌∷◌, ◌++◌, length, get_or, take, drop, replicate, Option, Some, None, Result, Ok, Err, refl, sym, ap, subst, ◌∙◌, append_assoc, arith, inl, inr}
-use Rattle.std.specs.Prelude.{is_some, nat_le}
-use Rattle.std.specs.List.{list_all}
+use Rattle.std.proofs.Common.{◌≡◌, ℕ, suc, ◌+◌, ◌^◌, ◌<◌, ◌≤◌, Bool, true, false, cond, ltb, ◌&&◌, List, ◌∷◌, ◌++◌, length, take, drop, Option, Some, None, Result, Ok, Err, refl, sym, ap, subst, ◌∙◌, append_assoc, arith, inl, inr}
+use Rattle.std.specs.Prelude.{nat_le}
 use Rattle.std.specs.Int.{Width, w32, w64, byte_len, from_be_bytes, to_be_bytes}
-use Rattle.std.proofs.lemmas.Bool.{cases_lt, ltb-false, ltb-true, le-ltb, le-leb, lt-ltb, leb-true, eqb-true}
-use Rattle.std.proofs.lemmas.List.{take_at, drop_at, take-append-drop, length-append, length-take, length-drop, get_or-drop, get_or-take, get_or_past, append-nil}
+use Rattle.std.proofs.lemmas.Bool.{cases_lt, ltb-false, le-ltb, le-leb, lt-ltb}
+use Rattle.std.proofs.lemmas.List.{take_at, drop_at, take-append-drop, length-append, length-take, get_or-drop, get_or-take, get_or_past}
 use Rattle.std.proofs.lemmas.Nat.{be_bytes_4, be_bytes_8, from_be_bytes-to_be_bytes_4, from_be_bytes-to_be_bytes_8}
-use Rattle.fe_words.specs.Table.{word}
-use Rattle.fe_words.specs.declared.word.Word.{Word}
-use Rattle.fe_words.specs.declared.word.Tag.{Tag}
-use Rattle.fe_words.specs.declared.word.Tag.TheVariants.{Full, Empty}
-use Rattle.fe_state.specs.Name.{is_plain}
 use Rattle.fe_codec.specs.Bytes.{IsBytes}
-use Rattle.fe_codec.specs.Codes.{tag_code}
-use Rattle.fe_codec.specs.Layout.{name_bytes}
-use Rattle.fe_codec.specs.Reading.{tag_of}
-use Rattle.fe_codec.specs.Record.{name_field, name_row, IsShort}
-use Rattle.fe_codec.specs.Image.{word_spelling}
-use Rattle.fe_codec.specs.declared.format.Format.{Format}
-use Rattle.fe_codec.specs.declared.format.Format.TheVariants.{One, Two}
-use Rattle.fe_codec.specs.FirstFault.{◌>>=◌, or_fault, row, number, number_in, is_after, id_at, session_at, name_length_at, is_name_row, name_at, tag_at, word_at}
+use Rattle.fe_codec.specs.FirstFault.{◌>>=◌, or_fault, row, number, number_in}
 
 -- ---- bytes
 

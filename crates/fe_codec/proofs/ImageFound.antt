@@ -1,5 +1,5 @@
 -- A state that is read from an image is spelled so.
-use Rattle.std.proofs.Common.{◌≡◌, ℕ, ◌+◌, ◌^◌, Bool, true, List, [], ◌∷◌, ◌++◌, length, Option, Some, None, Result, Ok, Err, refl, sym, ap, subst, ◌∙◌, append_assoc, arith}
+use Rattle.std.proofs.Common.{◌≡◌, ℕ, ◌+◌, ◌^◌, List, [], ◌∷◌, ◌++◌, length, None, Result, Ok, Err, refl, sym, ap, subst, ◌∙◌}
 use Rattle.std.specs.Prelude.{flat_map, IfOk}
 use Rattle.std.specs.List.{AllByRecursion}
 use Rattle.std.specs.Ordering.{nat_cmp}
@@ -21,7 +21,7 @@ use Rattle.fe_codec.proofs.InOrder.{put_all, entries-in_order, len-in_order}
 use Rattle.fe_codec.proofs.ImageFields.{bind_ok, ok_is, Takes, takes_then, field32, field64, number_in_takes}
 use Rattle.fe_codec.proofs.ImageArrays.{load_array, arrays_loaded, array_loads}
 use Rattle.fe_codec.proofs.ImageSessions.{load_session, sessions_loaded, session_loads}
-use Rattle.fe_codec.proofs.Loads.{Walk, LoadsAll, loads_all}
+use Rattle.fe_codec.proofs.Loads.{loads_all}
 
 abbrev header_spelling : Header → List ℕ
 header_spelling h = to_be_bytes w64 h.place ++ to_be_bytes w64 h.next_id ++ to_be_bytes w32 h.arrays ++ to_be_bytes w32 h.sessions

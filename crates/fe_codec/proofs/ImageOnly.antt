@@ -1,19 +1,17 @@
 -- A state that is spelled is read from its image.
-use Rattle.std.proofs.Common.{◌≡◌, ℕ, ◌+◌, ◌-◌, ◌^◌, ◌<◌, ◌≤◌, true, T, List, [], ◌∷◌, ◌++◌, length, Option, Some, None, Result, Ok, Err, refl, sym, ap, subst, ◌∙◌, append_assoc, arith}
-use Rattle.std.specs.Prelude.{flat_map, sum_by}
+use Rattle.std.proofs.Common.{◌≡◌, ℕ, ◌+◌, ◌^◌, ◌<◌, ◌≤◌, List, [], ◌∷◌, ◌++◌, length, Some, None, Result, Ok, refl, sym, ap, subst, ◌∙◌, append_assoc, arith}
+use Rattle.std.specs.Prelude.{flat_map}
 use Rattle.std.specs.List.{AllByRecursion}
 use Rattle.std.specs.Ordering.{nat_cmp}
-use Rattle.std.specs.FinMap.{FinMap, get, empty, entries, entries_sorted, get-entries, get-empty, len, len-entries, is_sorted}
+use Rattle.std.specs.FinMap.{FinMap, get, empty, entries, entries_sorted, get-entries, get-empty, len, len-entries}
 use Rattle.std.specs.Int.{w32, w64, to_be_bytes}
 use Rattle.std.proofs.lemmas.List.{append-nil}
 use Rattle.std.proofs.lemmas.Option.{none-some}
 use Rattle.fe_state.proofs.Empty.{no_words}
-use Rattle.fe_state.specs.Directory.{word_count}
 use Rattle.fe_state.specs.Sessions.{Session}
-use Rattle.fe_state.specs.State.{ServerState, IsSession, IsWithinLimits, with_arrays, with_sessions}
+use Rattle.fe_state.specs.State.{ServerState, IsSession, with_arrays, with_sessions}
 use Rattle.fe_state.specs.declared.array.Array.{Array}
-use Rattle.fe_state.specs.declared.kept.Kept.{Kept}
-use Rattle.fe_codec.specs.Record.{FieldsFit, FitsRecord}
+use Rattle.fe_codec.specs.Record.{FieldsFit}
 use Rattle.fe_codec.specs.Image.{array_spelling, session_spelling, image_spelling, entry_of_kept, KeptOfFormat, SessionOfFormat, SessionFits, FitsImage}
 use Rattle.fe_codec.specs.Given.{ImageGives}
 use Rattle.fe_codec.specs.Laws.{SpellingIsRead, ImageHasOneSpelling}
@@ -21,7 +19,7 @@ use Rattle.fe_codec.specs.declared.fault.ImageFault.{ImageFault}
 use Rattle.fe_codec.specs.declared.format.Format.{Format}
 use Rattle.fe_codec.specs.declared.header.Header.{Header}
 use Rattle.fe_codec.specs.FirstFault.{◌>>=◌, repeated, number_in, header_at, starting, next_array, next_session, ended, state_at, told_at, image_at}
-use Rattle.fe_codec.proofs.InOrder.{Rises, put_all, entries-Rises, put_all-entries}
+use Rattle.fe_codec.proofs.InOrder.{entries-Rises, put_all-entries}
 use Rattle.fe_codec.proofs.ImageFields.{ok_is, field32, field64, goes_from, number_in_again}
 use Rattle.fe_codec.proofs.ImageArrays.{load_array, arrays_loaded, Remains, remains_next}
 use Rattle.fe_codec.proofs.ImageSessions.{load_session, sessions_loaded, MayKeep, MayHave, SessionsRemain, session_next, window_few}

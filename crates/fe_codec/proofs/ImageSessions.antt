@@ -1,5 +1,5 @@
 -- Sessions of an image that are read were spelled so.
-use Rattle.std.proofs.Common.{◌≡◌, ℕ, zero, suc, ◌+◌, ◌-◌, ◌^◌, ◌<◌, ◌≤◌, append_assoc, Bool, true, false, cond, eqb, ◌&&◌, List, [], ◌∷◌, ◌++◌, length, Option, Some, None, Result, Ok, Err, refl, sym, ap, subst, ◌∙◌, arith, rules}
+use Rattle.std.proofs.Common.{◌≡◌, ℕ, ◌+◌, ◌-◌, ◌^◌, ◌<◌, ◌≤◌, append_assoc, Bool, true, false, cond, eqb, ◌&&◌, List, [], ◌∷◌, ◌++◌, length, Option, Some, None, Result, Ok, refl, sym, ap, subst, ◌∙◌, arith, rules}
 use Rattle.std.specs.Prelude.{flat_map, nat_le, nat_lt}
 use Rattle.std.specs.List.{AllByRecursion}
 use Rattle.std.specs.Option.{option_map}
@@ -11,7 +11,6 @@ use Rattle.std.proofs.lemmas.Bool.{eqb-true, ltb-true, le-leb, lt-ltb}
 use Rattle.std.proofs.lemmas.Bool.Decides.{nat_tests}
 use Rattle.std.proofs.lemmas.Slice.Eq.{bytes_eq-Decides}
 use Rattle.fe_state.proofs.Maps.{get_inserted}
-use Rattle.fe_state.specs.Format.{entry_fits_format_1}
 use Rattle.fe_state.specs.Sessions.{Session, keeping, put_session}
 use Rattle.fe_state.specs.State.{ServerState, with_sessions}
 use Rattle.fe_state.specs.declared.kept.Kept.{Kept}
@@ -31,7 +30,7 @@ use Rattle.fe_codec.proofs.ImageFields.{bind_ok, ok_is, given, both_true, Takes,
 use Rattle.fe_codec.proofs.RecordLaws.{entry_again, length-entry_spelling}
 use Rattle.fe_codec.proofs.ImageNames.{session_takes, session_again}
 use Rattle.fe_codec.proofs.ImageWords.{insert_twice, insert_same}
-use Rattle.fe_codec.proofs.Loads.{Walk, Loads, LoadsAll, load_all, loads_all, again_all}
+use Rattle.fe_codec.proofs.Loads.{Walk, Loads, load_all, loads_all, again_all}
 
 -- ---- records
 

@@ -1,5 +1,5 @@
 -- How long images are.
-use Rattle.std.proofs.Common.{◌≡◌, ℕ, suc, ◌+◌, ◌*◌, ◌-◌, ◌^◌, ◌<◌, ◌≤◌, List, [], ◌∷◌, ◌++◌, length, Some, Result, Ok, Err, refl, sym, ap, ◌∙◌, arith}
+use Rattle.std.proofs.Common.{◌≡◌, ℕ, ◌+◌, ◌*◌, ◌≤◌, List, [], ◌∷◌, ◌++◌, length, Some, Result, Ok, Err, refl, ◌∙◌, arith}
 use Rattle.std.specs.Prelude.{flat_map, sum_by, OnOk}
 use Rattle.std.specs.List.{AllByRecursion}
 use Rattle.std.specs.FinMap.{get, entries, len, len-entries}
@@ -8,13 +8,12 @@ use Rattle.std.proofs.Math.Nat.{add-mul}
 use Rattle.std.proofs.lemmas.List.{length-append}
 use Rattle.std.proofs.lemmas.List.Sums.{sum_by-cons}
 use Rattle.fe_words.specs.declared.word.Word.{Word}
-use Rattle.fe_state.specs.Directory.{IsArray}
 use Rattle.fe_state.specs.Sessions.{Session}
 use Rattle.fe_state.specs.State.{ServerState}
 use Rattle.fe_state.specs.declared.array.Array.{Array}
 use Rattle.fe_state.specs.declared.kept.Kept.{Kept}
 use Rattle.fe_codec.specs.Layout.{name_bytes, record_bytes, image_bytes}
-use Rattle.fe_codec.specs.Record.{entry_spelling, name_row, name_field}
+use Rattle.fe_codec.specs.Record.{entry_spelling, name_field}
 use Rattle.fe_codec.specs.Image.{word_spelling, array_spelling, kept_spelling, session_spelling, image_spelling, entry_of_kept, ArrayOfFormat, FitsImage}
 use Rattle.fe_codec.specs.declared.format.Format.{Format}
 use Rattle.fe_codec.specs.declared.format.Format.TheVariants.{One, Two}

@@ -1,11 +1,11 @@
 -- The words of an array, loaded one after the other.
-use Rattle.std.proofs.Common.{◌≡◌, ℕ, zero, suc, ◌+◌, ◌^◌, ◌<◌, List, [], ◌∷◌, ◌++◌, length, set, replicate, Option, Some, None, Result, Ok, Err, refl, sym, ap, subst, ◌∙◌, append_assoc, arith, inl, inr}
+use Rattle.std.proofs.Common.{◌≡◌, ℕ, zero, suc, ◌+◌, ◌^◌, ◌<◌, List, [], ◌∷◌, ◌++◌, length, set, replicate, Option, Some, Ok, refl, sym, ap, subst, ◌∙◌, append_assoc, arith, inl, inr}
 use Rattle.std.specs.Prelude.{flat_map}
 use Rattle.std.specs.List.{AllByRecursion}
 use Rattle.std.specs.Ordering.{nat_cmp}
 use Rattle.std.specs.Cmp.{nat_cmp_total}
 use Rattle.std.specs.FinMap.{FinMap, get, insert, same_map, nat_cmp-IsAntisymmetric}
-use Rattle.std.proofs.lemmas.List.{append-nil, length-append}
+use Rattle.std.proofs.lemmas.List.{length-append}
 use Rattle.fe_words.specs.Table.{word}
 use Rattle.fe_words.specs.declared.word.Word.{Word}
 use Rattle.fe_words.specs.declared.word.Tag.TheVariants.{Empty}
@@ -15,7 +15,7 @@ use Rattle.fe_state.specs.State.{ServerState, with_arrays}
 use Rattle.fe_state.specs.declared.array.Array.{Array}
 use Rattle.fe_codec.specs.Bytes.{IsBytes}
 use Rattle.fe_codec.specs.Image.{word_spelling}
-use Rattle.fe_codec.specs.FirstFault.{◌>>=◌, repeated, word_at, with_word_at, next_word}
+use Rattle.fe_codec.specs.FirstFault.{repeated, word_at, with_word_at, next_word}
 use Rattle.fe_codec.proofs.ImageFields.{bind_ok, ok_is, Takes, takes_then, goes_from}
 use Rattle.fe_codec.proofs.ImageNames.{word_takes, word_again}
 

@@ -1,8 +1,7 @@
 -- Parts of an image that are loaded one after the other.
-use Rattle.std.proofs.Common.{◌≡◌, ℕ, zero, suc, ◌+◌, List, [], ◌∷◌, ◌++◌, length, Option, Some, None, Bool, true, Result, Ok, Err, refl, sym, ap, subst, ◌∙◌, append_assoc, arith}
+use Rattle.std.proofs.Common.{◌≡◌, ℕ, zero, suc, List, [], ◌∷◌, ◌++◌, length, Option, Some, true, Result, Ok, refl, ap, subst, ◌∙◌, append_assoc}
 use Rattle.std.specs.Prelude.{flat_map}
 use Rattle.std.specs.List.{AllByRecursion}
-use Rattle.std.proofs.lemmas.List.{append-nil}
 use Rattle.fe_state.specs.State.{ServerState}
 use Rattle.fe_codec.specs.Bytes.{IsBytes}
 use Rattle.fe_codec.specs.FirstFault.{◌>>=◌, is_after, repeated}

@@ -2,7 +2,7 @@
 use Rattle.std.proofs.Common.{◌≡◌, ℕ, suc, ◌-◌, ◌+◌, ◌≤◌, ◌<◌, Result, Ok, Err, refl, sym, ◌∙◌, arith}
 use Rattle.fe_codec.specs.declared.fault.Fault.{Fault}
 use Rattle.fe_codec.specs.declared.fault.Fault.TheVariants.{Left, NoMemory}
-use Rattle.fe_codec.specs.FirstFault.{◌>>=◌, repeated}
+use Rattle.fe_codec.specs.FirstFault.{repeated}
 use Rattle.fe_codec.specs.Given.{Fails}
 
 module _ {X : Type 0} (step : X → Result X ℕ) (count i : ℕ) (x : X) (total : Result X ℕ) (so_far : repeated step (count - i) x ≡ total) where

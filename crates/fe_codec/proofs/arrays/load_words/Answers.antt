@@ -1,6 +1,6 @@
-use Rattle.std.proofs.Common.{refl, ap, ◌≡◌, ◌≤◌, ℕ, ◌∙◌, arith}
+use Rattle.std.proofs.Common.{refl, ◌≡◌, ◌∙◌, arith}
 use Rattle.std.proofs.lemmas.Result.{err_from_is_err_and}
-use Rattle.fe_codec.specs.FirstFault.{next_word, repeated}
+use Rattle.fe_codec.specs.FirstFault.{next_word}
 use Rattle.fe_codec.proofs.Repeats.{begins, goes_on, stops, is_done}
 use Rattle.fe_codec.proofs.LoadingLemmas.{ids_same, ids_then}
 use Rattle.fe_codec.proofs.arrays.load_words.Goals as goal

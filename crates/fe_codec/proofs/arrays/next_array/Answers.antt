@@ -1,5 +1,5 @@
-use Rattle.std.proofs.Common.{◌≡◌, ◌+◌, ◌≤◌, ℕ, Some, arith}
-use Rattle.std.specs.FinMap.{insert, len}
+use Rattle.std.proofs.Common.{◌≡◌, ◌+◌, Some, arith}
+use Rattle.std.specs.FinMap.{len}
 use Rattle.fe_state.specs.Effect.{new_array}
 use Rattle.fe_state.specs.State.{directory_of}
 use Rattle.fe_words.specs.declared.word.Tag.TheVariants.{Empty}

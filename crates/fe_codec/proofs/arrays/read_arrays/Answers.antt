@@ -1,4 +1,4 @@
-use Rattle.std.proofs.Common.{◌≡◌, ◌≤◌, ℕ, Some, None, refl, ◌∙◌, arith}
+use Rattle.std.proofs.Common.{None, refl, ◌∙◌, arith}
 use Rattle.std.proofs.lemmas.Result.{err_from_is_err_and}
 use Rattle.fe_codec.specs.FirstFault.{next_array}
 use Rattle.fe_codec.proofs.Repeats.{begins, goes_on, stops, is_done}

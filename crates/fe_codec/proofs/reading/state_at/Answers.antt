@@ -1,6 +1,5 @@
-use Rattle.std.proofs.Common.{◌≡◌, ◌∙◌, ap, arith}
 use Rattle.std.specs.Ordering.{nat_cmp}
-use Rattle.std.specs.FinMap.{empty, get-empty, len-empty}
+use Rattle.std.specs.FinMap.{get-empty, len-empty}
 use Rattle.fe_state.specs.Sessions.{Session}
 use Rattle.fe_state.specs.declared.array.Array.{Array}
 use Rattle.fe_codec.proofs.reading.state_at.Goals as goal

@@ -1,5 +1,5 @@
-use Rattle.std.proofs.Common.{◌≡◌, ◌+◌, ◌≤◌, ℕ, Some, refl, arith}
-use Rattle.std.specs.FinMap.{insert, empty, len}
+use Rattle.std.proofs.Common.{◌≡◌, ◌+◌, ℕ, Some, refl, arith}
+use Rattle.std.specs.FinMap.{empty, len}
 use Rattle.fe_state.proofs.Maps.{get_inserted}
 use Rattle.fe_state.specs.Sessions.{Session}
 use Rattle.fe_codec.proofs.LoadingLemmas.{fresh_next, fresh_kept, one_more}
