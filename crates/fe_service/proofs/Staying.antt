@@ -11,7 +11,6 @@ use Rattle.fe_waits.proofs.MemberLemmas.{key_cases, none_some, some_same, get-in
 use Rattle.fe_seats.specs.Seating.{without_session, with_holder, with_closing, is_closing, holder_of, count_of}
 use Rattle.fe_seats.specs.declared.seat.Seat.{Seat}
 use Rattle.fe_seats.proofs.SessionLemmas.{room-of_session}
-use Rattle.fe_seats.proofs.OwnerLemmas.{some_is}
 use Rattle.fe_state.proofs.Maps.{get_inserted, get_beside, get_removed, get_left, get_retained, same_or_other}
 use Rattle.fe_state.specs.Sessions.{Session, MayRise, raised, put_session, opened, first_session}
 use Rattle.fe_state.specs.SessionEffect.{IsUsable}
@@ -45,6 +44,9 @@ within_without m session key w waits = by_test (key.0 == session) refl
         differs : key.0 ≡ session → ⊥
         differs same = grind (arith, nat_tests, is, same)
 
+nowhere : {P : Type 0} → false ≡ true → P
+nowhere e = cc
+
 -- the seats that are open
 pub open_held : (seats : FinMap nat_cmp Seat) (session : ℕ) (holder : Option ℕ) → IsSome (get seats session) → (other : ℕ) → is_open (with_holder seats session holder) other ≡ is_open seats other
 open_held seats session holder seated other =
@@ -58,7 +60,7 @@ open_held seats session holder seated other =
     ]
   where
     by_seat : (here : Option Seat) → get seats session ≡ here → IsSome here → not (is_closing seats session) ≡ is_open seats session
-    by_seat None is some = let (seat, e) = some_is {X = Seat} None some in none_some {X = Seat} {x = seat} e
+    by_seat None is some = nowhere some
     by_seat (Some seat) is some = ap (λ o. not (option_map_or (λ seat. seat.closing) o false)) is ∙ sym (ap (λ o. option_map_or (λ seat. not seat.closing) o false) is)
 
 pub held_service : (s : ServiceState) (session : ℕ) (holder : Option ℕ) → IsSome (get s.seats session) → IsService s → IsService (held s session holder)

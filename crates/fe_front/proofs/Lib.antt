@@ -1,0 +1,11 @@
+pub mod Admitted
+pub mod Agreement
+pub mod Below
+pub mod Counts
+pub mod First
+pub mod Keeping
+pub mod Leading
+pub mod Posted
+pub mod Repeating
+pub mod Sitting
+pub mod Ties

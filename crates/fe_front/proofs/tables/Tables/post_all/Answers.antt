@@ -1,0 +1,17 @@
+use Rattle.std.proofs.Common.{◌+◌, drop, sym, ap, ◌∙◌, arith}
+use Rattle.fe_front.specs.Posting.{posted_all}
+use Rattle.fe_front.specs.Tables.{front_of}
+use Rattle.fe_front.proofs.Posted.{posted_one, posted_none}
+use Rattle.fe_front.proofs.tables.Tables.post_all.Goals as goal
+
+pub loop-k-preserved : goal.loop-k-preserved
+loop-k-preserved c = record {
+  sound = c.post_entry.ensures.sound;
+  posted =
+      ap (λ f. posted_all f (drop (c.loop-k.k + 1) c.args.entries.now) (c.args.first + (c.loop-k.k + 1))) c.post_entry.ensures.posted
+      ∙ posted_one (front_of c.loop-k.self) c.args.entries.now c.args.first c.loop-k.k c.index-entries-k.result c.loop-k-test.true c.index-entries-k.is
+      ∙ c.loop-k.invariant.posted;
+}
+
+pub returns-clause-posted : goal.returns-clause-posted
+returns-clause-posted c = sym (posted_none (front_of c.loop-k.self) c.args.entries.now (c.args.first + c.loop-k.k) c.loop-k.k (omega (arith, c.loop-k-test.false))) ∙ c.loop-k.invariant.posted

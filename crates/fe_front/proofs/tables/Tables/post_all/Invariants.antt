@@ -1,0 +1,11 @@
+use Rattle.std.proofs.Common.{◌≡◌, ◌+◌, drop}
+use Rattle.fe_front.specs.Posting.{posted_all}
+use Rattle.fe_front.specs.Tables.{front_of, AreSound}
+use Rattle.fe_front.proofs.tables.Tables.post_all.Given as goal
+
+-- the entries that are left, posted from here on, leave what all leave
+abbrev pub invariant-loop-k : goal.invariant-loop-k
+invariant-loop-k l = record {
+  sound : AreSound l.self;
+  posted : posted_all (front_of l.self) (drop l.k l.entries) (l.first + l.k) ≡ posted_all (front_of l.initial.self) l.entries l.first;
+}

@@ -1,0 +1,116 @@
+-- What a call is, by what its number stands for, and what it leaves of a front.
+use Rattle.std.specs.Prelude.{◌≡◌, ◌≢◌, ℕ, ◌+◌, zero, suc, nat_lt, if◌then◌else◌, true, false, List, [], ◌∷◌, length, Option, Some, None, Ok, MatchOption, MatchResult}
+use Rattle.std.specs.Option.{option_map, option_map_or}
+use Rattle.std.specs.FinMap.{get}
+use Rattle.fe_waits.specs.Waiting.{Waiter}
+use Rattle.fe_state.specs.Sessions.{kept_in}
+use Rattle.fe_state.specs.State.{reply, MakesArray}
+use Rattle.fe_state.specs.declared.answer.Answer.{Answer}
+use Rattle.fe_state.specs.declared.entry.Entry.{Entry}
+use Rattle.fe_state.specs.declared.entry.Entry.TheVariants.{Finished}
+use Rattle.fe_state.specs.declared.kept.Kept.{Kept}
+use Rattle.fe_state.specs.declared.request.Request.{Request}
+use Rattle.fe_service.specs.Service.{request_of}
+use Rattle.fe_service.specs.Events.{Completes, waited}
+use Rattle.fe_mail.specs.Books.{Books, call_completed, call_waits, call_repeated, call_refused, waiter_completed}
+use Rattle.fe_mail.specs.declared.mail.Mail.TheVariants as mail
+use Rattle.fe_mail.specs.declared.refusal.Refusal.{Refusal}
+use Rattle.fe_mail.specs.declared.refusal.Refusal.TheVariants.{NumberUsed, Spent}
+use Rattle.fe_front.specs.Front.{FrontState, is_spent}
+use Rattle.fe_front.specs.Refusals.{addressed}
+use Rattle.fe_front.specs.Steps.{mailed}
+use Rattle.fe_front.specs.declared.outcome.Outcome.{Outcome}
+use Rattle.fe_front.specs.declared.outcome.Outcome.TheVariants as outcome
+
+-- what is kept for a number of a session
+abbrev pub kept_at : FrontState → ℕ → ℕ → Option Kept
+kept_at f session number = kept_in (get f.service.state.sessions session) number
+
+-- the request that a number of a session stands for already: it is kept with its answer, or it waits
+abbrev pub request_at : FrontState → ℕ → ℕ → Option Request
+request_at f session number =
+    option_map_or (λ k. Some k.request) (kept_at f session number) (option_map request_of (get f.service.waiting (session, number)))
+
+-- a call is refused for this, whatever memory there is: its number is not its session's, stands for another request, or
+-- is new where the history has no place left
+abbrev pub IsNumberRefused : FrontState → ℕ → Request → ℕ → Refusal → Type 0
+IsNumberRefused f number request session refusal =
+    MatchOption (request_at f session number) ((is_spent f ≡ true) × (refusal ≡ Spent)) (λ before. (before ≢ request) × (refusal ≡ NumberUsed))
+
+abbrev pub IsCallRefused : FrontState → ℕ → ℕ → Request → Refusal → Type 0
+IsCallRefused f conn number request refusal =
+    MatchResult (addressed f conn number) (λ session. IsNumberRefused f number request session refusal) (λ first. refusal ≡ first)
+
+-- a call is refused for want of memory: it is the first of its number and there is a place for it, but it makes an array
+pub record WantsMemory (f : FrontState) (conn number : ℕ) (request : Request) : Type 0 where
+  pub session : ℕ
+  pub answer : Answer
+  pub addressed : addressed f conn number ≡ Ok session
+  pub new : request_at f session number ≡ None
+  pub unspent : is_spent f ≡ false
+  pub answered : reply f.service.state request ≡ Some answer
+  pub array : MakesArray (Finished session number request answer)
+
+-- the front after a call was refused: it is booked, and nothing else changes
+abbrev pub call_refused_by : FrontState → FrontState
+call_refused_by f = record f { books = call_refused f.books }
+
+-- what a call is that repeats what its number stands for
+abbrev pub repeat_of : FrontState → ℕ → ℕ → Outcome
+repeat_of f session number =
+    option_map_or (λ k. if nat_lt k.place f.durable then outcome.SentAgain else outcome.NotYetSynced) (kept_at f session number) outcome.AlreadyWaiting
+
+-- an answer that is kept is mailed again, where its entry is durable
+abbrev pub answered_again : FrontState → ℕ → ℕ → ℕ → FrontState
+answered_again f conn session number =
+    option_map_or
+    (λ k. if nat_lt k.place f.durable then mailed f conn (mail.Answer session number k.answer k.place) else f)
+    (kept_at f session number)
+    f
+
+-- the front after a call that repeats one
+abbrev pub repeated : FrontState → ℕ → ℕ → ℕ → FrontState
+repeated f conn session number = answered_again (record f { books = call_repeated f.books }) conn session number
+
+-- books after so many calls that waited completed
+abbrev pub waiters_completed : ℕ → Books → Books
+waiters_completed zero b = b
+waiters_completed (suc n) b = waiter_completed (waiters_completed n b)
+
+-- a new request completes with so many entries: its own, and those of the requests that may be served then, whoever
+-- comes first
+pub record Completed (f : FrontState) (session number : ℕ) (request : Request) (n : ℕ) (es : List Entry) (f' : FrontState) : Type 0 where
+  pub answer : Answer
+  pub served : List Entry
+  pub new : request_at f session number ≡ None
+  pub unspent : is_spent f ≡ false
+  pub answered : reply f.service.state request ≡ Some answer
+  pub completes : Completes f.service f'.service (Finished session number request answer) served
+  pub entries : es ≡ Finished session number request answer ∷ served
+  pub count : n ≡ 1 + length served
+  pub rest : f' ≡ record f { service = f'.service; books = waiters_completed (length served) (call_completed f.books) }
+
+-- a new request waits from now on
+pub record Waits (f : FrontState) (session number : ℕ) (request : Request) (es : List Entry) (f' : FrontState) : Type 0 where
+  pub waiter : Waiter
+  pub new : request_at f session number ≡ None
+  pub unspent : is_spent f ≡ false
+  pub idle : reply f.service.state request ≡ None
+  pub waits : request ≡ request_of waiter
+  pub entries : es ≡ []
+  pub rest : f' ≡ record f { service = waited f.service session number waiter; books = call_waits f.books }
+
+-- a request that its number stands for already is a repeat, whatever memory and places there are
+pub record Repeats (f : FrontState) (conn session number : ℕ) (request : Request) (o : Outcome) (es : List Entry) (f' : FrontState) : Type 0 where
+  pub known : request_at f session number ≡ Some request
+  pub is : o ≡ repeat_of f session number
+  pub entries : es ≡ []
+  pub rest : f' ≡ repeated f conn session number
+
+-- what a call of a session came to
+abbrev pub Called : FrontState → ℕ → ℕ → ℕ → Request → Outcome → List Entry → FrontState → Type 0
+Called f conn session number request (outcome.Completed count) entries f' = Completed f session number request count entries f'
+Called f conn session number request outcome.Waits entries f' = Waits f session number request entries f'
+Called f conn session number request outcome.AlreadyWaiting entries f' = Repeats f conn session number request outcome.AlreadyWaiting entries f'
+Called f conn session number request outcome.SentAgain entries f' = Repeats f conn session number request outcome.SentAgain entries f'
+Called f conn session number request outcome.NotYetSynced entries f' = Repeats f conn session number request outcome.NotYetSynced entries f'

@@ -1,0 +1,8 @@
+pub mod Call
+pub mod Event
+pub mod Front
+pub mod Posting
+pub mod Refusals
+pub mod Step
+pub mod Steps
+pub mod Tables

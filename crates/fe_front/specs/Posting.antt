@@ -1,0 +1,46 @@
+-- What the posting of a batch leaves of a front.
+use Rattle.std.specs.Prelude.{◌≡◌, ℕ, ◌+◌, if◌then◌else◌, List, [], ◌∷◌, length, Option, Some, None}
+use Rattle.std.specs.Option.{option_map_or}
+use Rattle.fe_state.specs.declared.batch.Batch.{Batch}
+use Rattle.fe_state.specs.declared.entry.Entry.{Entry}
+use Rattle.fe_state.specs.declared.entry.Entry.TheVariants.{Attached, Closed, Settled, Finished}
+use Rattle.fe_seats.specs.Seating.{holder_of, is_closing}
+use Rattle.fe_service.specs.Events.{left}
+use Rattle.fe_mail.specs.Mail.{session_of, mail_of}
+use Rattle.fe_front.specs.Front.{FrontState}
+use Rattle.fe_front.specs.Steps.{freed, mailed}
+use Rattle.fe_front.specs.declared.out.Out.{Out}
+
+-- a batch that is as the one that is out
+abbrev pub IsOut : Option Out → Batch → Type 0
+IsOut None batch = ⊥
+IsOut (Some o) batch = (batch.first ≡ o.first) × (length batch.entries ≡ o.length)
+
+-- an entry's mail goes to whoever has its session
+abbrev pub delivered : FrontState → Entry → ℕ → FrontState
+delivered f e place = option_map_or (λ conn. mailed f conn (mail_of e place)) (holder_of f.service.seats (session_of e)) f
+
+-- a session that is closing leaves its seat
+abbrev pub vacated : FrontState → ℕ → FrontState
+vacated f session = if is_closing f.service.seats session then record f { service = left f.service session } else f
+
+-- a session's close is posted: whoever has it has it no more, and its closing ends
+abbrev pub ended : FrontState → ℕ → FrontState
+ended f session = vacated (freed f session) session
+
+-- an entry at a place is posted
+abbrev pub posted_entry : FrontState → Entry → ℕ → FrontState
+posted_entry f (Closed session) place = ended (delivered f (Closed session) place) session
+posted_entry f (Attached session floor) place = delivered f (Attached session floor) place
+posted_entry f (Settled session floor) place = delivered f (Settled session floor) place
+posted_entry f (Finished session number request answer) place = delivered f (Finished session number request answer) place
+
+-- entries are posted in order, the first of them at this place
+abbrev pub posted_all : FrontState → List Entry → ℕ → FrontState
+posted_all f [] place = f
+posted_all f (e ∷ es) place = posted_all (posted_entry f e place) es (place + 1)
+
+-- the front after the batch that was out was posted: what stands before the batch's end is durable
+abbrev pub posted : FrontState → Batch → FrontState
+posted f batch =
+    record (posted_all f batch.entries batch.first) { durable = batch.first + length batch.entries; out = None }

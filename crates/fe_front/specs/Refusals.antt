@@ -1,0 +1,75 @@
+-- Why an event is refused: the first reason that applies. An event that is not refused is of a session.
+use Rattle.std.specs.Prelude.{ℕ, zero, suc, ◌+◌, ◌-◌, ◌^◌, ◌||◌, ◌&&◌, Bool, false, not, if◌then◌else◌, nat_lt, is_some, is_none, Result, Ok, Err}
+use Rattle.std.specs.Option.{option_map_or}
+use Rattle.std.specs.FinMap.{get, len}
+use Rattle.fe_seats.specs.Seating.{is_closing}
+use Rattle.fe_service.specs.Events.{floor_of}
+use Rattle.fe_service.specs.Service.{Waiters}
+use Rattle.fe_mail.specs.Connections.{session_on}
+use Rattle.fe_mail.specs.declared.refusal.Refusal.{Refusal}
+use Rattle.fe_mail.specs.declared.refusal.Refusal.TheVariants.{NotAttached, Closing, SessionLimit, BelowFloor, BeyondWindow, StillWaiting, NotWaiting, Spent}
+use Rattle.fe_front.specs.Front.{FrontState, is_connected, is_spent}
+
+-- a session, unless it is refused already, or for what is tested next
+abbrev pub and_then : Result ℕ Refusal → (ℕ → Result ℕ Refusal) → Result ℕ Refusal
+and_then (Err refusal) next = Err refusal
+and_then (Ok session) next = next session
+
+-- the session of a connection, which is not closing
+abbrev pub unclosing : FrontState → ℕ → Result ℕ Refusal
+unclosing f session = if is_closing f.service.seats session then Err Closing else Ok session
+
+abbrev pub own : FrontState → ℕ → Result ℕ Refusal
+own f conn = option_map_or (unclosing f) (session_on f.connections conn) (Err NotAttached)
+
+-- a session, while there is a place for what one event may add
+abbrev pub unspent : FrontState → ℕ → Result ℕ Refusal
+unspent f session = if is_spent f then Err Spent else Ok session
+
+-- whether a session needs a seat and there is none for it
+abbrev pub has_no_seat : FrontState → ℕ → Bool
+has_no_seat f session = is_none (get f.service.seats session) && not (nat_lt (len f.service.seats) 64)
+
+abbrev pub attaching : FrontState → ℕ → ℕ → Result ℕ Refusal
+attaching f conn session =
+    if not (is_connected f conn) then Err NotAttached
+    else if is_closing f.service.seats session then Err Closing
+    else if has_no_seat f session then Err SessionLimit
+    else unspent f session
+
+-- a session whose window has the number
+abbrev pub in_window : FrontState → ℕ → ℕ → Result ℕ Refusal
+in_window f number session =
+    if nat_lt number (floor_of f.service session) then Err BelowFloor
+    else if nat_lt number (floor_of f.service session + 32) then Ok session
+    else Err BeyondWindow
+
+-- the session of a call
+abbrev pub addressed : FrontState → ℕ → ℕ → Result ℕ Refusal
+addressed f conn number = and_then (own f conn) (in_window f number)
+
+-- whether a request of the session waits under a number below this one
+abbrev pub waits_below : Waiters → ℕ → ℕ → Bool
+waits_below waiting session zero = false
+waits_below waiting session (suc number) = waits_below waiting session number || is_some (get waiting (session, number))
+
+-- a session whose floor may rise to this one
+abbrev pub may_settle : FrontState → ℕ → ℕ → Result ℕ Refusal
+may_settle f floor session =
+    if nat_lt floor (floor_of f.service session) then Err BelowFloor
+    else if nat_lt (floor_of f.service session + 32) floor || nat_lt (2 ^ 63 - 32) floor then Err BeyondWindow
+    else if waits_below f.service.waiting session floor then Err StillWaiting
+    else unspent f session
+
+abbrev pub settling : FrontState → ℕ → ℕ → Result ℕ Refusal
+settling f conn floor = and_then (own f conn) (may_settle f floor)
+
+abbrev pub leaving : FrontState → ℕ → Result ℕ Refusal
+leaving f conn = and_then (own f conn) (unspent f)
+
+-- a session of which a request waits under the number
+abbrev pub may_cancel : FrontState → ℕ → ℕ → Result ℕ Refusal
+may_cancel f number session = if is_some (get f.service.waiting (session, number)) then Ok session else Err NotWaiting
+
+abbrev pub cancelling : FrontState → ℕ → ℕ → Result ℕ Refusal
+cancelling f conn number = and_then (own f conn) (may_cancel f number)

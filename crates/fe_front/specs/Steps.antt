@@ -1,0 +1,120 @@
+-- What the events leave of a front.
+use Rattle.std.specs.Prelude.{ℕ, ◌||◌, Bool, if◌then◌else◌, nat_lt, nat_eq, [], ◌∷◌, ◌++◌, length, drop, Option, Some, None, is_some}
+use Rattle.std.specs.Option.{option_map_or}
+use Rattle.std.specs.FinMap.{insert, remove}
+use Rattle.fe_state.specs.declared.batch.Batch.{Batch}
+use Rattle.fe_seats.specs.Seating.{holder_of, count_of}
+use Rattle.fe_service.specs.Events.{attached, settled, closed, withdrawn, cancelled, held}
+use Rattle.fe_mail.specs.Books.{waiters_withdrawn, mail_boxed, mail_refused_by_box, mail_taken, box_dropped}
+use Rattle.fe_mail.specs.Connections.{first_connection, session_on, mails_on, with_session, with_mails}
+use Rattle.fe_mail.specs.declared.mail.Mail.{Mail}
+use Rattle.fe_mail.specs.declared.mail.Mail.TheVariants.{Withdrawn}
+use Rattle.fe_front.specs.Front.{FrontState, is_connected}
+
+-- ---- building blocks
+
+-- what waits of a session is withdrawn
+abbrev pub withdrawn_from : FrontState → ℕ → FrontState
+withdrawn_from f session =
+    record f { service = withdrawn f.service session; books = waiters_withdrawn (count_of f.service.waiting session) f.books }
+
+-- a connection and the session that it has let go of each other
+abbrev pub parted : FrontState → ℕ → ℕ → FrontState
+parted f conn session =
+    record f { service = held f.service session None; connections = with_session f.connections conn None }
+
+-- a connection lets go of the session that it has, if it has one
+abbrev pub released : FrontState → ℕ → FrontState
+released f conn = option_map_or (parted f conn) (session_on f.connections conn) f
+
+-- whoever has a session lets go of it
+abbrev pub freed : FrontState → ℕ → FrontState
+freed f session = option_map_or (λ conn. parted f conn session) (holder_of f.service.seats session) f
+
+-- a connection leaves its session, if it has one, and what waits of that is withdrawn
+abbrev pub departed : FrontState → ℕ → FrontState
+departed f conn =
+    option_map_or (λ session. parted (withdrawn_from f session) conn session) (session_on f.connections conn) f
+
+-- a connection is taken away with its box
+abbrev pub unboxed : FrontState → ℕ → FrontState
+unboxed f conn =
+    record f { connections = remove f.connections conn; books = box_dropped (length (mails_on f.connections conn)) f.books }
+
+-- a connection is gone: it leaves its session, and its box is dropped
+abbrev pub dropped : FrontState → ℕ → FrontState
+dropped f conn = if is_connected f conn then unboxed (departed f conn) conn else f
+
+-- how many waiting requests are withdrawn where a connection goes
+abbrev pub departing : FrontState → ℕ → ℕ
+departing f conn = option_map_or (count_of f.service.waiting) (session_on f.connections conn) 0
+
+-- a mail behind the others in a box
+abbrev pub boxed : FrontState → ℕ → Mail → FrontState
+boxed f conn mail =
+    record f { connections = with_mails f.connections conn (mails_on f.connections conn ++ mail ∷ []); books = mail_boxed f.books }
+
+-- a mail to a full box: its connection is gone
+abbrev pub overflowed : FrontState → ℕ → FrontState
+overflowed f conn = dropped (record f { books = mail_refused_by_box f.books }) conn
+
+-- a mail to a connection; none is made where it is not connected
+abbrev pub mailed : FrontState → ℕ → Mail → FrontState
+mailed f conn mail =
+    if is_connected f conn then
+    (if nat_lt (length (mails_on f.connections conn)) 128 then boxed f conn mail else overflowed f conn)
+    else f
+
+-- ---- events
+
+-- a connection comes, with no session and an empty box
+abbrev pub connected : FrontState → ℕ → FrontState
+connected f conn = record f { connections = insert f.connections conn first_connection }
+
+-- a connection and a session, which have no other, have each other, with an entry of it
+abbrev pub joined : FrontState → ℕ → ℕ → FrontState
+joined f conn session =
+    record f { service = attached f.service session conn; connections = with_session f.connections conn (Some session) }
+
+-- a connection attaches a session: it leaves the one that it has, and whoever had the session has it no more
+abbrev pub attached_to : FrontState → ℕ → ℕ → FrontState
+attached_to f conn session = joined (freed (released f conn) session) conn session
+
+-- a session's floor rises
+abbrev pub settled_to : FrontState → ℕ → ℕ → FrontState
+settled_to f session floor = record f { service = settled f.service session floor }
+
+-- a session is closed: what waits of it is withdrawn; the connection keeps it until its entry is posted
+abbrev pub closed_by : FrontState → ℕ → FrontState
+closed_by f session =
+    record f { service = closed f.service session; books = waiters_withdrawn (count_of f.service.waiting session) f.books }
+
+-- a waiting request is taken out
+abbrev pub cancelled_from : FrontState → ℕ → ℕ → FrontState
+cancelled_from f session number =
+    record f { service = cancelled f.service session number; books = waiters_withdrawn 1 f.books }
+
+-- a connection cancels a waiting request of its session, and is told so
+abbrev pub cancelled_by : FrontState → ℕ → ℕ → ℕ → FrontState
+cancelled_by f conn session number = mailed (cancelled_from f session number) conn (Withdrawn number)
+
+-- a connection's first mail is taken, if it has one
+abbrev pub taken : FrontState → ℕ → FrontState
+taken f conn =
+    if nat_lt 0 (length (mails_on f.connections conn)) then
+    record f { connections = with_mails f.connections conn (drop 1 (mails_on f.connections conn)); books = mail_taken f.books }
+    else f
+
+-- whether no batch may be cut: one is out, or nothing is pending
+abbrev pub has_no_cut : FrontState → Bool
+has_no_cut f = is_some f.out || nat_eq (length f.service.pending) 0
+
+-- the batch that a cut hands out: all pending entries, where there are some and no batch is out
+abbrev pub next_batch : FrontState → Option Batch
+next_batch f = if has_no_cut f then None else Some (record { first = f.durable; entries = f.service.pending })
+
+-- the front after a cut
+abbrev pub cut : FrontState → FrontState
+cut f =
+    if has_no_cut f then f
+    else record f { service = record f.service { pending = [] }; out = Some (record { first = f.durable; length = length f.service.pending }) }

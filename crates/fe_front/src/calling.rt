@@ -1,0 +1,261 @@
+ghost use Rattle.std.specs.Prelude.{◌≡◌, ◌+◌, ◌≤◌, ◌⊎◌, ◌↔◌, ℕ, List, [], length, Some, None, Ok, Err, IsTrue, false, IfOk, IfErr, OnErr, MatchResult};
+ghost use Rattle.fe_front.specs.Call.{request_at, IsCallRefused, IsNumberRefused, WantsMemory, Called, Completed, Waits, repeat_of, repeated, waiters_completed};
+ghost use Rattle.fe_front.specs.Front.{has_room, is_spent};
+ghost use Rattle.fe_front.specs.Refusals.{addressed, in_window};
+ghost use Rattle.fe_front.specs.Tables.{front_of, AreSound};
+ghost use Rattle.fe_mail.specs.Books.{Balances};
+ghost use Rattle.fe_mail.specs.declared.refusal.Refusal as refusals;
+ghost use Rattle.fe_service.specs.Events.{IsFree, HasRoom};
+ghost use Rattle.fe_state.specs.State.{reply, MakesArray};
+ghost use Rattle.fe_state.specs.declared.entry.Entry.{Entry};
+ghost use Rattle.fe_state.specs.declared.entry.Entry.TheVariants.{Finished};
+
+use crate::outcome::Outcome;
+use crate::sessions::WINDOW;
+use crate::tables::Tables;
+use fe_mail::{Books, Mail, Refusal};
+use fe_state::{Answer, Name, Request};
+use fe_words::{Op, Tag};
+
+impl Tables {
+    /// A session whose window has the number.
+    fn in_window(&self, session: u64, number: u64) -> Result<u64, Refusal>
+        ensures { result ≡ in_window (front_of self.now) number session }
+    {
+        let floor = self.floor(session);
+        if number < floor {
+            Err(Refusal::BelowFloor)
+        } else if number - floor < WINDOW {
+            Ok(session)
+        } else {
+            Err(Refusal::BeyondWindow)
+        }
+    }
+
+    /// The session of a call, or why it is refused.
+    fn addressed(&self, conn: u64, number: u64) -> Result<u64, Refusal>
+        ensures { result ≡ addressed (front_of self.now) conn number }
+    {
+        match self.own(conn) {
+            Ok(session) => self.in_window(session, number),
+            Err(refusal) => Err(refusal),
+        }
+    }
+
+    /// The request that a number of a session stands for already.
+    fn request_at(&self, session: u64, number: u64) -> Option<Request>
+        ensures { result ≡ request_at (front_of self.now) session number }
+    {
+        match self.service.state().kept(session, number) {
+            Some(kept) => Some(kept.request),
+            None => match self.service.find(session, number) {
+                Some(turn) => Some(Request::Access {
+                    array: turn.array,
+                    index: turn.index,
+                    op: turn.op,
+                    no_wait: false,
+                }),
+                None => None,
+            },
+        }
+    }
+
+    /// A call repeats what its number stands for. Its answer is mailed again where it is kept and durable.
+    fn repeat(&mut self, conn: u64, session: u64, number: u64) -> Outcome
+        requires sound { AreSound self.old }
+        ensures sound { AreSound self.new }
+        ensures outcome { result ≡ repeat_of (front_of self.old) session number }
+        ensures repeated { front_of self.new ≡ repeated (front_of self.old) conn session number }
+    {
+        self.books.call_repeated();
+        let Some(kept) = self.service.state().kept(session, number) else {
+            return Outcome::AlreadyWaiting;
+        };
+        if kept.place >= self.durable {
+            return Outcome::NotYetSynced;
+        }
+        let answer = Mail::Answer {
+            session,
+            number,
+            answer: kept.answer,
+            place: kept.place,
+        };
+        self.mail(conn, answer);
+        Outcome::SentAgain
+    }
+
+    /// A new request completes. The one refusal is that memory is short, for the words of a new array.
+    fn complete(
+        &mut self,
+        session: u64,
+        number: u64,
+        request: Request,
+        answer: Answer,
+    ) -> Result<Outcome, Refusal>
+        requires sound { AreSound self.old }
+        requires free { IsFree self.old.service session number }
+        requires new { request_at (front_of self.old) session number ≡ None }
+        requires unspent { is_spent (front_of self.old) ≡ false }
+        requires answered { reply self.old.service.state request ≡ Some answer }
+        requires room { HasRoom self.old.service }
+        ensures sound { AreSound self.new }
+        ensures completed { IfOk result (λ outcome. (count : ℕ) × (entries : List Entry) × (outcome ≡ Outcome.Completed count) × Completed (front_of self.old) session number request count entries (front_of self.new)) }
+        ensures refusal { IfErr result (λ refusal. refusal ≡ Refusal.NoMemory) }
+        ensures memory { OnErr result (MakesArray (Finished session number request answer)) }
+        ensures err { OnErr result (self.new ≡ self.old) }
+    {
+        match self.service.complete(session, number, request, answer) {
+            Ok(entries) => {
+                self.books.call_completed();
+                count_served(&mut self.books, entries - 1);
+                Ok(Outcome::Completed { entries })
+            }
+            Err(_) => Err(Refusal::NoMemory),
+        }
+    }
+
+    /// A new request waits, which has no reply yet.
+    fn wait(&mut self, session: u64, number: u64, request: Request)
+        requires sound { AreSound self.old }
+        requires free { IsFree self.old.service session number }
+        requires new { request_at (front_of self.old) session number ≡ None }
+        requires unspent { is_spent (front_of self.old) ≡ false }
+        requires idle { reply self.old.service.state request ≡ None }
+        ensures sound { AreSound self.new }
+        ensures waits { Waits (front_of self.old) session number request [] (front_of self.new) }
+    {
+        let Request::Access {
+            array,
+            index,
+            op,
+            ..
+        } = request
+        else {
+            unreachable!();
+        };
+        self.service.wait(session, number, array, index, op);
+        self.books.call_waits();
+    }
+
+    /// A request of a number that is in the window and stands for none yet.
+    fn begin(&mut self, session: u64, number: u64, request: Request) -> Result<Outcome, Refusal>
+        requires sound { AreSound self.old }
+        requires free { IsFree self.old.service session number }
+        requires new { request_at (front_of self.old) session number ≡ None }
+        requires unspent { is_spent (front_of self.old) ≡ false }
+        requires room { HasRoom self.old.service }
+        ensures sound { AreSound self.new }
+        ensures called { (conn : ℕ) → IfOk result (λ outcome. (entries : List Entry) × Called (front_of self.old) conn session number request outcome entries (front_of self.new)) }
+        ensures refusal { IfErr result (λ refusal. refusal ≡ Refusal.NoMemory) }
+        ensures memory { OnErr result ((answer : _) × (reply self.old.service.state request ≡ Some answer) × MakesArray (Finished session number request answer)) }
+        ensures err { OnErr result (self.new ≡ self.old) }
+    {
+        match self.service.state().answer_to(&request) {
+            Some(answer) => self.complete(session, number, request, answer),
+            None => {
+                self.wait(session, number, request);
+                Ok(Outcome::Waits)
+            }
+        }
+    }
+
+    /// A call, or why it is refused: its session's window has the number, and that is new or stands for the request.
+    pub(crate) fn call(
+        &mut self,
+        conn: u64,
+        number: u64,
+        request: Request,
+    ) -> Result<Outcome, Refusal>
+        requires sound { AreSound self.old }
+        requires room { IsTrue (has_room (front_of self.old)) }
+        ensures sound { AreSound self.new }
+        ensures called { IfOk result (λ outcome. (session : ℕ) × (entries : List Entry) × (addressed (front_of self.old) conn number ≡ Ok session) × Called (front_of self.old) conn session number request outcome entries (front_of self.new)) }
+        ensures refused { (refusal : refusals.Refusal) → IsCallRefused (front_of self.old) conn number request refusal → result ≡ Err refusal }
+        ensures refusal { IfErr result (λ refusal. IsCallRefused (front_of self.old) conn number request refusal ⊎ ((refusal ≡ Refusal.NoMemory) × WantsMemory (front_of self.old) conn number request)) }
+        ensures err { OnErr result (self.new ≡ self.old) }
+    {
+        self.limits();
+        let session = self.addressed(conn, number)?;
+        match self.request_at(session, number) {
+            Some(before) => {
+                if is_same(&before, &request) {
+                    Ok(self.repeat(conn, session, number))
+                } else {
+                    Err(Refusal::NumberUsed)
+                }
+            }
+            None => {
+                if self.is_spent() {
+                    Err(Refusal::Spent)
+                } else {
+                    self.begin(session, number, request)
+                }
+            }
+        }
+    }
+}
+
+/// Whether two requests ask the same.
+fn is_same(before: &Request, request: &Request) -> bool
+    ensures { IsTrue result ↔ (before.now ≡ request.now) }
+{
+    match (before, request) {
+        (
+            Request::Create {
+                name: known,
+                length,
+                tag,
+            },
+            Request::Create {
+                name: asked,
+                length: words,
+                tag: filled,
+            },
+        ) => is_name(known, asked) && *length == *words && is_tag(*tag, *filled),
+        (Request::Find { name: known }, Request::Find { name: asked }) => is_name(known, asked),
+        (Request::Remove { array: known }, Request::Remove { array: asked }) => *known == *asked,
+        (
+            Request::Access {
+                array,
+                index,
+                op,
+                no_wait,
+            },
+            Request::Access {
+                array: asked,
+                index: at,
+                op: by,
+                no_wait: at_once,
+            },
+        ) => *array == *asked && *index == *at && is_op(*op, *by) && *no_wait == *at_once,
+        _ => false,
+    }
+}
+
+fn is_name(known: &Name, asked: &Name) -> bool
+    ensures { IsTrue result ↔ (known.now ≡ asked.now) }
+{
+    known.bytes() == asked.bytes()
+}
+
+fn is_tag(known: Tag, asked: Tag) -> bool
+    ensures { IsTrue result ↔ (known ≡ asked) }
+{
+    known == asked
+}
+
+fn is_op(known: Op, asked: Op) -> bool
+    ensures { IsTrue result ↔ (known ≡ asked) }
+{
+    known == asked
+}
+
+/// Books so many calls that waited as completed.
+fn count_served(books: &mut Books, count: u32)
+    ensures books { books.new ≡ waiters_completed count books.old }
+    ensures balance { (waiting left : ℕ) → Balances books.old (waiting + count) left → Balances books.new waiting left }
+{
+    for done in 0..count {
+        books.waiter_completed();
+    }
+}

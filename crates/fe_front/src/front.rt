@@ -1,0 +1,251 @@
+ghost use Rattle.std.specs.Prelude.{◌≡◌, ◌⊎◌, ◌+◌, ◌↔◌, ◌≤◌, ℕ, List, nat_lt, length, slice_get, Some, None, Ok, Err, IsTrue, IsOk, IsErr, IfOk, IfErr, OnOk, OnErr, MatchResult};
+ghost use Rattle.std.specs.Option.{option_map};
+ghost use Rattle.std.specs.FinMap.{get, len};
+ghost use Rattle.fe_state.specs.State as states;
+ghost use Rattle.fe_state.specs.declared.entry.Entry.{Entry};
+ghost use Rattle.fe_mail.specs.Books.{Balances};
+ghost use Rattle.fe_mail.specs.Connections.{mails_on, mails_in};
+ghost use Rattle.fe_mail.specs.declared.mail.Mail.TheVariants as mails;
+ghost use Rattle.fe_mail.specs.declared.refusal.Refusal as refusals;
+ghost use Rattle.fe_front.specs.Front.{IsFront, IsFirst, has_room, is_connected, is_attached};
+ghost use Rattle.fe_front.specs.Event as event;
+ghost use Rattle.fe_front.specs.Step.{FrontStep};
+ghost use Rattle.fe_front.specs.Steps.{connected, attached_to, settled_to, closed_by, cancelled_by, dropped, departing, next_batch, cut, taken, mailed};
+ghost use Rattle.fe_front.specs.Refusals.{attaching, settling, leaving, cancelling};
+ghost use Rattle.fe_front.specs.Call.{IsCallRefused, WantsMemory, call_refused_by};
+ghost use Rattle.fe_front.specs.Posting.{IsOut, posted};
+
+use crate::out::Out;
+use crate::outcome::{Outcome, StrangeBatch};
+use crate::tables::Tables;
+use fe_mail::{Books, Connections, Mail, Refusal, ReportText};
+use fe_service::Service;
+use fe_state::{Batch, Entries, Request, State};
+use fe_words::Op;
+use std::alloc::{AllocError, Global};
+use std::marker::Model;
+
+/// How many entries may be pending where one more event has room.
+pub const ROOM: usize = 2048;
+
+/// The state, the sessions' seats and what waits, the connections with their boxes, the entries on their way to the
+/// store, and the books.
+///
+/// After each event none of the requests that wait may be served. Only `new`, `connect` and a request that makes an
+/// array take memory.
+#[derive(Drop)]
+pub struct Front {
+    tables: Tables,
+}
+
+impl Model for Front {
+    ghost use Rattle.fe_front.specs.Front.{FrontState, front_code};
+    ghost use Rattle.fe_front.specs.Tables.{front_of, AreSound};
+
+    ghost Value = { FrontState };
+
+    ghost coded = { front_code };
+
+    ghost view = { λ f. front_of f.tables };
+
+    ghost invariant = { λ f. AreSound f.tables };
+}
+
+impl Front {
+    /// A front over a state, all of whose entries are durable: each session has a seat, and no connection. It takes the
+    /// memory of all but the boxes and the words of new arrays; the one error is that there is too little.
+    pub fn new(alloc: Global, state: State) -> Result<Front, AllocError>
+        ensures { IfOk result (IsFirst state) }
+    {
+        let durable = state.place();
+        let service = Service::new(alloc, state)?;
+        let spare = Some(Entries::new(alloc)?);
+        let tables = Tables {
+            service,
+            connections: Connections::new(alloc),
+            books: Books::new(),
+            durable,
+            out: None,
+            spare,
+        };
+        Ok(Front { tables })
+    }
+
+    /// Makes an empty box for a connection. The one refusal is `NoMemory`.
+    pub fn connect(&mut self, conn: u64) -> Result<(), Refusal>
+        requires unconnected { get self.old.connections conn ≡ None }
+        ensures connected { OnOk result (self.new ≡ connected self.old conn) }
+        ensures refusal { IfErr result (λ refusal. refusal ≡ Refusal.NoMemory) }
+        ensures err { OnErr result (self.new ≡ self.old) }
+    {
+        self.tables.connect(conn)
+    }
+
+    /// Whether at most 2,048 entries are pending, which `attach`, `call`, `settle` and `bye` ask for.
+    pub fn room(&self) -> bool
+        ensures { result ≡ has_room self.now }
+    {
+        self.tables.service.pending_count() <= ROOM
+    }
+
+    /// Gives a session to a connection, with an entry of it. The connection leaves the session that it has, and whoever
+    /// has the session loses it; what waits of either goes on waiting.
+    pub fn attach(&mut self, conn: u64, session: u64) -> Result<(), Refusal>
+        requires room { IsTrue (has_room self.old) }
+        ensures attached { MatchResult (attaching self.old conn session) (λ _. IsOk result × (self.new ≡ attached_to self.old conn session)) (λ refusal. (result ≡ Err refusal) × (self.new ≡ self.old)) }
+    {
+        self.tables.attach(conn, session)
+    }
+
+    /// Answers a request of the session that the connection has, or lets it wait, and serves what may be served then.
+    /// Each call is booked.
+    pub fn call(&mut self, conn: u64, number: u64, request: Request) -> Result<Outcome, Refusal>
+        requires room { IsTrue (has_room self.old) }
+        ensures step { IfOk result (λ outcome. (entries : List Entry) × FrontStep self.old (event.Call conn number request outcome) entries self.new) }
+        ensures refused { (refusal : refusals.Refusal) → IsCallRefused self.old conn number request refusal → result ≡ Err refusal }
+        ensures refusal { IfErr result (λ refusal. IsCallRefused self.old conn number request refusal ⊎ ((refusal ≡ Refusal.NoMemory) × WantsMemory self.old conn number request)) }
+        ensures err { OnErr result (self.new ≡ call_refused_by self.old) }
+    {
+        let result = self.tables.call(conn, number, request);
+        if result.is_err() {
+            self.tables.books.call_refused();
+        }
+        result
+    }
+
+    /// Raises the least usable number of the connection's session, with an entry of it.
+    pub fn settle(&mut self, conn: u64, floor: u64) -> Result<(), Refusal>
+        requires room { IsTrue (has_room self.old) }
+        ensures settled { MatchResult (settling self.old conn floor) (λ session. IsOk result × (self.new ≡ settled_to self.old session floor)) (λ refusal. (result ≡ Err refusal) × (self.new ≡ self.old)) }
+    {
+        self.tables.settle(conn, floor)
+    }
+
+    /// Ends the connection's session, with an entry of it. What waits of it is withdrawn, and it is closing until that
+    /// entry is posted.
+    pub fn bye(&mut self, conn: u64) -> Result<(), Refusal>
+        requires room { IsTrue (has_room self.old) }
+        ensures closed { MatchResult (leaving self.old conn) (λ session. IsOk result × (self.new ≡ closed_by self.old session)) (λ refusal. (result ≡ Err refusal) × (self.new ≡ self.old)) }
+    {
+        self.tables.bye(conn)
+    }
+
+    /// Takes out a waiting request of the connection's session, and tells the connection.
+    pub fn cancel(&mut self, conn: u64, number: u64) -> Result<(), Refusal>
+        ensures cancelled { MatchResult (cancelling self.old conn number) (λ session. IsOk result × (self.new ≡ cancelled_by self.old conn session number)) (λ refusal. (result ≡ Err refusal) × (self.new ≡ self.old)) }
+    {
+        self.tables.cancel(conn, number)
+    }
+
+    /// Takes a connection away with its box. What waits of its session is withdrawn and counted, 0 to 32.
+    pub fn gone(&mut self, conn: u64) -> u32
+        ensures count { result ≡ departing self.old conn }
+        ensures dropped { self.new ≡ dropped self.old conn }
+    {
+        self.tables.drop_connection(conn)
+    }
+
+    /// Hands all pending entries out as the batch that is to be stored, if there are some and no batch is out.
+    pub fn cut(&mut self) -> Option<Batch>
+        ensures batch { result ≡ next_batch self.old }
+        ensures cut { self.new ≡ cut self.old }
+    {
+        self.tables.cut()
+    }
+
+    /// Takes the batch that is out as stored: the durable mark rises past it, each of its entries is mailed to whoever
+    /// has its session, and a session that it closes leaves. Any other batch is refused and comes back: one while none
+    /// is out, or with another first place or another length.
+    pub fn post(&mut self, batch: Batch) -> Result<(), StrangeBatch>
+        ensures refused { IsErr result ↔ (¬ IsOut self.old.out batch) }
+        ensures returned { IfErr result (λ strange. strange.0 ≡ batch) }
+        ensures posted { OnOk result (self.new ≡ posted self.old batch) }
+        ensures err { OnErr result (self.new ≡ self.old) }
+    {
+        if !self.tables.is_out(&batch) {
+            return Err(StrangeBatch(batch));
+        }
+        self.tables.post(batch);
+        Ok(())
+    }
+
+    /// Takes the first mail out of a connection's box. `None` where there is none, or the connection is not connected.
+    pub fn take_mail(&mut self, conn: u64) -> Option<Mail>
+        ensures mail { result ≡ slice_get (mails_on self.old.connections conn) 0 }
+        ensures taken { self.new ≡ taken self.old conn }
+    {
+        self.tables.take_mail(conn)
+    }
+
+    /// Whether a mail is in a connection's box.
+    pub fn has_mail(&self, conn: u64) -> bool
+        ensures { result ≡ nat_lt 0 (length (mails_on self.now.connections conn)) }
+    {
+        self.tables.connections.has_mail(conn)
+    }
+
+    /// Mails the text of a report to a connection. A full box drops its connection.
+    pub fn mail_text(&mut self, conn: u64, text: ReportText)
+        ensures { self.new ≡ mailed self.old conn (mails.Report text) }
+    {
+        self.tables.mail(conn, Mail::Report(text));
+    }
+
+    /// Mails a refusal to a connection. The number is the call's or the cancel's own, the floor or the session asked, and
+    /// 0 for a bye or a report. A full box drops its connection.
+    pub fn mail_refusal(&mut self, conn: u64, number: u64, refusal: Refusal)
+        ensures { self.new ≡ mailed self.old conn (mails.Refused number refusal) }
+    {
+        self.tables.mail(conn, Mail::Refused { number, refusal });
+    }
+
+    /// Whether a connection is there.
+    pub fn connected(&self, conn: u64) -> bool
+        ensures { result ≡ is_connected self.now conn }
+    {
+        self.tables.connections.is_connected(conn)
+    }
+
+    /// How many entries are durable.
+    pub fn durable(&self) -> u64
+        ensures { result ≡ self.now.durable }
+    {
+        self.tables.durable
+    }
+
+    /// The state, and what is always true of the front.
+    pub fn state(&self) -> &State
+        ensures state { result.now ≡ self.now.service.state }
+        ensures front { IsFront self.now }
+        ensures limits { states.IsWithinLimits self.now.service.state }
+    {
+        let _ = self.tables.service.waiting_count();
+        let _ = self.tables.service.pending_count();
+        self.tables.service.state()
+    }
+
+    /// What became of the calls and of the mails.
+    pub fn books(&self) -> Books
+        ensures books { result ≡ self.now.books }
+        ensures balance { Balances result (len self.now.service.waiting) (mails_in self.now.connections) }
+    {
+        self.tables.books
+    }
+
+    /// The array, the index and the operation of a session's request, if it waits under the number.
+    pub fn waiting(&self, session: u64, number: u64) -> Option<(u64, u32, Op)>
+        ensures { result ≡ option_map (λ w. (w.array, w.index, w.op)) (get self.now.service.waiting (session, number)) }
+    {
+        match self.tables.service.find(session, number) {
+            Some(turn) => Some((turn.array, turn.index, turn.op)),
+            None => None,
+        }
+    }
+
+    /// Whether a connection has the session, and it is not closing.
+    pub fn attached(&self, session: u64) -> bool
+        ensures { result ≡ is_attached self.now session }
+    {
+        self.tables.holder(session).is_some() && !self.tables.is_closing(session)
+    }
+}

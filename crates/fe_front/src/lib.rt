@@ -1,0 +1,17 @@
+//! The front of the server: it takes the events of connections, makes entries of the history, and mails what came of an
+//! entry once its batch is posted.
+#![tactic(auto)]
+
+mod boxes;
+mod calling;
+mod front;
+mod laws;
+mod out;
+mod outcome;
+mod posting;
+mod sessions;
+mod tables;
+
+pub use front::{Front, ROOM};
+pub use laws::steps_are_legal;
+pub use outcome::{Outcome, StrangeBatch};

@@ -1,0 +1,6 @@
+/// Where the batch that is out begins, and how many entries it has.
+#[derive(Clone, Copy, Debug, PartialEq, Eq)]
+pub(crate) struct Out {
+    pub first: u64,
+    pub length: usize,
+}
