@@ -20,7 +20,7 @@ found_within f None (y ∷ ys) i e lt none = none-some _ (e ∙ slice_get-get_or
 
 -- what holds of the elements so far, and of one more
 module _ {X : Type 0} (P : X → Type 0) where
-  all_push : (xs : List X) (x : X) → AllByRecursion P xs → P x → AllByRecursion P (xs ++ x ∷ [])
+  pub all_push : (xs : List X) (x : X) → AllByRecursion P xs → P x → AllByRecursion P (xs ++ x ∷ [])
   all_push [] x h p = (p, tt)
   all_push (y ∷ ys) x h p = (h.0, all_push ys x h.1 p)
 

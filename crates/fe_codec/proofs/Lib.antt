@@ -1,6 +1,7 @@
 pub mod FieldLaws
 pub mod RecordLaws
 pub mod GroupLaws
+pub mod GroupReading
 pub mod Appends
 pub mod Elements
 pub mod Windows

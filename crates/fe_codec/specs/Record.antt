@@ -1,5 +1,5 @@
 -- The one spelling of each entry as a record, and which entries have one.
-use Rattle.std.specs.Prelude.{◌≡◌, ℕ, ◌-◌, ◌<◌, ◌≤◌, ◌^◌, true, List, [], ◌∷◌, ◌++◌, length, replicate, flat_map}
+use Rattle.std.specs.Prelude.{◌≡◌, ℕ, ◌-◌, ◌*◌, ◌%◌, ◌<◌, ◌≤◌, ◌^◌, true, List, [], ◌∷◌, ◌++◌, length, replicate, flat_map}
 use Rattle.std.specs.List.{AllByRecursion}
 use Rattle.std.specs.Int.{w32, w64, to_be_bytes}
 use Rattle.fe_state.specs.Format.{entry_fits_format_1}
@@ -9,7 +9,7 @@ use Rattle.fe_state.specs.declared.request.Request.TheVariants.{Create, Find, Re
 use Rattle.fe_state.specs.declared.entry.Entry.{Entry}
 use Rattle.fe_state.specs.declared.entry.Entry.TheVariants.{Attached, Closed, Settled, Finished}
 use Rattle.fe_codec.specs.Codes.{tag_code, flag_code, op_code, operand_of, answer_code, answer_number, answer_length}
-use Rattle.fe_codec.specs.Layout.{name_bytes}
+use Rattle.fe_codec.specs.Layout.{name_bytes, record_bytes, group_records}
 use Rattle.fe_codec.specs.declared.format.Format.{Format}
 use Rattle.fe_codec.specs.declared.format.Format.TheVariants.{One, Two}
 
@@ -131,3 +131,16 @@ group_spelling format entries = flat_map (entry_spelling format) entries
 -- each entry of a group has a record in the format
 abbrev pub FitsGroup : Format → List Entry → Type 0
 FitsGroup format entries = AllByRecursion (FitsRecord format) entries
+
+-- how many bytes a group may have: those of whole records, of one at least
+pub record IsGroupSize (format : Format) (size : ℕ) : Type 0 where
+  pub whole : size % record_bytes format ≡ 0
+  pub least : record_bytes format ≤ size
+  pub most : size ≤ group_records format * record_bytes format
+
+-- the bytes are the group of these entries, which is not empty
+pub record IsGroupOf (format : Format) (entries : List Entry) (bytes : List ℕ) : Type 0 where
+  pub least : 1 ≤ length entries
+  pub most : length entries ≤ group_records format
+  pub fits : FitsGroup format entries
+  pub spelled : bytes ≡ group_spelling format entries

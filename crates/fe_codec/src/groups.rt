@@ -1,9 +1,10 @@
 //! Groups of entries as the payloads of the journal.
 
-ghost use Rattle.std.specs.Prelude.{◌≡◌, ◌+◌, ◌*◌, ◌<◌, ◌≤◌, ◌++◌, All, length, Some, IfSome, IfOk, OnOk, OnErr, IsOk, List, vec_len, vec_capacity};
+ghost use Rattle.std.specs.Prelude.{◌≡◌, ℕ, ◌+◌, ◌*◌, ◌<◌, ◌≤◌, ◌↔◌, ◌++◌, List, length, Some, IfSome, IsSome, IfOk, OnOk, OnErr, IsOk, IsTrue, vec_len, vec_capacity};
 ghost use Rattle.std.specs.List.{AllByRecursion};
+ghost use Rattle.std.specs.Option.{option_map};
 ghost use Rattle.fe_codec.specs.Layout.{record_bytes, group_records};
-ghost use Rattle.fe_codec.specs.Record.{entry_spelling, group_spelling, FitsRecord, FitsGroup, CanPut};
+ghost use Rattle.fe_codec.specs.Record.{entry_spelling, group_spelling, FitsRecord, FitsGroup, CanPut, IsGroupSize, IsGroupOf};
 ghost use Rattle.fe_state.specs.declared.entry.Entry.{Entry as Step};
 
 use crate::entries::{put_entry, read_entry};
@@ -52,4 +53,69 @@ pub fn put_group(format: Format, entries: &[Entry], out: &mut Vec<u8>) -> Result
     out.reserve(entries.len() * format.record_bytes())?;
     append_entries(format, entries, out);
     Ok(())
+}
+
+/// Whether a group has this many bytes: 1 to `group_records` records.
+fn is_group_size(format: Format, size: usize) -> bool
+    ensures { IsTrue result ↔ IsGroupSize format size }
+{
+    let record = format.record_bytes();
+    size % record == 0 && record <= size && size <= format.group_records() * record
+}
+
+/// The entry whose record the first bytes are, and the bytes behind it.
+fn next_entry(format: Format, bytes: &[u8]) -> Option<(Entry, &[u8])>
+    requires { record_bytes format ≤ length bytes.now }
+    ensures found { IfSome result (λ x. FitsRecord format x.0 × (bytes.now ≡ entry_spelling format x.0 ++ x.1.now)) }
+    ensures only { (entry : Step) (more : List ℕ) → FitsRecord format entry → bytes.now ≡ entry_spelling format entry ++ more → IsSome result }
+{
+    let (cells, behind) = bytes.split_at(format.record_bytes());
+    let entry = read_entry(format, cells)?;
+    Some((entry, behind))
+}
+
+/// The entries of bytes that are as many as a group's.
+fn read_entries(
+    alloc: Global,
+    format: Format,
+    bytes: &[u8],
+) -> Result<Option<Vec<Entry>>, AllocError>
+    requires { IsGroupSize format (length bytes.now) }
+    ensures found { IfOk result (λ read. IfSome read (λ entries. IsGroupOf format entries.items bytes.now)) }
+    ensures only { (entries : List Step) → IsGroupOf format entries bytes.now → IfOk result (λ read. option_map (λ v. v.items) read ≡ Some entries) }
+{
+    let count = bytes.len() / format.record_bytes();
+    let mut entries = Vec::with_capacity(alloc, count)?;
+    let mut rest = bytes;
+    for _ in 0..count {
+        match next_entry(format, rest) {
+            Some((entry, behind)) => {
+                entries.push(entry)?;
+                rest = behind;
+            }
+            None => return Ok(None),
+        }
+    }
+    Ok(Some(entries))
+}
+
+/// The entries whose records the bytes are, one behind another, or `None` where they are no group's:
+/// 1 to `group_records` records of the format. `AllocError` where there is no memory for the entries.
+pub fn read_group(
+    alloc: Global,
+    format: Format,
+    bytes: &[u8],
+) -> Result<Option<Vec<Entry>>, AllocError>
+    // What is read is spelled so.
+    ensures found { IfOk result (λ read. IfSome read (λ entries. IsGroupOf format entries.items bytes.now)) }
+    // What is spelled so is read, so that `None` comes only outside the grammar.
+    ensures only { (entries : List Step) → IsGroupOf format entries bytes.now → IfOk result (λ read. option_map (λ v. v.items) read ≡ Some entries) }
+    // Memory is wanted only where a group may have this length.
+    ensures memory { OnErr result (IsGroupSize format (length bytes.now)) }
+{
+    if is_group_size(format, bytes.len()) {
+        read_entries(alloc, format, bytes)
+    } else {
+        Ok(None)
+    }
 }

@@ -20,7 +20,7 @@ mod writing;
 pub use entries::{put_entry, read_entry};
 pub use fault::ImageFault;
 pub use format::Format;
-pub use groups::put_group;
+pub use groups::{put_group, read_group};
 pub use laws::{
     images_are_spelled, one_entry_spelling, one_group_spelling, one_image_spelling,
     spelled_images_are_read,

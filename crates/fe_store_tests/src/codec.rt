@@ -1,6 +1,8 @@
 ghost use Rattle.std.specs.Prelude.{◌≡◌, false};
 
-use fe_codec::{Format, ImageFault, put_entry, put_image, read_entry, read_image};
+use fe_codec::{
+    Format, ImageFault, put_entry, put_group, put_image, read_entry, read_group, read_image,
+};
 use fe_state::{Answer, Entry, Kept, Name, Request, State};
 use fe_words::{Op, Tag, Word};
 use std::alloc::Global;
@@ -18,6 +20,15 @@ const LONG_RECORD: [u8; 80] = [
     4, 19, 2, 0, 0, 0, 0, 0, 0, 0, 0, 0, 0, 0, 0, 7, 0, 0, 0, 0, 0, 0, 0, 2, 0, 0, 0, 0, 0, 0, 0,
     1, 0, 0, 0, 0, 0, 0, 0, 42, 0, 0, 0, 0, 0, 0, 0, 0, 0, 0, 0, 0, 0, 0, 0, 0, 0, 0, 0, 0, 0, 0,
     0, 0, 0, 0, 0, 0, 0, 0, 0, 0, 0, 0, 0, 0, 0, 0, 0, 0,
+];
+
+/// The first record with the end of session 7 behind it, in format 1.
+const GROUP: [u8; 128] = [
+    4, 19, 2, 0, 0, 0, 0, 0, 0, 0, 0, 0, 0, 0, 0, 7, 0, 0, 0, 0, 0, 0, 0, 2, 0, 0, 0, 0, 0, 0, 0,
+    1, 0, 0, 0, 0, 0, 0, 0, 42, 0, 0, 0, 0, 0, 0, 0, 0, 0, 0, 0, 0, 0, 0, 0, 0, 0, 0, 0, 0, 0, 0,
+    0, 0, 2, 0, 0, 0, 0, 0, 0, 0, 0, 0, 0, 0, 0, 0, 0, 7, 0, 0, 0, 0, 0, 0, 0, 0, 0, 0, 0, 0, 0, 0,
+    0, 0, 0, 0, 0, 0, 0, 0, 0, 0, 0, 0, 0, 0, 0, 0, 0, 0, 0, 0, 0, 0, 0, 0, 0, 0, 0, 0, 0, 0, 0, 0,
+    0, 0,
 ];
 
 /// The image of the empty state in either format.
@@ -148,6 +159,19 @@ fn example_record_of_format_2(rt: HostRuntime) -> Result<(), Fail> {
     put_entry(Format::Two, &entry, &mut out)?;
     assert!(&rt; out.as_slice() == LONG_RECORD.as_slice());
     assert!(&rt; read_entry(Format::Two, &LONG_RECORD) == Some(entry));
+    Ok(())
+}
+
+#[test]
+fn group_both_ways(rt: HostRuntime) -> Result<(), Fail> {
+    let entries = [example(), Entry::Closed { session: 7 }];
+    let mut out = Vec::new(rt.alloc());
+    put_group(Format::One, &entries, &mut out)?;
+    assert!(&rt; out.as_slice() == GROUP.as_slice());
+    let read = read_group(rt.alloc(), Format::One, &GROUP)?.ok_or("the bytes are a group")?;
+    assert!(&rt; read.as_slice() == entries.as_slice());
+    assert!(&rt; read_group(rt.alloc(), Format::One, &GROUP[..127])?.is_none());
+    assert!(&rt; read_group(rt.alloc(), Format::One, &[])?.is_none());
     Ok(())
 }
 
