@@ -72,13 +72,12 @@ pub(crate) fn commit(rt: &impl Abort, front: &mut Front) -> usize {
 
 /// Takes the mails of a connection, and counts them.
 pub(crate) fn take_all(front: &mut Front, conn: u64) -> u64 {
-    let mut count = 0;
-    for _ in 0..200 {
-        if front.take_mail(conn).is_some() {
-            count += 1;
+    for count in 0..200 {
+        if front.take_mail(conn).is_none() {
+            return count;
         }
     }
-    count
+    200
 }
 
 /// The first mail of a connection.

@@ -13,15 +13,13 @@ fn taken_over_while_one_waits(rt: HostRuntime) -> Result<(), Fail> {
     let mut front = new_front(&rt)?;
     come(&rt, &mut front, 1, 7);
     assert!(rt; call(&rt, &mut front, 1, 1, create(&rt, 2)).is_ok());
-    let read = access(0, Op::ReadFe, false);
-    assert_eq!(rt; call(&rt, &mut front, 1, 2, read), Ok(Outcome::Waits));
+    let waits = call(&rt, &mut front, 1, 2, access(0, Op::ReadFe, false));
+    assert_eq!(rt; waits, Ok(Outcome::Waits));
     come(&rt, &mut front, 2, 7);
     let late = call(&rt, &mut front, 1, 3, access(0, Op::ReadXx, false));
     assert_eq!(rt; late, Err(Refusal::NotAttached));
-    assert_eq!(rt;
-        call(&rt, &mut front, 2, 2, read),
-        Ok(Outcome::AlreadyWaiting)
-    );
+    let again = call(&rt, &mut front, 2, 2, access(0, Op::ReadFe, false));
+    assert_eq!(rt; again, Ok(Outcome::AlreadyWaiting));
     assert_eq!(rt; front.waiting(7, 2), Some((1, 0, Op::ReadFe)));
     let write = call(&rt, &mut front, 2, 3, access(0, Op::WriteEf(6), false));
     assert_eq!(rt; write, Ok(Outcome::Completed { entries: 2 }));
