@@ -1,6 +1,7 @@
-# `make run` proves the program and runs the first schedule. `make try` runs it before any proof. `make test` is the
-# gate: it proves every crate from nothing and runs every test.
-.PHONY: run try test toolchain
+# `make run` proves the program and runs the first schedule. `make try` runs it before any proof. `make examples` runs
+# every schedule of examples/ and compares, `make bench` measures. `make test` is the gate: it proves every crate from
+# nothing and runs every test.
+.PHONY: run try examples bench test toolchain
 
 SCHEDULE := examples/first_path.txt
 PROGRAM := crates/femem/out/femem
@@ -20,6 +21,12 @@ $(PROGRAM): $(SOURCES) | toolchain
 try: toolchain
 	@echo "this run proves nothing: 'make run' proves first"
 	@cd crates/femem && rt try -- run < ../../$(SCHEDULE)
+
+examples: $(PROGRAM)
+	@scripts/run_examples $(PROGRAM)
+
+bench: $(PROGRAM)
+	@bench/run $(PROGRAM)
 
 test: toolchain
 	@rt ci

@@ -4,10 +4,10 @@ use Rattle.std.specs.List.{AllByRecursion}
 use Rattle.std.proofs.lemmas.List.{length-append}
 use Rattle.std.proofs.Math.Nat.{add-mul}
 use Rattle.fe_state.specs.declared.entry.Entry.{Entry}
-use Rattle.fe_codec.specs.Layout.{record_bytes}
+use Rattle.fe_format.specs.Layout.{record_bytes}
 use Rattle.fe_codec.specs.Record.{entry_spelling, group_spelling, FitsRecord, FitsGroup, CanPut}
-use Rattle.fe_codec.specs.declared.format.Format.{Format}
-use Rattle.fe_codec.specs.declared.format.Format.TheVariants.{One, Two}
+use Rattle.fe_format.specs.declared.format.Format.{Format}
+use Rattle.fe_format.specs.declared.format.Format.TheVariants.{One, Two}
 use Rattle.fe_codec.proofs.RecordLaws.{one_record_first, length-entry_spelling}
 
 some_record : (format : Format) → 64 ≤ record_bytes format

@@ -4,10 +4,10 @@ use Rattle.std.proofs.lemmas.Grind.{flat_map-append}
 use Rattle.std.proofs.lemmas.List.{append-nil, length-append}
 use Rattle.std.proofs.Math.Nat.{add-mul}
 use Rattle.fe_state.specs.declared.entry.Entry.{Entry}
-use Rattle.fe_codec.specs.Layout.{record_bytes, group_records}
+use Rattle.fe_format.specs.Layout.{record_bytes, group_records}
 use Rattle.fe_codec.specs.Record.{entry_spelling, group_spelling, FitsRecord, FitsGroup, IsGroupSize, IsGroupOf}
-use Rattle.fe_codec.specs.declared.format.Format.{Format}
-use Rattle.fe_codec.specs.declared.format.Format.TheVariants.{One, Two}
+use Rattle.fe_format.specs.declared.format.Format.{Format}
+use Rattle.fe_format.specs.declared.format.Format.TheVariants.{One, Two}
 use Rattle.fe_codec.proofs.Elements.{all_push}
 use Rattle.fe_codec.proofs.RecordLaws.{one_record_first, length-entry_spelling}
 use Rattle.fe_codec.proofs.GroupLaws.{one_group}

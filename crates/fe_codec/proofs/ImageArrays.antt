@@ -17,12 +17,12 @@ use Rattle.fe_state.specs.Effect.{new_array}
 use Rattle.fe_state.specs.State.{ServerState, with_arrays, IsWithinLimits}
 use Rattle.fe_state.specs.declared.array.Array.{Array}
 use Rattle.fe_codec.specs.Bytes.{IsBytes}
-use Rattle.fe_codec.specs.Layout.{name_bytes}
+use Rattle.fe_format.specs.Layout.{name_bytes}
 use Rattle.fe_codec.specs.Loading.{IsFresh}
 use Rattle.fe_codec.specs.Record.{name_field, IsShort}
-use Rattle.fe_codec.specs.Image.{array_spelling, word_spelling, ArrayOfFormat}
-use Rattle.fe_codec.specs.declared.format.Format.{Format}
-use Rattle.fe_codec.specs.declared.format.Format.TheVariants.{One, Two}
+use Rattle.fe_codec.specs.Image.{array_spelling, word_spelling, ArrayOfFormat, ArrayFits}
+use Rattle.fe_format.specs.declared.format.Format.{Format}
+use Rattle.fe_format.specs.declared.format.Format.TheVariants.{One, Two}
 use Rattle.fe_codec.specs.FirstFault.{◌>>=◌, repeated, number_in, is_after, id_at, new_name_at, next_word, next_array, with_new_array}
 use Rattle.fe_codec.proofs.InOrder.{Rises, put_all}
 use Rattle.fe_codec.proofs.ImageFields.{bind_ok, ok_is, Takes, takes_then, field32, number_in_takes, goes_from, number_in_again}
@@ -40,7 +40,11 @@ pub arrays_loaded : (step : Walk → Result Walk ℕ) (spelled : ℕ × Array �
 arrays_loaded step spelled [] s = refl
 arrays_loaded step spelled (e ∷ es) s = arrays_loaded step spelled es (load_array s e)
 
-pub array_loads : (format : Format) (x y : Walk) → IsBytes x.2 → next_array format x ≡ Ok y → Loads (next_array format) load_array (array_spelling format) (ArrayOfFormat format) x y
+-- the format has room for an array, and its words fit
+abbrev pub ArrayRead : Format → ℕ × Array → Type 0
+ArrayRead format e = ArrayOfFormat format e × ArrayFits e
+
+pub array_loads : (format : Format) (x y : Walk) → IsBytes x.2 → next_array format x ≡ Ok y → Loads (next_array format) load_array (array_spelling format) (ArrayRead format) x y
 unfolding next_array
 array_loads format x y fits e =
     let s : ServerState = x.1 in
@@ -68,7 +72,7 @@ array_loads format x y fits e =
       is = sym (ok_is (Some id, d.0.1, d.0.2) y d.2) ∙ ap (λ (z : ServerState). (Some id, z, d.0.2)) state;
       above = t_id.1;
       text = takes_then x.2 (to_be_bytes w64 id ++ name_field format name ++ to_be_bytes w32 (length ws.words)) c.0.1 (flat_map word_spelling ws.words) d.0.2 long ws.text;
-      good = short_of format name t_name.1;
+      good = (short_of format name t_name.1, ws.values);
     }
 
 -- ---- what was spelled is loaded

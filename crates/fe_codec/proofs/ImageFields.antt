@@ -119,6 +119,12 @@ row_takes n bytes x fits e =
     subst (λ (y : List ℕ × List ℕ). Takes bytes y.0 y.1 × (length y.0 ≡ n)) g.1
     (record { parts = sym (take-append-drop n bytes); rest_fits = IsBytes-drop n bytes fits }, omega (arith, length-take n bytes))
 
+pub row_fits : (n : ℕ) (bytes : List ℕ) (x : List ℕ × List ℕ) → IsBytes bytes → row n bytes ≡ Ok x → IsBytes x.0
+unfolding row
+row_fits n bytes x fits e =
+    let g = guard_not (ltb (length bytes) n) 0 (take n bytes, drop n bytes) x e in
+    subst (λ (y : List ℕ × List ℕ). IsBytes y.0) g.1 (IsBytes-take n bytes fits)
+
 -- ---- what was spelled is read
 
 pub number_again : (w : Width) (limit : ℕ) (wide : IsField w limit) (n : ℕ) (rest : List ℕ) → n < limit → number w (to_be_bytes w n ++ rest) ≡ Ok (n, rest)

@@ -7,21 +7,21 @@ use Rattle.std.specs.FinMap.{FinMap, empty, entries, len}
 use Rattle.std.specs.Int.{w32, w64, to_be_bytes}
 use Rattle.std.proofs.lemmas.List.{append-nil}
 use Rattle.fe_state.specs.Sessions.{Session}
-use Rattle.fe_state.specs.State.{ServerState, with_arrays, with_sessions}
+use Rattle.fe_state.specs.State.{ServerState, IsWithinLimits, with_arrays, with_sessions}
 use Rattle.fe_state.specs.declared.array.Array.{Array}
 use Rattle.fe_codec.specs.Bytes.{IsBytes}
 use Rattle.fe_codec.specs.Given.{ImageGives}
 use Rattle.fe_codec.specs.Laws.{ImageIsSpelled}
 use Rattle.fe_codec.specs.declared.fault.ImageFault.{ImageFault}
-use Rattle.fe_codec.specs.Image.{array_spelling, session_spelling, image_spelling, ArrayOfFormat, SessionOfFormat, HasRoomFor}
-use Rattle.fe_codec.specs.declared.format.Format.{Format}
+use Rattle.fe_codec.specs.Image.{array_spelling, session_spelling, image_spelling, ArrayOfFormat, SessionOfFormat, HasRoomFor, ArrayFits, SessionFits, FitsImage}
+use Rattle.fe_format.specs.declared.format.Format.{Format}
 use Rattle.fe_codec.specs.declared.header.Header.{Header}
 use Rattle.fe_codec.specs.FirstFault.{◌>>=◌, repeated, number_in, header_at, starting, next_array, next_session, ended, state_at, told_at, image_at}
 use Rattle.fe_codec.proofs.InOrder.{put_all, entries-in_order, len-in_order}
 use Rattle.fe_codec.proofs.ImageFields.{bind_ok, ok_is, Takes, takes_then, field32, field64, number_in_takes}
-use Rattle.fe_codec.proofs.ImageArrays.{load_array, arrays_loaded, array_loads}
-use Rattle.fe_codec.proofs.ImageSessions.{load_session, sessions_loaded, session_loads}
-use Rattle.fe_codec.proofs.Loads.{loads_all}
+use Rattle.fe_codec.proofs.ImageArrays.{ArrayRead, load_array, arrays_loaded, array_loads}
+use Rattle.fe_codec.proofs.ImageSessions.{SessionRead, load_session, sessions_loaded, session_loads}
+use Rattle.fe_codec.proofs.Loads.{all_so, loads_all}
 
 abbrev header_spelling : Header → List ℕ
 header_spelling h = to_be_bytes w64 h.place ++ to_be_bytes w64 h.next_id ++ to_be_bytes w32 h.arrays ++ to_be_bytes w32 h.sessions
@@ -56,6 +56,8 @@ spelled format h es fs arrays sessions es_is many fs_is some = rw (← es_is, �
 pub record IsFound (format : Format) (bytes : List ℕ) (s : ServerState) : Type 0 where
   pub text : bytes ≡ image_spelling format s
   pub room : HasRoomFor format s
+  pub arrays : AllByRecursion ArrayFits (entries s.arrays)
+  pub sessions : AllByRecursion SessionFits (entries s.sessions)
 
 state_found : (format : Format) (bytes : List ℕ) (s : ServerState) → IsBytes bytes → state_at format bytes ≡ Ok s → IsFound format bytes s
 unfolding state_at
@@ -66,8 +68,8 @@ state_found format bytes s fits e =
     let c = bind_ok (repeated (next_session format) h.sessions (None, b.0.1, b.0.2)) (λ sessions. ended sessions.1 sessions.2) s b.2 in
     let end = ended_ok c.0.1 c.0.2 s c.2 in
     let t_header = header_takes bytes a.0 fits a.1 in
-    let es = loads_all (next_array format) load_array (array_spelling format) (ArrayOfFormat format) (array_loads format) h.arrays (None, starting h, a.0.1) b.0 t_header.rest_fits b.1 in
-    let fs = loads_all (next_session format) load_session (session_spelling format) (SessionOfFormat format) (session_loads format) h.sessions (None, b.0.1, b.0.2) c.0 es.text.rest_fits c.1 in
+    let es = loads_all (next_array format) load_array (array_spelling format) (ArrayRead format) (array_loads format) h.arrays (None, starting h, a.0.1) b.0 t_header.rest_fits b.1 in
+    let fs = loads_all (next_session format) load_session (session_spelling format) (SessionRead format) (session_loads format) h.sessions (None, b.0.1, b.0.2) c.0 es.text.rest_fits c.1 in
     let arrays : FinMap nat_cmp Array = put_all empty es.entries in
     let sessions : FinMap nat_cmp Session = put_all empty fs.entries in
     let whole : ServerState = record { arrays = arrays; sessions = sessions; next_id = h.next_id; place = h.place } in
@@ -85,10 +87,15 @@ state_found format bytes s fits e =
     ∙ append-nil _
     ∙ spelled format h es.entries fs.entries arrays sessions e_is (len-in_order es.entries es.rises ∙ es.count) f_is (len-in_order fs.entries fs.rises ∙ fs.count) in
     let room : HasRoomFor format whole = record {
-      arrays = subst (λ (t : List (ℕ × Array)). AllByRecursion (ArrayOfFormat format) t) (sym e_is) es.good;
-      sessions = subst (λ (t : List (ℕ × Session)). AllByRecursion (SessionOfFormat format) t) (sym f_is) fs.good;
+      arrays = subst (λ (t : List (ℕ × Array)). AllByRecursion (ArrayOfFormat format) t) (sym e_is) (all_so _ _ (λ e good. good.0) es.entries es.good);
+      sessions = subst (λ (t : List (ℕ × Session)). AllByRecursion (SessionOfFormat format) t) (sym f_is) (all_so _ _ (λ f good. good.0) fs.entries fs.good);
     } in
-    subst (λ (z : ServerState). IsFound format bytes z) (sym second ∙ end.0) (record { text = text; room = room })
+    subst (λ (z : ServerState). IsFound format bytes z) (sym second ∙ end.0) (record {
+      text = text;
+      room = room;
+      arrays = subst (λ (t : List (ℕ × Array)). AllByRecursion ArrayFits t) (sym e_is) (all_so _ _ (λ e good. good.1) es.entries es.good);
+      sessions = subst (λ (t : List (ℕ × Session)). AllByRecursion SessionFits t) (sym f_is) (all_so _ _ (λ f good. good.1) fs.entries fs.good);
+    })
 
 told : {A : Type 0} (size : ℕ) (r : Result A ℕ) (x : A) → told_at size r ≡ Ok x → r ≡ Ok x
 told size (Ok y) x e = e
@@ -102,6 +109,8 @@ pub images_spelled : ImageIsSpelled
 images_spelled format bytes s fits e = let found = image_found format bytes s fits e in (found.room, found.text)
 
 -- the same of what a reader returned
-pub is_found : (format : Format) (bytes : List ℕ) (result : Result ServerState ImageFault) → IsBytes bytes → ImageGives result (image_at format bytes) → IfOk result (λ s. HasRoomFor format s × (bytes ≡ image_spelling format s))
-is_found format bytes (Ok s) fits e = images_spelled format bytes s fits e
-is_found format bytes (Err fault) fits e = tt
+pub is_found : (format : Format) (bytes : List ℕ) (result : Result ServerState ImageFault) → IsBytes bytes → IfOk result IsWithinLimits → ImageGives result (image_at format bytes) → IfOk result (λ s. FitsImage format s × (bytes ≡ image_spelling format s))
+is_found format bytes (Ok s) fits limits e =
+    let found = image_found format bytes s fits e in
+    (record { limits = limits; room = found.room; arrays = found.arrays; sessions = found.sessions }, found.text)
+is_found format bytes (Err fault) fits limits e = tt

@@ -16,14 +16,15 @@ use Rattle.fe_state.specs.Directory.{named}
 use Rattle.fe_state.specs.declared.array.Array.{Array}
 use Rattle.fe_codec.specs.Bytes.{IsBytes}
 use Rattle.fe_codec.specs.Codes.{tag_code}
-use Rattle.fe_codec.specs.Layout.{name_bytes}
+use Rattle.fe_format.specs.Layout.{name_bytes}
 use Rattle.fe_codec.specs.Reading.{tag_of}
 use Rattle.fe_codec.specs.Record.{name_field, name_row, IsShort}
 use Rattle.fe_codec.specs.Image.{word_spelling}
-use Rattle.fe_codec.specs.declared.format.Format.{Format}
-use Rattle.fe_codec.specs.declared.format.Format.TheVariants.{One, Two}
+use Rattle.fe_format.specs.declared.format.Format.{Format}
+use Rattle.fe_format.specs.declared.format.Format.TheVariants.{One, Two}
 use Rattle.fe_codec.specs.FirstFault.{◌>>=◌, or_fault, row, number, number_in, is_after, id_at, session_at, name_length_at, is_name_row, name_at, new_name_at, tag_at, word_at}
 use Rattle.fe_codec.proofs.RecordLaws.{tag_again, length-name_row}
+use Rattle.fe_codec.proofs.FieldsRead.{number_below}
 use Rattle.fe_codec.proofs.ImageFields.{IsBytes-rest, bind_ok, ok_is, tested, tested_not, guard_so, given, both_true, and_true, Takes, takes_then, field64, number_takes, number_in_takes, row_takes, goes_from, passes, passes_not, number_again, number_in_again, row_again}
 
 -- ---- ids
@@ -39,6 +40,10 @@ unfolding session_at
 session_takes previous bytes x fits e =
     let t = tested (number w64 bytes) (λ session. is_after previous session.0) (length bytes) x e in
     (number_takes w64 (2 ^ 64) field64 bytes x fits t.0, t.1)
+
+pub session_below : (previous : Option ℕ) (bytes : List ℕ) (x : ℕ × List ℕ) → IsBytes bytes → session_at previous bytes ≡ Ok x → x.0 < 2 ^ 64
+unfolding session_at
+session_below previous bytes x fits e = number_below bytes x fits (tested (number w64 bytes) (λ session. is_after previous session.0) (length bytes) x e).0
 
 -- ---- names
 
@@ -123,6 +128,13 @@ word_takes bytes x fits e =
     let second = number_takes w64 (2 ^ 64) field64 a.0.1 b.0 first.rest_fits b.1 in
     subst (λ (y : Word × List ℕ). Takes bytes (word_spelling y.0) y.1) (ok_is (word b.0.0 a.0.0, b.0.1) x b.2)
     (takes_then bytes (tag_code a.0.0 ∷ []) a.0.1 (to_be_bytes w64 b.0.0) b.0.1 first second)
+
+pub word_below : (bytes : List ℕ) (x : Word × List ℕ) → IsBytes bytes → word_at bytes ≡ Ok x → x.0.value < 2 ^ 64
+unfolding word_at
+word_below bytes x fits e =
+    let a = bind_ok (tag_at bytes) (λ tag. number w64 tag.1 >>= λ value. Ok (word value.0 tag.0, value.1)) x e in
+    let b = bind_ok (number w64 a.0.1) (λ value. Ok (word value.0 a.0.0, value.1)) x a.2 in
+    subst (λ (y : Word × List ℕ). y.0.value < 2 ^ 64) (ok_is (word b.0.0 a.0.0, b.0.1) x b.2) (number_below a.0.1 b.0 (tag_takes bytes a.0 fits a.1).rest_fits b.1)
 
 -- ---- what was spelled is read
 

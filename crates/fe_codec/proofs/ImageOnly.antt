@@ -16,7 +16,7 @@ use Rattle.fe_codec.specs.Image.{array_spelling, session_spelling, image_spellin
 use Rattle.fe_codec.specs.Given.{ImageGives}
 use Rattle.fe_codec.specs.Laws.{SpellingIsRead, ImageHasOneSpelling}
 use Rattle.fe_codec.specs.declared.fault.ImageFault.{ImageFault}
-use Rattle.fe_codec.specs.declared.format.Format.{Format}
+use Rattle.fe_format.specs.declared.format.Format.{Format}
 use Rattle.fe_codec.specs.declared.header.Header.{Header}
 use Rattle.fe_codec.specs.FirstFault.{◌>>=◌, repeated, number_in, header_at, starting, next_array, next_session, ended, state_at, told_at, image_at}
 use Rattle.fe_codec.proofs.InOrder.{entries-Rises, put_all-entries}

@@ -17,20 +17,21 @@ use Rattle.fe_state.specs.declared.kept.Kept.{Kept}
 use Rattle.fe_state.specs.declared.entry.Entry.{Entry}
 use Rattle.fe_state.specs.declared.entry.Entry.TheVariants.{Attached, Closed, Settled, Finished}
 use Rattle.fe_codec.specs.Bytes.{IsBytes}
-use Rattle.fe_codec.specs.Layout.{record_bytes}
+use Rattle.fe_format.specs.Layout.{record_bytes}
 use Rattle.fe_codec.specs.Reading as reading
 use Rattle.fe_codec.specs.Reading.{record_entry, if_record, is_record, is_numbered, is_of_format}
-use Rattle.fe_codec.specs.Record.{entry_spelling, IsOfFormat, IsNumbered, FitsRecord}
-use Rattle.fe_codec.specs.Image.{entry_of_kept, kept_spelling, session_spelling, KeptOfFormat, SessionOfFormat}
-use Rattle.fe_codec.specs.declared.format.Format.{Format}
-use Rattle.fe_codec.specs.declared.format.Format.TheVariants.{One, Two}
+use Rattle.fe_codec.specs.Record.{entry_spelling, IsOfFormat, IsNumbered, FieldsFit, FitsRecord}
+use Rattle.fe_codec.specs.Image.{entry_of_kept, kept_spelling, session_spelling, KeptOfFormat, SessionOfFormat, SessionFits}
+use Rattle.fe_format.specs.declared.format.Format.{Format}
+use Rattle.fe_format.specs.declared.format.Format.TheVariants.{One, Two}
 use Rattle.fe_codec.specs.FirstFault.{◌>>=◌, or_fault, repeated, row, number_in, is_after, is_next_number, kept_of, kept_at, next_kept, session_at, next_session, with_kept, with_new_session}
 use Rattle.fe_codec.proofs.InOrder.{Rises, put_all, entries-in_order, len-in_order, entries-Rises, put_all-entries}
-use Rattle.fe_codec.proofs.ImageFields.{bind_ok, ok_is, given, both_true, Takes, takes_then, field32, field64, number_in_takes, row_takes, goes_from, and_true, number_in_again, row_again}
+use Rattle.fe_codec.proofs.ImageFields.{bind_ok, ok_is, given, both_true, Takes, takes_then, field32, field64, number_in_takes, row_takes, row_fits, goes_from, and_true, number_in_again, row_again}
+use Rattle.fe_codec.proofs.FieldsRead.{entry_fits}
 use Rattle.fe_codec.proofs.RecordLaws.{entry_again, length-entry_spelling}
-use Rattle.fe_codec.proofs.ImageNames.{session_takes, session_again}
+use Rattle.fe_codec.proofs.ImageNames.{session_takes, session_below, session_again}
 use Rattle.fe_codec.proofs.ImageWords.{insert_twice, insert_same}
-use Rattle.fe_codec.proofs.Loads.{Walk, Loads, load_all, loads_all, again_all}
+use Rattle.fe_codec.proofs.Loads.{Walk, Loads, all_so, load_all, loads_all, again_all}
 
 -- ---- records
 
@@ -69,6 +70,18 @@ entry_found : (format : Format) (bytes : List ℕ) (entry : Entry) → record_en
 unfolding record_entry
 entry_found format bytes entry e = record_found format bytes (eqb (length bytes) (record_bytes format)) (reading.entry_of format bytes) entry e
 
+entry_there : (format : Format) (bytes : List ℕ) (o : Option Entry) (entry : Entry) → if_record format bytes o ≡ Some entry → o ≡ Some entry
+entry_there format bytes None entry e = absurd cc
+entry_there format bytes (Some other) entry e = ap (λ (x : Entry). some x) (if_some (is_record format other bytes) other entry e).1
+
+entry_read : (format : Format) (bytes : List ℕ) (b : Bool) (o : Option Entry) (entry : Entry) → cond b (if_record format bytes o) None ≡ Some entry → o ≡ Some entry
+entry_read format bytes true o entry e = entry_there format bytes o entry e
+entry_read format bytes false o entry e = absurd cc
+
+record_fits : (format : Format) (bytes : List ℕ) (entry : Entry) → IsBytes bytes → record_entry format bytes ≡ Some entry → FieldsFit entry
+unfolding record_entry
+record_fits format bytes entry h e = entry_fits format bytes entry h (entry_read format bytes (eqb (length bytes) (record_bytes format)) (reading.entry_of format bytes) entry e)
+
 -- ---- kept answers
 
 -- what is kept is the session's, at its place, and above the number before
@@ -92,7 +105,11 @@ kept_is session floor previous place (Some (Finished owner n request answer)) k 
 abbrev pub load_kept : ℕ → ServerState → ℕ × Kept → ServerState
 load_kept session s k = with_kept s session k
 
-pub kept_loads : (format : Format) (session floor : ℕ) (x y : Walk) → IsBytes x.2 → next_kept format session floor x ≡ Ok y → Loads (next_kept format session floor) (load_kept session) (kept_spelling format session) (KeptOfFormat format session) x y
+-- the format has room for what is kept, and its fields fit
+abbrev pub KeptRead : Format → ℕ → ℕ × Kept → Type 0
+KeptRead format session k = KeptOfFormat format session k × FieldsFit (entry_of_kept session k)
+
+pub kept_loads : (format : Format) (session floor : ℕ) (x y : Walk) → IsBytes x.2 → next_kept format session floor x ≡ Ok y → Loads (next_kept format session floor) (load_kept session) (kept_spelling format session) (KeptRead format session) x y
 unfolding next_kept kept_at
 kept_loads format session floor x y fits e =
     let a = bind_ok (kept_at format x.1.place session floor x.0 x.2) (λ kept. Ok (Some kept.0.0, with_kept x.1 session kept.0, kept.1)) y e in
@@ -105,6 +122,7 @@ kept_loads format session floor x y fits e =
     let spelled = entry_found format c.0.0 (entry_of_kept session k) is.entry in
     let t_place = number_in_takes w64 (2 ^ 64) field64 0 x.1.place x.2 b.0 fits b.1 in
     let t_record = row_takes (record_bytes format) b.0.1 c.0 t_place.rest_fits c.1 in
+    let cells_fit = row_fits (record_bytes format) b.0.1 c.0 t_place.rest_fits c.1 in
     let both : Takes x.2 (to_be_bytes w64 place ++ c.0.0) c.0.1 = takes_then x.2 (to_be_bytes w64 place) b.0.1 c.0.0 c.0.1 t_place t_record.0 in
     let text : to_be_bytes w64 place ++ c.0.0 ≡ kept_spelling format session k = ap (λ (n : ℕ). to_be_bytes w64 n ++ c.0.0) (sym is.place_is) ∙ ap (λ (t : List ℕ). to_be_bytes w64 k.1.place ++ t) spelled.0 in
     let last : (k, c.0.1) ≡ a.0 = ok_is (k, c.0.1) a.0 d.2 in
@@ -114,7 +132,7 @@ kept_loads format session floor x y fits e =
       is = sym (ok_is (Some a.0.0.0, with_kept x.1 session a.0.0, a.0.1) y a.2) ∙ sym (ap (λ (z : (ℕ × Kept) × List ℕ). (Some z.0.0, with_kept x.1 session z.0, z.1)) last);
       above = is.above;
       text = subst (λ (t : List ℕ). Takes x.2 t c.0.1) text both;
-      good = spelled.1;
+      good = (spelled.1, record_fits format c.0.0 (entry_of_kept session k) cells_fit is.entry);
     }
 
 -- ---- sessions
@@ -138,7 +156,11 @@ pub sessions_loaded : (step : Walk → Result Walk ℕ) (spelled : ℕ × Sessio
 sessions_loaded step spelled [] s = refl
 sessions_loaded step spelled (e ∷ es) s = sessions_loaded step spelled es (load_session s e)
 
-pub session_loads : (format : Format) (x y : Walk) → IsBytes x.2 → next_session format x ≡ Ok y → Loads (next_session format) load_session (session_spelling format) (SessionOfFormat format) x y
+-- the format has room for a session, and its fields fit
+abbrev pub SessionRead : Format → ℕ × Session → Type 0
+SessionRead format e = SessionOfFormat format e × SessionFits e
+
+pub session_loads : (format : Format) (x y : Walk) → IsBytes x.2 → next_session format x ≡ Ok y → Loads (next_session format) load_session (session_spelling format) (SessionRead format) x y
 unfolding next_session
 session_loads format x y fits e =
     let s : ServerState = x.1 in
@@ -153,7 +175,7 @@ session_loads format x y fits e =
     let t_session = session_takes x.0 x.2 a.0 fits a.1 in
     let t_floor = number_in_takes w64 (2 ^ 64) field64 1 (2 ^ 63 - 31) a.0.1 b.0 t_session.0.rest_fits b.1 in
     let t_count = number_in_takes w32 (2 ^ 32) field32 0 33 b.0.1 c.0 t_floor.rest_fits c.1 in
-    let ks = loads_all (next_kept format session floor) (load_kept session) (kept_spelling format session) (KeptOfFormat format session) (kept_loads format session floor) count (None, made, c.0.1) d.0 t_count.rest_fits d.1 in
+    let ks = loads_all (next_kept format session floor) (load_kept session) (kept_spelling format session) (KeptRead format session) (kept_loads format session floor) count (None, made, c.0.1) d.0 t_count.rest_fits d.1 in
     let kept : FinMap nat_cmp Kept = put_all empty ks.entries in
     let entry : ℕ × Session = (session, record { floor = floor; kept = kept }) in
     let same : entries kept ≡ ks.entries = entries-in_order ks.entries ks.rises in
@@ -174,7 +196,10 @@ session_loads format x y fits e =
       is = sym (ok_is (Some session, d.0.1, d.0.2) y d.2) ∙ ap (λ (z : ServerState). (Some session, z, d.0.2)) state;
       above = t_session.1;
       text = takes_then x.2 (to_be_bytes w64 session ++ to_be_bytes w64 floor ++ to_be_bytes w32 (len kept)) c.0.1 (flat_map (kept_spelling format session) (entries kept)) d.0.2 long answers;
-      good = subst (λ (t : List (ℕ × Kept)). AllByRecursion (KeptOfFormat format session) t) (sym same) ks.good;
+      good = (
+        subst (λ (t : List (ℕ × Kept)). AllByRecursion (KeptOfFormat format session) t) (sym same) (all_so _ _ (λ k good. good.0) ks.entries ks.good),
+        (session_below x.0 x.2 a.0 fits a.1, subst (λ (t : List (ℕ × Kept)). AllByRecursion (λ k. FieldsFit (entry_of_kept session k)) t) (sym same) (all_so _ _ (λ k good. good.1) ks.entries ks.good)),
+      );
     }
 
 -- ---- what was spelled is loaded

@@ -12,11 +12,11 @@ use Rattle.fe_state.specs.Sessions.{Session}
 use Rattle.fe_state.specs.State.{ServerState}
 use Rattle.fe_state.specs.declared.array.Array.{Array}
 use Rattle.fe_state.specs.declared.kept.Kept.{Kept}
-use Rattle.fe_codec.specs.Layout.{name_bytes, record_bytes, image_bytes}
+use Rattle.fe_format.specs.Layout.{name_bytes, record_bytes, longest_image}
 use Rattle.fe_codec.specs.Record.{entry_spelling, name_field}
 use Rattle.fe_codec.specs.Image.{word_spelling, array_spelling, kept_spelling, session_spelling, image_spelling, entry_of_kept, ArrayOfFormat, FitsImage}
-use Rattle.fe_codec.specs.declared.format.Format.{Format}
-use Rattle.fe_codec.specs.declared.format.Format.TheVariants.{One, Two}
+use Rattle.fe_format.specs.declared.format.Format.{Format}
+use Rattle.fe_format.specs.declared.format.Format.TheVariants.{One, Two}
 use Rattle.fe_codec.proofs.RecordLaws.{length-name_row, length-entry_spelling}
 use Rattle.fe_codec.proofs.ImageArrays.{row_holds}
 use Rattle.fe_codec.proofs.ImageSessions.{MayKeep, MayHave}
@@ -83,14 +83,14 @@ each_session format limit (e ∷ es) h = (session_size format limit e h.0, each_
 
 -- ---- the whole
 
-whole : (format : Format) (n m words a b : ℕ) → n ≤ 64 → m ≤ 64 → words ≤ 65536 → a ≤ n * (13 + name_bytes format) + 9 * words → b ≤ m * session_bytes format → 24 + a + b ≤ image_bytes format
+whole : (format : Format) (n m words a b : ℕ) → n ≤ 64 → m ≤ 64 → words ≤ 65536 → a ≤ n * (13 + name_bytes format) + 9 * words → b ≤ m * session_bytes format → 24 + a + b ≤ longest_image format
 unfolding session_bytes
 whole One n m words a b few some all x y = omega arith
 whole Two n m words a b few some all x y = omega arith
 
 pub record IsSized (format : Format) (text : List ℕ) : Type 0 where
   pub least : 24 ≤ length text
-  pub most : length text ≤ image_bytes format
+  pub most : length text ≤ longest_image format
 
 pub image_size : (format : Format) (s : ServerState) → FitsImage format s → IsSized format (image_spelling format s)
 image_size format s fits =
@@ -112,6 +112,6 @@ image_size format s fits =
     record { least = omega (arith, long); most = omega (arith, long, most) }
 
 -- the same of what was put
-pub sized_most : {E : Type 0} (format : Format) (s : ServerState) (r : Result (Unit {0}) E) → OnOk r (FitsImage format s) → OnOk r (length (image_spelling format s) ≤ image_bytes format)
+pub sized_most : {E : Type 0} (format : Format) (s : ServerState) (r : Result (Unit {0}) E) → OnOk r (FitsImage format s) → OnOk r (length (image_spelling format s) ≤ longest_image format)
 sized_most format s (Ok x) h = (image_size format s h).most
 sized_most format s (Err e) h = tt

@@ -17,7 +17,7 @@ use Rattle.fe_codec.specs.Bytes.{IsBytes}
 use Rattle.fe_codec.specs.Image.{word_spelling}
 use Rattle.fe_codec.specs.FirstFault.{repeated, word_at, with_word_at, next_word}
 use Rattle.fe_codec.proofs.ImageFields.{bind_ok, ok_is, Takes, takes_then, goes_from}
-use Rattle.fe_codec.proofs.ImageNames.{word_takes, word_again}
+use Rattle.fe_codec.proofs.ImageNames.{word_takes, word_below, word_again}
 
 -- ---- maps
 
@@ -63,6 +63,7 @@ one_word s id n name front w is =
 pub record LoadsWords (id : ℕ) (name : List ℕ) (front : List Word) (n : ℕ) (s : ServerState) (bytes : List ℕ) (y : ℕ × ServerState × List ℕ) : Type 0 where
   pub words : List Word
   pub count : length words ≡ n
+  pub values : AllByRecursion (λ w. w.value < 2 ^ 64) words
   pub state : y.1 ≡ holding s id (record { name = name; words = front ++ words })
   pub text : Takes bytes (flat_map word_spelling words) y.2
 
@@ -72,7 +73,7 @@ unfolding repeated next_word
 loads_words id name front zero i s bytes y fits at is e =
     let same : holding s id (in_part name front zero) ≡ s = ap (with_arrays s) (insert_same s.arrays id (in_part name front zero) is) in
     subst (λ (z : ℕ × ServerState × List ℕ). LoadsWords id name front zero s bytes z) (ok_is (i, s, bytes) y e)
-    (record { words = []; count = refl; state = sym same; text = record { parts = refl; rest_fits = fits } })
+    (record { words = []; count = refl; values = tt; state = sym same; text = record { parts = refl; rest_fits = fits } })
 loads_words id name front (suc n) i s bytes y fits at is e =
     let a = bind_ok (next_word id (i, s, bytes)) (repeated (next_word id) n) y e in
     let b = bind_ok (word_at bytes) (λ w. Ok (i + 1, with_word_at s id i w.0, w.1)) a.0 a.1 in
@@ -86,6 +87,7 @@ loads_words id name front (suc n) i s bytes y fits at is e =
     record {
       words = w ∷ more.words;
       count = ap suc more.count;
+      values = (word_below bytes b.0 fits b.1, more.values);
       state =
           more.state
           ∙ ap (with_arrays s) (insert_twice s.arrays id (in_part name (front ++ w ∷ []) n) (record { name = name; words = (front ++ w ∷ []) ++ more.words }))

@@ -9,6 +9,7 @@ pub mod Repeats
 pub mod LoadingLemmas
 pub mod InOrder
 pub mod ImageFields
+pub mod FieldsRead
 pub mod ImageNames
 pub mod Loads
 pub mod ImageWords

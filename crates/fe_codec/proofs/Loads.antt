@@ -12,6 +12,11 @@ use Rattle.fe_codec.proofs.ImageFields.{bind_ok, ok_is, Takes, takes_then, goes_
 abbrev pub Walk : Type 0
 Walk = Option ℕ × ServerState × List ℕ
 
+-- what holds of each, where something stronger does
+pub all_so : {X : Type 0} (P Q : X → Type 0) → ((x : X) → P x → Q x) → (xs : List X) → AllByRecursion P xs → AllByRecursion Q xs
+all_so P Q f [] h = tt
+all_so P Q f (x ∷ xs) h = (f x h.0, all_so P Q f xs h.1)
+
 module _ {X : Type 0} (step : Walk → Result Walk ℕ) (load : ServerState → ℕ × X → ServerState) (spelled : ℕ × X → List ℕ) where
   abbrev pub load_all : ServerState → List (ℕ × X) → ServerState
   load_all s [] = s

@@ -16,11 +16,11 @@ use Rattle.fe_state.specs.declared.request.Request.TheVariants.{Create, Find, Re
 use Rattle.fe_state.specs.declared.entry.Entry.{Entry}
 use Rattle.fe_state.specs.declared.entry.Entry.TheVariants.{Attached, Closed, Settled, Finished}
 use Rattle.fe_codec.specs.Codes.{tag_code, flag_code, op_code, operand_of, answer_code, answer_number, answer_length}
-use Rattle.fe_codec.specs.Layout.{name_bytes, record_bytes}
+use Rattle.fe_format.specs.Layout.{name_bytes, record_bytes}
 use Rattle.fe_codec.specs.Record.{codes_field, name_row, array_row, record_spelling, short_spelling, entry_spelling, request_codes, request_row, request_size, FitsRecord, IsShort, HasRow, HasRoom, IsOfFormat, RequestFits}
 use Rattle.fe_codec.specs.Reading.{◌>>=◌, number_at, tag_of, op_of, answer_of, name_of, create_of, find_of, access_of, request_of, finished_of, entry_of}
-use Rattle.fe_codec.specs.declared.format.Format.{Format}
-use Rattle.fe_codec.specs.declared.format.Format.TheVariants.{One, Two}
+use Rattle.fe_format.specs.declared.format.Format.{Format}
+use Rattle.fe_format.specs.declared.format.Format.TheVariants.{One, Two}
 use Rattle.fe_codec.proofs.FieldLaws.{bind_at, wide32, wide64, number_again}
 
 -- ---- codes

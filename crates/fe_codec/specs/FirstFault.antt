@@ -20,9 +20,9 @@ use Rattle.fe_state.specs.declared.array.Array.{Array}
 use Rattle.fe_state.specs.declared.kept.Kept.{Kept}
 use Rattle.fe_state.specs.declared.entry.Entry.{Entry}
 use Rattle.fe_state.specs.declared.entry.Entry.TheVariants.{Finished}
-use Rattle.fe_codec.specs.Layout.{name_bytes, record_bytes}
+use Rattle.fe_format.specs.Layout.{name_bytes, record_bytes}
 use Rattle.fe_codec.specs.Reading.{tag_of, record_entry}
-use Rattle.fe_codec.specs.declared.format.Format.{Format}
+use Rattle.fe_format.specs.declared.format.Format.{Format}
 use Rattle.fe_codec.specs.declared.header.Header.{Header}
 
 infixl 10 ◌>>=◌

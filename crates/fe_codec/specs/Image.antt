@@ -12,8 +12,8 @@ use Rattle.fe_state.specs.declared.entry.Entry.{Entry}
 use Rattle.fe_state.specs.declared.entry.Entry.TheVariants.{Finished}
 use Rattle.fe_codec.specs.Codes.{tag_code}
 use Rattle.fe_codec.specs.Record.{entry_spelling, name_field, IsShort, IsOfFormat, FieldsFit}
-use Rattle.fe_codec.specs.declared.format.Format.{Format}
-use Rattle.fe_codec.specs.declared.format.Format.TheVariants.{One, Two}
+use Rattle.fe_format.specs.declared.format.Format.{Format}
+use Rattle.fe_format.specs.declared.format.Format.TheVariants.{One, Two}
 
 -- a word: its tag and its value
 abbrev pub word_spelling : Word → List ℕ

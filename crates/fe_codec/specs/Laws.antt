@@ -6,7 +6,7 @@ use Rattle.fe_state.specs.State.{ServerState}
 use Rattle.fe_codec.specs.Bytes.{IsBytes}
 use Rattle.fe_codec.specs.Image.{image_spelling, HasRoomFor, FitsImage}
 use Rattle.fe_codec.specs.FirstFault.{image_at}
-use Rattle.fe_codec.specs.declared.format.Format.{Format}
+use Rattle.fe_format.specs.declared.format.Format.{Format}
 
 -- No record begins another, and no two entries have one record.
 abbrev pub EntryHasOneSpelling : Type 0

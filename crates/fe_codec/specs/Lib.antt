@@ -1,5 +1,4 @@
 pub mod Codes
-pub mod Layout
 pub mod Record
 pub mod Reading
 pub mod Laws

@@ -13,10 +13,10 @@ use Rattle.fe_state.specs.declared.request.Request.TheVariants.{Create, Find, Re
 use Rattle.fe_state.specs.declared.entry.Entry.{Entry}
 use Rattle.fe_state.specs.declared.entry.Entry.TheVariants.{Attached, Closed, Settled, Finished}
 use Rattle.fe_state.specs.Format.{entry_fits_format_1}
-use Rattle.fe_codec.specs.Layout.{name_bytes, record_bytes}
+use Rattle.fe_format.specs.Layout.{name_bytes, record_bytes}
 use Rattle.fe_codec.specs.Record.{entry_spelling}
-use Rattle.fe_codec.specs.declared.format.Format.{Format}
-use Rattle.fe_codec.specs.declared.format.Format.TheVariants.{One, Two}
+use Rattle.fe_format.specs.declared.format.Format.{Format}
+use Rattle.fe_format.specs.declared.format.Format.TheVariants.{One, Two}
 
 infixl 10 ◌>>=◌
 abbrev pub ◌>>=◌ : {A B : Type 0} → Option A → (A → Option B) → Option B

@@ -9,9 +9,9 @@ use Rattle.fe_state.specs.declared.request.Request.TheVariants.{Create, Find, Re
 use Rattle.fe_state.specs.declared.entry.Entry.{Entry}
 use Rattle.fe_state.specs.declared.entry.Entry.TheVariants.{Attached, Closed, Settled, Finished}
 use Rattle.fe_codec.specs.Codes.{tag_code, flag_code, op_code, operand_of, answer_code, answer_number, answer_length}
-use Rattle.fe_codec.specs.Layout.{name_bytes, record_bytes, group_records}
-use Rattle.fe_codec.specs.declared.format.Format.{Format}
-use Rattle.fe_codec.specs.declared.format.Format.TheVariants.{One, Two}
+use Rattle.fe_format.specs.Layout.{name_bytes, record_bytes, group_records}
+use Rattle.fe_format.specs.declared.format.Format.{Format}
+use Rattle.fe_format.specs.declared.format.Format.TheVariants.{One, Two}
 
 -- the first eight bytes, of which the last two are unused
 abbrev pub codes_field : ℕ → ℕ → ℕ → ℕ → ℕ → ℕ → List ℕ

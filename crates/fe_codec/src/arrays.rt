@@ -6,14 +6,14 @@ ghost use Rattle.std.specs.Int.{w32};
 ghost use Rattle.std.specs.FinMap.{get, len};
 ghost use Rattle.fe_state.specs.Name.{is_plain};
 ghost use Rattle.fe_state.specs.Directory.{named, word_in, word_count};
-ghost use Rattle.fe_codec.specs.Layout.{name_bytes};
+ghost use Rattle.fe_format.specs.Layout.{name_bytes};
 ghost use Rattle.fe_codec.specs.FirstFault.{number_in, is_after, id_at, name_length_at, is_name_row, name_at, new_name_at, tag_at, word_at, next_word, next_array, repeated, with_new_array};
 ghost use Rattle.fe_codec.specs.Given.{Gives};
 ghost use Rattle.fe_codec.specs.Loading.{KeepsIds, IsFresh};
 
+use crate::Format;
 use crate::fault::Fault;
 use crate::fields::tag_of;
-use crate::format::Format;
 use crate::header::{is_after, row, u32_next, u64_in, u64_next};
 use fe_state::{Answer, Name, Request, State};
 use fe_words::{Tag, Word};

@@ -1,13 +1,13 @@
 //! Entries and groups of them as records.
 
 ghost use Rattle.std.specs.Prelude.{◌≡◌, ◌+◌, ◌<◌, ◌≤◌, ◌↔◌, ◌++◌, length, Some, IfSome, IsSome, OnOk, OnErr, IsOk, IsTrue, vec_len, vec_capacity};
-ghost use Rattle.fe_codec.specs.Layout.{record_bytes};
+ghost use Rattle.fe_format.specs.Layout.{record_bytes};
 ghost use Rattle.fe_codec.specs.Reading.{is_numbered, is_of_format, is_record, record_entry};
 ghost use Rattle.fe_codec.specs.Record.{entry_spelling, FitsRecord, IsOfFormat, IsNumbered, CanPut};
 ghost use Rattle.fe_state.specs.declared.entry.Entry.{Entry as Step};
 
+use crate::Format;
 use crate::entry_of::entry_of;
-use crate::format::Format;
 use crate::record::Record;
 use fe_state::Entry;
 use std::alloc::AllocError;

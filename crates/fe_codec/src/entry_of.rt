@@ -1,11 +1,11 @@
 //! Entries from their records. Unused bytes are not looked at here.
 
 ghost use Rattle.std.specs.Prelude.{◌≡◌, length};
-ghost use Rattle.fe_codec.specs.Layout.{record_bytes};
+ghost use Rattle.fe_format.specs.Layout.{record_bytes};
 ghost use Rattle.fe_codec.specs.Reading.{create_of, find_of, access_of, request_of, finished_of, entry_of};
 
+use crate::Format;
 use crate::fields::{answer_of, name_of, op_of, tag_of, u32_at, u64_at};
-use crate::format::Format;
 use fe_state::{Entry, Request};
 
 #[tactic(auto, unfolding(crate::specs::Reading::create_of))]

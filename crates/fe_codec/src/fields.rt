@@ -2,10 +2,10 @@
 
 ghost use Rattle.std.specs.Prelude.{◌≡◌, ◌+◌, ◌≤◌, length};
 ghost use Rattle.std.specs.Int.{w32, w64};
-ghost use Rattle.fe_codec.specs.Layout.{record_bytes};
+ghost use Rattle.fe_format.specs.Layout.{record_bytes};
 ghost use Rattle.fe_codec.specs.Reading.{number_at, name_of, tag_of, op_of, answer_of};
 
-use crate::format::Format;
+use crate::Format;
 use byteorder::{BigEndian, ByteOrder};
 use fe_state::{Answer, Name};
 use fe_words::{Op, Tag};

@@ -3,12 +3,12 @@
 ghost use Rattle.std.specs.Prelude.{◌≡◌, ℕ, ◌+◌, ◌*◌, ◌<◌, ◌≤◌, ◌↔◌, ◌++◌, List, length, Some, IfSome, IsSome, IfOk, OnOk, OnErr, IsOk, IsTrue, vec_len, vec_capacity};
 ghost use Rattle.std.specs.List.{AllByRecursion};
 ghost use Rattle.std.specs.Option.{option_map};
-ghost use Rattle.fe_codec.specs.Layout.{record_bytes, group_records};
+ghost use Rattle.fe_format.specs.Layout.{record_bytes, group_records};
 ghost use Rattle.fe_codec.specs.Record.{entry_spelling, group_spelling, FitsRecord, FitsGroup, CanPut, IsGroupSize, IsGroupOf};
 ghost use Rattle.fe_state.specs.declared.entry.Entry.{Entry as Step};
 
+use crate::Format;
 use crate::entries::{put_entry, read_entry};
-use crate::format::Format;
 use fe_state::Entry;
 use std::alloc::{AllocError, Global};
 

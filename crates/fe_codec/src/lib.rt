@@ -8,7 +8,6 @@ mod entries;
 mod entry_of;
 mod fault;
 mod fields;
-mod format;
 mod groups;
 mod header;
 mod laws;
@@ -19,7 +18,7 @@ mod writing;
 
 pub use entries::{put_entry, read_entry};
 pub use fault::ImageFault;
-pub use format::Format;
+pub use fe_format::Format;
 pub use groups::{put_group, read_group};
 pub use laws::{
     images_are_spelled, one_entry_spelling, one_group_spelling, one_image_spelling,

@@ -3,12 +3,12 @@
 ghost use Rattle.std.specs.Prelude.{◌≡◌, ℕ, ◌≤◌, length, Err, IsOk, IfOk};
 ghost use Rattle.fe_codec.specs.FirstFault.{header_at, ended, state_at, image_at};
 ghost use Rattle.fe_codec.specs.Given.{Gives, ImageGives};
-ghost use Rattle.fe_codec.specs.Image.{image_spelling, HasRoomFor, FitsImage};
-ghost use Rattle.fe_state.specs.State.{ServerState};
+ghost use Rattle.fe_codec.specs.Image.{image_spelling, FitsImage};
+ghost use Rattle.fe_state.specs.State.{ServerState, IsWithinLimits};
 
+use crate::Format;
 use crate::arrays::read_arrays;
 use crate::fault::{Fault, ImageFault};
-use crate::format::Format;
 use crate::header::header_at;
 use crate::sessions::read_sessions;
 use fe_state::State;
@@ -17,6 +17,7 @@ use std::alloc::Global;
 #[tactic(auto, unfolding(crate::specs::FirstFault::state_at))]
 fn state_at(alloc: Global, format: Format, bytes: &[u8]) -> Result<State, Fault>
     ensures given { Gives (λ state. state) result (state_at format bytes.now) }
+    ensures limits { IfOk result IsWithinLimits }
     ensures memory { result ≡ Err Fault.NoMemory → IsOk (header_at bytes.now) }
 {
     let (header, rest) = header_at(bytes)?;
@@ -33,6 +34,7 @@ fn state_at(alloc: Global, format: Format, bytes: &[u8]) -> Result<State, Fault>
 #[tactic(auto, unfolding(crate::specs::FirstFault::image_at))]
 fn image_of(alloc: Global, format: Format, bytes: &[u8]) -> Result<State, ImageFault>
     ensures given { ImageGives result (image_at format bytes.now) }
+    ensures limits { IfOk result IsWithinLimits }
     ensures within { (offset : ℕ) → result ≡ Err (ImageFault.Damaged offset) → offset ≤ length bytes.now }
     ensures memory { result ≡ Err ImageFault.NoMemory → IsOk (header_at bytes.now) }
 {
@@ -52,7 +54,7 @@ fn image_of(alloc: Global, format: Format, bytes: &[u8]) -> Result<State, ImageF
 /// words of an array.
 pub fn read_image(alloc: Global, format: Format, bytes: &[u8]) -> Result<State, ImageFault>
     // What is read is spelled so.
-    ensures found { IfOk result (λ state. HasRoomFor format state × (bytes.now ≡ image_spelling format state)) }
+    ensures found { IfOk result (λ state. FitsImage format state × (bytes.now ≡ image_spelling format state)) }
     // What is spelled so is read, unless memory runs out.
     ensures only { (state : ServerState) → FitsImage format state → bytes.now ≡ image_spelling format state → ImageGives result (Ok state) }
     // Which state it is, and which fault.

@@ -1,13 +1,13 @@
 ghost use Rattle.std.specs.Prelude.{◌≡◌, ℕ, ◌+◌, ◌≤◌, [], ◌∷◌, ◌++◌, List, length};
 ghost use Rattle.std.specs.Int.{w32, w64, to_be_bytes};
 ghost use Rattle.fe_codec.specs.Codes.{answer_code, answer_length, answer_number};
-ghost use Rattle.fe_codec.specs.Layout.{name_bytes, record_bytes};
+ghost use Rattle.fe_format.specs.Layout.{name_bytes, record_bytes};
 ghost use Rattle.fe_codec.specs.Record.{codes_field, name_field, name_row, array_row, request_row, request_codes, request_size, record_spelling, short_spelling, entry_spelling, IsShort, HasRoom, HasRow, RequestFits, FieldsFit};
 
+use crate::Format;
 use crate::codes::{
     answer_code, answer_length, answer_number, flag_code, op_code, operand_of, tag_code,
 };
-use crate::format::Format;
 use byteorder::{BigEndian, ByteOrder};
 use fe_state::{Answer, Entry, NAME_BYTES, Name, Request};
 use std::marker::Model;

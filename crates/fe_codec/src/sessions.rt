@@ -8,9 +8,9 @@ ghost use Rattle.fe_codec.specs.FirstFault.{is_after, is_next_number, kept_of, k
 ghost use Rattle.fe_codec.specs.Given.{Gives};
 ghost use Rattle.fe_codec.specs.Loading.{KeepsKeys, IsFresh};
 
+use crate::Format;
 use crate::entries::read_entry;
 use crate::fault::Fault;
-use crate::format::Format;
 use crate::header::{is_after, row, u32_in, u64_in, u64_next};
 use fe_state::{Entry, Kept, State};
 

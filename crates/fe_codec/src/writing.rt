@@ -5,12 +5,12 @@ ghost use Rattle.std.specs.FinMap.{entries, len};
 ghost use Rattle.std.specs.List.{AllByRecursion};
 ghost use Rattle.fe_state.specs.declared.array.Array.{Array as Held};
 ghost use Rattle.fe_codec.specs.Appending.{Appends};
-ghost use Rattle.fe_codec.specs.Layout.{image_bytes};
+ghost use Rattle.fe_format.specs.Layout.{longest_image};
 ghost use Rattle.fe_codec.specs.Record.{IsShort, IsOfFormat, FieldsFit};
 ghost use Rattle.fe_codec.specs.Image.{array_spelling, kept_spelling, slot_text, session_spelling, image_spelling, ArrayOfFormat, KeptOfFormat, SlotOfFormat, SessionOfFormat, HasRoomFor, StateOfFormat, entry_of_kept, ArrayFits, SlotFits, SessionFits, FitsImage};
 
+use crate::Format;
 use crate::appending::{put_bytes, put_u32, put_u64, put_words};
-use crate::format::Format;
 use crate::record::Record;
 use fe_state::{Array, Entry, Kept, Session, State};
 use std::alloc::AllocError;
@@ -178,7 +178,7 @@ pub fn put_image(format: Format, state: &State, out: &mut Vec<u8>) -> Result<(),
     ensures room { vec_len out.old + length (image_spelling format state.now) ≤ vec_capacity out.old → IsOk result }
     ensures capacity { vec_capacity out.old ≤ vec_capacity out.new }
     ensures least { OnOk result (24 ≤ length (image_spelling format state.now)) }
-    ensures most { OnOk result (length (image_spelling format state.now) ≤ image_bytes format) }
+    ensures most { OnOk result (length (image_spelling format state.now) ≤ longest_image format) }
     // What is put has its image in the grammar, so that it is read again.
     ensures fits { OnOk result (FitsImage format state.now) }
 {

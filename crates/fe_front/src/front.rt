@@ -1,6 +1,7 @@
 ghost use Rattle.std.specs.Prelude.{◌≡◌, ◌⊎◌, ◌+◌, ◌↔◌, ◌≤◌, ℕ, List, nat_lt, length, slice_get, Some, None, Ok, Err, IsTrue, IsOk, IsErr, IfOk, IfErr, OnOk, OnErr, MatchResult};
 ghost use Rattle.std.specs.Option.{option_map};
 ghost use Rattle.std.specs.FinMap.{get, len};
+ghost use Rattle.fe_seats.specs.Seating.{count_of};
 ghost use Rattle.fe_state.specs.State as states;
 ghost use Rattle.fe_state.specs.declared.entry.Entry.{Entry};
 ghost use Rattle.fe_mail.specs.Books.{Balances};
@@ -240,6 +241,21 @@ impl Front {
             Some(turn) => Some((turn.array, turn.index, turn.op)),
             None => None,
         }
+    }
+
+    /// How many requests wait, 0 to 2,048.
+    pub fn waiting_count(&self) -> u32
+        ensures count { result ≡ len self.now.service.waiting }
+        ensures few { result ≤ 2048 }
+    {
+        self.tables.service.waiting_count()
+    }
+
+    /// How many requests of a session wait, 0 to 32.
+    pub fn count_of(&self, session: u64) -> u32
+        ensures { result ≡ count_of self.now.service.waiting session }
+    {
+        self.tables.service.count_of(session)
     }
 
     /// Whether a connection has the session, and it is not closing.

@@ -1,4 +1,4 @@
-//! The tests of the front: the worked cases of its events, over its public calls.
+//! The tests of the front and of what it is made of, the seats and the mail: what no clause says of their public calls.
 #![tactic(auto)]
 
 #[cfg(test)]
@@ -7,5 +7,15 @@ mod cascade;
 mod events;
 #[cfg(test)]
 mod limits;
+#[cfg(test)]
+mod mail;
+#[cfg(test)]
+mod memory;
+#[cfg(test)]
+mod no_wait;
+#[cfg(test)]
+mod report;
+#[cfg(test)]
+mod seats;
 #[cfg(test)]
 mod sessions;

@@ -1,12 +1,9 @@
 //! The end of the history, a batch that is not the one that is out, and a box that is full.
 
-use crate::events::{
-    access, attach, call, come, commit, connect, create, mail, new_front, settle, take_all,
-};
-use fe_front::{Front, Outcome};
-use fe_mail::{Mail, Refusal};
-use fe_state::{Answer, Batch, Entry, Request, State};
-use fe_words::Op;
+use crate::events::{attach, come, commit, connect, new_front, settle};
+use fe_front::Front;
+use fe_mail::Refusal;
+use fe_state::{Batch, Entry, Request, State};
 use std::test::Fail;
 
 #[test]
@@ -55,37 +52,5 @@ fn full_mailbox(rt: HostRuntime) -> Result<(), Fail> {
     assert_eq!(rt; front.books().dropped, 129);
     assert_eq!(rt; front.books().mails, 129);
     assert!(rt; !front.attached(7));
-    Ok(())
-}
-
-#[test]
-fn no_wait(rt: HostRuntime) -> Result<(), Fail> {
-    let mut front = new_front(&rt)?;
-    come(&rt, &mut front, 1, 7);
-    let done = Ok(Outcome::Completed { entries: 1 });
-    assert_eq!(rt; call(&rt, &mut front, 1, 1, create(&rt, 2)), done);
-    assert_eq!(rt;
-        call(&rt, &mut front, 1, 2, access(0, Op::ReadFe, true)),
-        done
-    );
-    assert_eq!(rt;
-        call(&rt, &mut front, 1, 3, access(0, Op::WriteEf(5), false)),
-        done
-    );
-    let again = call(&rt, &mut front, 1, 2, access(0, Op::ReadFe, true));
-    assert_eq!(rt; again, Ok(Outcome::NotYetSynced));
-    let other = call(&rt, &mut front, 1, 2, access(0, Op::ReadFe, false));
-    assert_eq!(rt; other, Err(Refusal::NumberUsed));
-    assert_eq!(rt; commit(&rt, &mut front), 4);
-    assert_eq!(rt; take_all(&mut front, 1), 4);
-    let again = call(&rt, &mut front, 1, 2, access(0, Op::ReadFe, true));
-    assert_eq!(rt; again, Ok(Outcome::SentAgain));
-    match mail(&rt, &mut front, 1) {
-        Mail::Answer { answer, place, .. } => {
-            assert_eq!(rt; answer, Answer::NotNow);
-            assert_eq!(rt; place, 2);
-        }
-        _ => panic!(rt; "no answer is in the box"),
-    }
     Ok(())
 }

@@ -4,12 +4,13 @@ use Rattle.std.specs.Option.{ForSome}
 use Rattle.fe_disk.specs.Disk.{IsTorn, Follows, Elapses, LeavesJust, LeavesOnly, after_write, bytes_at}
 use Rattle.fe_disk.proofs.Images.{length-after_write, IsTorn-after_write}
 use Rattle.fe_disk.proofs.Moments.{goes_on, weaker}
-use Rattle.fe_journal.specs.Layout.{header_of, gate_of, image_of, area_of, other_than, IsImageLength}
+use Rattle.fe_journal.specs.Layout.{header_of, gate_of, image_of, area_of, other_than}
+use Rattle.fe_format.specs.Layout.{IsImageLength}
 use Rattle.fe_journal.specs.Groups.{end_of}
 use Rattle.fe_journal.specs.Contents.{Contents, Holds, HoldsEither}
 use Rattle.fe_journal.specs.Journal.{JournalState, Draft, IsDraft, IsLeft, Keeps, IsCatchUp, catch_up_groups, new_draft, with_slice, finished}
 use Rattle.fe_journal.specs.Steps.{header_fields, area_start, IsLeftInCommit, IsLeftInBeginning, IsHeaderTorn, IsBegun, after_commit}
-use Rattle.fe_journal.specs.declared.store_format.Format.{Format}
+use Rattle.fe_format.specs.declared.format.Format.{Format}
 use Rattle.fe_journal.specs.declared.begun.Begun.{Begun}
 use Rattle.fe_journal.proofs.Bytes.{SameBytes, same_bytes_at, torn_same, written_same, joined_same, known_same}
 use Rattle.fe_journal.proofs.Frames.{draft_same, image_short}

@@ -4,7 +4,7 @@ use Rattle.fe_disk.specs.Disk.{bytes_at}
 use Rattle.fe_journal.specs.Layout.{area_of, image_of, IsOpen, IsShut}
 use Rattle.fe_journal.specs.Groups.{HoldsGroups, end_of}
 use Rattle.fe_journal.specs.Contents.{Contents, Holds, generation_at, image_length_at}
-use Rattle.fe_journal.specs.declared.store_format.Format.{Format}
+use Rattle.fe_format.specs.declared.format.Format.{Format}
 use Rattle.fe_journal.proofs.Founds.{slot_same, format_same}
 
 none_and_some : (format : Format) (image : List ℕ) (area at : ℕ) (payload : List ℕ) (rest : List (List ℕ)) → HoldsGroups format image area at [] → HoldsGroups format image area at (payload ∷ rest) → ⊥

@@ -2,12 +2,13 @@
 use Rattle.std.proofs.Common.{◌≡◌, ℕ, ◌+◌, ◌≤◌, List, [], ◌∷◌, length, get_or, None, inl, inr, sym, ◌∙◌, ap, subst, refl, arith}
 use Rattle.fe_disk.specs.Disk.{IsTorn, LeavesJust, bytes_at, after_write}
 use Rattle.fe_disk.proofs.Images.{IsTorn-after_write, bytes_at-after_write, bytes_at_elsewhere}
-use Rattle.fe_journal.specs.Layout.{header_of, gate_of, image_of, area_of, IsOpen, IsShut, IsImageLength}
+use Rattle.fe_journal.specs.Layout.{header_of, gate_of, image_of, area_of, IsOpen, IsShut}
+use Rattle.fe_format.specs.Layout.{IsImageLength}
 use Rattle.fe_journal.specs.Contents.{Holds, empty_image, first_contents}
 use Rattle.fe_journal.specs.Journal.{JournalState, Keeps, new_journal}
 use Rattle.fe_journal.specs.Steps.{header_fields, after_commit, IsCleared, IsFirst}
-use Rattle.fe_journal.specs.declared.store_format.Format.{Format}
-use Rattle.fe_journal.specs.declared.store_format.Format.TheVariants.{One, Two}
+use Rattle.fe_format.specs.declared.format.Format.{Format}
+use Rattle.fe_format.specs.declared.format.Format.TheVariants.{One, Two}
 use Rattle.fe_journal.proofs.Bytes.{same_back, same_through, same_byte, torn_same, written_same, known_same}
 use Rattle.fe_journal.proofs.Spelled.{HasFields, fields_spelled, length-header_fields}
 

@@ -4,7 +4,8 @@ use Rattle.std.proofs.lemmas.Bool.{cases_lt, cases_eq}
 use Rattle.std.proofs.lemmas.Option.{none-some}
 use Rattle.fe_disk.specs.Disk.{LeavesJust, bytes_at}
 use Rattle.fe_disk.proofs.Images.{length-bytes_at}
-use Rattle.fe_journal.specs.Layout.{header_of, image_of, area_of, device_bytes, number_at, magic_of, IsOpen, IsShut, IsImageLength}
+use Rattle.fe_journal.specs.Layout.{header_of, image_of, area_of, device_bytes, number_at, IsOpen, IsShut}
+use Rattle.fe_format.specs.Layout.{magic_of, IsImageLength}
 use Rattle.fe_journal.specs.Groups.{IsGroup, StandFrom, HoldsGroups, Fits, end_of}
 use Rattle.fe_journal.specs.Contents.{Contents, Holds, IsValidAs, Counts, generation_at, image_length_at}
 use Rattle.fe_journal.specs.Cursor.{Cursor, Lists}
@@ -12,8 +13,8 @@ use Rattle.fe_journal.specs.Damage.{Tells, IsUnformatted, IsDamagedAt, NoGenerat
 use Rattle.fe_journal.specs.Found.{IsFound}
 use Rattle.fe_journal.specs.Journal.{JournalState, IsLeft, Keeps}
 use Rattle.fe_journal.specs.Store.{IsStore, IsWhole}
-use Rattle.fe_journal.specs.declared.store_format.Format.{Format}
-use Rattle.fe_journal.specs.declared.store_format.Format.TheVariants.{One, Two}
+use Rattle.fe_format.specs.declared.format.Format.{Format}
+use Rattle.fe_format.specs.declared.format.Format.TheVariants.{One, Two}
 use Rattle.fe_journal.specs.declared.fault.StoreFault.{StoreFault}
 use Rattle.fe_journal.specs.declared.fault.StoreFault.TheVariants.{Unformatted, Damaged, Device, NoMemory}
 use Rattle.fe_journal.specs.declared.opening.Found.{Found}

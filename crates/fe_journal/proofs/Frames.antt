@@ -1,11 +1,12 @@
 -- Images that agree on the bytes that contents are read from hold the same contents.
 use Rattle.std.proofs.Common.{◌≡◌, ◌⊎◌, ℕ, ◌+◌, ◌<◌, ◌≤◌, List, [], ◌∷◌, ◌++◌, length, sym, ◌∙◌, subst, refl, arith}
-use Rattle.fe_journal.specs.Layout.{header_of, gate_of, image_of, area_of, other_than, IsShut, IsImageLength}
+use Rattle.fe_journal.specs.Layout.{header_of, gate_of, image_of, area_of, other_than, IsShut}
+use Rattle.fe_format.specs.Layout.{IsImageLength}
 use Rattle.fe_journal.specs.Groups.{IsGroup, StandFrom, HoldsGroups, end_of}
 use Rattle.fe_journal.specs.Contents.{Contents, IsValidAs, Counts, Holds, generation_at, image_length_at}
 use Rattle.fe_journal.specs.Journal.{Draft, IsDraft}
-use Rattle.fe_journal.specs.declared.store_format.Format.{Format}
-use Rattle.fe_journal.specs.declared.store_format.Format.TheVariants.{One, Two}
+use Rattle.fe_format.specs.declared.format.Format.{Format}
+use Rattle.fe_format.specs.declared.format.Format.TheVariants.{One, Two}
 use Rattle.fe_journal.proofs.Bytes.{SameBytes, same_part, same_byte, same_bytes_at, same_number_at}
 
 pub group_same : (format : Format) (xs ys : List ℕ) (a b at : ℕ) (payload : List ℕ) → SameBytes xs a ys b (at + (5 + length payload)) → IsGroup format xs a at payload → IsGroup format ys b at payload

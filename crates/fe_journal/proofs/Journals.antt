@@ -7,7 +7,7 @@ use Rattle.fe_journal.specs.Groups.{Fits, end_of, behind_gate}
 use Rattle.fe_journal.specs.Contents.{Contents, Holds, HoldsEither, with_group}
 use Rattle.fe_journal.specs.Journal.{JournalState, Draft, IsDraft, IsLeft, Keeps}
 use Rattle.fe_journal.specs.Steps.{IsLeftInCommit, after_commit}
-use Rattle.fe_journal.specs.declared.store_format.Format.{Format}
+use Rattle.fe_format.specs.declared.format.Format.{Format}
 use Rattle.fe_journal.proofs.Bytes.{same_part, same_byte}
 use Rattle.fe_journal.proofs.Frames.{draft_same, end_of-more, image_short}
 use Rattle.fe_journal.proofs.Appends.{left_in_append, appended_holds, appended_other}

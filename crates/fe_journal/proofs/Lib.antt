@@ -11,4 +11,4 @@ mod Begins
 mod Openings
 mod Readings
 mod Founds
-mod Contents
+pub mod Contents

@@ -4,11 +4,12 @@ use Rattle.byteorder.specs.Endian.{big_number}
 use Rattle.byteorder.specs.Numbers.{big_from-take}
 use Rattle.fe_disk.specs.Disk.{bytes_at}
 use Rattle.fe_disk.proofs.Images.{length-bytes_at}
-use Rattle.fe_journal.specs.Layout.{number_at, IsOpen, IsShut, magic_of}
+use Rattle.fe_journal.specs.Layout.{number_at, IsOpen, IsShut}
+use Rattle.fe_format.specs.Layout.{magic_of}
 use Rattle.fe_journal.specs.Groups.{IsGroup, HoldsGroups, Fits, end_of}
 use Rattle.fe_journal.specs.Reading.{IsFormatOf, Reaches, EndsAt, IsOddAt}
-use Rattle.fe_journal.specs.declared.store_format.Format.{Format}
-use Rattle.fe_journal.specs.declared.store_format.Format.TheVariants.{One, Two}
+use Rattle.fe_format.specs.declared.format.Format.{Format}
+use Rattle.fe_format.specs.declared.format.Format.TheVariants.{One, Two}
 use Rattle.fe_journal.proofs.Frames.{stand_more, end_of-more}
 
 -- the number that a reader of a slice gives

@@ -3,14 +3,15 @@ use Rattle.std.proofs.Common.{◌≡◌, ◌⊎◌, ◌↔◌, OnOk, ℕ, ◌+�
 use Rattle.std.proofs.lemmas.Bool.{cases_lt}
 use Rattle.fe_disk.specs.Disk.{Rises, bytes_at}
 use Rattle.fe_disk.proofs.Moments.{joined, weaker}
-use Rattle.fe_journal.specs.Layout.{header_of, area_of, area_bytes, device_bytes, number_at, IsImageLength}
+use Rattle.fe_journal.specs.Layout.{header_of, area_of, area_bytes, device_bytes, number_at}
+use Rattle.fe_format.specs.Layout.{IsImageLength}
 use Rattle.fe_journal.specs.Groups.{Fits, end_of}
 use Rattle.fe_journal.specs.Contents.{IsValidAs, generation_at}
 use Rattle.fe_journal.specs.Damage.{Tells, NoGeneration, OddImage, OddGroup}
 use Rattle.fe_journal.specs.Reading.{IsHeader, IsHeaderAt, IsCounting, IsOddAt, HeaderFault, GroupFault}
 use Rattle.fe_journal.specs.Steps.{OnlyReads}
 use Rattle.fe_journal.specs.Store.{CountsAs}
-use Rattle.fe_journal.specs.declared.store_format.Format.{Format}
+use Rattle.fe_format.specs.declared.format.Format.{Format}
 use Rattle.fe_journal.specs.declared.header.Header.{Header}
 use Rattle.fe_journal.specs.declared.fault.StoreFault.{StoreFault}
 use Rattle.fe_journal.specs.declared.fault.StoreFault.TheVariants.{Unformatted, Damaged, Device, NoMemory}

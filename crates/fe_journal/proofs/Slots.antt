@@ -3,13 +3,14 @@ use Rattle.std.proofs.Common.{◌≡◌, ◌⊎◌, ℕ, ◌+◌, ◌<◌, ◌�
 use Rattle.std.proofs.lemmas.Bool.{cases_lt, cases_eq}
 use Rattle.fe_disk.specs.Disk.{IsTorn, bytes_at, after_write}
 use Rattle.fe_disk.proofs.Images.{length-after_write, IsTorn-after_write, IsTorn-same}
-use Rattle.fe_journal.specs.Layout.{header_of, gate_of, image_of, area_of, other_than, number_at, IsOpen, IsShut, IsPayloadLength, IsImageLength}
+use Rattle.fe_journal.specs.Layout.{header_of, gate_of, image_of, area_of, other_than, number_at, IsOpen, IsShut}
+use Rattle.fe_format.specs.Layout.{IsPayloadLength, IsImageLength}
 use Rattle.fe_journal.specs.Groups.{Fits, StandFrom, HoldsGroups, end_of, behind_gate}
 use Rattle.fe_journal.specs.Contents.{Contents, Counts, Holds, HoldsEither, generation_at}
 use Rattle.fe_journal.specs.Journal.{Draft, IsDraft, IsLeft, IsCatchUp, catch_up_groups, finished}
 use Rattle.fe_journal.specs.Steps.{area_start, IsLeftInCommit, IsLeftInBeginning, after_commit}
-use Rattle.fe_journal.specs.declared.store_format.Format.{Format}
-use Rattle.fe_journal.specs.declared.store_format.Format.TheVariants.{One, Two}
+use Rattle.fe_format.specs.declared.format.Format.{Format}
+use Rattle.fe_format.specs.declared.format.Format.TheVariants.{One, Two}
 use Rattle.fe_journal.proofs.Bytes.{SameBytes, same_part, same_byte, same_back, same_through, torn_same, written_same}
 use Rattle.fe_journal.proofs.Frames.{NoRise, shut_no_rise, same_no_rise, generation_same, holds_same, draft_same, image_short}
 use Rattle.fe_journal.proofs.Spelled.{length-behind_gate, spelled, behind_same}

@@ -5,11 +5,12 @@ use Rattle.byteorder.specs.Endian.{big_number, big_bytes}
 use Rattle.byteorder.specs.Numbers.{big_from-take, big_number-reads_back, length-bytes_high_first}
 use Rattle.fe_disk.specs.Disk.{bytes_at}
 use Rattle.fe_disk.proofs.Images.{length-bytes_at, get_or-bytes_at}
-use Rattle.fe_journal.specs.Layout.{number_at, magic_of}
+use Rattle.fe_journal.specs.Layout.{number_at}
+use Rattle.fe_format.specs.Layout.{magic_of}
 use Rattle.fe_journal.specs.Groups.{behind_gate}
 use Rattle.fe_journal.specs.Steps.{header_fields}
-use Rattle.fe_journal.specs.declared.store_format.Format.{Format}
-use Rattle.fe_journal.specs.declared.store_format.Format.TheVariants.{One, Two}
+use Rattle.fe_format.specs.declared.format.Format.{Format}
+use Rattle.fe_format.specs.declared.format.Format.TheVariants.{One, Two}
 use Rattle.fe_journal.proofs.Bytes.{SameBytes, same_part, same_byte, same_bytes_at, same_number_at}
 
 pub length-big_bytes : (n x : ℕ) → length (big_bytes n x) ≡ n

@@ -1,9 +1,10 @@
 -- What an image of a device holds: the slot that counts, and what stands in it.
 use Rattle.std.specs.Prelude.{◌≡◌, ◌⊎◌, ℕ, ◌+◌, ◌<◌, ◌≤◌, List, [], ◌∷◌, ◌++◌, length}
 use Rattle.fe_disk.specs.Disk.{bytes_at}
-use Rattle.fe_journal.specs.Layout.{device_bytes, header_of, gate_of, image_of, area_of, other_than, number_at, IsOpen, magic_of, IsImageLength}
+use Rattle.fe_journal.specs.Layout.{device_bytes, header_of, gate_of, image_of, area_of, other_than, number_at, IsOpen}
+use Rattle.fe_format.specs.Layout.{magic_of, IsImageLength}
 use Rattle.fe_journal.specs.Groups.{HoldsGroups}
-use Rattle.fe_journal.specs.declared.store_format.Format.{Format}
+use Rattle.fe_format.specs.declared.format.Format.{Format}
 
 -- the slot that counts, its format and generation, its image, and the payloads of its open groups
 pub record Contents : Type 0 where

@@ -1,7 +1,7 @@
 -- The groups of a journal area, read one after the other.
 use Rattle.std.specs.Prelude.{ℕ, List}
 use Rattle.fe_journal.specs.Groups.{HoldsGroups}
-use Rattle.fe_journal.specs.declared.store_format.Format.{Format}
+use Rattle.fe_format.specs.declared.format.Format.{Format}
 
 -- the bytes of a journal area, where it begins on the device, and the offset in it of the next group's gate
 pub record Cursor : Type 0 where

@@ -1,9 +1,10 @@
 -- When an image holds no contents, and what is told of it.
 use Rattle.std.specs.Prelude.{◌≡◌, ◌≢◌, ◌⊎◌, ℕ, ◌+◌, ◌<◌, ◌≤◌, List, length}
-use Rattle.fe_journal.specs.Layout.{device_bytes, header_of, area_of, number_at, IsOpen, IsImageLength}
+use Rattle.fe_journal.specs.Layout.{device_bytes, header_of, area_of, number_at, IsOpen}
+use Rattle.fe_format.specs.Layout.{IsImageLength}
 use Rattle.fe_journal.specs.Groups.{StandFrom, end_of, Fits}
 use Rattle.fe_journal.specs.Contents.{IsValidAs, Counts, generation_at, image_length_at}
-use Rattle.fe_journal.specs.declared.store_format.Format.{Format}
+use Rattle.fe_format.specs.declared.format.Format.{Format}
 use Rattle.fe_journal.specs.declared.fault.StoreFault.{StoreFault}
 use Rattle.fe_journal.specs.declared.fault.StoreFault.TheVariants.{Unformatted, Damaged, Device, NoMemory}
 

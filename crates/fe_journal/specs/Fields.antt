@@ -2,7 +2,8 @@
 use Rattle.std.specs.Prelude.{◌≡◌, ◌≤◌, ◌<◌, ℕ, vec_len}
 use Rattle.std.specs.Option.{ForSome}
 use Rattle.fe_journal.specs.Journal.{JournalState}
-use Rattle.fe_journal.specs.Layout.{device_bytes, area_bytes, IsImageLength}
+use Rattle.fe_journal.specs.Layout.{device_bytes, area_bytes}
+use Rattle.fe_format.specs.Layout.{IsImageLength}
 use Rattle.fe_journal.specs.declared.journal.Journal.TheInside.{Inside}
 
 abbrev pub state_of : {D : Type 0} → Inside D → JournalState D

@@ -3,8 +3,9 @@
 use Rattle.std.specs.Prelude.{◌≡◌, ℕ, ◌+◌, ◌-◌, ◌≤◌, List, [], ◌∷◌, ◌++◌, length}
 use Rattle.byteorder.specs.Endian.{big_bytes}
 use Rattle.fe_disk.specs.Disk.{bytes_at}
-use Rattle.fe_journal.specs.Layout.{number_at, IsOpen, IsShut, IsPayloadLength, area_bytes}
-use Rattle.fe_journal.specs.declared.store_format.Format.{Format}
+use Rattle.fe_journal.specs.Layout.{number_at, IsOpen, IsShut, area_bytes}
+use Rattle.fe_format.specs.Layout.{IsPayloadLength}
+use Rattle.fe_format.specs.declared.format.Format.{Format}
 
 -- a payload of this length is allowed, and fits with its gate at `at` and one more gate behind it
 pub record Fits (format : Format) (at n : ℕ) : Type 0 where

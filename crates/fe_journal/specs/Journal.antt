@@ -1,10 +1,11 @@
 -- A journal as its callers see it, and how it stands to the images that its disk may leave.
 use Rattle.std.specs.Prelude.{◌≡◌, ◌+◌, ◌≤◌, ℕ, Bool, List, [], ◌∷◌, ◌++◌, length, Option, Some, None, IsSome, false}
 use Rattle.fe_disk.specs.Disk.{bytes_at, LeavesJust}
-use Rattle.fe_journal.specs.Layout.{header_of, gate_of, image_of, other_than, number_at, magic_of, IsShut, IsImageLength, IsPayloadLength}
+use Rattle.fe_journal.specs.Layout.{header_of, gate_of, image_of, other_than, number_at, IsShut}
+use Rattle.fe_format.specs.Layout.{magic_of, IsImageLength, IsPayloadLength}
 use Rattle.fe_journal.specs.Groups.{end_of}
 use Rattle.fe_journal.specs.Contents.{Contents, Holds, generation_at, image_length_at}
-use Rattle.fe_journal.specs.declared.store_format.Format.{Format}
+use Rattle.fe_format.specs.declared.format.Format.{Format}
 use Rattle.fe_journal.specs.declared.begun.Begun.{Begun}
 
 -- a journal's disk and what it knows of the slot that counts, of the slot begun, and whether its disk has failed

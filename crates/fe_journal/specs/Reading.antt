@@ -1,8 +1,9 @@
 -- What the parts of opening read of a store.
 use Rattle.std.specs.Prelude.{◌≡◌, ◌⊎◌, ◌≤◌, ◌<◌, ◌+◌, ℕ, List, Option, Some, None}
-use Rattle.fe_journal.specs.Layout.{number_at, IsOpen, magic_of, header_of, area_of, area_bytes, IsImageLength}
+use Rattle.fe_journal.specs.Layout.{number_at, IsOpen, header_of, area_of, area_bytes}
+use Rattle.fe_format.specs.Layout.{magic_of, IsImageLength}
 use Rattle.fe_journal.specs.Groups.{StandFrom, HoldsGroups, end_of, Fits}
-use Rattle.fe_journal.specs.declared.store_format.Format.{Format}
+use Rattle.fe_format.specs.declared.format.Format.{Format}
 use Rattle.fe_journal.specs.declared.header.Header.{Header}
 use Rattle.fe_journal.specs.declared.fault.StoreFault.{StoreFault}
 use Rattle.fe_journal.specs.declared.fault.StoreFault.TheVariants.{Unformatted, Damaged, Device, NoMemory}

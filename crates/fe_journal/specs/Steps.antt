@@ -2,10 +2,11 @@
 use Rattle.std.specs.Prelude.{◌≡◌, ◌⊎◌, ℕ, List, [], ◌∷◌, ◌++◌, length}
 use Rattle.byteorder.specs.Endian.{big_bytes}
 use Rattle.fe_disk.specs.Disk.{IsTorn, AddsNone, LeavesOnly, bytes_at, after_write}
-use Rattle.fe_journal.specs.Layout.{magic_of, IsOpen, IsShut, header_of, gate_of, image_of}
+use Rattle.fe_journal.specs.Layout.{IsOpen, IsShut, header_of, gate_of, image_of}
+use Rattle.fe_format.specs.Layout.{magic_of}
 use Rattle.fe_journal.specs.Groups.{behind_gate}
 use Rattle.fe_journal.specs.Contents.{empty_image}
-use Rattle.fe_journal.specs.declared.store_format.Format.{Format}
+use Rattle.fe_format.specs.declared.format.Format.{Format}
 use Rattle.fe_journal.specs.declared.fault.StoreFault.{StoreFault}
 use Rattle.fe_journal.specs.declared.fault.StoreFault.TheVariants.{Unformatted, Device, NoMemory}
 

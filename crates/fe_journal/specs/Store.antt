@@ -1,10 +1,11 @@
 -- What opening has read of a store, part by part.
 use Rattle.std.specs.Prelude.{◌≡◌, ◌<◌, ◌≤◌, ℕ, List, Option, Some, None, vec_len}
 use Rattle.fe_disk.specs.Disk.{bytes_at}
-use Rattle.fe_journal.specs.Layout.{area_of, image_of, area_bytes, IsImageLength}
+use Rattle.fe_journal.specs.Layout.{area_of, image_of, area_bytes}
+use Rattle.fe_format.specs.Layout.{IsImageLength}
 use Rattle.fe_journal.specs.Contents.{IsValidAs, Counts, generation_at, image_length_at}
 use Rattle.fe_journal.specs.Reading.{EndsAt}
-use Rattle.fe_journal.specs.declared.store_format.Format.{Format}
+use Rattle.fe_format.specs.declared.format.Format.{Format}
 use Rattle.fe_journal.specs.declared.header.Header.{Header}
 use Rattle.fe_journal.specs.declared.store.Store.{Store}
 use Rattle.fe_journal.specs.declared.store.Parts.{Parts}
@@ -40,3 +41,4 @@ pub record IsWhole (store : Store) : Type 0 where
   pub is_slot : store.slot < 2
   pub buffer_whole : vec_len store.buffer ≡ area_bytes
   pub parts_whole : AreParts store.parts
+  pub ends : EndsAt store.header.format store.parts.area.items store.parts.used

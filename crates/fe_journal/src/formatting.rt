@@ -4,7 +4,7 @@ ghost use Rattle.fe_journal.specs.Layout.{device_bytes, area_bytes};
 ghost use Rattle.fe_journal.specs.Journal.{Keeps, new_journal};
 ghost use Rattle.fe_journal.specs.Contents.{Holds, first_contents};
 ghost use Rattle.fe_journal.specs.Steps.{IsCleared, IsFirst, IsFormatFault};
-ghost use Rattle.fe_journal.specs.declared.store_format.Format.TheVariants.{Two};
+ghost use Rattle.fe_format.specs.declared.format.Format.TheVariants.{Two};
 ghost use Rattle.fe_journal.specs.declared.fault.StoreFault.TheVariants.{Unformatted, Device};
 
 use crate::buffer::buffer_of;

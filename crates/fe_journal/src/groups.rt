@@ -57,7 +57,8 @@ impl Groups {
 
     /// Where the payload of the next group begins on the device, in bytes.
     pub fn offset(&self) -> usize
-        ensures { result ≡ self.now.start + self.now.at + 5 }
+        ensures value { result ≡ self.now.start + self.now.at + 5 }
+        ensures within { result < 5251077 }
     {
         self.start + self.at + 5
     }

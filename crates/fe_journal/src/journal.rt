@@ -1,7 +1,8 @@
 ghost use Rattle.std.specs.Prelude.{◌≡◌, ◌↔◌, ◌⊎◌, ◌+◌, ◌-◌, ◌≤◌, ◌<◌, ◌^◌, ℕ, [], ◌∷◌, ◌++◌, List, length, Option, Some, None, false, true, vec_len, IsTrue, IsSome, IfSome, OnOk, OnErr, IsErrOf};
 ghost use Rattle.std.specs.Option.{ForSome};
 ghost use Rattle.fe_disk.specs.Disk.{LeavesOnly, Rises};
-ghost use Rattle.fe_journal.specs.Layout.{device_bytes, area_bytes, other_than, IsPayloadLength, IsImageLength};
+ghost use Rattle.fe_journal.specs.Layout.{device_bytes, area_bytes, other_than};
+ghost use Rattle.fe_format.specs.Layout.{IsPayloadLength, IsImageLength};
 ghost use Rattle.fe_journal.specs.Groups.{room_at, end_of};
 ghost use Rattle.fe_journal.specs.Contents.{Contents, HoldsEither, Holds, with_group};
 ghost use Rattle.fe_journal.specs.Journal.{Draft, Keeps, new_draft, with_slice, IsCatchUp, catch_up_groups, finished};
@@ -101,6 +102,21 @@ impl<D: Disk> Journal<D> {
         self.generation
     }
 
+    /// The slot that counts, 0 or 1.
+    pub fn slot(&self) -> usize
+        ensures value { result ≡ self.now.slot }
+        ensures is_slot { result < 2 }
+    {
+        self.slot
+    }
+
+    /// Whether a call of the device failed, so that each further call answers `Failed`.
+    pub fn has_failed(&self) -> bool
+        ensures { result ≡ self.now.has_failed }
+    {
+        self.has_failed
+    }
+
     /// The slot that was begun and is not finished.
     pub fn begun(&self) -> Option<Begun>
         ensures { result ≡ self.now.begun }
@@ -130,6 +146,7 @@ impl<D: Disk> Journal<D> {
 
         ensures value { OnOk result (self.new ≡ record self.old { disk = self.new.disk; used = self.old.used + (5 + length payload.now) }) }
         ensures device { self.old.has_failed ≡ false → (IsErrOf result Device ↔ Rises (D.failures self.old.disk) (D.failures self.new.disk)) }
+        ensures still { OnOk result (D.failures self.new.disk ≡ D.failures self.old.disk) }
         ensures failed { IsErrOf result Failed ↔ IsTrue self.old.has_failed }
         ensures untouched { IsErrOf result Failed → self.new ≡ self.old }
         ensures err { OnErr result (self.new ≡ record self.old { disk = self.new.disk; has_failed = true }) }
@@ -172,6 +189,7 @@ impl<D: Disk> Journal<D> {
           begun = Some (record { format = format; generation = generation; image_length = image_length; written = 0 });
         }) }
         ensures device { self.old.has_failed ≡ false → (IsErrOf result Device ↔ Rises (D.failures self.old.disk) (D.failures self.new.disk)) }
+        ensures still { OnOk result (D.failures self.new.disk ≡ D.failures self.old.disk) }
         ensures failed { IsErrOf result Failed ↔ IsTrue self.old.has_failed }
         ensures untouched { IsErrOf result Failed → self.new ≡ self.old }
         ensures err { OnErr result (self.new ≡ record self.old { disk = self.new.disk; has_failed = true }) }
@@ -212,6 +230,7 @@ impl<D: Disk> Journal<D> {
           begun = Some (record b { written = b.written + length slice.now });
         })) }
         ensures device { self.old.has_failed ≡ false → (IsErrOf result Device ↔ Rises (D.failures self.old.disk) (D.failures self.new.disk)) }
+        ensures still { OnOk result (D.failures self.new.disk ≡ D.failures self.old.disk) }
         ensures failed { IsErrOf result Failed ↔ IsTrue self.old.has_failed }
         ensures untouched { IsErrOf result Failed → self.new ≡ self.old }
         ensures err { OnErr result (self.new ≡ record self.old { disk = self.new.disk; has_failed = true }) }
@@ -257,6 +276,7 @@ impl<D: Disk> Journal<D> {
           begun = None;
         })) }
         ensures device { self.old.has_failed ≡ false → (IsErrOf result Device ↔ Rises (D.failures self.old.disk) (D.failures self.new.disk)) }
+        ensures still { OnOk result (D.failures self.new.disk ≡ D.failures self.old.disk) }
         ensures failed { IsErrOf result Failed ↔ IsTrue self.old.has_failed }
         ensures untouched { IsErrOf result Failed → self.new ≡ self.old }
         ensures err { OnErr result (self.new ≡ record self.old { disk = self.new.disk; has_failed = true }) }

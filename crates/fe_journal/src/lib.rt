@@ -19,13 +19,13 @@ mod scan;
 mod slot;
 mod spelling;
 mod store;
-mod store_format;
 
 pub use begun::Begun;
 pub use fault::{JournalFault, StoreFault};
+pub use fe_format::Format;
 pub use formatting::{format, format_in};
 pub use groups::Groups;
 pub use journal::Journal;
 pub use laws::{held_or_refused, one_contents};
+pub use layout::{header_of, image_of};
 pub use opening::{Found, find};
-pub use store_format::Format;

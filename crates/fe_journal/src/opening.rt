@@ -6,7 +6,7 @@ ghost use Rattle.fe_journal.specs.Layout.{device_bytes};
 ghost use Rattle.fe_journal.specs.Journal.{IsReady};
 ghost use Rattle.fe_journal.specs.Steps.{OnlyReads};
 ghost use Rattle.fe_journal.specs.Store.{IsStore, IsWhole};
-ghost use Rattle.fe_journal.specs.Found.{IsFound, disk_after};
+ghost use Rattle.fe_journal.specs.Found.{IsFound, AreListed, disk_after};
 ghost use Rattle.fe_journal.specs.declared.fault.StoreFault.TheVariants.{Device, NoMemory};
 
 use crate::layout::area_of;
@@ -41,8 +41,10 @@ pub fn find<D: Disk>(alloc: Global, disk: D) -> Result<Found<D>, (StoreFault, D)
 
     // Over any disk: a journal with no slot begun that has not failed.
     ensures ready { IfOk result (λ found. IsReady found.journal) }
+    ensures listed { IfOk result AreListed }
     ensures device { IfErr result (λ e. (e.0 ≡ Device) ↔ Rises (D.failures disk) (D.failures e.1)) }
     ensures still { IfOk result (λ found. D.failures found.journal.disk ≡ D.failures disk) }
+    ensures works { IfOk result (λ found. Rises (D.failures disk) (D.failures found.journal.disk) → ⊥) }
     ensures honesty { D.honest (disk_after result) ↔ D.honest disk }
     ensures size { D.size (disk_after result) ≡ D.size disk }
 {
@@ -58,6 +60,7 @@ fn found_in<D: Disk>(store: Store, disk: D) -> Found<D>
     requires whole { IsWhole store }
     ensures disk { result.journal.disk ≡ disk }
     ensures ready { IsReady result.journal }
+    ensures listed { AreListed result }
     ensures found { D.honest disk → IsStore (D.seen disk) store → LeavesJust (D.seen disk) (D.may_leave disk) → IsFound D.seen D.may_leave (D.seen disk) result }
 {
     let Store {

@@ -1,7 +1,8 @@
 // A store as it is read from its device.
 ghost use Rattle.std.specs.Prelude.{◌≡◌, ◌⊎◌, ◌↔◌, ◌+◌, ◌≤◌, ◌<◌, length, Some, IfSome, IfOk, IfErr, IsErr, IsErrOf, OnOk, vec_len};
 ghost use Rattle.fe_disk.specs.Disk.{LeavesJust, Rises, bytes_at};
-ghost use Rattle.fe_journal.specs.Layout.{device_bytes, header_of, IsImageLength};
+ghost use Rattle.fe_journal.specs.Layout.{device_bytes, header_of};
+ghost use Rattle.fe_format.specs.Layout.{IsImageLength};
 ghost use Rattle.fe_journal.specs.Damage.{Tells};
 ghost use Rattle.fe_journal.specs.Reading.{IsHeader, HeaderFault, GroupFault, EndsAt};
 ghost use Rattle.fe_journal.specs.Steps.{OnlyReads};
@@ -217,6 +218,7 @@ fn read_slot<D: Disk>(
     ensures parts { D.honest disk.old → IfOk result (IsSlotRead (D.seen disk.old) slot header.now) }
     ensures faults { D.honest disk.old → CountsAs (D.seen disk.old) (Some (slot, header.now)) → IfErr result (λ fault. Tells fault (D.seen disk.old)) }
     ensures whole { IfOk result AreParts }
+    ensures ends { IfOk result (λ parts. EndsAt header.now.format parts.area.items parts.used) }
     ensures reads { D.honest disk.old → OnlyReads D.seen D.may_leave D.moment D.left_since disk.old disk.new }
 
     ensures fault { IsErrOf result Device → Rises (D.failures disk.old) (D.failures disk.new) }

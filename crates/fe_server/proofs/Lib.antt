@@ -1,5 +1,6 @@
 pub mod Numbers
 pub mod FrameLemmas
-pub mod DeskLemmas
-pub mod LineLemmas
-pub mod RunLemmas
+pub mod DecoderLemmas
+pub mod FrontLemmas
+pub mod PortLemmas
+pub mod Written

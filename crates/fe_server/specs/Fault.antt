@@ -1,5 +1,5 @@
 -- The statuses that a program ends with.
-use Rattle.std.specs.Prelude.{ℕ}
+use Rattle.std.specs.Prelude.{◌≡◌, ℕ}
 use Rattle.fe_server.specs.declared.fault.Fault.{Fault}
 use Rattle.fe_server.specs.declared.fault.Fault.TheVariants as fault
 
@@ -16,3 +16,17 @@ IsOutside (fault.Line number) = ⊥
 IsOutside fault.Input = Unit {0}
 IsOutside fault.Memory = Unit {0}
 IsOutside fault.Strange = ⊥
+
+-- a fault that a run may end with: a strange answer never comes
+abbrev pub IsNamed : Fault → Type 0
+IsNamed (fault.Line number) = Unit {0}
+IsNamed fault.Input = Unit {0}
+IsNamed fault.Memory = Unit {0}
+IsNamed fault.Strange = ⊥
+
+-- such a fault at the line of this number
+abbrev pub NamesLine : ℕ → Fault → Type 0
+NamesLine number (fault.Line told) = told ≡ number
+NamesLine number fault.Input = Unit {0}
+NamesLine number fault.Memory = Unit {0}
+NamesLine number fault.Strange = ⊥

@@ -2,9 +2,8 @@ pub mod Fault
 pub mod Words
 pub mod Requests
 pub mod Line
+pub mod Frames
 pub mod Printed
 pub mod RefusalNames
-pub mod Frames
 pub mod Desk
-pub mod Lines
-pub mod Run
+pub mod Runs

@@ -1,5 +1,5 @@
 -- Replies as text.
-use Rattle.std.specs.Prelude.{ℕ, List, [], ◌++◌, codes, ◌==◌, if◌then◌else◌}
+use Rattle.std.specs.Prelude.{◌≡◌, ⊤, ℕ, List, [], ◌++◌, codes, ◌==◌, if◌then◌else◌}
 use Rattle.std.specs.Fmt.{decimal}
 use Rattle.fe_state.specs.declared.answer.Answer.{Answer}
 use Rattle.fe_state.specs.declared.answer.Answer.TheVariants.{Value, Done, Array, NoArray, BadIndex, NameTaken, ArrayLimit, WordLimit, BadName, BadLength, NotNow}
@@ -33,7 +33,7 @@ refusal_text code =
     else if code == 9 then codes "spent"
     else codes "not-waiting"
 
--- The line for a reply to a connection, with its line feed. A report has none yet: the first form of the front makes none.
+-- The line for a reply to a connection, with its line feed. That of a report is not said here.
 unfoldable pub printed : ℕ → ServerMessage → List ℕ
 printed conn (server.Welcome session floor) =
     codes "c" ++ (decimal conn ++ (codes " welcome " ++ (decimal session ++ (codes " " ++ (decimal floor ++ codes "\n")))))
@@ -48,3 +48,8 @@ printed conn (server.Settled floor) =
 printed conn (server.Goodbye session) =
     codes "c" ++ (decimal conn ++ (codes " goodbye " ++ (decimal session ++ codes "\n")))
 printed conn (server.Report text) = []
+
+-- the text grows by the line for a reply; what a report prints is not said here
+abbrev pub Prints : ℕ → ServerMessage → List ℕ → List ℕ → Type 0
+Prints conn (server.Report text) before after = ⊤
+Prints conn reply before after = after ≡ before ++ printed conn reply

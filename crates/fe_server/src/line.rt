@@ -1,48 +1,136 @@
 //! The lines of a schedule (`docs/schedules.md`).
 
 ghost use Rattle.std.specs.Prelude.{◌≡◌, IfSome};
-ghost use Rattle.fe_server.specs.Line.{parsed, message_in};
+ghost use Rattle.fe_server.specs.Line.{parsed, conn_of, control_in, plain_in, numbered_in, told_in, LineFits};
 ghost use Rattle.fe_wire.specs.Spelling.{Fits};
 
 use crate::request::request_in;
 use crate::word::{number_of, says, word_at};
 use fe_wire::ClientMessage;
 
-/// A line of a schedule: what a connection sends.
+/// How many bytes the longest line has.
+pub const LONGEST: usize = 99;
+
+/// The greatest number of a connection.
+const CONNECTIONS: u64 = 999;
+
+/// A line of a schedule.
 #[derive(Clone, Copy, Debug, PartialEq, Eq)]
-pub struct Line {
-    /// The number of the connection.
-    pub conn: u64,
-    pub message: ClientMessage,
+pub enum Line {
+    /// A connection sends a message.
+    Message { conn: u64, message: ClientMessage },
+    /// A connection goes.
+    Gone { conn: u64 },
+    /// Nothing is cut and posted from here on.
+    Hold,
+    /// What is pending is cut and posted, and a hold ends.
+    Flush,
 }
 
-/// `attach S`, or `NUM REQUEST`.
-#[tactic(auto, unfolding(crate::specs::Line::message_in, crate::specs::Line::attach_in, crate::specs::Line::call_in))]
-fn message_in(words: &[u8]) -> Option<ClientMessage>
-    ensures message { result ≡ message_in words.now }
+/// The number of the connection of that name, `c1` to `c999`.
+#[tactic(auto, unfolding(crate::specs::Line::conn_of))]
+fn conn_of(word: &[u8]) -> Option<u64>
+    ensures { result ≡ conn_of word.now }
+{
+    if word.is_empty() || word[0] != b'c' {
+        return None;
+    }
+    let conn = number_of(&word[1..])?;
+    if conn < 1 || conn > CONNECTIONS {
+        return None;
+    }
+    Some(conn)
+}
+
+/// `hold` or `flush`.
+#[tactic(auto, unfolding(crate::specs::Line::control_in))]
+fn control_in(word: &[u8]) -> Option<Line>
+    ensures { result ≡ control_in word.now }
+{
+    if says(word, "hold") {
+        Some(Line::Hold)
+    } else if says(word, "flush") {
+        Some(Line::Flush)
+    } else {
+        None
+    }
+}
+
+/// `bye`, `report` or `gone`.
+#[tactic(auto, unfolding(crate::specs::Line::plain_in))]
+fn plain_in(conn: u64, word: &[u8]) -> Option<Line>
+    ensures { result ≡ plain_in conn word.now }
+{
+    if says(word, "bye") {
+        Some(Line::Message {
+            conn,
+            message: ClientMessage::Bye,
+        })
+    } else if says(word, "report") {
+        Some(Line::Message {
+            conn,
+            message: ClientMessage::Report,
+        })
+    } else if says(word, "gone") {
+        Some(Line::Gone { conn })
+    } else {
+        None
+    }
+}
+
+/// `attach S`, `cancel NUM`, `settle F` or `NUM REQUEST`.
+#[tactic(auto, unfolding(crate::specs::Line::numbered_in))]
+fn numbered_in(first: &[u8], words: &[u8]) -> Option<ClientMessage>
+    ensures message { result ≡ numbered_in first.now words.now }
     ensures fits { IfSome result Fits }
 {
-    let (first, words) = word_at(words)?;
     if says(first, "attach") {
         let session = number_of(words)?;
         return Some(ClientMessage::Attach { session });
+    }
+    if says(first, "cancel") {
+        let number = number_of(words)?;
+        return Some(ClientMessage::Cancel { number });
+    }
+    if says(first, "settle") {
+        let floor = number_of(words)?;
+        return Some(ClientMessage::Settle { floor });
     }
     let number = number_of(first)?;
     let request = request_in(words)?;
     Some(ClientMessage::Call { number, request })
 }
 
-/// The line that these bytes say, without a line feed: `c1 attach S` or `c1 NUM REQUEST`, with single
-/// spaces between the words. `None` for any other bytes.
-#[tactic(auto, unfolding(crate::specs::Line::parsed, crate::specs::Line::line_in))]
+/// What stands behind the name of a connection.
+#[tactic(auto, unfolding(crate::specs::Line::told_in))]
+fn told_in(conn: u64, words: &[u8]) -> Option<Line>
+    ensures line { result ≡ told_in conn words.now }
+    ensures fits { IfSome result LineFits }
+{
+    match word_at(words) {
+        Some((first, words)) => {
+            let message = numbered_in(first, words)?;
+            Some(Line::Message { conn, message })
+        }
+        None => plain_in(conn, words),
+    }
+}
+
+/// The line that these bytes say, without a line feed, with single spaces between the words. `None` for any other
+/// bytes, and for more than 99, which no line has.
+#[tactic(auto, unfolding(crate::specs::Line::parsed))]
 pub fn parse(bytes: &[u8]) -> Option<Line>
     ensures line { result ≡ parsed bytes.now }
-    ensures fits { IfSome result (λ line. Fits line.message) }
+    ensures fits { IfSome result LineFits }
 {
-    let (conn, words) = word_at(bytes)?;
-    if !says(conn, "c1") {
+    if bytes.len() > LONGEST {
         return None;
     }
-    let message = message_in(words)?;
-    Some(Line { conn: 1, message })
+    match word_at(bytes) {
+        Some((name, words)) => {
+            let conn = conn_of(name)?;
+            told_in(conn, words)
+        }
+        None => control_in(bytes),
+    }
 }

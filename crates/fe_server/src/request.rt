@@ -1,7 +1,8 @@
 //! The requests of a line.
 
 ghost use Rattle.std.specs.Prelude.{◌≡◌, IfSome};
-ghost use Rattle.fe_server.specs.Requests.{op_named, writing_op_named, create_in, access_in, writing_access_in, request_in, IsOpenRequest, RequestFits};
+ghost use Rattle.std.specs.Option.{option_map};
+ghost use Rattle.fe_server.specs.Requests.{op_named, writing_op_named, create_in, find_in, remove_in, last_in, access_in, writing_access_in, request_in, RequestFits};
 
 use crate::word::{name_in, number_of, says, small_number_of, tag_named, word_at};
 use fe_state::Request;
@@ -47,7 +48,6 @@ fn writing_op_named(word: &[u8], operand: u64) -> Option<Op>
 #[tactic(auto, unfolding(crate::specs::Requests::create_in))]
 fn create_in(words: &[u8]) -> Option<Request>
     ensures request { result ≡ create_in words.now }
-    ensures open { IfSome result IsOpenRequest }
     ensures fits { IfSome result RequestFits }
 {
     let (name, words) = word_at(words)?;
@@ -58,33 +58,75 @@ fn create_in(words: &[u8]) -> Option<Request>
     Some(Request::Create { name, length, tag })
 }
 
-/// `A I`.
+/// `NAME`, which is one word.
+#[tactic(auto, unfolding(crate::specs::Requests::find_in))]
+fn find_in(words: &[u8]) -> Option<Request>
+    ensures request { result ≡ find_in words.now }
+    ensures fits { IfSome result RequestFits }
+{
+    match word_at(words) {
+        Some(_) => None,
+        None => {
+            let name = name_in(words)?;
+            Some(Request::Find { name })
+        }
+    }
+}
+
+/// `A`.
+#[tactic(auto, unfolding(crate::specs::Requests::remove_in))]
+fn remove_in(words: &[u8]) -> Option<Request>
+    ensures request { result ≡ remove_in words.now }
+    ensures fits { IfSome result RequestFits }
+{
+    let array = number_of(words)?;
+    Some(Request::Remove { array })
+}
+
+/// The last word but for a `nowait` behind it, and whether that is there.
+#[tactic(auto, unfolding(crate::specs::Requests::last_in))]
+fn last_in(words: &[u8]) -> Option<(&[u8], bool)>
+    ensures { option_map (λ p. (p.0.now, p.1)) result ≡ last_in words.entry.now }
+{
+    match word_at(words) {
+        Some((word, flag)) => {
+            if says(flag, "nowait") {
+                Some((word, true))
+            } else {
+                None
+            }
+        }
+        None => Some((words, false)),
+    }
+}
+
+/// `A I`, or `A I nowait`.
 #[tactic(auto, unfolding(crate::specs::Requests::access_in))]
 fn access_in(op: Op, words: &[u8]) -> Option<Request>
     ensures request { result ≡ access_in op words.now }
-    ensures open { IfSome result IsOpenRequest }
     ensures fits { IfSome result RequestFits }
 {
-    let (array, index) = word_at(words)?;
+    let (array, words) = word_at(words)?;
+    let (index, no_wait) = last_in(words)?;
     let array = number_of(array)?;
     let index = small_number_of(index)?;
     Some(Request::Access {
         array,
         index,
         op,
-        no_wait: false,
+        no_wait,
     })
 }
 
-/// `A I V`.
+/// `A I V`, or `A I V nowait`.
 #[tactic(auto, unfolding(crate::specs::Requests::writing_access_in))]
 fn writing_access_in(name: &[u8], words: &[u8]) -> Option<Request>
     ensures request { result ≡ writing_access_in name.now words.now }
-    ensures open { IfSome result IsOpenRequest }
     ensures fits { IfSome result RequestFits }
 {
     let (array, words) = word_at(words)?;
-    let (index, operand) = word_at(words)?;
+    let (index, words) = word_at(words)?;
+    let (operand, no_wait) = last_in(words)?;
     let array = number_of(array)?;
     let index = small_number_of(index)?;
     let operand = number_of(operand)?;
@@ -93,20 +135,25 @@ fn writing_access_in(name: &[u8], words: &[u8]) -> Option<Request>
         array,
         index,
         op,
-        no_wait: false,
+        no_wait,
     })
 }
 
-/// `create NAME LENGTH full|empty`, `OP A I` or `OP A I V`.
+/// `create NAME LENGTH full|empty`, `find NAME`, `remove A`, `OP A I` or `OP A I V`, an access perhaps with `nowait`.
 #[tactic(auto, unfolding(crate::specs::Requests::request_in, crate::specs::Requests::access_named))]
 pub(crate) fn request_in(words: &[u8]) -> Option<Request>
     ensures request { result ≡ request_in words.now }
-    ensures open { IfSome result IsOpenRequest }
     ensures fits { IfSome result RequestFits }
 {
     let (kind, words) = word_at(words)?;
     if says(kind, "create") {
         return create_in(words);
+    }
+    if says(kind, "find") {
+        return find_in(words);
+    }
+    if says(kind, "remove") {
+        return remove_in(words);
     }
     match op_named(kind) {
         Some(op) => access_in(op, words),

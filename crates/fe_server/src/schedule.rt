@@ -1,117 +1,79 @@
 //! Runs a schedule (`docs/schedules.md`).
 
-ghost use Rattle.std.specs.Prelude.{◌≡◌, [], ◌∷◌, None, IfErr, OnOk};
-ghost use Rattle.fe_wire.specs.Spelling.{Fits};
-ghost use Rattle.fe_server.specs.Desk.{IsBetween};
-ghost use Rattle.fe_server.specs.Fault.{IsOutside};
-ghost use Rattle.fe_server.specs.Run.{start, RunsAll, RunEnds, RunsSome, Prints, LineEnds, PrintsFront, PrintsMessage, PrintsSome};
+ghost use Rattle.std.specs.Prelude.{◌≡◌, ◌≤◌, length, vec_len, IfOk, IfErr, IfSome};
+ghost use Rattle.fe_server.specs.Fault.{IsNamed, IsOutside};
+ghost use Rattle.fe_server.specs.Runs.{IsRun};
 
-use crate::bounded::Bounded;
-use crate::desk::{CONN, Desk};
 use crate::fault::Fault;
-use crate::frames::replies_text;
-use crate::line::{Line, parse};
-use crate::stream::{next_line, stream_fault, write_text};
-use fe_wire::put_message;
+use crate::run::Run;
+use crate::stream::stream_fault;
 use std::alloc::Global;
-use std::io::{BufRead, BufReader, Read, Write};
+use std::io::{ErrorKind, Read, Write};
 
-/// Runs the lines that the reader gives, and writes what the replies to each of them say before the next
-/// one is run. `Line` at the first line outside the syntax, counted from 1 with the empty lines, which say
-/// nothing. `Input` where the reader or the writer fails, or was called 2^40 times. What earlier lines
-/// printed is written then.
+/// How often a stream is read at most.
+const READS: u64 = 1 << 40;
+
+/// How many bytes one read takes at most.
+const PIECE: usize = 65536;
+
+/// Runs the lines that the reader gives, and writes what the replies to them say. What the lines of one read print is
+/// written before the next read. `Line` at the first line outside the syntax, counted from 1 with the empty lines, which
+/// say nothing. `Input` where the reader or the writer fails, or was called 2^40 times. What earlier lines printed is
+/// written then.
 pub fn run_schedule<R: Read, W: Write>(
     alloc: Global,
     reader: &mut R,
     writer: &mut W,
 ) -> Result<(), Fault>
-    // Every line of the input ran, and what is written is what they print.
-    ensures ok { OnOk result (RunsAll (R.remaining reader.old) (W.contents writer.old) (W.contents writer.new)) }
-    // At the fault of a line, that line is outside the syntax, those before it ran, and what is written is what they print.
-    ensures fault { IfErr result (λ fault. RunEnds fault (R.remaining reader.old) (W.contents writer.old) (W.contents writer.new)) }
-    // However it ends, what is written is a front of what lines at the front of the input print.
-    ensures written { RunsSome (R.remaining reader.old) (W.contents writer.old) (W.contents writer.new) }
+    // A strange answer of a layer below never comes.
+    ensures { IfErr result IsNamed }
 {
-    let mut desk = Desk::new(alloc)?;
-    let mut lines = BufReader::new(alloc, Bounded::new(reader)).map_err(stream_fault)?;
-    run_lines(alloc, &mut desk, &mut lines, writer)
+    let mut piece = buffer(alloc, PIECE)?;
+    let mut run = Run::new(alloc)?;
+    run_all(&mut run, piece.as_mut_slice(), reader, writer)
 }
 
-/// Runs each line of the input, and writes what it prints.
-fn run_lines<B: BufRead, W: Write>(
-    alloc: Global,
-    desk: &mut Desk,
-    input: &mut B,
+/// What a read writes into.
+fn buffer(alloc: Global, count: usize) -> Result<Vec<u8>, Fault>
+    ensures len { IfOk result (λ piece. vec_len piece ≡ count) }
+    ensures err { IfErr result (λ fault. fault ≡ Fault.Memory) }
+{
+    vec![in alloc; 0; count].map_err(|_| Fault::Memory)
+}
+
+/// Runs the lines that the reader gives to its end.
+fn run_all<R: Read, W: Write>(
+    run: &mut Run,
+    piece: &mut [u8],
+    reader: &mut R,
     writer: &mut W,
 ) -> Result<(), Fault>
-    requires front { desk.old.front ≡ start }
-    requires decoder { IsBetween desk.old.decoder }
-    requires written { desk.old.written.items ≡ [] }
-    ensures ok { OnOk result (RunsAll (B.remaining input.old) (W.contents writer.old) (W.contents writer.new)) }
-    ensures fault { IfErr result (λ fault. RunEnds fault (B.remaining input.old) (W.contents writer.old) (W.contents writer.new)) }
-    ensures written { RunsSome (B.remaining input.old) (W.contents writer.old) (W.contents writer.new) }
+    requires { IsRun run.old }
+    ensures { IfErr result IsNamed }
 {
-    let mut line = Vec::new(alloc);
-    for number in 1..u64::MAX {
-        if !next_line(input, &mut line)? {
-            return writer.flush().map_err(stream_fault);
+    for _ in 0..READS {
+        match read_once(reader, piece)? {
+            Some(0) => return run.finish(writer),
+            Some(count) => run.take_piece(&piece[..count], writer)?,
+            None => {}
         }
-        run_bytes(alloc, desk, number, line.as_slice(), writer)?;
     }
     Err(Fault::Input)
 }
 
-/// Runs the line of that number, which says nothing where it is empty.
-fn run_bytes<W: Write>(
-    alloc: Global,
-    desk: &mut Desk,
-    number: u64,
-    bytes: &[u8],
-    writer: &mut W,
-) -> Result<(), Fault>
-    requires out { desk.old.front.out ≡ None }
-    requires decoder { IsBetween desk.old.decoder }
-    requires written { desk.old.written.items ≡ [] }
-    ensures prints { OnOk result (Prints desk.old.front (bytes.now ∷ []) desk.new.front (W.contents writer.old) (W.contents writer.new)) }
-    ensures fault { IfErr result (λ fault. LineEnds fault number bytes.now (W.contents writer.old) (W.contents writer.new)) }
-    ensures some { PrintsFront desk.old.front (bytes.now ∷ []) (W.contents writer.old) (W.contents writer.new) }
-    ensures out { desk.new.front.out ≡ None }
-    ensures decoder { OnOk result (IsBetween desk.new.decoder) }
-    ensures written { OnOk result (desk.new.written.items ≡ []) }
-{
-    if bytes.is_empty() {
-        return Ok(());
-    }
-    let line = parse(bytes).ok_or(Fault::Line(number))?;
-    run_line(alloc, desk, line, writer)
-}
-
-/// Gives a line as a frame to the desk, and prints the replies.
-fn run_line<W: Write>(
-    alloc: Global,
-    desk: &mut Desk,
-    line: Line,
-    writer: &mut W,
-) -> Result<(), Fault>
-    requires fits { Fits line.message }
-    requires out { desk.old.front.out ≡ None }
-    requires decoder { IsBetween desk.old.decoder }
-    requires written { desk.old.written.items ≡ [] }
-    // What is printed are the replies to the mails that the line makes, and nothing else.
-    ensures prints { OnOk result (PrintsMessage desk.old.front line.message desk.new.front (W.contents writer.old) (W.contents writer.new)) }
-    ensures some { PrintsSome desk.old.front line.message (W.contents writer.old) (W.contents writer.new) }
+/// How many bytes a read gave, 0 at the end. `None` where it was interrupted.
+fn read_once<R: Read>(reader: &mut R, piece: &mut [u8]) -> Result<Option<usize>, Fault>
+    ensures within { IfOk result (λ read. IfSome read (λ count. count ≤ length piece.new)) }
+    ensures len { length piece.new ≡ length piece.old }
     ensures err { IfErr result IsOutside }
-    ensures out { desk.new.front.out ≡ None }
-    ensures decoder { OnOk result (IsBetween desk.new.decoder) }
-    ensures written { OnOk result (desk.new.written.items ≡ []) }
 {
-    let mut frame = Vec::new(alloc);
-    let Ok(()) = put_message(&mut frame, &line.message) else {
-        return Err(Fault::Memory);
-    };
-    desk.bytes(frame.as_slice())?;
-    desk.commit()?;
-    let text = replies_text(alloc, CONN, desk.written.as_slice())?;
-    desk.written.clear();
-    write_text(writer, text.as_slice())
+    match reader.read(piece) {
+        Ok(count) => Ok(Some(count)),
+        Err(error) => {
+            if error.kind() != ErrorKind::Interrupted {
+                return Err(stream_fault(error));
+            }
+            Ok(None)
+        }
+    }
 }

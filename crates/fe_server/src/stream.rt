@@ -1,13 +1,11 @@
-//! Lines from a stream, and text to one.
+//! Text to a stream.
 
-ghost use Rattle.std.specs.Prelude.{◌≡◌, ℕ, [], ◌∷◌, take, true, false, Ok, IfErr, OnOk};
-ghost use Rattle.std.specs.Io.KnownBytes.{Appends, IsAtEnd};
-ghost use Rattle.std.specs.Io.BufRead.{strip_last};
+ghost use Rattle.std.specs.Prelude.{ℕ, take, IfErr, OnOk};
+ghost use Rattle.std.specs.Io.KnownBytes.{Appends};
 ghost use Rattle.fe_server.specs.Fault.{IsOutside};
-ghost use Rattle.fe_server.specs.Lines.{LeavesLines};
 
 use crate::fault::Fault;
-use std::io::{BufRead, Error, ErrorKind, Write};
+use std::io::{Error, ErrorKind, Write};
 
 /// How often a stream is written at most for one text.
 const WRITES: u64 = 1 << 40;
@@ -20,27 +18,6 @@ pub(crate) fn stream_fault(error: Error) -> Fault
         Fault::Memory
     } else {
         Fault::Input
-    }
-}
-
-/// Reads the next line, without its line feed, in the place of another. `false` where no line is left.
-pub(crate) fn next_line<B: BufRead>(input: &mut B, line: &mut Vec<u8>) -> Result<bool, Fault>
-    ensures line { result ≡ Ok true → LeavesLines (B.remaining input.old) (line.new.items ∷ []) (B.remaining input.new) }
-    ensures end { result ≡ Ok false → IsAtEnd (B.remaining input.old) }
-    ensures err { IfErr result IsOutside }
-{
-    line.clear();
-    let count = input.read_until(b'\n', line).map_err(stream_fault)?;
-    drop_line_feed(line);
-    Ok(count > 0)
-}
-
-/// Drops the last byte, where that is a line feed.
-fn drop_line_feed(line: &mut Vec<u8>)
-    ensures { line.new.items ≡ strip_last 10 line.old.items }
-{
-    if line.last() == Some(&b'\n') {
-        line.pop();
     }
 }
 

@@ -92,6 +92,13 @@ impl Service {
         self.parts.seats.len()
     }
 
+    /// How many requests of a session wait, 0 to 32. None do where it has no seat.
+    pub fn count_of(&self, session: u64) -> u32
+        ensures { result ≡ count_of self.now.waiting session }
+    {
+        self.parts.seats.count_of(session)
+    }
+
     /// The request of a session and a number, if it waits.
     pub fn find(&self, session: u64, number: u64) -> Option<Turn>
         ensures { result ≡ turn_at self.now.waiting session number }

@@ -1,5 +1,7 @@
 ghost use Rattle.std.specs.Prelude.{◌≡◌, false};
 
+mod memory;
+
 use fe_codec::{
     Format, ImageFault, put_entry, put_group, put_image, read_entry, read_group, read_image,
 };

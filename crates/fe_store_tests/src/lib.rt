@@ -9,3 +9,5 @@ mod codec;
 mod disk;
 #[cfg(test)]
 mod journal;
+#[cfg(test)]
+mod replica;

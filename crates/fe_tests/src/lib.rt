@@ -4,14 +4,6 @@
 #![tactic(auto)]
 
 #[cfg(test)]
-mod first_front;
-#[cfg(test)]
-mod mail;
-#[cfg(test)]
-mod seats;
-#[cfg(test)]
-mod server;
-#[cfg(test)]
 mod state;
 #[cfg(test)]
 mod waits;

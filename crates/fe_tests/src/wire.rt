@@ -87,6 +87,21 @@ fn joined(alloc: Global, frames: &[&[u8]]) -> Result<Vec<u8>, AllocError> {
     Ok(bytes)
 }
 
+/// The messages of a stream that is fed a byte at a time.
+fn fed_in_pieces(
+    alloc: Global,
+    mut decoder: Decoder,
+    stream: &[u8],
+) -> Result<Vec<ClientMessage>, AllocError> {
+    let mut messages = Vec::new(alloc);
+    for byte in stream {
+        for message in decoder.feed(alloc, &[*byte])?.messages.iter() {
+            messages.push(*message)?;
+        }
+    }
+    Ok(messages)
+}
+
 #[test]
 fn frames_in_pieces(rt: HostRuntime) -> Result<(), Fail> {
     let wanted = first_path().ok_or("five bytes")?;
@@ -94,13 +109,7 @@ fn frames_in_pieces(rt: HostRuntime) -> Result<(), Fail> {
     let fed = Decoder::new().feed(rt.alloc(), &stream)?;
     assert_eq!(rt; fed.messages.as_slice(), wanted.as_slice());
     assert_eq!(rt; fed.fault, None);
-    let mut decoder = Decoder::new();
-    let mut messages = Vec::new(rt.alloc());
-    for byte in &stream {
-        for message in decoder.feed(rt.alloc(), &[*byte])?.messages.iter() {
-            messages.push(*message)?;
-        }
-    }
+    let messages = fed_in_pieces(rt.alloc(), Decoder::new(), &stream)?;
     assert_eq!(rt; messages.as_slice(), wanted.as_slice());
     Ok(())
 }
@@ -146,7 +155,7 @@ fn offset_stands_still(rt: HostRuntime) -> Result<(), Fail> {
     Ok(())
 }
 
-/// The message is put as the frame, and the frame is fed as the message.
+/// The message is put as the frame, and the frame is fed as the message, whole and a byte at a time.
 fn check_frame(
     rt: &impl Abort,
     alloc: Global,
@@ -158,6 +167,8 @@ fn check_frame(
     assert_eq!(rt; out.as_slice(), frame);
     let fed = Decoder::with_version(Version::Two).feed(alloc, frame)?;
     assert_eq!(rt; fed.messages.as_slice(), [message].as_slice());
+    let messages = fed_in_pieces(alloc, Decoder::with_version(Version::Two), frame)?;
+    assert_eq!(rt; messages.as_slice(), [message].as_slice());
     Ok(())
 }
 

@@ -4,7 +4,7 @@ use Rattle.std.proofs.lemmas.Option.{none-some, same_Some}
 use Rattle.fe_state.specs.declared.entry.Entry.{Entry}
 use Rattle.fe_codec.specs.Record.{entry_spelling, FitsRecord}
 use Rattle.fe_codec.specs.Reading.{entry_of}
-use Rattle.fe_codec.specs.declared.format.Format.{Format}
+use Rattle.fe_format.specs.declared.format.Format.{Format}
 use Rattle.fe_codec.proofs.RecordLaws.{entry_again}
 use Rattle.fe_codec.proofs.entries.read_entry.Goals as goal
 

@@ -2,9 +2,9 @@ use Rattle.std.proofs.Common.{◌≡◌, ℕ, List, ◌++◌, take, ap, sym, ◌
 use Rattle.std.proofs.lemmas.List.{take_at}
 use Rattle.std.proofs.lemmas.Option.{none-some}
 use Rattle.fe_state.specs.declared.entry.Entry.{Entry}
-use Rattle.fe_codec.specs.Layout.{record_bytes}
+use Rattle.fe_format.specs.Layout.{record_bytes}
 use Rattle.fe_codec.specs.Record.{entry_spelling, FitsRecord}
-use Rattle.fe_codec.specs.declared.format.Format.{Format}
+use Rattle.fe_format.specs.declared.format.Format.{Format}
 use Rattle.fe_codec.proofs.RecordLaws.{length-entry_spelling}
 use Rattle.fe_codec.proofs.groups.next_entry.Goals as goal
 

@@ -6,7 +6,7 @@ use Rattle.fe_state.proofs.Maps.{same_or_other}
 use Rattle.fe_state.specs.declared.kept.Kept.{Kept}
 use Rattle.fe_codec.specs.Image.{kept_spelling, SlotOfFormat, SlotFits, KeptOfFormat, entry_of_kept}
 use Rattle.fe_codec.specs.Record.{FieldsFit}
-use Rattle.fe_codec.specs.declared.format.Format.{Format}
+use Rattle.fe_format.specs.declared.format.Format.{Format}
 use Rattle.fe_codec.proofs.Appends.{appends_nothing, item_appended, item_failed, items_appended, failed}
 use Rattle.std.specs.FinMap.{FinMap}
 use Rattle.std.specs.Ordering.{nat_cmp}

@@ -1,4 +1,5 @@
 use Rattle.std.proofs.Common.{ℕ, List, Err, sym, ◌∙◌, ap, subst}
+use Rattle.fe_disk.specs.Disk.{Rises}
 use Rattle.fe_journal.specs.Found.{IsFound}
 use Rattle.fe_journal.specs.Steps.{OnlyReads}
 use Rattle.fe_journal.specs.Store.{IsStore}
@@ -30,3 +31,8 @@ returns-in-Err-clause-device g c = let fault = c.in-Err.ensures.fault in (λ is.
 
 pub returns-in-Ok-clause-still : goal.returns-in-Ok-clause-still
 returns-in-Ok-clause-still g c = ap (λ (d : g.row.D.Denot). g.D.Disk.failures d) c.found_in.ensures.disk ∙ c.in-Ok.ensures.still
+
+pub returns-in-Ok-clause-works : goal.returns-in-Ok-clause-works
+returns-in-Ok-clause-works g c = λ rises.
+    let e = c.in-Ok.ensures.fault.1 (subst (λ (d : g.row.D.Denot). Rises (g.D.Disk.failures c.args.disk) (g.D.Disk.failures d)) c.found_in.ensures.disk rises) in
+    cc

@@ -20,7 +20,7 @@ returns-clause-store g c = λ honest.
     }
 
 pub returns-clause-whole : goal.returns-clause-whole
-returns-clause-whole g c = let sound = c.in_ok-slot.ensures.sound in record { is_slot = sound.0; buffer_whole = c.in_ok-buffer.ensures.len; parts_whole = c.in_ok-parts.ensures.whole }
+returns-clause-whole g c = let sound = c.in_ok-slot.ensures.sound in record { is_slot = sound.0; buffer_whole = c.in_ok-buffer.ensures.len; parts_whole = c.in_ok-parts.ensures.whole; ends = c.in_ok-parts.ensures.ends }
 
 pub returns-clause-reads : goal.returns-clause-reads
 returns-clause-reads g c = λ honest.

@@ -1,6 +1,6 @@
 use Rattle.std.proofs.Common.{◌≡◌, ◌+◌, ◌-◌, length, take, drop, refl, ap, sym, subst, rules, arith}
 use Rattle.std.specs.Io.KnownBytes.{Appends}
-use Rattle.fe_server.proofs.RunLemmas.{written_more}
+use Rattle.fe_server.proofs.Written.{written_more}
 use Rattle.fe_server.proofs.stream.write_text.Goals.{in-Ok, in-Err+else-ne}
 use Rattle.fe_server.proofs.stream.write_text.Goals as goal
 

@@ -1,6 +1,6 @@
 use Rattle.std.proofs.Common.{◌≡◌, ℕ, ◌-◌, List, ◌++◌, replicate, append_assoc}
 use Rattle.std.specs.Int.{w64, to_be_bytes}
-use Rattle.fe_codec.specs.Layout.{name_bytes}
+use Rattle.fe_format.specs.Layout.{name_bytes}
 use Rattle.fe_codec.proofs.FieldLaws.{zeros_part}
 use Rattle.fe_codec.proofs.record.Record.put_array.Goals as goal
 

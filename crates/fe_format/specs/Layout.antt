@@ -1,0 +1,45 @@
+-- What the two formats of a store have of different size, and what they allow.
+use Rattle.std.specs.Prelude.{◌≡◌, ℕ, ◌%◌, ◌≤◌}
+use Rattle.fe_format.specs.declared.format.Format.{Format}
+use Rattle.fe_format.specs.declared.format.Format.TheVariants.{One, Two}
+
+-- the text FEMEMST1 or FEMEMST2, as a number
+abbrev pub magic_of : Format → ℕ
+magic_of One = 0x46454d454d535431
+magic_of Two = 0x46454d454d535432
+
+-- how many bytes the row of a name has
+abbrev pub name_bytes : Format → ℕ
+name_bytes One = 16
+name_bytes Two = 32
+
+-- how many bytes the record of an entry has
+abbrev pub record_bytes : Format → ℕ
+record_bytes One = 64
+record_bytes Two = 80
+
+-- the most records that a group has
+abbrev pub group_records : Format → ℕ
+group_records One = 16383
+group_records Two = 13107
+
+-- the longest payload: so many whole records
+abbrev pub longest_payload : Format → ℕ
+longest_payload One = 1048512
+longest_payload Two = 1048560
+
+-- the longest image: its first fields, 64 arrays with 65,536 words, and 64 sessions with 32 answers each
+abbrev pub longest_image : Format → ℕ
+longest_image One = 740440
+longest_image Two = 774232
+
+-- a payload has whole records, one at least
+pub record IsPayloadLength (format : Format) (length : ℕ) : Type 0 where
+  pub some : 1 ≤ length
+  pub within : length ≤ longest_payload format
+  pub whole : length % record_bytes format ≡ 0
+
+-- an image has its first fields at least
+pub record IsImageLength (format : Format) (length : ℕ) : Type 0 where
+  pub some : 24 ≤ length
+  pub within : length ≤ longest_image format

@@ -1,0 +1,6 @@
+//! The two formats of a store, and their sizes.
+#![tactic(auto)]
+
+mod format;
+
+pub use format::Format;

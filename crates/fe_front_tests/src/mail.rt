@@ -1,0 +1,103 @@
+//! The boxes of connections and the books: a full box, a connection that comes again, books at their end; the codes and
+//! names of refusals.
+use fe_mail::{Books, Connections, Mail, Refusal};
+use std::process::Abort;
+
+fn connect(rt: &impl Abort, connections: &mut Connections, conn: u64) {
+    assert!(rt; !connections.is_connected(conn));
+    assert!(rt; connections.connect(conn).is_ok());
+    assert!(rt; connections.is_connected(conn));
+    assert_eq!(rt; connections.session_of(conn), None);
+    assert!(rt; !connections.has_mail(conn));
+}
+
+fn put(rt: &impl Abort, connections: &mut Connections, conn: u64, number: u64) -> bool {
+    assert!(rt; connections.is_connected(conn));
+    connections.put(conn, Mail::Withdrawn { number }).is_ok()
+}
+
+fn take(connections: &mut Connections, conn: u64) -> Option<u64> {
+    match connections.take(conn) {
+        Some(Mail::Withdrawn { number }) => Some(number),
+        _ => None,
+    }
+}
+
+const REFUSALS: [(Refusal, u8, &'static str); 10] = [
+    (Refusal::NotAttached, 1, "not-attached"),
+    (Refusal::SessionLimit, 2, "session-limit"),
+    (Refusal::BelowFloor, 3, "below-floor"),
+    (Refusal::BeyondWindow, 4, "beyond-window"),
+    (Refusal::NumberUsed, 5, "number-used"),
+    (Refusal::StillWaiting, 6, "still-waiting"),
+    (Refusal::Closing, 7, "closing"),
+    (Refusal::NoMemory, 8, "no-memory"),
+    (Refusal::Spent, 9, "spent"),
+    (Refusal::NotWaiting, 10, "not-waiting"),
+];
+
+#[test]
+fn refusals_have_codes_and_names(rt: HostRuntime) {
+    for (refusal, code, name) in REFUSALS {
+        assert_eq!(rt; refusal.code(), code);
+        assert_eq!(rt; refusal.name(), name);
+    }
+}
+
+#[test]
+fn full_box_refuses(rt: HostRuntime) {
+    let mut connections = Connections::new(rt.alloc());
+    connect(&rt, &mut connections, 9);
+    for number in 0..129 {
+        assert_eq!(rt; put(&rt, &mut connections, 9, number), number < 128);
+    }
+    for number in 0..128 {
+        assert_eq!(rt; take(&mut connections, 9), Some(number));
+    }
+    assert_eq!(rt; take(&mut connections, 9), None);
+}
+
+#[test]
+fn connection_comes_again(rt: HostRuntime) {
+    let mut connections = Connections::new(rt.alloc());
+    for conn in 0..100 {
+        connect(&rt, &mut connections, conn * 1000);
+        assert!(rt; put(&rt, &mut connections, conn * 1000, conn));
+    }
+    assert!(rt; connections.is_connected(3000));
+    connections.set_session(3000, Some(7));
+    assert!(rt; put(&rt, &mut connections, 3000, 1));
+    assert_eq!(rt; connections.remove(3000), 2);
+    assert_eq!(rt; connections.remove(3000), 0);
+    connect(&rt, &mut connections, 3000);
+    for conn in 4..100 {
+        assert_eq!(rt; take(&mut connections, conn * 1000), Some(conn));
+    }
+}
+
+#[test]
+fn books_end(rt: HostRuntime) {
+    let most = 9223372036854775807;
+    let mut books = Books::new();
+    books.calls = most - 1;
+    books.completed = most - 2;
+    books.waiting = 1;
+    books.waiter_completed();
+    books.call_waits();
+    let full = books;
+    assert_eq!(rt;
+        (full.calls, full.completed, full.waiting),
+        (most, most - 1, 1)
+    );
+    books.call_refused();
+    assert!(rt; books.spent);
+    books.waiters_withdrawn(1);
+    books.mail_boxed();
+    assert_eq!(rt;
+        books,
+        Books {
+            spent: true,
+            ..full
+        }
+    );
+}

@@ -1,0 +1,73 @@
+//! Where memory ends. `rt try --test --fail-alloc N`, for N from 1 on, takes the allocation N away from each test: the
+//! call that finds no memory leaves all as it was, and does its work when it is made again.
+
+use crate::events::{access, attach, call, commit, create, take_all};
+use fe_front::{Front, Outcome};
+use fe_mail::Refusal;
+use fe_state::{Request, State};
+use fe_words::Op;
+use std::alloc::{AllocError, Global};
+use std::process::Abort;
+use std::test::Fail;
+
+/// A front over a new state; a refusal drops the state.
+fn new_front(alloc: Global) -> Result<Front, AllocError> {
+    let state = State::new(alloc)?;
+    Front::new(alloc, state)
+}
+
+fn connect_at_last(rt: &impl Abort, front: &mut Front) {
+    assert!(rt; !front.connected(1));
+    if let Err(refusal) = front.connect(1) {
+        assert_eq!(rt; refusal, Refusal::NoMemory);
+        assert!(rt; !front.connected(1));
+        assert!(rt; front.connect(1).is_ok());
+    }
+    assert!(rt; front.connected(1));
+}
+
+/// Nothing came of the refused creation of number 1.
+fn check_refused(rt: &impl Abort, front: &Front) {
+    assert!(rt; front.state().kept(7, 1).is_none());
+    assert!(rt; front.waiting(7, 1).is_none());
+    assert!(rt; front.state().array_at(0).is_none());
+    assert_eq!(rt; front.state().next_id(), 1);
+    assert_eq!(rt; front.state().place(), 1);
+    assert_eq!(rt; front.books().refused, 1);
+}
+
+fn create_at_last(rt: &impl Abort, front: &mut Front) {
+    let done = Ok(Outcome::Completed { entries: 1 });
+    let result = call(rt, front, 1, 1, create(rt, 2));
+    if result == Err(Refusal::NoMemory) {
+        check_refused(rt, front);
+        assert_eq!(rt; call(rt, front, 1, 1, create(rt, 2)), done);
+    } else {
+        assert_eq!(rt; result, done);
+    }
+    assert_eq!(rt; front.state().next_id(), 2);
+}
+
+/// The waiting lists have the array: one waits on it, and is served.
+fn check_served(rt: &impl Abort, front: &mut Front) {
+    let read = call(rt, front, 1, 2, access(1, Op::ReadFe, false));
+    assert_eq!(rt; read, Ok(Outcome::Waits));
+    let write = call(rt, front, 1, 3, access(1, Op::WriteEf(5), false));
+    assert_eq!(rt; write, Ok(Outcome::Completed { entries: 2 }));
+    assert_eq!(rt; commit(rt, front), 4);
+    assert_eq!(rt; take_all(front, 1), 4);
+}
+
+#[test]
+fn front_where_memory_ends(rt: HostRuntime) -> Result<(), Fail> {
+    let _named: Option<Request> = None;
+    let mut front = match new_front(rt.alloc()) {
+        Ok(front) => front,
+        Err(_) => new_front(rt.alloc())?,
+    };
+    connect_at_last(&rt, &mut front);
+    assert_eq!(rt; attach(&rt, &mut front, 1, 7), Ok(()));
+    create_at_last(&rt, &mut front);
+    check_served(&rt, &mut front);
+    Ok(())
+}

@@ -1,0 +1,12 @@
+pub mod Appending
+pub mod Checkpoints
+pub mod Finishing
+pub mod Rests
+mod Standing
+mod Stops
+mod Going
+mod Bases
+mod Numbers
+mod Openings
+pub mod Taking
+mod Beginning

@@ -1,0 +1,12 @@
+use Rattle.std.proofs.lemmas.Result.{err_from_is_err_and}
+use Rattle.fe_keeper.proofs.Bases.{goes_from_base}
+use Rattle.fe_keeper.proofs.recovering.recovered.Goals as goal
+
+pub returns-in_err-replay_all-clause-refused : goal.returns-in_err-replay_all-clause-refused
+returns-in_err-replay_all-clause-refused c = λ contents s parts stands.
+    let p = err_from_is_err_and c.from_residual-in_err-replay_all.result c.from_residual-in_err-replay_all.ensures.1 in
+    let goes = goes_from_base contents s c.in_ok-state.state c.args.format c.args.generation c.args.image.now c.args.groups.now parts stands c.in_ok-state.ensures.base in
+    rw (p.1, p.2) (c.in_err-replay_all.ensures.refused contents.groups parts.groups_are goes)
+
+pub returns-clause-state : goal.returns-clause-state
+returns-clause-state c = λ payloads lists. record { base = c.in_ok-state.state; is_base = c.in_ok-state.ensures.base; replays = c.in_ok-replay_all.ensures.all payloads lists }

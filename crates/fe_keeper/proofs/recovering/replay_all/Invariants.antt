@@ -1,0 +1,14 @@
+use Rattle.std.proofs.Common.{ℕ, ◌-◌, List}
+use Rattle.fe_journal.specs.Cursor.{Lists}
+use Rattle.fe_keeper.specs.Opened.{IsListing}
+use Rattle.fe_keeper.proofs.Going.{IsGoingOn}
+use Rattle.fe_keeper.proofs.recovering.replay_all.Given as goal
+
+abbrev pub invariant-loop : goal.invariant-loop
+invariant-loop l = record {
+  listing : IsListing l.groups;
+  going : (payloads : List (List ℕ)) → Lists l.fn.groups payloads → IsGoingOn l.format payloads l.groups l.fn.state l.state;
+}
+
+abbrev pub decreases-loop : goal.decreases-loop
+decreases-loop l = 1048576 - l.groups.at

@@ -1,0 +1,28 @@
+-- What a checkpoint under way catches up with.
+use Rattle.std.specs.Prelude.{◌≡◌, ℕ, ◌+◌, ◌*◌, ◌≤◌, List, ◌++◌, length, Option, Some, None, vec_len, vec_capacity}
+use Rattle.fe_state.specs.declared.entry.Entry.{Entry}
+use Rattle.fe_codec.specs.Record.{group_spelling, FitsGroup}
+use Rattle.fe_format.specs.declared.format.Format.TheVariants.{Two}
+use Rattle.fe_keeper.specs.declared.checkpoint.Checkpoint.{Checkpoint}
+
+-- room for the records of so many entries more, if a checkpoint is under way
+abbrev pub HasRoomFor : Option Checkpoint → ℕ → Type 0
+HasRoomFor None n = Unit {0}
+HasRoomFor (Some c) n = vec_len c.catch_up + n * 80 ≤ vec_capacity c.catch_up
+
+-- the same checkpoint, with the records of more entries behind those that it catches up with
+pub record HasMore (entries : List Entry) (old new : Checkpoint) : Type 0 where
+  pub image : new.image ≡ old.image
+  pub written : new.written ≡ old.written
+  pub place : new.place ≡ old.place
+  pub records : new.catch_up.items ≡ old.catch_up.items ++ group_spelling Two entries
+  pub count : vec_len new.catch_up ≡ vec_len old.catch_up + length entries * 80
+  pub room : vec_capacity old.catch_up ≤ vec_capacity new.catch_up
+  pub fits : FitsGroup Two entries
+
+-- a checkpoint under way catches up with more entries
+abbrev pub CatchesUp : List Entry → Option Checkpoint → Option Checkpoint → Type 0
+CatchesUp entries None None = Unit {0}
+CatchesUp entries None (Some c) = ⊥
+CatchesUp entries (Some c) None = ⊥
+CatchesUp entries (Some old) (Some new) = HasMore entries old new

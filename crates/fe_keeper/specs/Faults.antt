@@ -1,0 +1,23 @@
+-- What a keeper tells for the faults of the layers below it.
+use Rattle.fe_journal.specs.declared.fault.JournalFault.{JournalFault}
+use Rattle.fe_journal.specs.declared.fault.JournalFault.TheVariants as journal
+use Rattle.fe_journal.specs.declared.fault.StoreFault.{StoreFault}
+use Rattle.fe_journal.specs.declared.fault.StoreFault.TheVariants as store
+use Rattle.fe_replica.specs.declared.taking.Refused.{Refused}
+use Rattle.fe_replica.specs.declared.taking.Refused.TheVariants as replica
+use Rattle.fe_keeper.specs.declared.fault.Fault.{Fault}
+use Rattle.fe_keeper.specs.declared.fault.Fault.TheVariants.{Device, Failed, NoMemory, Mismatch, Damaged, Unformatted}
+
+abbrev pub fault_of_journal : JournalFault → Fault
+fault_of_journal journal.Device = Device
+fault_of_journal journal.Failed = Failed
+
+abbrev pub fault_of_store : StoreFault → Fault
+fault_of_store store.Device = Device
+fault_of_store store.NoMemory = NoMemory
+fault_of_store store.Unformatted = Unformatted
+fault_of_store (store.Damaged offset) = Damaged offset
+
+abbrev pub fault_of_refused : Refused → Fault
+fault_of_refused (replica.Mismatch place) = Mismatch place
+fault_of_refused replica.NoMemory = NoMemory

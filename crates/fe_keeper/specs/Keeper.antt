@@ -1,0 +1,114 @@
+-- A keeper as its callers see it, and what its calls leave of it.
+use Rattle.std.specs.Prelude.{◌≡◌, ℕ, zero, suc, ◌+◌, ◌-◌, ◌*◌, Bool, true, false, ◌&&◌, nat_le, if◌then◌else◌, List, length, Option, Some, None, is_some, is_none, not}
+use Rattle.std.specs.Option.{option_map_or}
+use Rattle.std.specs.List.{list_all}
+use Rattle.fe_state.specs.State.{ServerState, after_all}
+use Rattle.fe_state.specs.Format.{entry_fits_format_1}
+use Rattle.fe_state.specs.declared.entry.Entry.{Entry}
+use Rattle.fe_format.specs.Layout.{record_bytes}
+use Rattle.fe_format.specs.declared.format.Format.{Format}
+use Rattle.fe_format.specs.declared.format.Format.TheVariants.{One, Two}
+use Rattle.fe_journal.specs.Groups.{room_at}
+
+-- a checkpoint under way: the bytes of its image, how many of them are written, and the place of the state in it
+pub record Progress : Type 0 where
+  pub size : ℕ
+  pub written : ℕ
+  pub place : ℕ
+
+-- what a keeper knows of its store: the disk, how many entries are stored, the format of the slot that counts and where
+-- its groups end, the checkpoint under way, and whether the disk has failed
+pub record StoreState (D : Type 0) : Type 0 where
+  pub disk : D
+  pub place : ℕ
+  pub format : Format
+  pub used : ℕ
+  pub checkpoint : Option Progress
+  pub has_failed : Bool
+
+-- a keeper: its replica of the state, and its store
+pub record KeeperState (D : Type 0) : Type 0 where
+  pub state : ServerState
+  pub store : StoreState D
+
+-- the store of a disk just formatted
+abbrev pub first_store : {D : Type 0} → D → StoreState D
+first_store disk = record { disk = disk; place = 0; format = Two; used = 0; checkpoint = None; has_failed = false }
+
+-- ---- what fits
+
+-- whether the format has a record for each entry
+abbrev pub is_spellable : Format → List Entry → Bool
+is_spellable One entries = list_all entry_fits_format_1 entries
+is_spellable Two entries = true
+
+-- whether so many more entries fit with those since a checkpoint's beginning, at a place
+abbrev pub catches_up : ℕ → ℕ → Option Progress → Bool
+catches_up place n checkpoint = option_map_or (λ p. nat_le (place - p.place + n) 13107) checkpoint true
+
+-- whether a batch can be appended as the store is
+abbrev pub fits : {D : Type 0} → StoreState D → List Entry → Bool
+fits store entries =
+    is_spellable store.format entries && nat_le (length entries * record_bytes store.format) (room_at store.used) && catches_up store.place (length entries) store.checkpoint
+
+-- ---- what calls leave
+
+-- how many bytes so many entries take as a group of format 2, with its gate and length; none is no group
+abbrev pub caught_up_bytes : ℕ → ℕ
+caught_up_bytes zero = 0
+caught_up_bytes (suc n) = 5 + suc n * 80
+
+-- a checkpoint can be begun: none is under way, and an entry came since the image, or the slot is of format 1
+abbrev pub is_behind : Format → ℕ → Bool
+is_behind One used = true
+is_behind Two zero = false
+is_behind Two (suc used) = true
+
+abbrev pub can_begin : {D : Type 0} → StoreState D → Bool
+can_begin store = is_none store.checkpoint && is_behind store.format store.used
+
+-- a checkpoint whose image has so many bytes is begun
+abbrev pub begun : {D : Type 0} → StoreState D → ℕ → StoreState D
+begun store size = record store { checkpoint = Some (record { size = size; written = 0; place = store.place }) }
+
+-- the bytes of the next slice
+abbrev pub slice_size : Progress → ℕ
+slice_size p = if nat_le (p.size - p.written) 65536 then p.size - p.written else 65536
+
+-- a slice more is written
+abbrev pub stepped_by : {D : Type 0} → StoreState D → Progress → StoreState D
+stepped_by store p = record store { checkpoint = Some (record p { written = p.written + slice_size p }) }
+
+abbrev pub stepped : {D : Type 0} → StoreState D → StoreState D
+stepped store = option_map_or (stepped_by store) store.checkpoint store
+
+-- slices are left
+abbrev pub has_slices : Option Progress → Bool
+has_slices checkpoint = option_map_or (λ p. not (nat_le p.size p.written)) checkpoint false
+
+-- a checkpoint under way is finished: its slot counts, with what came since its beginning as the first group
+abbrev pub finished_by : {D : Type 0} → StoreState D → Progress → StoreState D
+finished_by store p = record store { format = Two; used = caught_up_bytes (store.place - p.place); checkpoint = None }
+
+abbrev pub finished : {D : Type 0} → StoreState D → StoreState D
+finished store = option_map_or (finished_by store) store.checkpoint store
+
+-- a whole checkpoint was made
+abbrev pub renewed : {D : Type 0} → StoreState D → StoreState D
+renewed store = record store { format = Two; used = 0; checkpoint = None }
+
+-- a batch that does not fit has the checkpoint under way finished first
+abbrev pub prepared : {D : Type 0} → StoreState D → List Entry → StoreState D
+prepared store entries = if fits store entries then store else finished store
+
+-- and if it does not fit then, a whole one made
+abbrev pub must_begin : {D : Type 0} → StoreState D → List Entry → Bool
+must_begin store entries = not (fits (prepared store entries) entries)
+
+abbrev pub made_room : {D : Type 0} → StoreState D → List Entry → StoreState D
+made_room store entries = if must_begin store entries then renewed store else prepared store entries
+
+-- a batch is appended where it fits
+abbrev pub appended : {D : Type 0} → StoreState D → List Entry → StoreState D
+appended store entries =
+    record store { place = store.place + length entries; used = store.used + (5 + length entries * record_bytes store.format) }

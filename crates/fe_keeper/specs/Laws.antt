@@ -1,0 +1,25 @@
+-- Laws of what images stand for, and of histories over stops, which public functions name.
+use Rattle.std.specs.Prelude.{◌≡◌, ℕ, ◌≤◌, List, ◌++◌, length, take}
+use Rattle.fe_state.specs.State.{ServerState}
+use Rattle.fe_state.specs.History.{IsHistory, after_groups}
+use Rattle.fe_state.specs.declared.entry.Entry.{Entry}
+use Rattle.fe_keeper.specs.Stands.{StandsFor}
+use Rattle.fe_keeper.specs.Prefix.{IsCrashPrefix}
+
+-- An image stands for at most one state.
+abbrev pub StandsForOne : Type 0
+StandsForOne = (image : List ℕ) (s t : ServerState) → StandsFor image s → StandsFor image t → s ≡ t
+
+-- What was kept of a history and the history that went on from there, one behind the other.
+pub record GoesOn (beginning : ServerState) (history next : List (List Entry)) (k : ℕ) (s : ServerState) : Type 0 where
+  pub kept : ℕ
+  pub least : k ≤ kept
+  pub most : kept ≤ length history
+  pub is_history : IsHistory beginning (take kept history ++ next)
+  pub leads : after_groups beginning (take kept history ++ next) ≡ after_groups s next
+
+-- A history that begins where another was stopped goes on with the groups that were kept of it: both are one history, in
+-- which no number of a session takes effect twice (`fe_state::numbers_finish_once`).
+abbrev pub StopsJoin : Type 0
+StopsJoin = (beginning s : ServerState) (history next : List (List Entry)) (k : ℕ) → IsHistory beginning history
+    → IsCrashPrefix beginning history k s → IsHistory s next → GoesOn beginning history next k s

@@ -1,0 +1,70 @@
+-- What opening gives.
+use Rattle.std.specs.Prelude.{◌≡◌, ◌⊎◌, ℕ, ◌≤◌, List, [], ◌∷◌, None, false, Result, Ok, Err}
+use Rattle.fe_state.specs.State.{ServerState}
+use Rattle.fe_codec.specs.Image.{image_spelling, FitsImage}
+use Rattle.fe_format.specs.declared.format.Format.{Format}
+use Rattle.fe_journal.specs.Contents.{Contents}
+use Rattle.fe_journal.specs.Cursor.{Cursor, Lists}
+use Rattle.fe_journal.specs.Journal.{JournalState, Keeps}
+use Rattle.fe_replica.specs.Replaying.{Replays}
+use Rattle.fe_keeper.specs.Stands.{Stands, greatest_generation}
+use Rattle.fe_keeper.specs.Keeper.{KeeperState}
+use Rattle.fe_keeper.specs.declared.fault.Fault.{Fault}
+use Rattle.fe_keeper.specs.declared.fault.Fault.TheVariants.{Device, NoMemory, Damaged, Unformatted}
+
+-- the disk, after it was opened or not
+abbrev pub disk_after : {D : Type 0} → Result (KeeperState D) (Fault × D) → D
+disk_after (Ok keeper) = keeper.store.disk
+disk_after (Err refused) = refused.1
+
+-- what may come of going through a slot
+abbrev pub IsSlotFault : Fault → Type 0
+IsSlotFault fault = (fault ≡ NoMemory) ⊎ ((offset : ℕ) × (fault ≡ Damaged offset))
+
+-- what may come of opening
+abbrev pub IsOpenFault : Fault → Type 0
+IsOpenFault fault = (fault ≡ Device) ⊎ ((fault ≡ NoMemory) ⊎ ((fault ≡ Unformatted) ⊎ ((offset : ℕ) × (fault ≡ Damaged offset))))
+
+-- the keeper of a state over a journal with no slot begun
+abbrev pub keeper_over : {D : Type 0} → JournalState D → ServerState → KeeperState D
+keeper_over journal state =
+    record {
+      state = state;
+      store = record { disk = journal.disk; place = state.place; format = journal.format; used = journal.used; checkpoint = None; has_failed = false };
+    }
+
+-- each image that a stop may leave holds contents that the journal knows, which stand for the state
+pub record KeepsState {D : Type 0} (seen : D → List ℕ) (may_leave : D → List ℕ → Type 0) (journal : JournalState D) (state : ServerState) : Type 0 where
+  pub contents : Contents
+  pub keeps : Keeps seen may_leave journal contents None
+  pub stands : Stands contents state
+
+-- ---- what a slot holds, whatever disk it was read from
+
+-- groups are still to be read
+abbrev pub IsListing : Cursor → Type 0
+IsListing cursor = (payloads : List (List ℕ)) × Lists cursor payloads
+
+-- the image is the spelling of the state, and a slot with it may have this generation
+pub record IsBase (format : Format) (generation : ℕ) (image : List ℕ) (base : ServerState) : Type 0 where
+  pub fits : FitsImage format base
+  pub image_is : image ≡ image_spelling format base
+  pub numbered : generation ≤ greatest_generation format base.place
+
+-- the payloads lead from the old state to the new, one after the other
+abbrev pub ReplaysAll : Format → List (List ℕ) → ServerState → ServerState → Type 0
+ReplaysAll format [] old new = new ≡ old
+ReplaysAll format (payload ∷ payloads) old new = (mid : ServerState) × Replays format payload old mid × ReplaysAll format payloads mid new
+
+-- the image is that of a state from which the payloads lead to this one
+pub record IsRecovered (format : Format) (generation : ℕ) (image : List ℕ) (payloads : List (List ℕ)) (state : ServerState) : Type 0 where
+  pub base : ServerState
+  pub is_base : IsBase format generation image base
+  pub replays : ReplaysAll format payloads base state
+
+-- what is read of a slot are parts of these contents
+pub record ArePartsOf (c : Contents) (format : Format) (generation : ℕ) (image : List ℕ) (groups : Cursor) : Type 0 where
+  pub format_is : format ≡ c.format
+  pub generation_is : generation ≡ c.generation
+  pub image_is : image ≡ c.image
+  pub groups_are : Lists groups c.groups

@@ -1,0 +1,12 @@
+-- What a stop may leave of a history: the state after whole groups from its front.
+use Rattle.std.specs.Prelude.{◌≡◌, ℕ, ◌≤◌, List, length, take}
+use Rattle.fe_state.specs.State.{ServerState}
+use Rattle.fe_state.specs.History.{after_groups}
+use Rattle.fe_state.specs.declared.entry.Entry.{Entry}
+
+-- The state is that after some of the groups from the front of the history, k of them at least, none skipped.
+pub record IsCrashPrefix (beginning : ServerState) (history : List (List Entry)) (k : ℕ) (s : ServerState) : Type 0 where
+  pub kept : ℕ
+  pub least : k ≤ kept
+  pub most : kept ≤ length history
+  pub state_is : s ≡ after_groups beginning (take kept history)

@@ -1,0 +1,20 @@
+-- The groups of a slot, gone through one after the other.
+use Rattle.std.specs.Prelude.{◌≡◌, ℕ, Bool, true, false, List, [], ◌∷◌}
+use Rattle.fe_state.specs.State.{ServerState}
+use Rattle.fe_state.specs.History.{IsHistory}
+use Rattle.fe_state.specs.declared.entry.Entry.{Entry}
+use Rattle.fe_format.specs.declared.format.Format.{Format}
+use Rattle.fe_journal.specs.Cursor.{Cursor, Lists}
+use Rattle.fe_replica.specs.Replaying.{Replays}
+use Rattle.fe_keeper.specs.Stands.{AreGroups}
+
+-- the payloads spell a history from the state on
+pub record CanGoOn (format : Format) (payloads : List (List ℕ)) (s : ServerState) : Type 0 where
+  pub groups : List (List Entry)
+  pub groups_are : AreGroups format groups payloads
+  pub legal : IsHistory s groups
+
+-- the first payload was gone through, and the rest is still to be read; or there was none
+abbrev pub IsNext : Format → List (List ℕ) → Cursor → ServerState → ServerState → Bool → Type 0
+IsNext format [] groups old new more = (more ≡ false) × (new ≡ old)
+IsNext format (payload ∷ payloads) groups old new more = (more ≡ true) × Replays format payload old new × Lists groups payloads

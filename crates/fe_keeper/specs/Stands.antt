@@ -1,0 +1,48 @@
+-- What an image of a device stands for: a state of the server. No reader runs in it.
+use Rattle.std.specs.Prelude.{◌≡◌, ◌⊎◌, ℕ, ◌+◌, ◌≤◌, List, [], ◌∷◌}
+use Rattle.fe_state.specs.State.{ServerState}
+use Rattle.fe_state.specs.History.{IsHistory, after_groups}
+use Rattle.fe_state.specs.declared.entry.Entry.{Entry}
+use Rattle.fe_codec.specs.Record.{IsGroupOf}
+use Rattle.fe_codec.specs.Image.{image_spelling, FitsImage}
+use Rattle.fe_journal.specs.Contents.{Contents, Holds}
+use Rattle.fe_format.specs.declared.format.Format.{Format}
+use Rattle.fe_format.specs.declared.format.Format.TheVariants.{One, Two}
+
+-- the greatest generation of a slot whose image is of a state at this place
+abbrev pub greatest_generation : Format → ℕ → ℕ
+greatest_generation One place = place + 1
+greatest_generation Two place = place + 2
+
+-- the payloads spell the groups, one for one
+abbrev pub AreGroups : Format → List (List Entry) → List (List ℕ) → Type 0
+AreGroups format [] [] = Unit {0}
+AreGroups format [] (payload ∷ payloads) = ⊥
+AreGroups format (group ∷ groups) [] = ⊥
+AreGroups format (group ∷ groups) (payload ∷ payloads) = IsGroupOf format group payload × AreGroups format groups payloads
+
+-- What a slot stands for: its image is the spelling of a state, its groups spell a history from that state on, and
+-- the slot stands for the state after them.
+pub record Stands (c : Contents) (s : ServerState) : Type 0 where
+  pub base : ServerState
+  pub groups : List (List Entry)
+  pub fits : FitsImage c.format base
+  pub image_is : c.image ≡ image_spelling c.format base
+  pub numbered : c.generation ≤ greatest_generation c.format base.place
+  pub groups_are : AreGroups c.format groups c.groups
+  pub legal : IsHistory base groups
+  pub state_is : s ≡ after_groups base groups
+
+-- An image of a device stands for what the slot that counts in it stands for.
+pub record StandsFor (image : List ℕ) (s : ServerState) : Type 0 where
+  pub contents : Contents
+  pub holds : Holds contents image
+  pub stands : Stands contents s
+
+-- for this state or that
+abbrev pub StandsForEither : ServerState → ServerState → List ℕ → Type 0
+StandsForEither before after image = StandsFor image before ⊎ StandsFor image after
+
+-- each image that a stop may leave now stands for the state
+abbrev pub EachStandsFor : {D : Type 0} → (D → List ℕ → Type 0) → D → ServerState → Type 0
+EachStandsFor may_leave disk s = (image : List ℕ) → may_leave disk image → StandsFor image s

@@ -1,0 +1,76 @@
+ghost use Rattle.std.specs.Prelude.{◌≡◌, IfOk, IfErr};
+ghost use Rattle.fe_journal.specs.Journal.{IsReady};
+ghost use Rattle.fe_keeper.specs.Upholds.{IsNumbered};
+ghost use Rattle.fe_keeper.specs.Opened.{keeper_over, KeepsState};
+ghost use Rattle.fe_keeper.specs.Rooms.{AreRooms};
+ghost use Rattle.fe_keeper.specs.declared.fault.Fault.TheVariants.{NoMemory};
+
+use crate::Fault;
+use crate::keeper::Keeper;
+use crate::store::Store;
+use fe_disk::Disk;
+use fe_journal::Journal;
+use fe_state::{State, UndoLog};
+use std::alloc::{AllocError, Global};
+
+/// How many entries a batch has at most.
+const LONGEST_BATCH: usize = 4_097;
+
+/// Room for the group of a batch, and for taking a batch back.
+#[derive(Drop)]
+pub(crate) struct Rooms {
+    group: Vec<u8>,
+    log: UndoLog,
+}
+
+impl Rooms {
+    pub(crate) fn new(alloc: Global) -> Result<Rooms, AllocError>
+        ensures { IfOk result AreRooms }
+    {
+        let group = Vec::with_capacity(alloc, LONGEST_BATCH * 80)?;
+        let log = UndoLog::with_room(alloc, LONGEST_BATCH)?;
+        Ok(Rooms { group, log })
+    }
+}
+
+/// The keeper of a state over a journal that keeps it, with room for the batches to come.
+pub(crate) fn keeper_over<D: Disk>(
+    alloc: Global,
+    rooms: Rooms,
+    journal: Journal<D>,
+    state: State,
+) -> Keeper<D>
+    requires rooms { AreRooms rooms }
+    requires ready { IsReady journal }
+    requires numbered { IsNumbered state.place journal }
+    requires keeps { D.honest journal.disk → KeepsState D.seen D.may_leave journal state }
+    ensures { result ≡ keeper_over journal state }
+{
+    let Rooms { group, log } = rooms;
+    let place = state.place();
+    let store = Store {
+        journal,
+        group,
+        place,
+        checkpoint: None,
+    };
+    Keeper::opened(alloc, store, state, log)
+}
+
+/// The same, with room that is made now.
+pub(crate) fn keeper_with_room<D: Disk>(
+    alloc: Global,
+    journal: Journal<D>,
+    state: State,
+) -> Result<Keeper<D>, (Fault, D)>
+    requires ready { IsReady journal }
+    requires numbered { IsNumbered state.place journal }
+    requires keeps { D.honest journal.disk → KeepsState D.seen D.may_leave journal state }
+    ensures made { IfOk result (λ keeper. keeper ≡ keeper_over journal state) }
+    ensures refused { IfErr result (λ e. (e.0 ≡ NoMemory) × (e.1 ≡ journal.disk)) }
+{
+    match Rooms::new(alloc) {
+        Err(_) => Err((Fault::NoMemory, journal.into_disk())),
+        Ok(rooms) => Ok(keeper_over(alloc, rooms, journal, state)),
+    }
+}

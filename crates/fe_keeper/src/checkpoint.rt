@@ -1,0 +1,100 @@
+ghost use Rattle.std.specs.Prelude.{◌≡◌, ◌↔◌, ◌+◌, ◌≤◌, [], true, false, not, nat_le, IfOk, IfErr, OnOk, OnErr, IsErrOf, vec_len, vec_capacity};
+ghost use Rattle.fe_disk.specs.Disk.{LeavesOnly, Rises};
+ghost use Rattle.fe_state.specs.State.{ServerState};
+ghost use Rattle.fe_codec.specs.Image.{image_spelling, FitsImage};
+ghost use Rattle.fe_format.specs.Layout.{IsImageLength};
+ghost use Rattle.fe_format.specs.declared.format.Format.TheVariants.{Two};
+ghost use Rattle.fe_journal.specs.Contents.{Contents, Holds};
+ghost use Rattle.fe_journal.specs.declared.fault.JournalFault.TheVariants as journal_fault;
+ghost use Rattle.fe_keeper.specs.Keeper.{slice_size};
+ghost use Rattle.fe_keeper.specs.Slices.{IsBegunFor, KeepsDraft, sliced, journal_sliced};
+ghost use Rattle.fe_keeper.specs.Upholds.{progress_of};
+ghost use Rattle.fe_keeper.specs.declared.fault.Fault.TheVariants.{NoMemory};
+
+use crate::store::LONGEST_GROUP;
+use crate::{Fault, Format};
+use fe_codec::put_image;
+use fe_disk::Disk;
+use fe_journal::{Journal, JournalFault};
+use fe_state::State;
+use std::alloc::Global;
+
+/// How many bytes a slice has at most.
+const SLICE_BYTES: usize = 65_536;
+
+/// A checkpoint under way.
+#[derive(Drop)]
+pub(crate) struct Checkpoint {
+    /// The image of the state at its beginning, in format 2.
+    pub(crate) image: Vec<u8>,
+    /// How many bytes of the image are written.
+    pub(crate) written: usize,
+    /// The place of that state.
+    pub(crate) place: u64,
+    /// The records of the entries since, in format 2. Its room is that of the longest group.
+    pub(crate) catch_up: Vec<u8>,
+}
+
+impl Checkpoint {
+    /// A checkpoint of the state, of which nothing is written.
+    pub(crate) fn new(alloc: Global, state: &State) -> Result<Checkpoint, Fault>
+        ensures image { IfOk result (λ made. made.image.items ≡ image_spelling Two state.now) }
+        ensures fits { OnOk result (FitsImage Two state.now) }
+        ensures allowed { IfOk result (λ made. IsImageLength Two (vec_len made.image)) }
+        ensures written { IfOk result (λ made. made.written ≡ 0) }
+        ensures place { IfOk result (λ made. made.place ≡ state.now.place) }
+        ensures empty { IfOk result (λ made. made.catch_up.items ≡ []) }
+        ensures room { IfOk result (λ made. 1048560 ≤ vec_capacity made.catch_up) }
+        ensures memory { IfErr result (λ fault. fault ≡ NoMemory) }
+    {
+        let mut image = Vec::new(alloc);
+        put_image(Format::Two, state, &mut image)?;
+        let catch_up = Vec::with_capacity(alloc, LONGEST_GROUP * 80)?;
+        Ok(Checkpoint {
+            image,
+            written: 0,
+            place: state.place(),
+            catch_up,
+        })
+    }
+
+    /// Where the next slice of the image ends.
+    pub(crate) fn slice_end(&self) -> usize
+        requires { self.now.written ≤ vec_len self.now.image }
+        ensures { result ≡ self.now.written + slice_size (progress_of self.now) }
+    {
+        let left = self.image.len() - self.written;
+        self.written + left.min(SLICE_BYTES)
+    }
+
+    /// Writes the next slice into the slot begun, if one is left. Whether slices are left then.
+    pub(crate) fn write_slice<D: Disk>(
+        &mut self,
+        journal: &mut Journal<D>,
+    ) -> Result<bool, JournalFault>
+        requires begun { IsBegunFor journal.old self.old }
+        requires within { self.old.written ≤ vec_len self.old.image }
+        requires works { journal.old.has_failed ≡ false }
+        ensures any_moment { D.honest journal.old.disk → (c : Contents) (s : ServerState) → KeepsDraft D.seen D.may_leave journal.old c self.old s
+            → LeavesOnly D.moment D.left_since journal.old.disk journal.new.disk (Holds c) }
+        ensures drafted { D.honest journal.old.disk → (c : Contents) (s : ServerState) → KeepsDraft D.seen D.may_leave journal.old c self.old s
+            → OnOk result (KeepsDraft D.seen D.may_leave journal.new c self.new s) }
+        ensures value { OnOk result (self.new ≡ sliced self.old) }
+        ensures journal { OnOk result (journal.new ≡ journal_sliced journal.old journal.new.disk (sliced self.old)) }
+        ensures more { IfOk result (λ more. more ≡ not (nat_le (vec_len self.old.image) (sliced self.old).written)) }
+        ensures err { OnErr result (self.new ≡ self.old) }
+        ensures failing { OnErr result (journal.new ≡ record journal.old { disk = journal.new.disk; has_failed = true }) }
+        ensures device { IsErrOf result journal_fault.Device → Rises (D.failures journal.old.disk) (D.failures journal.new.disk) }
+        ensures still { OnOk result (D.failures journal.new.disk ≡ D.failures journal.old.disk) }
+        ensures faults { OnErr result (IsErrOf result journal_fault.Device) }
+        ensures honesty { D.honest journal.new.disk ↔ D.honest journal.old.disk }
+    {
+        let end = self.slice_end();
+        if end == self.written {
+            return Ok(false);
+        }
+        journal.slot_write(&self.image[self.written..end])?;
+        self.written = end;
+        Ok(end < self.image.len())
+    }
+}

@@ -1,0 +1,13 @@
+//! Laws of what images stand for, and of histories over stops.
+
+ghost use Rattle.fe_keeper.specs.Laws.{StandsForOne, StopsJoin};
+
+/// An image stands for at most one state.
+pub fn images_stand_for_one()
+    ensures { StandsForOne }
+{}
+
+/// What a stop left of a history and the history that goes on from there are one history.
+pub fn stops_join()
+    ensures { StopsJoin }
+{}

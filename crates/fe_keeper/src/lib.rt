@@ -1,0 +1,22 @@
+//! The keeper of a store: a replica of the server's state, and the journal that it is kept in.
+//!
+//! Batches are appended as groups, checkpoints are made in slices beside them, and a store is opened as
+//! the state after whole groups, wherever it was stopped (`docs/store.md`).
+#![tactic(auto)]
+
+mod assembling;
+mod checkpoint;
+mod checkpointing;
+mod fault;
+mod keeper;
+mod laws;
+mod opening;
+mod parts;
+mod recovering;
+mod store;
+
+pub use fault::Fault;
+pub use fe_format::Format;
+pub use keeper::Keeper;
+pub use laws::{images_stand_for_one, stops_join};
+pub use opening::{format, open};

@@ -1,0 +1,94 @@
+ghost use Rattle.std.specs.Prelude.{◌≡◌, ◌≢◌, ◌⊎◌, ◌↔◌, ℕ, false, IfOk, IfErr};
+ghost use Rattle.fe_disk.specs.Disk.{Rises};
+ghost use Rattle.fe_state.specs.State.{ServerState, first_state};
+ghost use Rattle.fe_journal.specs.Steps.{OnlyReads};
+ghost use Rattle.fe_journal.specs.Layout.{device_bytes};
+ghost use Rattle.fe_keeper.specs.Stands.{StandsFor, EachStandsFor};
+ghost use Rattle.fe_keeper.specs.Keeper.{first_store};
+ghost use Rattle.fe_keeper.specs.Opened.{disk_after, IsOpenFault};
+ghost use Rattle.fe_keeper.specs.Rooms.{AreRooms};
+ghost use Rattle.fe_keeper.specs.declared.fault.Fault.TheVariants.{Device, NoMemory, Damaged, Unformatted};
+
+use crate::Fault;
+use crate::assembling::{Rooms, keeper_over, keeper_with_room};
+use crate::keeper::Keeper;
+use crate::recovering::recovered;
+use fe_disk::Disk;
+use fe_journal::{Found, find};
+use fe_state::State;
+use std::alloc::{AllocError, Global};
+
+/// The bytes of a device (`docs/formats.md`, "Device").
+const DEVICE_BYTES: usize = 4_202_496;
+
+/// Opens a store: a sync, and then only reads. The keeper has the state that the disk stands for.
+///
+/// What is told of a damaged store is the first thing wrong in the slot that counts: its generation, its
+/// image's length, the lengths of its groups, its image, its generation against the image's place, and then
+/// its records (`docs/formats.md`, "Device").
+pub fn open<D: Disk>(alloc: Global, disk: D) -> Result<Keeper<D>, (Fault, D)>
+    // What the disk reads stands for the keeper's state, and so does each image that a stop may leave.
+    ensures opened { D.honest disk → IfOk result (λ keeper. StandsFor (D.seen disk) keeper.state) }
+    ensures stands { D.honest disk → IfOk result (λ keeper. EachStandsFor D.may_leave keeper.store.disk keeper.state) }
+    // A store that stands for a state is refused only for its device or for memory.
+    ensures refused { D.honest disk → (s : ServerState) → StandsFor (D.seen disk) s → IfErr result (λ e. (e.0 ≡ Device) ⊎ (e.0 ≡ NoMemory)) }
+    // No stop leaves what could not be left before, and what is read stays the same.
+    ensures reads { D.honest disk → OnlyReads D.seen D.may_leave D.moment D.left_since disk (disk_after result) }
+
+    ensures works { IfOk result (λ keeper. keeper.store.has_failed ≡ false) }
+    ensures none_under_way { IfOk result (λ keeper. keeper.store.checkpoint ≡ None) }
+    ensures device { IfErr result (λ e. (e.0 ≡ Device) ↔ Rises (D.failures disk) (D.failures e.1)) }
+    ensures faults { IfErr result (λ e. IsOpenFault e.0) }
+    ensures still { IfOk result (λ keeper. D.failures keeper.store.disk ≡ D.failures disk) }
+    ensures honesty { D.honest (disk_after result) ↔ D.honest disk }
+    ensures size { D.size (disk_after result) ≡ D.size disk }
+{
+    let Found {
+        journal,
+        image,
+        mut groups,
+    } = match find(alloc, disk) {
+        Err((fault, disk)) => return Err((Fault::from(fault), disk)),
+        Ok(found) => found,
+    };
+    let (format, generation, slot) = (journal.format(), journal.generation(), journal.slot());
+    match recovered(alloc, format, generation, slot, &image, &mut groups) {
+        Err(fault) => Err((fault, journal.into_disk())),
+        Ok(state) => keeper_with_room(alloc, journal, state),
+    }
+}
+
+/// Makes a new store of format 2 on the device, whatever was there. Nothing is promised of a device whose
+/// formatting was stopped or failed: it is formatted again.
+pub fn format<D: Disk>(alloc: Global, disk: D) -> Result<Keeper<D>, (Fault, D)>
+    ensures formatted { D.honest disk → IfOk result (λ keeper. EachStandsFor D.may_leave keeper.store.disk first_state) }
+    ensures state { IfOk result (λ keeper. keeper.state ≡ first_state) }
+    ensures store { IfOk result (λ keeper. keeper.store ≡ first_store keeper.store.disk) }
+    ensures unformatted { IfErr result (λ e. (e.0 ≡ Unformatted) ↔ (D.size disk ≢ device_bytes)) }
+    ensures device { IfErr result (λ e. e.0 ≡ Device → Rises (D.failures disk) (D.failures e.1)) }
+    ensures untouched { IfErr result (λ e. e.0 ≢ Device → e.1 ≡ disk) }
+    ensures faults { IfErr result (λ e. (e.0 ≡ Device) ⊎ ((e.0 ≡ Unformatted) ⊎ (e.0 ≡ NoMemory))) }
+    ensures honesty { D.honest (disk_after result) ↔ D.honest disk }
+{
+    if disk.size() != DEVICE_BYTES {
+        return Err((Fault::Unformatted, disk));
+    }
+    let (state, rooms) = match beginning(alloc) {
+        Err(_) => return Err((Fault::NoMemory, disk)),
+        Ok(parts) => parts,
+    };
+    match fe_journal::format(alloc, disk) {
+        Err((fault, disk)) => Err((Fault::from(fault), disk)),
+        Ok(journal) => Ok(keeper_over(alloc, rooms, journal, state)),
+    }
+}
+
+/// The first state, and room for its keeper: all memory that is taken before a device is written.
+fn beginning(alloc: Global) -> Result<(State, Rooms), AllocError>
+    ensures state { IfOk result (λ parts. parts.0 ≡ first_state) }
+    ensures rooms { IfOk result (λ parts. AreRooms parts.1) }
+{
+    let state = State::new(alloc)?;
+    let rooms = Rooms::new(alloc)?;
+    Ok((state, rooms))
+}

@@ -1,0 +1,141 @@
+ghost use Rattle.std.specs.Prelude.{◌≡◌, ◌⊎◌, ◌↔◌, ℕ, ◌≤◌, length, true, false, Ok, Err, IsTrue, OnOk, OnErr, IsErrOf};
+ghost use Rattle.fe_disk.specs.Disk.{LeavesOnly, Rises};
+ghost use Rattle.fe_state.specs.State.{IsWithinLimits, after_all};
+ghost use Rattle.fe_state.specs.UndoLog.{empty_log, rewound};
+ghost use Rattle.fe_replica.specs.Taking.{Continues, IsMismatch, MakesSomeArray};
+ghost use Rattle.fe_keeper.specs.Stands.{StandsFor, StandsForEither};
+ghost use Rattle.fe_keeper.specs.Keeper.{fits, appended, made_room, must_begin};
+ghost use Rattle.fe_keeper.specs.Upholds.{IsStore, Upholds, store_of};
+ghost use Rattle.fe_keeper.specs.Parts.{HasTaken, IsKept};
+ghost use Rattle.fe_keeper.specs.declared.fault.Fault.TheVariants.{Device, Failed, NoMemory, Mismatch};
+ghost use Rattle.fe_journal.specs.declared.fault.JournalFault.TheVariants as journal;
+
+use crate::Fault;
+use crate::store::Store;
+use fe_disk::Disk;
+use fe_journal::JournalFault;
+use fe_replica::take;
+use fe_state::{Entry, State, UndoLog};
+use std::alloc::Global;
+
+/// The store, the replica of the state, and the way back from a batch that is taken and not yet stored.
+#[derive(Drop)]
+pub(crate) struct Parts<D: Disk> {
+    pub(crate) store: Store<D>,
+    pub(crate) state: State,
+    pub(crate) log: UndoLog,
+    pub(crate) alloc: Global,
+}
+
+impl<D: Disk> Parts<D> {
+    /// What is always true of the replica.
+    fn limits(&self)
+        ensures { IsWithinLimits self.now.state }
+    {
+        let _ = self.state.place();
+    }
+
+    /// Stores a batch that was taken and fits, or takes it back.
+    fn put(&mut self, entries: &[Entry]) -> Result<(), JournalFault>
+        requires store { IsStore self.old.store }
+        requires works { self.old.store.journal.has_failed ≡ false }
+        requires fits { IsTrue (fits (store_of self.old.store) entries.now) }
+        requires few { length entries.now ≤ 4097 }
+        requires taken { HasTaken (rewound self.old.log self.old.state) entries.now self.old.state self.old.log }
+        requires place { self.old.store.place ≡ (rewound self.old.log self.old.state).place }
+        requires limits { IsWithinLimits (rewound self.old.log self.old.state) }
+        ensures store { IsStore self.new.store }
+        ensures place { self.new.store.place ≡ self.new.state.place }
+        ensures log { self.new.log ≡ empty_log self.old.log.room }
+        ensures any_moment { D.honest self.old.store.journal.disk → Upholds D.seen D.may_leave self.old.store (rewound self.old.log self.old.state)
+            → LeavesOnly D.moment D.left_since self.old.store.journal.disk self.new.store.journal.disk
+            (StandsForEither (rewound self.old.log self.old.state) (after_all (rewound self.old.log self.old.state) entries.now)) }
+        ensures upheld { D.honest self.old.store.journal.disk → Upholds D.seen D.may_leave self.old.store (rewound self.old.log self.old.state) → OnOk result (Upholds D.seen D.may_leave self.new.store self.new.state) }
+        ensures state { OnOk result (self.new.state ≡ after_all (rewound self.old.log self.old.state) entries.now) }
+        ensures value { OnOk result (store_of self.new.store ≡ record (appended (store_of self.old.store) entries.now) { disk = self.new.store.journal.disk }) }
+        ensures err { OnErr result (self.new.state ≡ rewound self.old.log self.old.state) }
+        ensures failing { OnErr result (self.new.store.journal.has_failed ≡ true) }
+        ensures device { IsErrOf result journal.Device → Rises (D.failures self.old.store.journal.disk) (D.failures self.new.store.journal.disk) }
+        ensures still { OnOk result (D.failures self.new.store.journal.disk ≡ D.failures self.old.store.journal.disk) }
+        ensures faults { OnErr result (IsErrOf result journal.Device) }
+        ensures honesty { D.honest self.new.store.journal.disk ↔ D.honest self.old.store.journal.disk }
+    {
+        self.limits();
+        let outcome = self.store.append(entries);
+        match outcome {
+            Ok(()) => self.log.clear(),
+            Err(_) => self.state.rewind(&mut self.log),
+        }
+        outcome
+    }
+
+    /// Makes room for a batch that was taken, where it does not fit: for that time the replica is the one
+    /// before it.
+    fn make_room(&mut self, first: u64, entries: &[Entry]) -> Result<(), Fault>
+        requires store { IsStore self.old.store }
+        requires works { self.old.store.journal.has_failed ≡ false }
+        requires few { length entries.now ≤ 4097 }
+        requires continues { Continues (rewound self.old.log self.old.state) first entries.now }
+        requires taken { HasTaken (rewound self.old.log self.old.state) entries.now self.old.state self.old.log }
+        requires place { self.old.store.place ≡ (rewound self.old.log self.old.state).place }
+        ensures store { IsStore self.new.store }
+        ensures place { self.new.store.place ≡ self.old.store.place }
+        ensures taken { OnOk result (HasTaken (rewound self.old.log self.old.state) entries.now self.new.state self.new.log) }
+        ensures log { OnErr result (self.new.log ≡ empty_log self.old.log.room) }
+        ensures room { self.new.log.room ≡ self.old.log.room }
+        ensures any_moment { D.honest self.old.store.journal.disk → Upholds D.seen D.may_leave self.old.store (rewound self.old.log self.old.state)
+            → LeavesOnly D.moment D.left_since self.old.store.journal.disk self.new.store.journal.disk (λ image. StandsFor image (rewound self.old.log self.old.state)) }
+        ensures upheld { D.honest self.old.store.journal.disk → Upholds D.seen D.may_leave self.old.store (rewound self.old.log self.old.state)
+            → self.new.store.journal.has_failed ≡ false → Upholds D.seen D.may_leave self.new.store (rewound self.old.log self.old.state) }
+        ensures value { OnOk result (store_of self.new.store ≡ record (made_room (store_of self.old.store) entries.now) { disk = self.new.store.journal.disk }) }
+        ensures fits { OnOk result (IsTrue (fits (store_of self.new.store) entries.now)) }
+        ensures works { OnOk result (self.new.store.journal.has_failed ≡ false) }
+        ensures err { OnErr result (self.new.state ≡ rewound self.old.log self.old.state) }
+        ensures memory { IsErrOf result NoMemory → (MakesSomeArray entries.now ⊎ IsTrue (must_begin (store_of self.old.store) entries.now)) × (self.new.store.journal.has_failed ≡ false) }
+        ensures device { IsErrOf result Device → Rises (D.failures self.old.store.journal.disk) (D.failures self.new.store.journal.disk) × (self.new.store.journal.has_failed ≡ true) }
+        ensures still { OnOk result (D.failures self.new.store.journal.disk ≡ D.failures self.old.store.journal.disk) }
+        ensures calm { IsErrOf result NoMemory → D.failures self.new.store.journal.disk ≡ D.failures self.old.store.journal.disk }
+        ensures faults { OnErr result (IsErrOf result Device ⊎ IsErrOf result NoMemory) }
+        ensures honesty { D.honest self.new.store.journal.disk ↔ D.honest self.old.store.journal.disk }
+    {
+        if self.store.fits(entries) {
+            return Ok(());
+        }
+        self.state.rewind(&mut self.log);
+        self.store.make_room(self.alloc, &self.state, entries)?;
+        take(&mut self.state, &mut self.log, first, entries)?;
+        Ok(())
+    }
+
+    /// Takes a batch and stores it.
+    pub(crate) fn append(&mut self, first: u64, entries: &[Entry]) -> Result<(), Fault>
+        requires kept { IsKept D.honest D.seen D.may_leave self.old }
+        requires few { length entries.now ≤ 4097 }
+        ensures kept { IsKept D.honest D.seen D.may_leave self.new }
+        ensures any_moment { D.honest self.old.store.journal.disk → self.old.store.journal.has_failed ≡ false
+            → LeavesOnly D.moment D.left_since self.old.store.journal.disk self.new.store.journal.disk (StandsForEither self.old.state (after_all self.old.state entries.now)) }
+        ensures continues { OnOk result (Continues self.old.state first entries.now) }
+        ensures state { OnOk result (self.new.state ≡ after_all self.old.state entries.now) }
+        ensures value { OnOk result (store_of self.new.store ≡ record (appended (made_room (store_of self.old.store) entries.now) entries.now) { disk = self.new.store.journal.disk }) }
+        ensures err { OnErr result (self.new.state ≡ self.old.state) }
+        ensures mismatch { (place : ℕ) → IsErrOf result (Mismatch place) → IsMismatch self.old.state first entries.now place }
+        ensures unmatched { (place : ℕ) → IsErrOf result (Mismatch place) → self.new ≡ self.old }
+        ensures memory { IsErrOf result NoMemory → (MakesSomeArray entries.now ⊎ IsTrue (must_begin (store_of self.old.store) entries.now)) × (self.new.store.journal.has_failed ≡ false) }
+        ensures failed { IsErrOf result Failed ↔ IsTrue self.old.store.journal.has_failed }
+        ensures untouched { IsErrOf result Failed → self.new ≡ self.old }
+        ensures device { IsErrOf result Device → Rises (D.failures self.old.store.journal.disk) (D.failures self.new.store.journal.disk) × (self.new.store.journal.has_failed ≡ true) }
+        ensures still { OnOk result (D.failures self.new.store.journal.disk ≡ D.failures self.old.store.journal.disk) }
+        ensures calm { IsErrOf result NoMemory → D.failures self.new.store.journal.disk ≡ D.failures self.old.store.journal.disk }
+        ensures faults { OnErr result (IsErrOf result Device ⊎ (IsErrOf result Failed ⊎ (IsErrOf result NoMemory ⊎ ((place : ℕ) × IsErrOf result (Mismatch place))))) }
+        ensures honesty { D.honest self.new.store.journal.disk ↔ D.honest self.old.store.journal.disk }
+    {
+        if self.store.journal.has_failed() {
+            return Err(Fault::Failed);
+        }
+        self.limits();
+        take(&mut self.state, &mut self.log, first, entries)?;
+        self.make_room(first, entries)?;
+        self.put(entries)?;
+        Ok(())
+    }
+}

@@ -1,0 +1,113 @@
+//! The state that a slot stands for: that of its image, and its groups gone through.
+
+ghost use Rattle.std.specs.Prelude.{◌≡◌, ◌<◌, ◌≤◌, ℕ, List, true, IfOk, IfErr, OnOk};
+ghost use Rattle.fe_state.specs.State.{ServerState};
+ghost use Rattle.fe_journal.specs.Contents.{Contents};
+ghost use Rattle.fe_journal.specs.Cursor.{Lists};
+ghost use Rattle.fe_keeper.specs.Stands.{Stands, greatest_generation};
+ghost use Rattle.fe_keeper.specs.Opened.{IsSlotFault, IsListing, IsBase, ReplaysAll, IsRecovered, ArePartsOf};
+ghost use Rattle.fe_keeper.specs.Replaying.{IsNext, CanGoOn};
+ghost use Rattle.fe_keeper.specs.declared.fault.Fault.TheVariants.{NoMemory};
+
+use crate::{Fault, Format};
+use fe_codec::{ImageFault, read_image};
+use fe_journal::{Groups, header_of, image_of};
+use fe_replica::{ReplayFault, replay};
+use fe_state::State;
+use std::alloc::Global;
+
+/// The state of a slot, from what was read of it: the image, and the groups.
+pub(crate) fn recovered(
+    alloc: Global,
+    format: Format,
+    generation: u64,
+    slot: usize,
+    image: &[u8],
+    groups: &mut Groups,
+) -> Result<State, Fault>
+    requires is_slot { slot < 2 }
+    requires listing { IsListing groups.old }
+    ensures state { (payloads : List (List ℕ)) → Lists groups.old payloads → IfOk result (IsRecovered format generation image.now payloads) }
+    // A slot that stands for a state is refused only for want of memory.
+    ensures refused { (c : Contents) (s : ServerState) → ArePartsOf c format generation image.now groups.old → Stands c s → IfErr result (λ fault. fault ≡ NoMemory) }
+    ensures faults { IfErr result IsSlotFault }
+{
+    let mut state = base_of(alloc, format, generation, slot, image)?;
+    replay_all(format, groups, &mut state)?;
+    Ok(state)
+}
+
+/// The state of the image, in a slot of this generation.
+fn base_of(
+    alloc: Global,
+    format: Format,
+    generation: u64,
+    slot: usize,
+    image: &[u8],
+) -> Result<State, Fault>
+    requires is_slot { slot < 2 }
+    ensures base { IfOk result (IsBase format generation image.now) }
+    ensures refused { (s : ServerState) → IsBase format generation image.now s → IfErr result (λ fault. fault ≡ NoMemory) }
+    ensures faults { IfErr result IsSlotFault }
+{
+    let state = match read_image(alloc, format, image) {
+        Ok(state) => state,
+        Err(ImageFault::NoMemory) => return Err(Fault::NoMemory),
+        Err(ImageFault::Damaged { offset }) => {
+            return Err(Fault::Damaged {
+                offset: image_of(slot) + offset,
+            });
+        }
+    };
+    if generation > greatest_generation(format, &state) {
+        return Err(Fault::Damaged {
+            offset: header_of(slot) + 8,
+        });
+    }
+    Ok(state)
+}
+
+/// The greatest generation of a slot with an image of this state.
+fn greatest_generation(format: Format, state: &State) -> u64
+    ensures { result ≡ greatest_generation format state.now.place }
+{
+    match format {
+        Format::One => state.place() + 1,
+        Format::Two => state.place() + 2,
+    }
+}
+
+/// Goes through all groups.
+fn replay_all(format: Format, groups: &mut Groups, state: &mut State) -> Result<(), Fault>
+    requires listing { IsListing groups.old }
+    ensures all { (payloads : List (List ℕ)) → Lists groups.old payloads → OnOk result (ReplaysAll format payloads state.old state.new) }
+    ensures refused { (payloads : List (List ℕ)) → Lists groups.old payloads → CanGoOn format payloads state.old → IfErr result (λ fault. fault ≡ NoMemory) }
+    ensures faults { IfErr result IsSlotFault }
+{
+    while replay_next(format, groups, state)? {}
+    Ok(())
+}
+
+/// Goes through the next group. Whether there was one.
+fn replay_next(format: Format, groups: &mut Groups, state: &mut State) -> Result<bool, Fault>
+    requires listing { IsListing groups.old }
+    ensures next { (payloads : List (List ℕ)) → Lists groups.old payloads → IfOk result (IsNext format payloads groups.new state.old state.new) }
+    ensures on { IfOk result (λ more. more ≡ true → (groups.old.at < groups.new.at) × (groups.new.at ≤ 1048576)) }
+    ensures refused { (payloads : List (List ℕ)) → Lists groups.old payloads → CanGoOn format payloads state.old → IfErr result (λ fault. fault ≡ NoMemory) }
+    ensures faults { IfErr result IsSlotFault }
+{
+    let Some(payload) = groups.payload() else {
+        return Ok(false);
+    };
+    match replay(format, payload, state) {
+        Ok(()) => {}
+        Err(ReplayFault::NoMemory) => return Err(Fault::NoMemory),
+        Err(ReplayFault::Damaged { offset }) => {
+            return Err(Fault::Damaged {
+                offset: groups.offset() + offset,
+            });
+        }
+    }
+    groups.skip();
+    Ok(true)
+}

@@ -1,0 +1,146 @@
+ghost use Rattle.std.specs.Prelude.{◌≡◌, ◌⊎◌, ◌+◌, ◌<◌, ◌≤◌, ◌^◌, ◌↔◌, true, false, length, Some, IsTrue, IfOk, OnOk, OnErr, IsErrOf, IsSome, is_some, vec_capacity};
+ghost use Rattle.std.specs.List.{AllByRecursion, list_all};
+ghost use Rattle.fe_state.specs.Format.{entry_fits_format_1};
+ghost use Rattle.fe_disk.specs.Disk.{LeavesOnly, Rises};
+ghost use Rattle.fe_state.specs.State.{ServerState, after_all};
+ghost use Rattle.fe_state.specs.History.{AreLegal};
+ghost use Rattle.fe_codec.specs.Record.{CanPut, FitsGroup, group_spelling};
+ghost use Rattle.fe_keeper.specs.CatchUp.{HasRoomFor, CatchesUp};
+ghost use Rattle.fe_codec.specs.Image.{image_spelling};
+ghost use Rattle.fe_format.specs.declared.format.Format.TheVariants.{Two};
+ghost use Rattle.fe_keeper.specs.Stands.{StandsFor, StandsForEither};
+ghost use Rattle.fe_keeper.specs.Upholds.{IsStore, Upholds, store_of};
+ghost use Rattle.fe_keeper.specs.Keeper as effect;
+ghost use Rattle.fe_keeper.specs.Keeper.{fits, is_spellable, catches_up, can_begin, has_slices, stepped, finished, appended, made_room, must_begin};
+ghost use Rattle.fe_keeper.specs.declared.fault.Fault.TheVariants.{Device, Failed, NoMemory};
+ghost use Rattle.fe_journal.specs.declared.fault.JournalFault.TheVariants as journal;
+
+use crate::checkpoint::Checkpoint;
+use crate::{Fault, Format};
+use fe_codec::put_group;
+use fe_disk::Disk;
+use fe_journal::{Journal, JournalFault};
+use fe_state::Entry;
+
+/// How many entries the longest group of format 2 has.
+pub(crate) const LONGEST_GROUP: usize = 13_107;
+
+/// Whether format 1 has a record for each entry.
+fn all_fit_format_1(entries: &[Entry]) -> bool
+    ensures { result ≡ list_all entry_fits_format_1 entries.now }
+{
+    entries.iter().all(|entry| entry.fits_format_1())
+}
+
+/// Whether the format has a record for each entry.
+fn is_spellable(format: Format, entries: &[Entry]) -> bool
+    ensures { result ≡ is_spellable format entries.now }
+{
+    match format {
+        Format::One => all_fit_format_1(entries),
+        Format::Two => true,
+    }
+}
+
+/// Spells a batch that fits as the payload of a group.
+fn spell(format: Format, entries: &[Entry], group: &mut Vec<u8>)
+    requires each { AllByRecursion (CanPut format) entries.now }
+    requires few { length entries.now ≤ 4097 }
+    requires room { 327760 ≤ vec_capacity group.old }
+    ensures spelled { group.new.items ≡ group_spelling format entries.now }
+    ensures fits { FitsGroup format entries.now }
+    ensures room { 327760 ≤ vec_capacity group.new }
+{
+    group.clear();
+    let _ = put_group(format, entries, group);
+}
+
+/// Adds entries, for which there is room, to those that a checkpoint under way catches up with.
+fn catch_up(checkpoint: &mut Option<Checkpoint>, entries: &[Entry])
+    requires each { AllByRecursion (CanPut Two) entries.now }
+    requires few { length entries.now ≤ 4097 }
+    requires room { HasRoomFor checkpoint.old (length entries.now) }
+    ensures { CatchesUp entries.now checkpoint.old checkpoint.new }
+{
+    if let Some(checkpoint) = checkpoint {
+        let _ = put_group(Format::Two, entries, &mut checkpoint.catch_up);
+    }
+}
+
+/// The bytes side of a keeper: the journal, the bytes of the group at hand, how many entries are stored,
+/// and the checkpoint under way.
+#[derive(Drop)]
+pub(crate) struct Store<D: Disk> {
+    pub(crate) journal: Journal<D>,
+    pub(crate) group: Vec<u8>,
+    pub(crate) place: u64,
+    pub(crate) checkpoint: Option<Checkpoint>,
+}
+
+impl<D: Disk> Store<D> {
+    /// Whether a batch can be appended as the store is.
+    pub(crate) fn fits(&self, entries: &[Entry]) -> bool
+        requires sound { IsStore self.now }
+        requires few { length entries.now ≤ 4097 }
+        ensures { result ≡ fits (store_of self.now) entries.now }
+    {
+        let format = self.journal.format();
+        is_spellable(format, entries)
+            && entries.len() * format.record_bytes() <= self.journal.room() as usize
+            && self.catches_up(entries.len())
+    }
+
+    /// Whether a checkpoint can be begun: none is under way, and an entry came since the image, or the slot
+    /// is of format 1.
+    pub(crate) fn can_begin(&self) -> bool
+        ensures { result ≡ can_begin (store_of self.now) }
+    {
+        let is_behind = match self.journal.format() {
+            Format::One => true,
+            Format::Two => self.journal.used() > 0,
+        };
+        self.checkpoint.is_none() && is_behind
+    }
+
+    fn catches_up(&self, entries: usize) -> bool
+        requires sound { IsStore self.now }
+        requires few { entries ≤ 4097 }
+        ensures { result ≡ catches_up self.now.place entries (store_of self.now).checkpoint }
+    {
+        match &self.checkpoint {
+            None => true,
+            Some(checkpoint) => (self.place - checkpoint.place) as usize + entries <= LONGEST_GROUP,
+        }
+    }
+
+    /// Appends a batch that fits as a group, and adds it to what a checkpoint under way catches up with.
+    pub(crate) fn append(&mut self, entries: &[Entry]) -> Result<(), JournalFault>
+        requires sound { IsStore self.old }
+        requires fits { IsTrue (fits (store_of self.old) entries.now) }
+        requires some { 1 ≤ length entries.now }
+        requires few { length entries.now ≤ 4097 }
+        requires each { AllByRecursion (CanPut Two) entries.now }
+        requires place { self.old.place + length entries.now < 2 ^ 63 }
+        ensures sound { IsStore self.new }
+
+        // A stop at any moment leaves the state before, or that after all entries.
+        ensures any_moment { D.honest self.old.journal.disk → (s : ServerState) → Upholds D.seen D.may_leave self.old s → AreLegal s entries.now
+            → LeavesOnly D.moment D.left_since self.old.journal.disk self.new.journal.disk (StandsForEither s (after_all s entries.now)) }
+        ensures upheld { D.honest self.old.journal.disk → (s : ServerState) → Upholds D.seen D.may_leave self.old s → AreLegal s entries.now
+            → OnOk result (Upholds D.seen D.may_leave self.new (after_all s entries.now)) }
+
+        ensures value { OnOk result (store_of self.new ≡ record (appended (store_of self.old) entries.now) { disk = self.new.journal.disk }) }
+        ensures err { OnErr result (store_of self.new ≡ record (store_of self.old) { disk = self.new.journal.disk; has_failed = true }) }
+        ensures device { self.old.journal.has_failed ≡ false → (IsErrOf result journal.Device ↔ Rises (D.failures self.old.journal.disk) (D.failures self.new.journal.disk)) }
+        ensures still { OnOk result (D.failures self.new.journal.disk ≡ D.failures self.old.journal.disk) }
+        ensures failed { IsErrOf result journal.Failed ↔ IsTrue self.old.journal.has_failed }
+        ensures untouched { IsErrOf result journal.Failed → self.new.journal ≡ self.old.journal }
+        ensures honesty { D.honest self.new.journal.disk ↔ D.honest self.old.journal.disk }
+    {
+        spell(self.journal.format(), entries, &mut self.group);
+        self.journal.append_group(&self.group)?;
+        catch_up(&mut self.checkpoint, entries);
+        self.place += entries.len() as u64;
+        Ok(())
+    }
+}

@@ -1,0 +1,35 @@
+//! Batches that do not continue the history.
+
+use crate::stores::{ATTACHED, CLOSED, batch_of, new_store};
+use fe_disk::MemoryDisk;
+use fe_keeper::{Fault, Keeper};
+use fe_state::Entry;
+use std::alloc::Global;
+use std::process::Abort;
+
+// Whether the keeper of a new store refuses the entries at that place, and gives them back.
+fn is_refused(
+    rt: &impl Abort,
+    alloc: Global,
+    keeper: &mut Keeper<MemoryDisk>,
+    entries: &[Entry],
+    place: u64,
+) -> bool {
+    match keeper.append(batch_of(rt, alloc, 0, entries)) {
+        Err((fault, back)) => {
+            fault == Fault::Mismatch { place } && back.entries.as_slice().len() == entries.len()
+        }
+        Ok(_) => false,
+    }
+}
+
+#[test]
+fn mismatch(rt: HostRuntime) {
+    let alloc = rt.alloc();
+    let mut keeper = new_store(&rt, alloc);
+    let closed = Entry::Closed { session: 7 };
+    assert!(&rt; is_refused(&rt, alloc, &mut keeper, &[], 0));
+    assert!(&rt; is_refused(&rt, alloc, &mut keeper, &[closed], 0));
+    assert!(&rt; is_refused(&rt, alloc, &mut keeper, &[ATTACHED, CLOSED], 1));
+    assert!(&rt; keeper.state().place() == 0);
+}

@@ -1,0 +1,4 @@
+pub mod Following
+pub mod Numbered
+pub mod Taken
+pub mod Replayed

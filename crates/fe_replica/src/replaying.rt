@@ -1,0 +1,78 @@
+ghost use Rattle.std.specs.Prelude.{◌≡◌, ℕ, ◌++◌, List, Err, IfSome, IsSome, IfOk, OnOk, OnErr};
+ghost use Rattle.fe_codec.specs.Record.{entry_spelling, FitsRecord};
+ghost use Rattle.fe_state.specs.declared.entry.Entry.{Entry as Step};
+ghost use Rattle.fe_replica.specs.Replaying.{Replays, IsFirstBad, MakesArrayIn, NoneFollows, Steps, MakesNext};
+ghost use Rattle.fe_replica.specs.declared.replaying.ReplayFault.TheVariants.{Damaged, NoMemory};
+ghost use Rattle.fe_replica.specs.declared.replaying.Fault.TheVariants as fault;
+
+use fe_codec::{Format, read_entry};
+use fe_state::{Entry, State};
+
+/// Why a stored group was not gone through to its end.
+#[derive(Clone, Copy, Debug, PartialEq, Eq)]
+pub enum ReplayFault {
+    /// The record at this offset of the payload is no entry's, or its entry may not come next.
+    Damaged { offset: usize },
+    /// There was no memory for the words of a new array.
+    NoMemory,
+}
+
+/// Why the first record of what is left was not gone through.
+#[derive(Clone, Copy, Debug, PartialEq, Eq)]
+enum Fault {
+    /// It is no entry's, or its entry may not come next.
+    Bad,
+    /// There was no memory for the words of a new array.
+    NoMemory,
+}
+
+/// Carries out the entries of a stored group, one by one. It takes memory for the words of new
+/// arrays alone. After a fault the state is of no more use.
+pub fn replay(format: Format, payload: &[u8], state: &mut State) -> Result<(), ReplayFault>
+    ensures ok { OnOk result (Replays format payload.now state.old state.new) }
+    ensures damaged { (offset : ℕ) → result ≡ Err (Damaged offset) → IsFirstBad format payload.now state.old offset }
+    ensures memory { result ≡ Err NoMemory → MakesArrayIn format payload.now state.old }
+{
+    let mut rest = payload;
+    while !rest.is_empty() {
+        match replay_one(format, rest, state) {
+            Ok(behind) => rest = behind,
+            Err(Fault::NoMemory) => return Err(ReplayFault::NoMemory),
+            Err(Fault::Bad) => {
+                return Err(ReplayFault::Damaged {
+                    offset: payload.len() - rest.len(),
+                });
+            }
+        }
+    }
+    Ok(())
+}
+
+/// Carries out the entry whose record the first bytes are, and gives the bytes behind it.
+fn replay_one<'a>(format: Format, bytes: &'a [u8], state: &mut State) -> Result<&'a [u8], Fault>
+    ensures ok { IfOk result (λ behind. Steps format bytes.now state.old behind.now state.new) }
+    ensures bad { result ≡ Err fault.Bad → NoneFollows format bytes.now state.old }
+    ensures memory { result ≡ Err fault.NoMemory → MakesNext format bytes.now state.old }
+    ensures err { OnErr result (state.new ≡ state.old) }
+{
+    let Some((entry, behind)) = next_entry(format, bytes) else {
+        return Err(Fault::Bad);
+    };
+    if state.check(&entry).is_err() {
+        return Err(Fault::Bad);
+    }
+    match state.advance(entry) {
+        Ok(()) => Ok(behind),
+        Err(_) => Err(Fault::NoMemory),
+    }
+}
+
+/// The entry whose record the first bytes are, and the bytes behind it.
+fn next_entry(format: Format, bytes: &[u8]) -> Option<(Entry, &[u8])>
+    ensures found { IfSome result (λ x. FitsRecord format x.0 × (bytes.now ≡ entry_spelling format x.0 ++ x.1.now)) }
+    ensures only { (entry : Step) (more : List ℕ) → FitsRecord format entry → bytes.now ≡ entry_spelling format entry ++ more → IsSome result }
+{
+    let (cells, behind) = bytes.split_at_checked(format.record_bytes())?;
+    let entry = read_entry(format, cells)?;
+    Some((entry, behind))
+}

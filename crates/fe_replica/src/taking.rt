@@ -1,0 +1,90 @@
+ghost use Rattle.std.specs.Prelude.{◌≡◌, ℕ, ◌+◌, ◌<◌, ◌≤◌, length, Err, OnOk, OnErr};
+ghost use Rattle.fe_state.specs.State.{IsLegal, MakesArray, after, after_all};
+ghost use Rattle.fe_state.specs.UndoLog.{empty_log, rewound, IsLogOf};
+ghost use Rattle.fe_replica.specs.Taking.{Continues, IsMismatch, IsIllegalAt, AreTaken, MakesSomeArray};
+ghost use Rattle.fe_replica.specs.declared.taking.Refused.TheVariants.{Mismatch, NoMemory};
+
+use fe_state::{Entry, State, UndoLog};
+
+/// Why a batch was not taken.
+#[derive(Clone, Copy, Debug, PartialEq, Eq)]
+pub enum Refused {
+    /// The entries do not continue the history, first at this place.
+    Mismatch { place: u64 },
+    /// There was no memory for the words of a new array.
+    NoMemory,
+}
+
+/// Carries out entries that continue the history of the state, the first of them at the place `first`.
+/// The log then leads back to the state before. Where they are refused, state and log are as before.
+pub fn take(
+    state: &mut State,
+    log: &mut UndoLog,
+    first: u64,
+    entries: &[Entry],
+) -> Result<(), Refused>
+    requires empty { log.old ≡ empty_log log.old.room }
+    requires room { length entries.now ≤ log.old.room }
+    ensures taken { OnOk result (state.new ≡ after_all state.old entries.now) }
+    ensures continues { OnOk result (Continues state.old first entries.now) }
+    // The way back.
+    ensures log { OnOk result (IsLogOf log.new state.new) }
+    ensures beginning { OnOk result (rewound log.new state.new ≡ state.old) }
+    ensures room { log.new.room ≡ log.old.room }
+    ensures err { OnErr result ((state.new ≡ state.old) × (log.new ≡ log.old)) }
+    ensures mismatch { (place : ℕ) → result ≡ Err (Mismatch place) → IsMismatch state.old first entries.now place }
+    ensures memory { result ≡ Err NoMemory → MakesSomeArray entries.now }
+{
+    if first != state.place() || entries.is_empty() {
+        return Err(Refused::Mismatch {
+            place: state.place(),
+        });
+    }
+    let taken = take_each(state, log, entries);
+    if taken.is_err() {
+        state.rewind(log);
+    }
+    taken
+}
+
+/// Carries out entries up to the first that is refused.
+fn take_each(state: &mut State, log: &mut UndoLog, entries: &[Entry]) -> Result<(), Refused>
+    requires empty { log.old ≡ empty_log log.old.room }
+    requires room { length entries.now ≤ log.old.room }
+    ensures taken { OnOk result (AreTaken state.old entries.now state.new log.new) }
+    ensures log { IsLogOf log.new state.new }
+    ensures beginning { rewound log.new state.new ≡ state.old }
+    ensures room { log.new.room ≡ log.old.room }
+    ensures mismatch { (place : ℕ) → result ≡ Err (Mismatch place) → IsIllegalAt state.old entries.now place }
+    ensures memory { result ≡ Err NoMemory → MakesSomeArray entries.now }
+{
+    for entry in entries {
+        take_one(state, log, entry)?;
+    }
+    Ok(())
+}
+
+/// Carries out an entry that is legal.
+fn take_one(state: &mut State, log: &mut UndoLog, entry: &Entry) -> Result<(), Refused>
+    requires room { length log.old.undos < log.old.room }
+    ensures legal { OnOk result (IsLegal state.old entry.now) }
+    ensures ok { OnOk result (state.new ≡ after state.old entry.now) }
+    ensures err { OnErr result ((state.new ≡ state.old) × (log.new ≡ log.old)) }
+    ensures length { OnOk result (length log.new.undos ≡ length log.old.undos + 1) }
+    ensures room { log.new.room ≡ log.old.room }
+    ensures log { IsLogOf log.old state.old → IsLogOf log.new state.new }
+    ensures beginning { rewound log.new state.new ≡ rewound log.old state.old }
+    ensures place { (place : ℕ) → result ≡ Err (Mismatch place) → place ≡ state.old.place }
+    ensures illegal { (place : ℕ) → result ≡ Err (Mismatch place) → IsLegal state.old entry.now → ⊥ }
+    ensures memory { result ≡ Err NoMemory → MakesArray entry.now }
+{
+    if state.check(entry).is_err() {
+        return Err(Refused::Mismatch {
+            place: state.place(),
+        });
+    }
+    match state.apply(*entry, log) {
+        Ok(()) => Ok(()),
+        Err(_) => Err(Refused::NoMemory),
+    }
+}

@@ -1,0 +1,79 @@
+-- The report: what waits, line by line.
+use Rattle.std.specs.Prelude.{ℕ, ◌==◌, ◌&&◌, nat_lt, if◌then◌else◌, Bool, List, [], ◌++◌, map, codes}
+use Rattle.std.specs.List.{flat_map}
+use Rattle.std.specs.Ordering.{nat_cmp, ordering_then}
+use Rattle.std.specs.declared.cmp.Ordering.{Ordering}
+use Rattle.std.specs.Fmt.{decimal}
+use Rattle.std.specs.FinMap.{FinMap, len, entries, from_entries, retain_keys}
+use Rattle.fe_words.specs.Table.{name_of}
+use Rattle.fe_words.specs.declared.op.Op.{Op}
+use Rattle.fe_waits.specs.Pair.{pair_cmp}
+use Rattle.fe_waits.specs.Waiting.{Waiter}
+use Rattle.fe_seats.specs.Seating.{count_of}
+use Rattle.fe_seats.specs.declared.seat.Seat.{Seat}
+use Rattle.fe_service.specs.Service.{Waiters}
+use Rattle.fe_front.specs.Front.{FrontState, is_attached}
+
+-- where a request waits: the array and the index of its word, then its session and its number
+abbrev pub Spot : Type 0
+Spot = (ℕ × ℕ) × (ℕ × ℕ)
+
+-- the order of the lines: by array, index, session and number
+abbrev pub spot_cmp : Spot → Spot → Ordering
+spot_cmp a b = ordering_then (pair_cmp a.0 b.0) (pair_cmp a.1 b.1)
+
+-- where one that waits under a session and number does so, and its operation
+abbrev pub spot_of : (ℕ × ℕ) × Waiter → Spot × Op
+spot_of e = (((e.1.array, e.1.index), e.0), e.1.op)
+
+-- the operation of each request that waits, in the order of the lines
+abbrev pub by_word : Waiters → FinMap spot_cmp Op
+by_word waiting = from_entries (map spot_of (entries waiting))
+
+-- how many requests wait of each session of which some do
+abbrev pub by_session : Waiters → FinMap nat_cmp ℕ
+by_session waiting = from_entries (map (λ e. (e.0.0, count_of waiting e.0.0)) (entries waiting))
+
+-- of the sessions that are attached, those of which nothing waits
+abbrev pub idle : Waiters → FinMap nat_cmp Seat → FinMap nat_cmp Seat
+idle waiting attached = retain_keys attached (λ session. count_of waiting session == 0)
+
+-- whether a session is attached, and something waits of each one that is
+abbrev pub do_all_wait : Waiters → FinMap nat_cmp Seat → Bool
+do_all_wait waiting attached = nat_lt 0 (len attached) && (len (idle waiting attached) == 0)
+
+-- ---- the lines
+
+abbrev pub count_line : ℕ → List ℕ
+count_line count = codes "waiting " ++ (decimal count ++ codes "\n")
+
+abbrev pub word_line : Spot × Op → List ℕ
+word_line e =
+    codes "word " ++ (decimal e.0.0.0 ++ (codes " " ++ (decimal e.0.0.1
+    ++ (codes " session " ++ (decimal e.0.1.0 ++ (codes " number " ++ (decimal e.0.1.1
+    ++ (codes " " ++ (name_of e.1 ++ codes "\n")))))))))
+
+abbrev pub session_line : ℕ × ℕ → List ℕ
+session_line e = codes "session " ++ (decimal e.0 ++ (codes " waits " ++ (decimal e.1 ++ codes "\n")))
+
+abbrev pub all_wait_line : Bool → List ℕ
+all_wait_line all = if all then codes "all-wait yes\n" else codes "all-wait no\n"
+
+-- ---- the text
+
+-- the lines after the first
+abbrev pub lines_of : Waiters → FinMap nat_cmp Seat → List ℕ
+lines_of waiting attached =
+    flat_map word_line (entries (by_word waiting))
+    ++ (flat_map session_line (entries (by_session waiting))
+    ++ all_wait_line (do_all_wait waiting attached))
+
+-- The report of what waits, where these seats are of the sessions that are attached: how many requests wait and, where
+-- some do, a line for each by word, one for each session of which some wait, and whether all who could go on wait.
+abbrev pub report_text : Waiters → FinMap nat_cmp Seat → List ℕ
+report_text waiting attached =
+    count_line (len waiting) ++ (if len waiting == 0 then [] else lines_of waiting attached)
+
+-- the seats of the sessions that a connection has and that are not closing
+abbrev pub attached_seats : FrontState → FinMap nat_cmp Seat
+attached_seats f = retain_keys f.service.seats (λ session. is_attached f session)

@@ -1,0 +1,35 @@
+ghost use Rattle.std.specs.Prelude.{◌≡◌, ◌≤◌, IfOk, string_bytes, string_len};
+ghost use Rattle.fe_report.specs.Report.{report_text, attached_seats};
+
+use crate::rows::{do_all_wait, rows_by_session, rows_by_word};
+use crate::text::{put_all_wait, put_count, put_sessions, put_words};
+use fe_front::Front;
+use std::alloc::{AllocError, Global};
+
+/// How many bytes the line of a request has at most.
+const WORD_LINE: usize = 108;
+
+/// How many bytes all other lines have at most.
+const OTHER_LINES: usize = 2976;
+
+/// The report of what waits in a front, 1 to 262,144 bytes. The one error is that memory is short.
+///
+/// It goes over the sessions, looks for the 32 numbers of each of which something waits, and looks at no word. The memory
+/// of the text is taken at once.
+pub fn report(alloc: Global, front: &Front) -> Result<String, AllocError>
+    ensures text { IfOk result (λ text. string_bytes text ≡ report_text front.now.service.waiting (attached_seats front.now)) }
+    ensures some { IfOk result (λ text. 1 ≤ string_len text) }
+    ensures few { IfOk result (λ text. string_len text ≤ 262144) }
+{
+    let _ = front.state();
+    let count = front.waiting_count();
+    let mut text = String::with_capacity(alloc, OTHER_LINES + WORD_LINE * count as usize)?;
+    put_count(&mut text, count)?;
+    if count == 0 {
+        return Ok(text);
+    }
+    put_words(&mut text, &rows_by_word(alloc, front)?)?;
+    put_sessions(&mut text, &rows_by_session(alloc, front)?)?;
+    put_all_wait(&mut text, do_all_wait(front))?;
+    Ok(text)
+}

@@ -1,0 +1,47 @@
+// Reading and putting where memory ends. `rt try --test --fail-alloc N`, for N from 1 on, takes each allocation away in
+// turn: what was to be put is not there then, and the call does its work when it is made again.
+use super::{GROUP, LONG_IMAGE};
+use fe_codec::{Format, ImageFault, put_image, read_group, read_image};
+use fe_state::{Entry, State};
+use std::alloc::{AllocError, Global};
+use std::process::Abort;
+use std::test::Fail;
+
+fn image_at_last(rt: &impl Abort, alloc: Global) -> Result<State, ImageFault> {
+    match read_image(alloc, Format::Two, &LONG_IMAGE) {
+        Ok(state) => Ok(state),
+        Err(fault) => {
+            assert_eq!(rt; fault, ImageFault::NoMemory);
+            read_image(alloc, Format::Two, &LONG_IMAGE)
+        }
+    }
+}
+
+fn group_at_last(alloc: Global) -> Result<Option<Vec<Entry>>, AllocError> {
+    match read_group(alloc, Format::One, &GROUP) {
+        Ok(read) => Ok(read),
+        Err(_) => read_group(alloc, Format::One, &GROUP),
+    }
+}
+
+fn put_at_last(rt: &impl Abort, state: &State, out: &mut Vec<u8>) -> Result<(), AllocError> {
+    let before = out.len();
+    if put_image(Format::Two, state, out).is_err() {
+        assert_eq!(rt; out.len(), before);
+        put_image(Format::Two, state, out)?;
+    }
+    Ok(())
+}
+
+#[test]
+fn codec_where_memory_ends(rt: HostRuntime) -> Result<(), Fail> {
+    let state = image_at_last(&rt, rt.alloc())
+        .ok()
+        .ok_or("the bytes are an image")?;
+    let mut out = Vec::new(rt.alloc());
+    put_at_last(&rt, &state, &mut out)?;
+    assert!(&rt; out.as_slice() == LONG_IMAGE.as_slice());
+    let read = group_at_last(rt.alloc())?;
+    assert!(&rt; read.is_some());
+    Ok(())
+}

@@ -1,0 +1,83 @@
+//! Batches that are taken, and stored groups that are gone through.
+use fe_codec::{Format, put_group};
+use fe_replica::{Refused, ReplayFault, replay, take};
+use fe_state::{Answer, Entry, Name, Request, State, UndoLog};
+use fe_words::Tag;
+use std::alloc::{AllocError, Global};
+use std::test::Fail;
+
+const ATTACHED: Entry = Entry::Attached {
+    session: 7,
+    floor: 1,
+};
+
+/// Takes entries that begin at place 0.
+fn taken(
+    alloc: Global,
+    state: &mut State,
+    entries: &[Entry],
+) -> Result<Result<(), Refused>, AllocError> {
+    let mut log = UndoLog::with_room(alloc, entries.len())?;
+    Ok(take(state, &mut log, 0, entries))
+}
+
+/// The first creation of session 7.
+fn created() -> Option<Entry> {
+    let name = Name::new(b"cells")?;
+    Some(Entry::Finished {
+        session: 7,
+        number: 1,
+        request: Request::Create {
+            name,
+            length: 2,
+            tag: Tag::Full,
+        },
+        answer: Answer::Array { id: 1, length: 2 },
+    })
+}
+
+#[test]
+fn mismatch(rt: HostRuntime) -> Result<(), Fail> {
+    let mut state = State::new(rt.alloc())?;
+    let none = taken(rt.alloc(), &mut state, &[])?;
+    assert!(&rt; none == Err(Refused::Mismatch { place: 0 }));
+    let closed = [Entry::Closed { session: 7 }];
+    let first = taken(rt.alloc(), &mut state, &closed)?;
+    assert!(&rt; first == Err(Refused::Mismatch { place: 0 }));
+    let other = [ATTACHED, Entry::Closed { session: 8 }];
+    let second = taken(rt.alloc(), &mut state, &other)?;
+    assert!(&rt; second == Err(Refused::Mismatch { place: 1 }));
+    assert!(&rt; state.place() == 0 && state.session_count() == 0);
+    Ok(())
+}
+
+#[test]
+fn batch_with_a_creation(rt: HostRuntime) -> Result<(), Fail> {
+    let mut state = State::new(rt.alloc())?;
+    let entries = [ATTACHED, created().ok_or("a short name")?];
+    assert!(&rt; taken(rt.alloc(), &mut state, &entries)? == Ok(()));
+    assert!(&rt; state.place() == 2 && state.length(1) == Some(2));
+    Ok(())
+}
+
+#[test]
+fn group_is_replayed(rt: HostRuntime) -> Result<(), Fail> {
+    let mut state = State::new(rt.alloc())?;
+    let entries = [ATTACHED, Entry::Closed { session: 7 }];
+    let mut payload = Vec::new(rt.alloc());
+    put_group(Format::Two, &entries, &mut payload)?;
+    assert!(&rt; replay(Format::Two, &payload, &mut state) == Ok(()));
+    assert!(&rt; state.place() == 2 && state.session_count() == 0);
+    Ok(())
+}
+
+#[test]
+fn bad_second_record(rt: HostRuntime) -> Result<(), Fail> {
+    let mut state = State::new(rt.alloc())?;
+    let entries = [ATTACHED, Entry::Closed { session: 8 }];
+    let mut payload = Vec::new(rt.alloc());
+    put_group(Format::Two, &entries, &mut payload)?;
+    let fault = replay(Format::Two, &payload, &mut state);
+    assert!(&rt; fault == Err(ReplayFault::Damaged { offset: 80 }));
+    Ok(())
+}
