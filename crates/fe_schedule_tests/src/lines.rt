@@ -66,7 +66,11 @@ fn syntax(rt: HostRuntime) -> Result<(), Fail> {
         input.extend_from_slice(b"\nc1 1 create a 1 full\n")?;
         let (written, result) = run(rt.alloc(), input.as_slice());
         assert_eq!(rt; result, Err(Fault::Line(3)), "{line:?}");
-        assert_eq!(rt; written.as_slice(), b"c1 welcome 7 1\n".as_slice(), "{line:?}");
+        assert_eq!(rt;
+            written.as_slice(),
+            b"c1 welcome 7 1\n".as_slice(),
+            "{line:?}"
+        );
         assert!(rt; parse(line).is_none(), "{line:?}");
     }
     Ok(())
@@ -93,7 +97,13 @@ fn longest_lines(rt: HostRuntime) -> Result<(), Fail> {
         long.push(b'a')?;
     }
     let ends = Err(Fault::Line(2));
-    prints(&rt, "a long line", long.as_slice(), b"c1 welcome 7 1\n", ends)
+    prints(
+        &rt,
+        "a long line",
+        long.as_slice(),
+        b"c1 welcome 7 1\n",
+        ends,
+    )
 }
 
 #[test]

@@ -7,11 +7,7 @@ use std::test::Fail;
 #[test]
 fn schedules(rt: HostRuntime) -> Result<(), Fail> {
     let table: [(&str, &[u8], &[u8]); 21] = [
-        (
-            "empty_input",
-            b"",
-            b"",
-        ),
+        ("empty_input", b"", b""),
         (
             "first_path",
             b"c1 attach 7\nc1 1 create cells 2 empty\nc1 2 writeef 1 0 42\nc1 3 readfe 1 0\nc1 4 readxx 1 0\n",

@@ -47,7 +47,7 @@ takes_known f conn m ms box =
     let after : FrontState = record f { connections = with_mails f.connections conn (drop 1 (mails_on f.connections conn)); books = mail_taken f.books } in
     let is : taken f conn ≡ after = ap (λ (b : Bool). if b then after else f) some in
     let left : mails_on (taken f conn).connections conn ≡ ms =
-        ap (λ (g : FrontState). mails_on g.connections conn) is ∙ mails_on-with_mails f.connections conn (drop 1 (mails_on f.connections conn)) (there_of f.connections conn m ms box) ∙ ap (λ (xs : List Mail). drop 1 xs) box in
+    ap (λ (g : FrontState). mails_on g.connections conn) is ∙ mails_on-with_mails f.connections conn (drop 1 (mails_on f.connections conn)) (there_of f.connections conn m ms box) ∙ ap (λ (xs : List Mail). drop 1 xs) box in
     record {
       front = ap (λ (xs : List Mail). taken_times (length xs) f conn) box ∙ ap (λ (xs : List Mail). taken_times (length xs) (taken f conn) conn) (sym left);
       told = ap spelled box ∙ ap (λ (xs : List Mail). reply_spelling (reply_of m) ++ spelled xs) (sym left);

@@ -98,6 +98,6 @@ unfoldable pub request_in : List ℕ → Option Request
 request_in words = do
   parts ← words_at words
   if bytes_eq parts.0 (codes "create") then create_in parts.1
-    else if bytes_eq parts.0 (codes "find") then find_in parts.1
-    else if bytes_eq parts.0 (codes "remove") then remove_in parts.1
-    else access_named (op_named parts.0) parts.0 parts.1
+      else if bytes_eq parts.0 (codes "find") then find_in parts.1
+      else if bytes_eq parts.0 (codes "remove") then remove_in parts.1
+      else access_named (op_named parts.0) parts.0 parts.1

@@ -45,11 +45,7 @@ fn reply_in(alloc: Global, frame: &[u8]) -> Result<ServerMessage, Fault>
 }
 
 /// Reads the replies whose frames these are.
-fn read_replies(
-    alloc: Global,
-    frames: &[u8],
-    replies: &mut Vec<ServerMessage>,
-) -> Result<(), Fault>
+fn read_replies(alloc: Global, frames: &[u8], replies: &mut Vec<ServerMessage>) -> Result<(), Fault>
     // Frames of replies are read as these, behind those that were there.
     ensures { (told : List Reply) → AllByRecursion ReplyFits told → frames.now ≡ flat_map reply_spelling told
         → MatchResult result (λ _. replies.new.items ≡ replies.old.items ++ told) (λ fault. fault ≡ Fault.Memory) }
