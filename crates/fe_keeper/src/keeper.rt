@@ -191,6 +191,13 @@ impl<D: Disk> Keeper<D> {
         Ok(true)
     }
 
+    /// Whether a call of the device failed. Then each call answers `Failed`.
+    pub fn has_failed(&self) -> bool
+        ensures { result ≡ self.now.store.has_failed }
+    {
+        self.parts.store.journal.has_failed()
+    }
+
     /// How many bytes of the journal area are used: the offset of the closed gate behind the groups.
     pub fn used(&self) -> u32
         ensures { result ≡ self.now.store.used }

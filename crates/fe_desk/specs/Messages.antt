@@ -1,0 +1,14 @@
+-- What of a client a step may leave, and what it never touches before its end.
+use Rattle.std.specs.Prelude.{ℕ, List, [], map}
+use Rattle.std.specs.Option.{option_map_or}
+use Rattle.fe_wire.specs.declared.client_message.ClientMessage.{ClientMessage}
+use Rattle.fe_desk.specs.Standing.{Standing}
+use Rattle.fe_desk.specs.Steps.{find}
+
+-- the messages of a connection number that came whole and are not taken
+abbrev pub left_of : Standing → ℕ → List ClientMessage
+left_of s conn = option_map_or (λ c. c.left) (find conn s.clients) []
+
+-- what was written to each connection number
+abbrev pub outputs : Standing → List (ℕ × List ℕ)
+outputs s = map (λ c. (c.conn, c.written)) s.clients
