@@ -8,7 +8,7 @@ use Rattle.fe_keeper.specs.Keeper.{KeeperState}
 use Rattle.fe_keeper.specs.Prefix.{IsCrashPrefix}
 use Rattle.fe_keeper.specs.Stands.{StandsFor}
 use Rattle.fe_keeper.specs.declared.fault.Fault.{Fault}
-use Rattle.fe_keeper.specs.declared.fault.Fault.TheVariants as fault
+use Rattle.fe_keeper.specs.declared.fault.Fault.TheVariants as keeper
 use Rattle.fe_desk.specs.declared.fault.DeskFault.{DeskFault}
 use Rattle.fe_desk.specs.declared.fault.DeskFault.TheVariants as desk
 use Rattle.fe_desk.specs.Standing.{Standing}
@@ -58,15 +58,15 @@ pub record HasFailed {D : Type 0} (failures : D → ℕ) (old new : DeskState D)
 
 -- what the keeper tells, where it had not failed
 abbrev pub Tells : {D : Type 0} → (D → ℕ) → DeskState D → DeskState D → Fault → Type 0
-Tells failures old new fault.Device = HasFailed failures old new
-Tells failures old new fault.Failed = ⊥
-Tells failures old new fault.NoMemory = IsFine failures old new
-Tells failures old new (fault.Mismatch place) = ⊥
-Tells failures old new (fault.Damaged offset) = ⊥
-Tells failures old new fault.Unformatted = ⊥
+Tells failures old new keeper.Device = HasFailed failures old new
+Tells failures old new keeper.Failed = ⊥
+Tells failures old new keeper.NoMemory = IsFine failures old new
+Tells failures old new (keeper.Mismatch place) = ⊥
+Tells failures old new (keeper.Damaged offset) = ⊥
+Tells failures old new keeper.Unformatted = ⊥
 
 -- what a step tells, where the keeper had not failed
 abbrev pub TellsStep : {D : Type 0} → (D → ℕ) → DeskState D → DeskState D → DeskFault → Type 0
-TellsStep failures old new (desk.Store fault) = (fault ≡ fault.Device) × HasFailed failures old new
+TellsStep failures old new (desk.Store cause) = (cause ≡ keeper.Device) × HasFailed failures old new
 TellsStep failures old new (desk.NoMemory fed) = IsFine failures old new
 TellsStep failures old new desk.Unwritten = IsFine failures old new
