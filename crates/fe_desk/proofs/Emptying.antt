@@ -1,5 +1,5 @@
 -- Mails go out of their boxes and are written as replies; and what is empty stays empty.
-use Rattle.std.proofs.Common.{◌≡◌, ℕ, zero, suc, ◌+◌, ◌<◌, ◌≤◌, Bool, true, false, true≢false, List, [], ◌∷◌, ◌++◌, Option, Some, None, IsSome, length, refl, sym, ap, ◌∙◌, subst, arith, rules, append_assoc, append-nil, nat_lt, nat_eq, drop, inl, inr, if◌then◌else◌}
+use Rattle.std.proofs.Common.{◌≡◌, ℕ, zero, suc, ◌+◌, ◌<◌, ◌≤◌, Bool, true, false, true≢false, List, [], ◌∷◌, ◌++◌, Option, Some, None, IsSome, length, refl, sym, ap, ◌∙◌, subst, arith, rules, append_assoc, append-nil, nat_lt, nat_eq, drop, inl, inr, Result, Ok, Err, OnErr, if◌then◌else◌}
 use Rattle.std.specs.Prelude.{slice_get, is_some}
 use Rattle.std.specs.Option.{option_map_or}
 use Rattle.std.specs.Ordering.{nat_cmp}
@@ -151,12 +151,13 @@ same_number a b is = search (rules, nat_tests)
 -- the box of a connection that has a client is empty then
 pub boxes_empty : (f : FrontState) (cs : List Client) (conn : ℕ) → is_some (find conn cs) ≡ true → mails_on (all_emptied f cs).connections conn ≡ []
 boxes_empty f [] conn is = absurd (true≢false (sym is))
-boxes_empty f (c ∷ cs) conn is = by (nat_eq c.conn conn) refl is
+boxes_empty f (c ∷ cs) conn is = by (nat_eq c.conn conn) refl is (boxes_empty (emptied_box f c.conn) cs conn)
   where
-    by : (b : Bool) → nat_eq c.conn conn ≡ b → is_some (if b then Some c else find conn cs) ≡ true → mails_on (all_emptied (emptied_box f c.conn) cs).connections conn ≡ []
-    by true same there =
+    by : (b : Bool) → nat_eq c.conn conn ≡ b → is_some (if b then Some c else find conn cs) ≡ true → (is_some (find conn cs) ≡ true → mails_on (all_emptied (emptied_box f c.conn) cs).connections conn ≡ [])
+        → mails_on (all_emptied (emptied_box f c.conn) cs).connections conn ≡ []
+    by true same there rest =
         (all_emptied-empty (emptied_box f c.conn) cs).empty conn (subst (λ (n : ℕ). mails_on (emptied_box f c.conn).connections n ≡ []) (same_number c.conn conn same) (box_emptied f c.conn))
-    by false same there = boxes_empty (emptied_box f c.conn) cs conn there
+    by false same there rest = rest there
 
 -- ---- a client is written its mails, at once or some of them later
 
@@ -240,6 +241,42 @@ mail_waits f c m none first =
     let same : reply_spelling (reply_of m) ++ spelled (mails_on (taken f c.conn).connections c.conn) ≡ unwritten f c =
     sym t.bytes ∙ ap (λ (o : Option ServerMessage). option_map_or reply_spelling o [] ++ spelled (mails_on f.connections c.conn)) (sym none) in
     record { conn = refl; front = t.front; client = ap (λ (t : List ℕ). record c { reply = None; written = c.written ++ t }) same }
+
+-- the next mail is taken, and written
+pub next_written : (f : FrontState) (c : Client) (h : FrontState) (e : Client) (g : FrontState) (d : Client) (m : Mail) (r : ServerMessage) → IsToldLater f c h e → e.reply ≡ None
+    → Some m ≡ slice_get (mails_on h.connections e.conn) 0 → g ≡ taken h e.conn → r ≡ reply_of m → d ≡ record e { written = e.written ++ reply_spelling r } → IsToldLater f c g d
+next_written f c h e g d m r later none first front reply client =
+    let d' : Client = record e { written = e.written ++ reply_spelling (reply_of m) } in
+    let same : d ≡ d' = client ∙ ap (λ (x : ServerMessage). record e { written = e.written ++ reply_spelling x }) reply in
+    let step : IsToldLater f c (taken h e.conn) d' = later_both f h (taken h e.conn) c e d' later (mail_written h e m none first) in
+    subst (λ (x : Client). IsToldLater f c g x) (sym same) (subst (λ (x : FrontState). IsToldLater f c x d') (sym front) step)
+
+-- the next mail is taken, and its reply waits
+pub next_waits : (f : FrontState) (c : Client) (h : FrontState) (e : Client) (g : FrontState) (d : Client) (m : Mail) (r : ServerMessage) → IsToldLater f c h e → e.reply ≡ None
+    → Some m ≡ slice_get (mails_on h.connections e.conn) 0 → g ≡ taken h e.conn → r ≡ reply_of m → d ≡ record e { reply = Some r } → IsToldLater f c g d
+next_waits f c h e g d m r later none first front reply client =
+    let d' : Client = record e { reply = Some (reply_of m) } in
+    let same : d ≡ d' = client ∙ ap (λ (x : ServerMessage). record e { reply = Some x }) reply in
+    let step : IsToldLater f c (taken h e.conn) d' = later_both f h (taken h e.conn) c e d' later (mail_waits h e m none first) in
+    subst (λ (x : Client). IsToldLater f c g x) (sym same) (subst (λ (x : FrontState). IsToldLater f c x d') (sym front) step)
+
+-- what stays where the next mail is taken
+pub next_keeps : (f h g : FrontState) (conn : ℕ) → KeepsFront f h → g ≡ taken h conn → KeepsFront f g
+next_keeps f h g conn keeps front = subst (λ (x : FrontState). KeepsFront f x) (sym front) (both f h (taken h conn) keeps (taken-keeps h conn))
+
+pub next_empty : (f h g : FrontState) (conn : ℕ) → KeepsEmpty f h → g ≡ taken h conn → KeepsEmpty f g
+next_empty f h g conn keeps front = subst (λ (x : FrontState). KeepsEmpty f x) (sym front) (empty_both f h (taken h conn) keeps (taken-empty h conn))
+
+-- and a mail less is left
+pub fewer_after : (h g : FrontState) (conn next : ℕ) (m : Mail) → Some m ≡ slice_get (mails_on h.connections conn) 0 → g ≡ taken h conn → next ≡ conn → length (mails_on g.connections next) < length (mails_on h.connections conn)
+fewer_after h g conn next m first front same =
+    subst (λ (n : ℕ). length (mails_on g.connections n) < length (mails_on h.connections conn)) (sym same)
+    (subst (λ (x : FrontState). length (mails_on x.connections conn) < length (mails_on h.connections conn)) (sym front) (fewer_left h conn m first))
+
+-- what holds in any case holds where a result is `Err`
+pub on_any_err : {A E P : Type 0} (r : Result A E) → P → OnErr r P
+on_any_err (Ok x) p = tt
+on_any_err (Err e) p = p
 
 -- where no mail is left, all is told
 pub all_is_told : (f g : FrontState) (c d : Client) → IsToldLater f c g d → IsQuiet g d → d ≡ told f c
