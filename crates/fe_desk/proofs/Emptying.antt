@@ -1,11 +1,12 @@
 -- Mails go out of their boxes and are written as replies; and what is empty stays empty.
-use Rattle.std.proofs.Common.{◌≡◌, ℕ, zero, suc, ◌+◌, ◌<◌, ◌≤◌, Bool, true, false, true≢false, List, [], ◌∷◌, ◌++◌, Option, Some, None, IsSome, length, refl, sym, ap, ◌∙◌, subst, arith, rules, append_assoc, append-nil, nat_lt, nat_eq, drop, inl, inr, Result, Ok, Err, OnErr, if◌then◌else◌}
+use Rattle.std.proofs.Common.{◌≡◌, ℕ, zero, suc, ◌+◌, ◌<◌, ◌≤◌, Bool, true, false, true≢false, List, [], ◌∷◌, ◌++◌, Option, Some, None, IsSome, length, refl, sym, ap, ◌∙◌, subst, arith, rules, append_assoc, append-nil, nat_lt, nat_eq, take, drop, map, get_or, slice_set, take_all, inl, inr, Result, Ok, Err, OnErr, if◌then◌else◌}
 use Rattle.std.specs.Prelude.{slice_get, is_some}
 use Rattle.std.specs.Option.{option_map_or}
 use Rattle.std.specs.Ordering.{nat_cmp}
 use Rattle.std.specs.FinMap.{FinMap, get}
 use Rattle.std.proofs.lemmas.Option.{same_Some}
 use Rattle.std.proofs.lemmas.Bool.Decides.{nat_tests}
+use Rattle.std.proofs.lemmas.List.{map-append, take-append-drop, drop_more, drop_all, drop-set-lt, take_more_set}
 use Rattle.fe_state.proofs.Maps.{same_or_other}
 use Rattle.fe_wire.specs.Spelling.{reply_spelling}
 use Rattle.fe_wire.specs.declared.server_message.ServerMessage.{ServerMessage}
@@ -16,6 +17,8 @@ use Rattle.fe_mail.specs.declared.mail.Mail.{Mail}
 use Rattle.fe_mail.proofs.Lookups.{mails_on-with_mails, mails_on-with_mails-beside, is_some-with_mails}
 use Rattle.fe_front.specs.Front.{FrontState, is_connected}
 use Rattle.fe_front.specs.Steps.{taken}
+use Rattle.fe_desk.specs.declared.port.Port.{Port}
+use Rattle.fe_desk.specs.Desk.{client_of}
 use Rattle.fe_desk.specs.Mails.{reply_of, spelled, taken_times, emptied_box}
 use Rattle.fe_desk.specs.Standing.{Client, unwritten, told, all_told, all_emptied}
 use Rattle.fe_desk.specs.Steps.{find}
@@ -103,10 +106,12 @@ taken-empty f conn = by (mails_on f.connections conn) refl
   where
     by : (xs : List Mail) → mails_on f.connections conn ≡ xs → KeepsEmpty f (taken f conn)
     by [] box = subst (λ (g : FrontState). KeepsEmpty f g) (sym (nothing_taken f conn box)) (empty_itself f)
-    by (m ∷ ms) box = record { empty = λ q none. elim (same_or_other q conn) [
-      | inl e ↦ absurd (omega (arith, ap length (sym box ∙ ap (λ (n : ℕ). mails_on f.connections n) (sym e) ∙ none)))
-      | inr ne ↦ ap (λ (g : FrontState). mails_on g.connections q) (taken_is f conn m ms box) ∙ mails_on-with_mails-beside f.connections conn (drop 1 (mails_on f.connections conn)) q ne ∙ none
-    ] }
+    by (m ∷ ms) box = record {
+      empty = λ q none. elim (same_or_other q conn) [
+        | inl e ↦ absurd (omega (arith, ap length (sym box ∙ ap (λ (n : ℕ). mails_on f.connections n) (sym e) ∙ none)))
+        | inr ne ↦ ap (λ (g : FrontState). mails_on g.connections q) (taken_is f conn m ms box) ∙ mails_on-with_mails-beside f.connections conn (drop 1 (mails_on f.connections conn)) q ne ∙ none
+      ];
+    }
 
 -- ---- all mails of a connection are taken
 
@@ -342,8 +347,71 @@ rest_later begun first f done c left g d far later keeps =
     record {
       front = quiet_all_emptied g done (d ∷ left) quiet ∙ ap (λ (x : FrontState). all_emptied x left) later.front ∙ far.front;
       clients =
-        quiet_all_told g done (d ∷ left) quiet
-        ∙ ap (λ (x : Client). done ++ x ∷ all_told (emptied_box g d.conn) left) later.client
-        ∙ ap (λ (x : FrontState). done ++ told f c ∷ all_told x left) later.front
-        ∙ far.clients;
+          quiet_all_told g done (d ∷ left) quiet
+          ∙ ap (λ (x : Client). done ++ x ∷ all_told (emptied_box g d.conn) left) later.client
+          ∙ ap (λ (x : FrontState). done ++ told f c ∷ all_told x left) later.front
+          ∙ far.clients;
     }
+
+-- ---- port by port
+
+-- a port in the place of another
+replaced : {B : Type 0} (f : Port → B) (ports : List Port) (at : ℕ) (q : Port) → at < length ports → map f (slice_set ports at q) ≡ map f (take at ports) ++ f q ∷ map f (drop (at + 1) ports)
+replaced f ports at q lt =
+    let behind : drop (at + 1) (slice_set ports at q) ≡ drop (at + 1) ports = drop-set-lt (at + 1) ports at q (omega arith) in
+    let before : take (at + 1) (slice_set ports at q) ≡ take at ports ++ q ∷ [] = take_more_set ports at q lt in
+    let whole : slice_set ports at q ≡ take at ports ++ q ∷ drop (at + 1) ports =
+    sym (take-append-drop (at + 1) (slice_set ports at q)) ∙ ap (λ (ps : List Port). ps ++ drop (at + 1) (slice_set ports at q)) before
+    ∙ ap (λ (ps : List Port). (take at ports ++ q ∷ []) ++ ps) behind ∙ append_assoc (take at ports) (q ∷ []) (drop (at + 1) ports) in
+    ap (λ (ps : List Port). map f ps) whole ∙ map-append f (take at ports) (q ∷ drop (at + 1) ports)
+
+-- the port at the place is the first of those from there on
+from_here : {B : Type 0} (f : Port → B) (ports : List Port) (at : ℕ) (p : Port) → at < length ports → p ≡ get_or ports at p → map f (drop at ports) ≡ f p ∷ map f (drop (at + 1) ports)
+from_here f ports at p lt is = ap (λ (ps : List Port). map f ps) (drop_more ports at p lt ∙ ap (λ (x : Port). x ∷ drop (at + 1) ports) (sym is))
+
+-- what a port and the one in its place have alike, all ports have as before
+pub all_alike : {B : Type 0} (f : Port → B) (ports : List Port) (at : ℕ) (p q : Port) → at < length ports → p ≡ get_or ports at p → f q ≡ f p → map f (slice_set ports at q) ≡ map f ports
+all_alike {B} f ports at p q lt is same =
+    replaced f ports at q lt
+    ∙ ap (λ (x : B). map f (take at ports) ++ x ∷ map f (drop (at + 1) ports)) same
+    ∙ ap (λ (xs : List B). map f (take at ports) ++ xs) (sym (from_here f ports at p lt is))
+    ∙ sym (map-append f (take at ports) (drop at ports))
+    ∙ ap (λ (ps : List Port). map f ps) (take-append-drop at ports)
+
+abbrev pub IsToldTo : FrontState → List Client → FrontState → List Port → ℕ → Type 0
+IsToldTo begun first f ports at = IsToldSoFar begun first f (map client_of (take at ports)) (map client_of (drop at ports))
+
+-- a port more
+pub port_told : (begun : FrontState) (first : List Client) (f g : FrontState) (ports : List Port) (at : ℕ) (p q : Port) → at < length ports → p ≡ get_or ports at p → IsToldTo begun first f ports at
+    → g ≡ emptied_box f p.conn → client_of q ≡ told f (client_of p) → IsToldTo begun first g (slice_set ports at q) (at + 1)
+port_told begun first f g ports at p q lt is far front client =
+    let behind : drop (at + 1) (slice_set ports at q) ≡ drop (at + 1) ports = drop-set-lt (at + 1) ports at q (omega arith) in
+    let before : map client_of (take (at + 1) (slice_set ports at q)) ≡ map client_of (take at ports) ++ client_of q ∷ [] =
+    ap (λ (ps : List Port). map client_of ps) (take_more_set ports at q lt) ∙ map-append client_of (take at ports) (q ∷ []) in
+    let here : IsToldSoFar begun first f (map client_of (take at ports)) (client_of p ∷ map client_of (drop (at + 1) ports)) =
+    subst (λ (cs : List Client). IsToldSoFar begun first f (map client_of (take at ports)) cs) (from_here client_of ports at p lt is) far in
+    let next : IsToldSoFar begun first g (map client_of (take at ports) ++ client_of q ∷ []) (map client_of (drop (at + 1) ports)) =
+    one_told begun first f (map client_of (take at ports)) (client_of p) (map client_of (drop (at + 1) ports)) g (client_of q) here front client in
+    subst (λ (ps : List Port). IsToldSoFar begun first g (map client_of (take (at + 1) (slice_set ports at q))) (map client_of ps)) (sym behind)
+    (subst (λ (cs : List Client). IsToldSoFar begun first g cs (map client_of (drop (at + 1) ports))) (sym before) next)
+
+-- a port of whose mails some are left
+pub port_later : (begun : FrontState) (first : List Client) (f g : FrontState) (ports : List Port) (at : ℕ) (p q : Port) → at < length ports → p ≡ get_or ports at p → IsToldTo begun first f ports at
+    → IsToldLater f (client_of p) g (client_of q) → KeepsEmpty f g → AreToldLater begun first g (map client_of (slice_set ports at q))
+port_later begun first f g ports at p q lt is far later keeps =
+    let here : IsToldSoFar begun first f (map client_of (take at ports)) (client_of p ∷ map client_of (drop (at + 1) ports)) =
+    subst (λ (cs : List Client). IsToldSoFar begun first f (map client_of (take at ports)) cs) (from_here client_of ports at p lt is) far in
+    subst (λ (cs : List Client). AreToldLater begun first g cs) (sym (replaced client_of ports at q lt))
+    (rest_later begun first f (map client_of (take at ports)) (client_of p) (map client_of (drop (at + 1) ports)) g (client_of q) here later keeps)
+
+-- no port is left
+pub all_ports_told : (begun : FrontState) (first : List Client) (f : FrontState) (ports : List Port) (at : ℕ) → length ports ≤ at → IsToldTo begun first f ports at → map client_of ports ≡ all_told begun first
+all_ports_told begun first f ports at short far =
+    ap (λ (ps : List Port). map client_of ps) (sym (take_all at ports short))
+    ∙ sym (append-nil (map client_of (take at ports)))
+    ∙ ap (λ (ps : List Port). map client_of (take at ports) ++ all_told f (map client_of ps)) (sym (drop_all at ports short))
+    ∙ far.clients
+
+pub all_ports_emptied : (begun : FrontState) (first : List Client) (f : FrontState) (ports : List Port) (at : ℕ) → length ports ≤ at → IsToldTo begun first f ports at → f ≡ all_emptied begun first
+all_ports_emptied begun first f ports at short far =
+    ap (λ (ps : List Port). all_emptied f (map client_of ps)) (sym (drop_all at ports short)) ∙ far.front

@@ -17,9 +17,10 @@ one_more : (begun s : ServerState) (groups : List (List Entry)) (kept : List (Li
     → IsHistory begun ((kept ++ kept_groups lives) ++ next) × (after_groups begun ((kept ++ kept_groups lives) ++ next) ≡ after_groups s next)
 one_more begun s groups kept behind lives next whole is rest =
     let front = (history-cut begun kept behind (subst (λ (h : List (List Entry)). IsHistory begun h) whole is)).0 in
-    let same : (kept ++ kept_groups lives) ++ next ≡ kept ++ (kept_groups lives ++ next) = append_assoc kept (kept_groups lives) next in
-    ( subst (λ (h : List (List Entry)). IsHistory begun h) (sym same) (history-append begun kept (kept_groups lives ++ next) front rest.history)
-    , ap (λ (h : List (List Entry)). after_groups begun h) same ∙ after_groups-append begun kept (kept_groups lives ++ next) ∙ rest.leads )
+    let same : (kept ++ kept_groups lives) ++ next ≡ kept ++ (kept_groups lives ++ next) = append_assoc kept (kept_groups lives) next in (
+      subst (λ (h : List (List Entry)). IsHistory begun h) (sym same) (history-append begun kept (kept_groups lives ++ next) front rest.history),
+      ap (λ (h : List (List Entry)). after_groups begun h) same ∙ after_groups-append begun kept (kept_groups lives ++ next) ∙ rest.leads,
+    )
 
 pub lives_join : LivesJoin
 lives_join begun s [] next are goes_on =
