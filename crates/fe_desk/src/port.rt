@@ -1,12 +1,13 @@
 //! The server's end of the connections of one number.
 
 ghost use Rattle.std.specs.Prelude.{◌≡◌, [], nat_lt, length, ◌++◌, None, Some, OnOk, OnErr, IfOk};
+ghost use Rattle.std.specs.Option.{option_map_or};
 ghost use Rattle.fe_wire.specs.Spelling.{reply_spelling};
 ghost use Rattle.fe_desk.specs.Mails.{emptied_box};
 ghost use Rattle.fe_desk.specs.Standing.{told};
 ghost use Rattle.fe_desk.specs.Steps.{BeginsStream, Reads, new_client};
 ghost use Rattle.fe_desk.specs.Desk.{client_of};
-ghost use Rattle.fe_desk.specs.Keeping.{KeepsFront, IsToldLater};
+ghost use Rattle.fe_desk.specs.Keeping.{KeepsFront, KeepsEmpty, IsToldLater};
 
 use crate::reply::Reply;
 use fe_front::Front;
@@ -90,14 +91,24 @@ impl Port {
         // What is not written is written later, to the same effect.
         ensures later { OnErr result (IsToldLater front.old (client_of self.old) front.new (client_of self.new)) }
         ensures front { KeepsFront front.old front.new }
+        ensures empty { KeepsEmpty front.old front.new }
     {
-        if let Some(reply) = mem::take(&mut self.reply) {
-            self.write(reply)?;
-        }
+        self.write_waiting()?;
         while let Some(mail) = front.take_mail(self.conn) {
             self.write(Reply::of(mail))?;
         }
         Ok(())
+    }
+
+    /// Writes the reply that waits, if one does.
+    fn write_waiting(&mut self) -> Result<(), AllocError>
+        ensures written { OnOk result (client_of self.new ≡ record (client_of self.old) { reply = None; written = self.old.written.items ++ option_map_or reply_spelling self.old.reply [] }) }
+        ensures err { OnErr result (client_of self.new ≡ client_of self.old) }
+    {
+        match mem::take(&mut self.reply) {
+            Some(reply) => self.write(reply),
+            None => Ok(()),
+        }
     }
 
     /// Writes a reply, or keeps it where there is no memory.
