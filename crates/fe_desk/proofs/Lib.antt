@@ -1,2 +1,3 @@
 pub mod Lives
 pub mod Emptying
+pub mod Advancing
