@@ -179,19 +179,8 @@ quiet_told f c quiet =
     ∙ ap (λ (t : List ℕ). record c { reply = None; written = t }) (append-nil c.written)
     ∙ ap (λ (o : Option ServerMessage). record c { reply = o }) (sym quiet.reply)
 
-pub later_itself : (f : FrontState) (c : Client) → IsToldLater f c f c
-later_itself f c = record { conn = refl; front = refl; client = refl }
-
 pub later_both : (f g h : FrontState) (c d e : Client) → IsToldLater f c g d → IsToldLater g d h e → IsToldLater f c h e
 later_both f g h c d e a b = record { conn = b.conn ∙ a.conn; front = b.front ∙ a.front; client = b.client ∙ a.client }
-
--- the reply that waits is written
-pub waiting_written : (f : FrontState) (c : Client) → IsToldLater f c f (record c { reply = None; written = c.written ++ option_map_or reply_spelling c.reply [] })
-waiting_written f c = record {
-  conn = refl;
-  front = refl;
-  client = ap (λ (t : List ℕ). record c { reply = None; written = t }) (append_assoc c.written (option_map_or reply_spelling c.reply []) (spelled (mails_on f.connections c.conn)));
-}
 
 -- what the first mail of a box is, and what its taking leaves
 record TakesMail (f : FrontState) (conn : ℕ) (m : Mail) (g : FrontState) : Type 0 where
@@ -214,11 +203,6 @@ box_of (x ∷ ms) m first = ap (λ (y : Mail). y ∷ ms) (sym (same_Some _ _ fir
 
 takes_mail : (f : FrontState) (conn : ℕ) (m : Mail) → Some m ≡ slice_get (mails_on f.connections conn) 0 → TakesMail f conn m (taken f conn)
 takes_mail f conn m first = takes_known f conn m (drop 1 (mails_on f.connections conn)) (box_of (mails_on f.connections conn) m first)
-
--- no mail is first in an empty box
-pub nothing_in : (ms : List Mail) → None ≡ slice_get ms 0 → ms ≡ []
-nothing_in [] none = refl
-nothing_in (x ∷ ms) none = absurd (true≢false (sym (ap (λ (o : Option Mail). is_some o) none)))
 
 pub fewer_left : (f : FrontState) (conn : ℕ) (m : Mail) → Some m ≡ slice_get (mails_on f.connections conn) 0 → length (mails_on (taken f conn).connections conn) < length (mails_on f.connections conn)
 fewer_left f conn m first = (takes_mail f conn m first).fewer
@@ -283,13 +267,6 @@ pub on_any_err : {A E P : Type 0} (r : Result A E) → P → OnErr r P
 on_any_err (Ok x) p = tt
 on_any_err (Err e) p = p
 
--- where no mail is left, all is told
-pub all_is_told : (f g : FrontState) (c d : Client) → IsToldLater f c g d → IsQuiet g d → d ≡ told f c
-all_is_told f g c d later quiet = sym (quiet_told g d quiet) ∙ later.client
-
-pub all_is_emptied : (f g : FrontState) (c d : Client) → IsToldLater f c g d → IsQuiet g d → g ≡ emptied_box f c.conn
-all_is_emptied f g c d later quiet = sym (nothing_emptied g d.conn quiet.box) ∙ later.front
-
 -- ---- client by client
 
 -- nothing is to be written to any of these
@@ -322,9 +299,6 @@ pub record IsToldSoFar (begun : FrontState) (first : List Client) (f : FrontStat
   pub front : all_emptied f left ≡ all_emptied begun first
   pub clients : done ++ all_told f left ≡ all_told begun first
   pub quiet : AreQuiet f done
-
-pub none_so_far : (f : FrontState) (cs : List Client) → IsToldSoFar f cs f [] cs
-none_so_far f cs = record { front = refl; clients = refl; quiet = tt }
 
 -- a client more
 pub one_told : (begun : FrontState) (first : List Client) (f : FrontState) (done : List Client) (c : Client) (left : List Client) (g : FrontState) (d : Client)
@@ -403,15 +377,3 @@ port_later begun first f g ports at p q lt is far later keeps =
     subst (λ (cs : List Client). IsToldSoFar begun first f (map client_of (take at ports)) cs) (from_here client_of ports at p lt is) far in
     subst (λ (cs : List Client). AreToldLater begun first g cs) (sym (replaced client_of ports at q lt))
     (rest_later begun first f (map client_of (take at ports)) (client_of p) (map client_of (drop (at + 1) ports)) g (client_of q) here later keeps)
-
--- no port is left
-pub all_ports_told : (begun : FrontState) (first : List Client) (f : FrontState) (ports : List Port) (at : ℕ) → length ports ≤ at → IsToldTo begun first f ports at → map client_of ports ≡ all_told begun first
-all_ports_told begun first f ports at short far =
-    ap (λ (ps : List Port). map client_of ps) (sym (take_all at ports short))
-    ∙ sym (append-nil (map client_of (take at ports)))
-    ∙ ap (λ (ps : List Port). map client_of (take at ports) ++ all_told f (map client_of ps)) (sym (drop_all at ports short))
-    ∙ far.clients
-
-pub all_ports_emptied : (begun : FrontState) (first : List Client) (f : FrontState) (ports : List Port) (at : ℕ) → length ports ≤ at → IsToldTo begun first f ports at → f ≡ all_emptied begun first
-all_ports_emptied begun first f ports at short far =
-    ap (λ (ps : List Port). all_emptied f (map client_of ps)) (sym (drop_all at ports short)) ∙ far.front

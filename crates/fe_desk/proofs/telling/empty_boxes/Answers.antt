@@ -1,8 +1,8 @@
-use Rattle.std.proofs.Common.{◌≡◌, ◌<◌, ◌≤◌, ◌∙◌, ap, map, length, rules}
+use Rattle.std.proofs.Common.{◌<◌, ◌∙◌, ap, map, length, rules}
 use Rattle.fe_desk.specs.Standing.{Client}
 use Rattle.fe_desk.specs.Desk.{client_of}
 use Rattle.fe_desk.specs.declared.port.Port.{Port}
-use Rattle.fe_desk.proofs.Emptying.{both, all_alike, port_told, port_later, all_ports_told, all_ports_emptied, on_any_err}
+use Rattle.fe_desk.proofs.Emptying.{both, all_alike, port_told, port_later, on_any_err}
 use Rattle.fe_desk.proofs.telling.empty_boxes.Goals as goal
 
 pub loop-at-preserved : goal.loop-at-preserved

@@ -1,4 +1,4 @@
-use Rattle.std.proofs.Common.{◌≡◌, ◌∙◌, ap}
+use Rattle.std.proofs.Common.{◌∙◌, ap}
 use Rattle.fe_desk.specs.Standing.{Client}
 use Rattle.fe_desk.specs.Desk.{client_of}
 use Rattle.fe_desk.proofs.Emptying.{next_written, next_waits, next_keeps, next_empty, fewer_after, on_any_err}
