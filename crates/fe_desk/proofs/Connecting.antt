@@ -1,8 +1,6 @@
 -- What a connection that comes or goes leaves of a desk: the store's side, and what ties the front to it.
-use Rattle.std.proofs.Common.{◌≡◌, ℕ, Bool, true, false, true≢false, inl, inr, List, [], ◌∷◌, ◌++◌, map, Option, Some, None, is_some, refl, sym, ap, subst, ◌∙◌}
-use Rattle.std.specs.Prelude.{length, if◌then◌else◌, MatchBool}
-use Rattle.std.specs.Ordering.{nat_cmp}
-use Rattle.std.specs.FinMap.{FinMap, get, insert}
+use Rattle.std.proofs.Common.{◌≡◌, ℕ, Bool, true, false, inl, inr, List, [], ◌∷◌, ◌++◌, map, Option, None, is_some, slice_set, get_or, refl, sym, ap, subst, ◌∙◌}
+use Rattle.std.specs.Prelude.{if◌then◌else◌}
 use Rattle.fe_state.proofs.Maps.{get_beside, same_or_other}
 use Rattle.fe_state.specs.History.{AreLegal}
 use Rattle.fe_state.specs.State.{after_all}
@@ -14,14 +12,15 @@ use Rattle.fe_keeper.specs.Keeper.{KeeperState}
 use Rattle.fe_front.specs.Front.{FrontState, is_connected}
 use Rattle.fe_front.specs.Steps.{connected, dropped}
 use Rattle.fe_front.proofs.Keeping.{dropped-keeps}
+use Rattle.fe_desk.specs.declared.port.Port.{Port}
 use Rattle.fe_desk.specs.Standing.{Client, Standing}
 use Rattle.fe_desk.specs.Storing.{is_making}
 use Rattle.fe_desk.specs.Steps.{find, on_client, with_left, unmade, gone, new_client, clients_with, BeginsStream, Connects}
-use Rattle.fe_desk.specs.Places.{Joins}
-use Rattle.fe_desk.specs.Crash.{DeskState, IsFrom}
-use Rattle.fe_desk.specs.Desk.{IsDesk, IsHanded, cut_entries}
-use Rattle.fe_desk.proofs.Coming.{dropped-stays, comes-at}
-use Rattle.fe_desk.proofs.Places.{numbers_changed, found_by_numbers, found_more, found_last}
+use Rattle.fe_desk.specs.Places.{IsFirstAt, Joins}
+use Rattle.fe_desk.specs.Crash.{DeskState}
+use Rattle.fe_desk.specs.Desk.{IsDesk, IsHanded, cut_entries, client_of}
+use Rattle.fe_desk.proofs.Coming.{dropped-stays}
+use Rattle.fe_desk.proofs.Places.{numbers_changed, found_by_numbers, found_more, found_last, found_there, changed_nowhere, port_changed}
 
 -- ---- the front and the clients change, and not the store
 
@@ -159,3 +158,32 @@ gone_desk honest may_leave s t k k' n n' conn is keeper synced desk =
     let known : AreKnown f clients = λ q there. found_by_numbers s.clients clients q (numbers_changed s.clients conn (λ c. record c { left = [] }) (λ c. refl)) ∙ desk.known q (stays.none_comes q there) in
     keeps_desk honest may_leave s t k k' n n' f clients (unmade s conn).making s.owes (is ∙ gone_moved s conn) keeper synced desk
     (record { state = keeps.state; pending = stays.pending; out = keeps.out }) known
+
+-- ---- from the calls on ports
+
+-- the messages of a number's port are forgotten
+pub left_forgotten : (s : Standing) (ports : List Port) (conn at : ℕ) (p q : Port) → s.clients ≡ map client_of ports → IsFirstAt (map client_of ports) conn at → p ≡ get_or ports at p
+    → client_of q ≡ record (client_of p) { left = [] } → record s { clients = map client_of (slice_set ports at q) } ≡ with_left s conn []
+left_forgotten s ports conn at p q clients first is to =
+    let change : Client → Client = λ c. record c { left = [] } in
+    ap (λ (cs : List Client). record s { clients = cs }) (port_changed ports conn at p q change first is to ∙ ap (λ (cs : List Client). on_client conn change cs) (sym clients))
+
+pub nothing_forgotten : (s : Standing) (conn : ℕ) → find conn s.clients ≡ None → s ≡ with_left s conn []
+nothing_forgotten s conn none = ap (λ (cs : List Client). record s { clients = cs }) (sym (changed_nowhere s.clients conn (λ c. record c { left = [] }) none))
+
+-- a number's port begins anew
+pub joins_again : (s : Standing) (f : FrontState) (ports : List Port) (conn at : ℕ) (p q : Port) → s.clients ≡ map client_of ports → IsFirstAt (map client_of ports) conn at → p ≡ get_or ports at p
+    → client_of q ≡ record (client_of p) { decoder = q.decoder; left = [] } → BeginsStream q.decoder → f ≡ connected s.front conn
+    → Joins s conn (record s { front = f; clients = map client_of (slice_set ports at q) })
+joins_again s f ports conn at p q clients first is to begins front =
+    let change : Client → Client = λ c. record c { decoder = q.decoder; left = [] } in
+    let known : is_some (find conn (map client_of ports)) ≡ true = found_there (map client_of ports) conn at first in
+    let those : map client_of (slice_set ports at q) ≡ clients_with (map client_of ports) conn q.decoder =
+    port_changed ports conn at p q change first is to
+    ∙ ap (λ (b : Bool). if b then on_client conn change (map client_of ports) else map client_of ports ++ new_client conn q.decoder ∷ []) (sym known) in
+    record {
+      decoder = q.decoder;
+      begins = begins;
+      after = ap (λ (x : FrontState). record s { front = x; clients = map client_of (slice_set ports at q) }) front
+          ∙ ap (λ (cs : List Client). record s { front = connected s.front conn; clients = cs }) (those ∙ ap (λ (cs : List Client). clients_with cs conn q.decoder) (sym clients));
+    }

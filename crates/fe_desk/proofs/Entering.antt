@@ -1,9 +1,9 @@
 -- Messages of connections enter the front: the entries that they make are legal, and pending behind the others.
-use Rattle.std.proofs.Common.{◌≡◌, ◌⊎◌, ℕ, Bool, true, false, not, true≢false, inl, inr, List, [], ◌∷◌, ◌++◌, append-nil, Option, Some, None, Result, Ok, Err, MatchResult, IsOk, IsErr, refl, sym, ap, subst, ◌∙◌}
-use Rattle.std.specs.Prelude.{nat_lt, is_ok, if◌then◌else◌, IfOk, IfErr, OnErr}
+use Rattle.std.proofs.Common.{◌≡◌, ◌⊎◌, ℕ, Bool, true, false, not, true≢false, inl, inr, List, [], ◌∷◌, ◌++◌, append-nil, Option, Some, None, Result, Ok, Err, MatchResult, IsOk, refl, sym, ap, subst, ◌∙◌}
+use Rattle.std.specs.Prelude.{nat_lt, is_ok, if◌then◌else◌}
 use Rattle.std.specs.Option.{option_map_or}
 use Rattle.std.specs.FinMap.{get}
-use Rattle.fe_state.specs.State.{ServerState, IsWithinLimits, after_all}
+use Rattle.fe_state.specs.State.{ServerState, IsWithinLimits}
 use Rattle.fe_state.specs.declared.entry.Entry.{Entry}
 use Rattle.fe_state.specs.declared.entry.Entry.TheVariants.{Attached, Closed, Settled}
 use Rattle.fe_state.specs.declared.kept.Kept.{Kept}
@@ -19,7 +19,7 @@ use Rattle.fe_wire.specs.declared.client_message.ClientMessage.TheVariants as me
 use Rattle.fe_report.specs.Report.{report_text, attached_seats}
 use Rattle.fe_front.specs.Front.{FrontState, IsFront, is_connected, is_spent}
 use Rattle.fe_front.specs.Event as event
-use Rattle.fe_front.specs.Step.{FrontStep, OneEntry}
+use Rattle.fe_front.specs.Step.{FrontStep}
 use Rattle.fe_front.specs.Steps.{released, freed, mailed, attached_to, settled_to, closed_by, cancelled_from, cancelled_by}
 use Rattle.fe_front.specs.Refusals.{attaching, settling, leaving, cancelling, has_no_seat}
 use Rattle.fe_front.specs.Call.{Called, IsCallRefused, WantsMemory, call_refused_by, kept_at, repeated}

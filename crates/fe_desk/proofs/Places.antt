@@ -1,6 +1,6 @@
 -- The client of a connection number, at its place among the clients.
 use Rattle.std.proofs.Common.{◌≡◌, ◌≢◌, ℕ, zero, suc, ◌+◌, ◌<◌, Bool, true, false, true≢false, List, [], ◌∷◌, ◌++◌, map, length, Option, Some, None, is_some, refl, sym, ap, subst, ◌∙◌, arith, slice_set, get_or, nat_eq, if◌then◌else◌}
-use Rattle.std.specs.Prelude.{slice_get, cond, position, ◌||◌}
+use Rattle.std.specs.Prelude.{slice_get, cond, position, IfSome, IfNone, ◌||◌}
 use Rattle.std.specs.Option.{option_map}
 use Rattle.std.proofs.Math.Seq.{map-set_same}
 use Rattle.std.proofs.lemmas.Bool.Decides.{nat_tests}
@@ -230,7 +230,17 @@ none_from conn (p ∷ ps) i e = by (nat_eq p.conn conn) (none_from conn ps (i + 
 pub first_searched : (conn : ℕ) (ports : List Port) (at : ℕ) → position (λ p. nat_eq p.conn conn) ports ≡ Some at → IsFirstAt (map client_of ports) conn at
 first_searched conn ports at e =
     let found = first_from conn ports 0 at (sym (position_from-zero (λ p. nat_eq p.conn conn) ports) ∙ e) in
-    subst (IsFirstAt (map client_of ports) conn) (sym found.sum) found.first
+    let sum = found.sum in
+    let same : found.place ≡ at = omega (arith, sum) in
+    subst (IsFirstAt (map client_of ports) conn) same found.first
 
 pub none_searched : (conn : ℕ) (ports : List Port) → position (λ p. nat_eq p.conn conn) ports ≡ None → find conn (map client_of ports) ≡ None
 none_searched conn ports e = none_from conn ports 0 (sym (position_from-zero (λ p. nat_eq p.conn conn) ports) ∙ e)
+
+pub place_some : (conn : ℕ) (ports : List Port) (r : Option ℕ) → r ≡ position (λ p. nat_eq p.conn conn) ports → IfSome r (λ at. IsFirstAt (map client_of ports) conn at)
+place_some conn ports None e = tt
+place_some conn ports (Some at) e = first_searched conn ports at (sym e)
+
+pub place_none : (conn : ℕ) (ports : List Port) (r : Option ℕ) → r ≡ position (λ p. nat_eq p.conn conn) ports → IfNone r (find conn (map client_of ports) ≡ None)
+place_none conn ports None e = none_searched conn ports (sym e)
+place_none conn ports (Some at) e = tt

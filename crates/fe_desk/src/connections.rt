@@ -33,12 +33,23 @@ impl<D: Disk> Parts<D> {
         if self.front.connected(conn) {
             return Ok(());
         }
-        match self.place_of(conn) {
-            Some(at) => self.connect_again(at, conn)?,
-            None => self.connect_first(conn)?,
-        }
+        self.join(conn)?;
         self.unmake(conn);
         Ok(())
+    }
+
+    /// A number that is not connected is connected, for the first time or again.
+    fn join(&mut self, conn: u64) -> Result<(), AllocError>
+        requires unconnected { is_connected self.old.front conn ≡ false }
+        ensures joined { OnOk result (Joins (standing_of self.old) conn (standing_of self.new)) }
+        ensures err { OnErr result (standing_of self.new ≡ standing_of self.old) }
+        ensures keeper { self.new.keeper ≡ self.old.keeper }
+        ensures synced { self.new.trace.synced ≡ self.old.trace.synced }
+    {
+        match self.place_of(conn) {
+            Some(at) => self.connect_again(at, conn),
+            None => self.connect_first(conn),
+        }
     }
 
     /// A number that was connected before is connected again.

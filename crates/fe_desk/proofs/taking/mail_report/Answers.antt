@@ -1,4 +1,4 @@
-use Rattle.std.proofs.Common.{sym, ◌∙◌}
+use Rattle.std.proofs.Common.{◌∙◌}
 use Rattle.fe_desk.proofs.Entering.{report_taken, report_refused}
 use Rattle.fe_desk.proofs.taking.mail_report.Goals as goal
 

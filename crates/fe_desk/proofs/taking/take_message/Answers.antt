@@ -1,4 +1,4 @@
-use Rattle.std.proofs.Common.{ℕ, sym, subst}
+use Rattle.std.proofs.Common.{sym, subst}
 use Rattle.fe_wire.specs.declared.client_message.ClientMessage.{ClientMessage}
 use Rattle.fe_desk.proofs.Entering.{Taken, attach_taken, attach_refused, call_taken, call_refused, cancel_taken, cancel_refused, settle_taken, settle_refused, bye_taken, bye_refused}
 use Rattle.fe_desk.proofs.taking.take_message.Goals as goal
