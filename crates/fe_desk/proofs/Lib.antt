@@ -1,3 +1,7 @@
+pub mod Coming
+pub mod Connecting
+pub mod Entering
+pub mod Places
 pub mod Lives
 pub mod Emptying
 pub mod Advancing
