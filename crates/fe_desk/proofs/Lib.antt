@@ -5,3 +5,4 @@ pub mod Places
 pub mod Lives
 pub mod Emptying
 pub mod Advancing
+pub mod Replies
