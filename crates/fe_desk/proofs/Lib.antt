@@ -6,3 +6,4 @@ pub mod Lives
 pub mod Emptying
 pub mod Advancing
 pub mod Replies
+pub mod Groups
