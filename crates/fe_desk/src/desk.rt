@@ -116,6 +116,8 @@ impl<D: Disk> Desk<D> {
     pub(crate) fn into_parts(self) -> (Trace, D)
         ensures trace { IsTraceOf result.0 self.standing self.synced }
         ensures disk { result.1 ≡ disk_of self }
+        ensures stands { D.honest (disk_of self) → (begun : ServerState) → IsFrom begun self → (image : List ℕ) → D.may_leave (disk_of self) image
+            → LeavesPrefix begun self.standing.groups self.synced image }
     {
         let Desk { parts } = self;
         let Parts { keeper, trace, .. } = parts;

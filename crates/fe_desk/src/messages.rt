@@ -7,7 +7,7 @@ ghost use Rattle.fe_desk.specs.Standing.{Standing};
 ghost use Rattle.fe_desk.specs.Taking.{TakesAll};
 ghost use Rattle.fe_desk.specs.Steps.{find, with_left, TakesBytes};
 ghost use Rattle.fe_desk.specs.Places.{IsFirstAt};
-ghost use Rattle.fe_desk.specs.Messages.{left_of, outputs};
+ghost use Rattle.fe_desk.specs.Messages.{left_of, outputs, told_as};
 ghost use Rattle.fe_desk.specs.Crash.{Advances, IsFine, Tells, TellsStep};
 ghost use Rattle.fe_desk.specs.Desk.{client_of, desk_of, standing_of, IsDesk};
 
@@ -81,7 +81,9 @@ impl<D: Disk> Parts<D> {
 }
 
 /// What a step tells where the keeper told this.
-pub(crate) fn told(fault: Fault, fed: bool) -> DeskFault {
+pub(crate) fn told(fault: Fault, fed: bool) -> DeskFault
+    ensures { result ≡ told_as fault fed }
+{
     match fault {
         Fault::NoMemory => DeskFault::NoMemory { fed },
         fault => DeskFault::Store(fault),
