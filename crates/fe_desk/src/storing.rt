@@ -39,6 +39,7 @@ impl<D: Disk> Parts<D> {
         ensures desk { IsDesk D.honest D.may_leave (desk_of self.new) }
         ensures stored { OnOk result (standing_of self.new ≡ stored (standing_of self.old)) }
         ensures memory { IsErrOf result NoMemory → standing_of self.new ≡ standing_of self.old }
+        ensures owes { self.new.owes ≡ self.old.owes }
         ensures ports { self.new.trace.ports ≡ self.old.trace.ports }
         ensures advances { Advances D.honest D.moment D.left_since (desk_of self.old) (desk_of self.new) }
         ensures fine { OnOk result (IsFine D.failures (desk_of self.old) (desk_of self.new)) }
