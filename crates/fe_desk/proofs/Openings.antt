@@ -64,9 +64,9 @@ module _ {D : Type 0} where
 
 -- ---- the trace of a desk
 
-written_as : (ps : List Port) → map (λ (p : Port). (p.conn, p.written.items)) ps ≡ map (λ (c : Client). (c.conn, c.written)) (map client_of ps)
+written_as : (ps : List Port) → map {B = ℕ × List ℕ} (λ (p : Port). (p.conn, p.written.items)) ps ≡ map {B = ℕ × List ℕ} (λ (c : Client). (c.conn, c.written)) (map client_of ps)
 written_as [] = refl
-written_as (p ∷ ps) = ap (λ (ws : List (ℕ × List ℕ)). (p.conn, p.written.items) ∷ ws) (written_as ps)
+written_as (p ∷ ps) = let here : ℕ × List ℕ = (p.conn, p.written.items) in ap (λ (ws : List (ℕ × List ℕ)). here ∷ ws) (written_as ps)
 
 pub is_trace : {D : Type 0} (p : Parts D) → IsTraceOf p.trace (standing_of p) p.trace.synced
 is_trace p = record { groups = refl; written = written_as p.trace.ports.items; synced_is = refl }

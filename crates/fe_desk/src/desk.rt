@@ -52,7 +52,6 @@ impl<D: Disk> Desk<D> {
     /// A desk with no connection over a front and a keeper of one state.
     pub(crate) fn over(alloc: Global, front: Front, keeper: Keeper<D>) -> Desk<D>
         requires first { IsFirst keeper.state front }
-        requires works { keeper.store.has_failed ≡ false }
         requires stands { D.honest keeper.store.disk → EachStandsFor D.may_leave keeper.store.disk keeper.state }
         ensures first { IsFirstStanding keeper.state result.standing }
         ensures keeper { result.keeper ≡ keeper }
