@@ -1,9 +1,12 @@
+pub mod Advancing
 pub mod Coming
 pub mod Connecting
-pub mod Entering
-pub mod Places
-pub mod Lives
 pub mod Emptying
-pub mod Advancing
+pub mod Entering
+pub mod Lives
+pub mod Openings
+pub mod Places
 pub mod Replies
 pub mod Groups
+pub mod Runnings
+pub mod StepParts

@@ -7,7 +7,7 @@ ghost use Rattle.fe_desk.specs.Standing.{Standing};
 ghost use Rattle.fe_desk.specs.Taking.{TakesAll};
 ghost use Rattle.fe_desk.specs.Steps.{find, with_left, TakesBytes};
 ghost use Rattle.fe_desk.specs.Places.{IsFirstAt};
-ghost use Rattle.fe_desk.specs.Messages.{left_of, outputs};
+ghost use Rattle.fe_desk.specs.Messages.{left_of, outputs, told_as};
 ghost use Rattle.fe_desk.specs.Crash.{Advances, IsFine, Tells, TellsStep};
 ghost use Rattle.fe_desk.specs.Desk.{client_of, desk_of, standing_of, IsDesk};
 
@@ -33,6 +33,7 @@ impl<D: Disk> Parts<D> {
         ensures advances { Advances D.honest D.moment D.left_since (desk_of self.old) (desk_of self.new) }
         ensures fine { OnOk result (IsFine D.failures (desk_of self.old) (desk_of self.new)) }
         ensures fault { IfErr result (TellsStep D.failures (desk_of self.old) (desk_of self.new)) }
+        ensures written { IsErrOf result fault.Unwritten → ⊥ }
     {
         let Some(at) = self.place_of(conn) else {
             return Ok(());
@@ -81,7 +82,9 @@ impl<D: Disk> Parts<D> {
 }
 
 /// What a step tells where the keeper told this.
-pub(crate) fn told(fault: Fault, fed: bool) -> DeskFault {
+pub(crate) fn told(fault: Fault, fed: bool) -> DeskFault
+    ensures { result ≡ told_as fault fed }
+{
     match fault {
         Fault::NoMemory => DeskFault::NoMemory { fed },
         fault => DeskFault::Store(fault),
