@@ -1,7 +1,11 @@
--- What of a client a step may leave, and what it never touches before its end.
-use Rattle.std.specs.Prelude.{ℕ, List, [], map}
+-- What of a client a step may leave, what it never touches before its end, and what it tells.
+use Rattle.std.specs.Prelude.{ℕ, Bool, List, [], map}
 use Rattle.std.specs.Option.{option_map_or}
+use Rattle.fe_keeper.specs.declared.fault.Fault.{Fault}
+use Rattle.fe_keeper.specs.declared.fault.Fault.TheVariants as keeper
 use Rattle.fe_wire.specs.declared.client_message.ClientMessage.{ClientMessage}
+use Rattle.fe_desk.specs.declared.fault.DeskFault.{DeskFault}
+use Rattle.fe_desk.specs.declared.fault.DeskFault.TheVariants as desk
 use Rattle.fe_desk.specs.Standing.{Standing}
 use Rattle.fe_desk.specs.Steps.{find}
 
@@ -12,3 +16,8 @@ left_of s conn = option_map_or (λ c. c.left) (find conn s.clients) []
 -- what was written to each connection number
 abbrev pub outputs : Standing → List (ℕ × List ℕ)
 outputs s = map (λ c. (c.conn, c.written)) s.clients
+
+-- what a step tells where the keeper told this
+abbrev pub told_as : Fault → Bool → DeskFault
+told_as keeper.NoMemory fed = desk.NoMemory fed
+told_as fault fed = desk.Store fault

@@ -1,13 +1,13 @@
 //! Bytes of a connection, and the messages in them.
 
-ghost use Rattle.std.specs.Prelude.{◌≡◌, Bool, false, true, List, [], map, if◌then◌else◌, IfErr, OnOk, OnErr, IsErrOf};
+ghost use Rattle.std.specs.Prelude.{◌≡◌, ◌<◌, Bool, false, true, List, [], length, map, if◌then◌else◌, IfErr, OnOk, OnErr, IsErrOf};
 ghost use Rattle.fe_keeper.specs.declared.fault.Fault.TheVariants as keeper;
 ghost use Rattle.fe_desk.specs.declared.fault.DeskFault.TheVariants as fault;
 ghost use Rattle.fe_desk.specs.Standing.{Standing};
 ghost use Rattle.fe_desk.specs.Taking.{TakesAll};
 ghost use Rattle.fe_desk.specs.Steps.{find, with_left, TakesBytes};
 ghost use Rattle.fe_desk.specs.Places.{IsFirstAt};
-ghost use Rattle.fe_desk.specs.Messages.{left_of, outputs};
+ghost use Rattle.fe_desk.specs.Messages.{left_of, outputs, told_as};
 ghost use Rattle.fe_desk.specs.Crash.{Advances, IsFine, Tells, TellsStep};
 ghost use Rattle.fe_desk.specs.Desk.{client_of, desk_of, standing_of, IsDesk};
 
@@ -18,8 +18,8 @@ use fe_disk::Disk;
 use fe_keeper::Fault;
 
 impl<D: Disk> Parts<D> {
-    /// Takes the bytes of a connection that is there, or of which messages are left: first those, then the messages that
-    /// the piece completes.
+    /// Takes the bytes of a connection: first the messages of it that are left, then those that the piece completes, if it
+    /// is there.
     pub(crate) fn bytes(&mut self, conn: u64, piece: &[u8]) -> Result<(), DeskFault>
         requires desk { IsDesk D.honest D.may_leave (desk_of self.old) }
         requires works { self.old.keeper.store.has_failed ≡ false }
@@ -37,11 +37,12 @@ impl<D: Disk> Parts<D> {
         let Some(at) = self.place_of(conn) else {
             return Ok(());
         };
-        if !self.front.connected(conn) && !self.trace.ports[at].has_left() {
-            return Ok(());
-        }
         self.take_left(at, conn)
             .map_err(|fault| told(fault, false))?;
+        // The messages that were left may have made the connection gone, as one that meets a full box does.
+        if !self.front.connected(conn) {
+            return Ok(());
+        }
         let Ok(bad) = self.trace.ports[at].feed(self.alloc, piece) else {
             return Err(DeskFault::NoMemory { fed: false });
         };
@@ -62,6 +63,7 @@ impl<D: Disk> Parts<D> {
         ensures again { IsErrOf result keeper.NoMemory → (t : Standing)
             → TakesAll (with_left (standing_of self.new) conn []) conn (left_of (standing_of self.new) conn) t
             → TakesAll (with_left (standing_of self.old) conn []) conn (left_of (standing_of self.old) conn) t }
+        ensures still { IsErrOf result keeper.NoMemory → 0 < length (left_of (standing_of self.new) conn) }
         ensures clients { (standing_of self.new).clients ≡ (with_left (standing_of self.old) conn (left_of (standing_of self.new) conn)).clients }
         ensures place { IsFirstAt (standing_of self.new).clients conn at }
         ensures owes { self.new.owes ≡ self.old.owes }
@@ -81,7 +83,9 @@ impl<D: Disk> Parts<D> {
 }
 
 /// What a step tells where the keeper told this.
-pub(crate) fn told(fault: Fault, fed: bool) -> DeskFault {
+pub(crate) fn told(fault: Fault, fed: bool) -> DeskFault
+    ensures { result ≡ told_as fault fed }
+{
     match fault {
         Fault::NoMemory => DeskFault::NoMemory { fed },
         fault => DeskFault::Store(fault),
