@@ -83,7 +83,7 @@ pub record TakesPiece (s : Standing) (conn : ℕ) (before : Decoding) (piece : L
 pub record TakesFrom (s : Standing) (conn : ℕ) (left : List ClientMessage) (before : Decoding) (piece : List ℕ) (t : Standing) : Type 0 where
   pub mid : Standing
   pub leftovers : TakesAll (with_left s conn []) conn left mid
-  pub piece : MatchBool (is_connected mid.front conn) (TakesPiece mid conn before piece t) (t ≡ mid)
+  pub reading : MatchBool (is_connected mid.front conn) (TakesPiece mid conn before piece t) (t ≡ mid)
 
 abbrev pub TakesBytes : Standing → Option Client → List ℕ → Standing → Type 0
 TakesBytes s None piece t = t ≡ s

@@ -1,6 +1,6 @@
 //! Connections come and go.
 
-ghost use Rattle.std.specs.Prelude.{◌≡◌, ◌×◌, false, map, IfSome, IfNone, None, OnOk, OnErr, IfOk, MatchBool};
+ghost use Rattle.std.specs.Prelude.{◌≡◌, false, map, IfSome, IfNone, None, OnOk, OnErr, IfOk, MatchBool};
 ghost use Rattle.fe_front.specs.Front.{is_connected};
 ghost use Rattle.fe_desk.specs.Steps as steps;
 ghost use Rattle.fe_desk.specs.Steps.{find, Connects};

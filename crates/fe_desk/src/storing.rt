@@ -1,6 +1,6 @@
 //! The way of a batch: it is cut, stored as a group, and posted.
 
-ghost use Rattle.std.specs.Prelude.{◌≡◌, ◌×◌, false, Some, Ok, IsTrue, IfOk, IfErr, OnOk, OnErr, IsErrOf};
+ghost use Rattle.std.specs.Prelude.{◌≡◌, false, Some, Ok, IsTrue, IfOk, IfErr, OnOk, OnErr, IsErrOf};
 ghost use Rattle.fe_state.specs.declared.batch.Batch.{Batch};
 ghost use Rattle.fe_front.specs.Front.{has_room};
 ghost use Rattle.fe_keeper.specs.declared.fault.Fault.TheVariants.{Device, NoMemory};

@@ -1,6 +1,6 @@
 //! Messages go to the front.
 
-ghost use Rattle.std.specs.Prelude.{◌≡◌, ◌×◌, List, IsTrue};
+ghost use Rattle.std.specs.Prelude.{◌≡◌, List, IsTrue};
 ghost use Rattle.fe_state.specs.declared.entry.Entry.{Entry};
 ghost use Rattle.fe_front.specs.Front.{has_room};
 ghost use Rattle.fe_desk.specs.Taking.{Takes};
