@@ -19,24 +19,24 @@ use Rattle.fe_desk.specs.Messages.{left_of}
 
 pub on_client-twice : (conn : ℕ) (f g : Client → Client) (cs : List Client) → ((c : Client) → (f c).conn ≡ c.conn) → on_client conn g (on_client conn f cs) ≡ on_client conn (λ c. g (f c)) cs
 on_client-twice conn f g [] same = refl
-on_client-twice conn f g (c ∷ cs) same = by (nat_eq c.conn conn) refl
+on_client-twice conn f g (c ∷ cs) same = by (nat_eq c.conn conn) refl (on_client-twice conn f g cs same)
   where
-    by : (b : Bool) → nat_eq c.conn conn ≡ b → on_client conn g (if b then f c ∷ cs else c ∷ on_client conn f cs) ≡ (if b then g (f c) ∷ cs else c ∷ on_client conn (λ c. g (f c)) cs)
-    by true e =
+    by : (b : Bool) → nat_eq c.conn conn ≡ b → on_client conn g (on_client conn f cs) ≡ on_client conn (λ d. g (f d)) cs → on_client conn g (if b then f c ∷ cs else c ∷ on_client conn f cs) ≡ (if b then g (f c) ∷ cs else c ∷ on_client conn (λ c. g (f c)) cs)
+    by true e rest =
         let here : nat_eq (f c).conn conn ≡ true = ap (λ (n : ℕ). nat_eq n conn) (same c) ∙ e in
         ap (λ (b : Bool). if b then g (f c) ∷ cs else f c ∷ on_client conn g cs) here
-    by false e =
-        ap (λ (b : Bool). if b then g c ∷ on_client conn f cs else c ∷ on_client conn g (on_client conn f cs)) e ∙ ap (λ (ds : List Client). c ∷ ds) (on_client-twice conn f g cs same)
+    by false e rest =
+        ap (λ (b : Bool). if b then g c ∷ on_client conn f cs else c ∷ on_client conn g (on_client conn f cs)) e ∙ ap (λ (ds : List Client). c ∷ ds) rest
 
 pub find-on_client : (conn : ℕ) (f : Client → Client) (cs : List Client) → ((c : Client) → (f c).conn ≡ c.conn) → find conn (on_client conn f cs) ≡ option_map f (find conn cs)
 find-on_client conn f [] same = refl
-find-on_client conn f (c ∷ cs) same = by (nat_eq c.conn conn) refl
+find-on_client conn f (c ∷ cs) same = by (nat_eq c.conn conn) refl (find-on_client conn f cs same)
   where
-    by : (b : Bool) → nat_eq c.conn conn ≡ b → find conn (if b then f c ∷ cs else c ∷ on_client conn f cs) ≡ option_map f (if b then Some c else find conn cs)
-    by true e =
+    by : (b : Bool) → nat_eq c.conn conn ≡ b → find conn (on_client conn f cs) ≡ option_map f (find conn cs) → find conn (if b then f c ∷ cs else c ∷ on_client conn f cs) ≡ option_map f (if b then Some c else find conn cs)
+    by true e rest =
         let here : nat_eq (f c).conn conn ≡ true = ap (λ (n : ℕ). nat_eq n conn) (same c) ∙ e in
         ap (λ (b : Bool). if b then Some (f c) else find conn cs) here
-    by false e = ap (λ (b : Bool). if b then Some c else find conn (on_client conn f cs)) e ∙ find-on_client conn f cs same
+    by false e rest = ap (λ (b : Bool). if b then Some c else find conn (on_client conn f cs)) e ∙ rest
 
 found_behind : (c d : Client) (cs ds : List Client) (k : ℕ) → d.conn ≡ c.conn → is_some (find k ds) ≡ is_some (find k cs) → is_some (find k (d ∷ ds)) ≡ is_some (find k (c ∷ cs))
 found_behind c d cs ds k same rest = ap (λ (n : ℕ). is_some (if nat_eq n k then Some d else find k ds)) same ∙ by (nat_eq c.conn k)
@@ -48,40 +48,40 @@ found_behind c d cs ds k same rest = ap (λ (n : ℕ). is_some (if nat_eq n k th
 -- no number comes and none goes
 pub found-on_client : (conn : ℕ) (f : Client → Client) (cs : List Client) (k : ℕ) → ((c : Client) → (f c).conn ≡ c.conn) → is_some (find k (on_client conn f cs)) ≡ is_some (find k cs)
 found-on_client conn f [] k same = refl
-found-on_client conn f (c ∷ cs) k same = by (nat_eq c.conn conn)
+found-on_client conn f (c ∷ cs) k same = by (nat_eq c.conn conn) (found-on_client conn f cs k same)
   where
-    by : (b : Bool) → is_some (find k (if b then f c ∷ cs else c ∷ on_client conn f cs)) ≡ is_some (find k (c ∷ cs))
-    by true = found_behind c (f c) cs cs k (same c) refl
-    by false = found_behind c c cs (on_client conn f cs) k refl (found-on_client conn f cs k same)
+    by : (b : Bool) → is_some (find k (on_client conn f cs)) ≡ is_some (find k cs) → is_some (find k (if b then f c ∷ cs else c ∷ on_client conn f cs)) ≡ is_some (find k (c ∷ cs))
+    by true rest = found_behind c (f c) cs cs k (same c) refl
+    by false rest = found_behind c c cs (on_client conn f cs) k refl rest
 
 -- where the one client stays, all do
 pub on_client-stays : (conn : ℕ) (f : Client → Client) (cs : List Client) → ((c : Client) → find conn cs ≡ Some c → f c ≡ c) → on_client conn f cs ≡ cs
 on_client-stays conn f [] stays = refl
-on_client-stays conn f (c ∷ cs) stays = by (nat_eq c.conn conn) refl
+on_client-stays conn f (c ∷ cs) stays = by (nat_eq c.conn conn) refl (on_client-stays conn f cs)
   where
-    by : (b : Bool) → nat_eq c.conn conn ≡ b → (if b then f c ∷ cs else c ∷ on_client conn f cs) ≡ c ∷ cs
-    by true e = ap (λ (d : Client). d ∷ cs) (stays c (ap (λ (b : Bool). if b then Some c else find conn cs) e))
-    by false e =
-        ap (λ (ds : List Client). c ∷ ds) (on_client-stays conn f cs (λ d h. stays d (ap (λ (b : Bool). if b then Some c else find conn cs) e ∙ h)))
+    by : (b : Bool) → nat_eq c.conn conn ≡ b → (((d : Client) → find conn cs ≡ Some d → f d ≡ d) → on_client conn f cs ≡ cs) → (if b then f c ∷ cs else c ∷ on_client conn f cs) ≡ c ∷ cs
+    by true e rest = ap (λ (d : Client). d ∷ cs) (stays c (ap (λ (b : Bool). if b then Some c else find conn cs) e))
+    by false e rest =
+        ap (λ (ds : List Client). c ∷ ds) (rest (λ d h. stays d (ap (λ (b : Bool). if b then Some c else find conn cs) e ∙ h)))
 
 -- two changes that do the same to the one client
 pub on_client-alike : (conn : ℕ) (f g : Client → Client) (cs : List Client) → ((c : Client) → find conn cs ≡ Some c → f c ≡ g c) → on_client conn f cs ≡ on_client conn g cs
 on_client-alike conn f g [] alike = refl
-on_client-alike conn f g (c ∷ cs) alike = by (nat_eq c.conn conn) refl
+on_client-alike conn f g (c ∷ cs) alike = by (nat_eq c.conn conn) refl (on_client-alike conn f g cs)
   where
-    by : (b : Bool) → nat_eq c.conn conn ≡ b → (if b then f c ∷ cs else c ∷ on_client conn f cs) ≡ (if b then g c ∷ cs else c ∷ on_client conn g cs)
-    by true e = ap (λ (d : Client). d ∷ cs) (alike c (ap (λ (b : Bool). if b then Some c else find conn cs) e))
-    by false e =
-        ap (λ (ds : List Client). c ∷ ds) (on_client-alike conn f g cs (λ d h. alike d (ap (λ (b : Bool). if b then Some c else find conn cs) e ∙ h)))
+    by : (b : Bool) → nat_eq c.conn conn ≡ b → (((d : Client) → find conn cs ≡ Some d → f d ≡ g d) → on_client conn f cs ≡ on_client conn g cs) → (if b then f c ∷ cs else c ∷ on_client conn f cs) ≡ (if b then g c ∷ cs else c ∷ on_client conn g cs)
+    by true e rest = ap (λ (d : Client). d ∷ cs) (alike c (ap (λ (b : Bool). if b then Some c else find conn cs) e))
+    by false e rest =
+        ap (λ (ds : List Client). c ∷ ds) (rest (λ d h. alike d (ap (λ (b : Bool). if b then Some c else find conn cs) e ∙ h)))
 
 -- what a change does not touch is the same in each client
 pub each-on_client : {A : Type 0} (part : Client → A) (conn : ℕ) (f : Client → Client) (cs : List Client) → ((c : Client) → part (f c) ≡ part c) → map part (on_client conn f cs) ≡ map part cs
 each-on_client {A} part conn f [] same = refl
-each-on_client {A} part conn f (c ∷ cs) same = by (nat_eq c.conn conn)
+each-on_client {A} part conn f (c ∷ cs) same = by (nat_eq c.conn conn) (each-on_client part conn f cs same)
   where
-    by : (b : Bool) → map part (if b then f c ∷ cs else c ∷ on_client conn f cs) ≡ part c ∷ map part cs
-    by true = ap (λ (x : A). x ∷ map part cs) (same c)
-    by false = ap (λ (xs : List A). part c ∷ xs) (each-on_client part conn f cs same)
+    by : (b : Bool) → map part (on_client conn f cs) ≡ map part cs → map part (if b then f c ∷ cs else c ∷ on_client conn f cs) ≡ part c ∷ map part cs
+    by true rest = ap (λ (x : A). x ∷ map part cs) (same c)
+    by false rest = ap (λ (xs : List A). part c ∷ xs) rest
 
 -- ---- the messages that are left of a client
 
@@ -154,14 +154,14 @@ roomy-keeps s conn = ap (λ (t : Standing). t.clients) (roomy-clients s conn s.c
 
 -- where room was made for a connection's message, none is being made for it
 roomy_is_made : (s : Standing) (conn : ℕ) → is_making (roomy s conn) conn ≡ false
-roomy_is_made s conn = then (has_room (begun_room s conn).front)
+roomy_is_made s conn = behind (has_room (begun_room s conn).front)
   where
     begun : (b : Bool) → is_making s conn ≡ b → is_making (if b then made (cleared s) else s) conn ≡ false
     begun true e = refl
     begun false e = e
-    then : (b : Bool) → is_making (if b then begun_room s conn else made (committed (cleared (begun_room s conn)))) conn ≡ false
-    then true = begun (is_making s conn) refl
-    then false = refl
+    behind : (b : Bool) → is_making (if b then begun_room s conn else made (committed (cleared (begun_room s conn)))) conn ≡ false
+    behind true = begun (is_making s conn) refl
+    behind false = refl
 
 -- ---- messages are taken whatever stands among the clients
 
