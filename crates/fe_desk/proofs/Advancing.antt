@@ -25,12 +25,12 @@ prefix_more begun groups more k j image le p =
       state = p.state;
       stands = p.stands;
       prefix =
-        record {
-          kept = q.kept;
-          least = omega (arith, le, q.least);
-          most = omega (arith, q.most, length-append groups more);
-          state_is = q.state_is ∙ ap (λ (gs : List (List Entry)). after_groups begun gs) (sym (take-append-le q.kept groups more q.most));
-        };
+          record {
+            kept = q.kept;
+            least = omega (arith, le, q.least);
+            most = omega (arith, q.most, length-append groups more);
+            state_is = q.state_is ∙ ap (λ (gs : List (List Entry)). after_groups begun gs) (sym (take-append-le q.kept groups more q.most));
+          };
     }
 
 pub prefix_as : (begun : ServerState) (groups others : List (List Entry)) (k : ℕ) (image : List ℕ) → others ≡ groups → LeavesPrefix begun groups k image → LeavesPrefix begun others k image
@@ -53,8 +53,8 @@ from_as {D} begun old new same f =
     record {
       history = subst (λ (gs : List (List Entry)). IsHistory begun gs) (sym same.groups) f.history;
       replica =
-        ap (λ (k : KeeperState D). k.state) same.keeper ∙ f.replica ∙ ap (λ (n : ℕ). after_groups begun (take n old.standing.groups)) (sym same.synced)
-        ∙ ap (λ (gs : List (List Entry)). after_groups begun (take new.synced gs)) (sym same.groups);
+          ap (λ (k : KeeperState D). k.state) same.keeper ∙ f.replica ∙ ap (λ (n : ℕ). after_groups begun (take n old.standing.groups)) (sym same.synced)
+          ∙ ap (λ (gs : List (List Entry)). after_groups begun (take new.synced gs)) (sym same.groups);
     }
 
 disk_as : {D : Type 0} (old new : DeskState D) → HasStore old new → disk_of new ≡ disk_of old
@@ -65,7 +65,7 @@ pub tied_as : (s t : Standing) (replica : ServerState) → t.handed ≡ s.handed
     → IsTied s replica → IsTied t replica
 tied_as s t replica handed out pending state tied =
     let same : unstored t ≡ unstored s =
-        ap (λ (h : Handed). cut_entries h ++ t.front.service.pending) handed ∙ ap (λ (es : List Entry). cut_entries s.handed ++ es) pending in
+    ap (λ (h : Handed). cut_entries h ++ t.front.service.pending) handed ∙ ap (λ (es : List Entry). cut_entries s.handed ++ es) pending in
     record {
       handed = subst (λ (h : Handed). IsHanded h t.front.out) (sym handed) (subst (λ o. IsHanded s.handed o) (sym out) tied.handed);
       legal = subst (λ (es : List Entry). AreLegal replica es) (sym same) tied.legal;
@@ -84,11 +84,11 @@ module _ {D : Type 0} (honest : D → Type 0) (may_leave : D → List ℕ → Ty
         known = known;
         few = let few = desk.few in let e = ap (λ (gs : List (List Entry)). length gs) same.groups in let s = same.synced in omega arith;
         all = λ works.
-          same.synced ∙ desk.all (ap (λ (k : KeeperState D). k.store.has_failed) (sym same.keeper) ∙ works) ∙ ap (λ (gs : List (List Entry)). length gs) (sym same.groups);
+            same.synced ∙ desk.all (ap (λ (k : KeeperState D). k.store.has_failed) (sym same.keeper) ∙ works) ∙ ap (λ (gs : List (List Entry)). length gs) (sym same.groups);
         upheld = λ h begun from image may.
-          prefix_as begun old.standing.groups new.standing.groups new.synced image same.groups
-          (subst (λ (n : ℕ). LeavesPrefix begun old.standing.groups n image) (sym same.synced)
-          (desk.upheld (subst honest disk h) begun (from_as begun new old back from) image (subst (λ (d : D). may_leave d image) disk may)));
+            prefix_as begun old.standing.groups new.standing.groups new.synced image same.groups
+            (subst (λ (n : ℕ). LeavesPrefix begun old.standing.groups n image) (sym same.synced)
+            (desk.upheld (subst honest disk h) begun (from_as begun new old back from) image (subst (λ (d : D). may_leave d image) disk may)));
       }
 
 module _ {D : Type 0} (honest : D → Type 0) (may_leave : D → List ℕ → Type 0) (moment : D → ℕ) (left_since : D → ℕ → List ℕ → Type 0) where
@@ -103,10 +103,10 @@ module _ {D : Type 0} (honest : D → Type 0) (may_leave : D → List ℕ → Ty
         synced = let s = same.synced in omega arith;
         from = λ begun from. from_as begun old new same from;
         any_moment = λ h works begun from.
-          let here = started moment left_since (disk_of old) (LeavesPrefix begun new.standing.groups old.synced)
-              (λ image left. prefix_as begun old.standing.groups new.standing.groups old.synced image same.groups
-                (desk.upheld h begun from image (only_now (disk_of old) image h left))) in
-          subst (λ (d : D). LeavesOnly moment left_since (disk_of old) d (LeavesPrefix begun new.standing.groups old.synced)) (sym disk) here;
+            let here = started moment left_since (disk_of old) (LeavesPrefix begun new.standing.groups old.synced)
+            (λ image left. prefix_as begun old.standing.groups new.standing.groups old.synced image same.groups
+            (desk.upheld h begun from image (only_now (disk_of old) image h left))) in
+            subst (λ (d : D). LeavesOnly moment left_since (disk_of old) d (LeavesPrefix begun new.standing.groups old.synced)) (sym disk) here;
         honesty = (λ h. subst honest disk h, λ h. subst honest (sym disk) h);
       }
 
@@ -123,12 +123,12 @@ module _ {D : Type 0} (honest : D → Type 0) (may_leave : D → List ℕ → Ty
         synced = omega (arith, ab.synced, bc.synced);
         from = λ begun from. bc.from begun (ab.from begun from);
         any_moment = λ h fine begun from.
-          joined moment left_since (disk_of a) (disk_of b) (disk_of c) (LeavesPrefix begun c.standing.groups a.synced)
-          (weaker moment left_since (disk_of a) (disk_of b) (LeavesPrefix begun b.standing.groups a.synced) (LeavesPrefix begun c.standing.groups a.synced)
+            joined moment left_since (disk_of a) (disk_of b) (disk_of c) (LeavesPrefix begun c.standing.groups a.synced)
+            (weaker moment left_since (disk_of a) (disk_of b) (LeavesPrefix begun b.standing.groups a.synced) (LeavesPrefix begun c.standing.groups a.synced)
             (λ image p. prefix_as begun (b.standing.groups ++ bc.more) c.standing.groups a.synced image bc.groups
-              (prefix_more begun b.standing.groups bc.more a.synced a.synced image (omega arith) p))
+            (prefix_more begun b.standing.groups bc.more a.synced a.synced image (omega arith) p))
             (ab.any_moment h fine begun from))
-          (weaker moment left_since (disk_of b) (disk_of c) (LeavesPrefix begun c.standing.groups b.synced) (LeavesPrefix begun c.standing.groups a.synced)
+            (weaker moment left_since (disk_of b) (disk_of c) (LeavesPrefix begun c.standing.groups b.synced) (LeavesPrefix begun c.standing.groups a.synced)
             (λ image p. fewer begun c.standing.groups b.synced a.synced image ab.synced p)
             (bc.any_moment (ab.honesty.1 h) works begun (ab.from begun from)));
         honesty = (λ h. ab.honesty.0 (bc.honesty.0 h), λ h. bc.honesty.1 (ab.honesty.1 h));
@@ -151,8 +151,8 @@ module _ {D : Type 0} (honest : D → Type 0) (may_leave : D → List ℕ → Ty
         synced = let s = same.synced in omega (arith, ab.synced);
         from = λ begun from. from_as begun b c same (ab.from begun from);
         any_moment = λ h fine begun from.
-          subst (λ (d : D). LeavesOnly moment left_since (disk_of a) d (LeavesPrefix begun c.standing.groups a.synced)) (sym disk)
-          (weaker moment left_since (disk_of a) (disk_of b) (LeavesPrefix begun b.standing.groups a.synced) (LeavesPrefix begun c.standing.groups a.synced)
+            subst (λ (d : D). LeavesOnly moment left_since (disk_of a) d (LeavesPrefix begun c.standing.groups a.synced)) (sym disk)
+            (weaker moment left_since (disk_of a) (disk_of b) (LeavesPrefix begun b.standing.groups a.synced) (LeavesPrefix begun c.standing.groups a.synced)
             (λ image p. prefix_as begun b.standing.groups c.standing.groups a.synced image same.groups p) (ab.any_moment h fine begun from));
         honesty = (λ h. ab.honesty.0 (subst honest disk h), λ h. subst honest (sym disk) (ab.honesty.1 h));
       }
@@ -166,9 +166,9 @@ module _ {D : Type 0} (honest : D → Type 0) (may_leave : D → List ℕ → Ty
         synced = let s = same.synced in omega (arith, bc.synced);
         from = λ begun from. bc.from begun (from_as begun a b same from);
         any_moment = λ h fine begun from.
-          subst (λ (d : D). LeavesOnly moment left_since d (disk_of c) (LeavesPrefix begun c.standing.groups a.synced)) disk
-          (subst (λ (n : ℕ). LeavesOnly moment left_since (disk_of b) (disk_of c) (LeavesPrefix begun c.standing.groups n)) same.synced
-          (bc.any_moment (subst honest (sym disk) h) (ap (λ (k : KeeperState D). k.store.has_failed) same.keeper ∙ fine) begun (from_as begun a b same from)));
+            subst (λ (d : D). LeavesOnly moment left_since d (disk_of c) (LeavesPrefix begun c.standing.groups a.synced)) disk
+            (subst (λ (n : ℕ). LeavesOnly moment left_since (disk_of b) (disk_of c) (LeavesPrefix begun c.standing.groups n)) same.synced
+            (bc.any_moment (subst honest (sym disk) h) (ap (λ (k : KeeperState D). k.store.has_failed) same.keeper ∙ fine) begun (from_as begun a b same from)));
         honesty = (λ h. subst honest disk (bc.honesty.0 h), λ h. bc.honesty.1 (subst honest (sym disk) h));
       }
 

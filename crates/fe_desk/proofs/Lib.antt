@@ -1,5 +1,9 @@
-pub mod Advancing
 pub mod Coming
-pub mod Leftovers
+pub mod Connecting
+pub mod Entering
 pub mod Places
+pub mod Lives
+pub mod Emptying
+pub mod Advancing
+pub mod Leftovers
 pub mod Reading

@@ -1,11 +1,15 @@
 -- The client of a connection number, at its place among the clients.
-use Rattle.std.proofs.Common.{◌≡◌, ◌≢◌, ℕ, zero, suc, ◌<◌, Bool, true, false, true≢false, List, [], ◌∷◌, ◌++◌, map, length, Option, Some, None, is_some, refl, sym, ap, ◌∙◌, arith, slice_set, get_or, nat_eq, if◌then◌else◌}
-use Rattle.std.specs.Prelude.{slice_get, ◌||◌}
+use Rattle.std.proofs.Common.{◌≡◌, ◌≢◌, ℕ, zero, suc, ◌+◌, ◌<◌, Bool, true, false, true≢false, List, [], ◌∷◌, ◌++◌, map, length, Option, Some, None, is_some, refl, sym, ap, subst, ◌∙◌, arith, slice_set, get_or, nat_eq, if◌then◌else◌}
+use Rattle.std.specs.Prelude.{slice_get, cond, position, IfSome, IfNone, ◌||◌}
 use Rattle.std.specs.Option.{option_map}
 use Rattle.std.proofs.Math.Seq.{map-set_same}
 use Rattle.std.proofs.lemmas.Bool.Decides.{nat_tests}
-use Rattle.std.proofs.lemmas.List.{length-map}
-use Rattle.std.proofs.lemmas.Option.{same_Some, slice_get-map, slice_get-get_or}
+use Rattle.std.proofs.lemmas.List.{map-set, length-map}
+use Rattle.std.specs.List.{position_from}
+use Rattle.std.proofs.lemmas.Iterator.Adapters.{position_from-zero}
+use Rattle.std.proofs.lemmas.Option.{none-some, slice_get_read, same_Some, slice_get-map, slice_get-get_or}
+use Rattle.fe_desk.specs.declared.port.Port.{Port}
+use Rattle.fe_desk.specs.Desk.{client_of}
 use Rattle.fe_desk.specs.Standing.{Client}
 use Rattle.fe_desk.specs.Steps.{find, on_client}
 use Rattle.fe_desk.specs.Places.{IsFirstAt, number_at}
@@ -141,3 +145,102 @@ not_found [] conn none = refl
 not_found (x ∷ xs) conn none =
     ap (λ (b : Bool). if b then Some x else find conn xs) (other_numbers x.conn conn (λ e. none 0 (ap (λ (n : ℕ). Some n) e)))
     ∙ not_found xs conn (λ i. none (suc i))
+
+-- a number that is not found is changed nowhere
+pub changed_nowhere : (clients : List Client) (conn : ℕ) (change : Client → Client) → find conn clients ≡ None → on_client conn change clients ≡ clients
+changed_nowhere [] conn change none = refl
+changed_nowhere (x ∷ xs) conn change none = by (nat_eq x.conn conn) (changed_nowhere xs conn change) none
+  where
+    by : (b : Bool) → (find conn xs ≡ None → on_client conn change xs ≡ xs) → (if b then Some x else find conn xs) ≡ None
+        → (if b then change x ∷ xs else x ∷ on_client conn change xs) ≡ x ∷ xs
+    by true rest e = absurd (true≢false (ap (λ (o : Option Client). is_some o) e))
+    by false rest e = ap (λ (ys : List Client). x ∷ ys) (rest e)
+
+-- ---- ports
+
+pub ports_changed : (ports : List Port) (at : ℕ) (p : Port) → map client_of (slice_set ports at p) ≡ slice_set (map client_of ports) at (client_of p)
+ports_changed ports at p = map-set client_of ports at p
+
+pub port_here : (ports : List Port) (conn at : ℕ) (p : Port) → IsFirstAt (map client_of ports) conn at → p ≡ get_or ports at p → slice_get (map client_of ports) at ≡ Some (client_of p)
+port_here ports conn at p first is =
+    let within = first.within in
+    let long = length-map ports client_of in
+    slice_get-map client_of ports at ∙ ap (λ (o : Option Port). option_map client_of o) (slice_get_read ports (length ports) at p refl (omega (arith, within, long)) is)
+
+-- the port of a number is changed
+pub port_changed : (ports : List Port) (conn at : ℕ) (p q : Port) (change : Client → Client) → IsFirstAt (map client_of ports) conn at → p ≡ get_or ports at p → client_of q ≡ change (client_of p)
+    → map client_of (slice_set ports at q) ≡ on_client conn change (map client_of ports)
+port_changed ports conn at p q change first is to =
+    ports_changed ports at q ∙ ap (λ (c : Client). slice_set (map client_of ports) at c) to
+    ∙ sym (changed_first (map client_of ports) conn at (client_of p) change first (port_here ports conn at p first is))
+
+-- ---- what a search for a number's port gives
+
+equal_tested : (a b : ℕ) → nat_eq a b ≡ true → a ≡ b
+equal_tested a b e = grind (arith, nat_tests)
+
+first_here : (x : Client) (xs : List Client) (conn : ℕ) → nat_eq x.conn conn ≡ true → IsFirstAt (x ∷ xs) conn 0
+first_here x xs conn is = record {
+  within = omega arith;
+  here = ap (λ (n : ℕ). Some n) (equal_tested x.conn conn is);
+  first = λ i lt. absurd (omega (arith, lt));
+}
+
+other_before : (x : Client) (xs : List Client) (conn k : ℕ) → nat_eq x.conn conn ≡ false → IsFirstAt xs conn k → (i : ℕ) → i < suc k → number_at (x ∷ xs) i ≢ Some conn
+other_before x xs conn k is p zero lt same = absurd (true≢false (sym (equal_numbers x.conn conn (same_Some _ _ same)) ∙ is))
+other_before x xs conn k is p (suc i) lt same = p.first i (omega (arith, lt)) same
+
+first_behind : (x : Client) (xs : List Client) (conn k : ℕ) → nat_eq x.conn conn ≡ false → IsFirstAt xs conn k → IsFirstAt (x ∷ xs) conn (suc k)
+first_behind x xs conn k is p = let within = p.within in record {
+  within = omega (arith, within);
+  here = p.here;
+  first = other_before x xs conn k is p;
+}
+
+abbrev pub search_from : ℕ → ℕ → List Port → Option ℕ
+search_from conn i ports = position_from (λ p. nat_eq p.conn conn) i ports
+
+-- a place found from a number of places on is the first
+record Found (ports : List Port) (conn i at : ℕ) : Type 0 where
+  pub place : ℕ
+  pub sum : at ≡ i + place
+  pub first : IsFirstAt (map client_of ports) conn place
+
+first_from : (conn : ℕ) (ports : List Port) (i at : ℕ) → search_from conn i ports ≡ Some at → Found ports conn i at
+first_from conn [] i at e = absurd (none-some at e)
+first_from conn (p ∷ ps) i at e = by (nat_eq p.conn conn) refl (first_from conn ps (i + 1) at) e
+  where
+    by : (b : Bool) → nat_eq p.conn conn ≡ b → (search_from conn (i + 1) ps ≡ Some at → Found ps conn (i + 1) at) → cond b (Some i) (search_from conn (i + 1) ps) ≡ Some at → Found (p ∷ ps) conn i at
+    by true is rest e =
+        let here = same_Some i at e in record { place = 0; sum = omega (arith, here); first = first_here (client_of p) (map client_of ps) conn is }
+    by false is rest e =
+        let found = rest e in
+        let sum = found.sum in
+        record { place = suc found.place; sum = omega (arith, sum); first = first_behind (client_of p) (map client_of ps) conn found.place is found.first }
+
+none_from : (conn : ℕ) (ports : List Port) (i : ℕ) → search_from conn i ports ≡ None → find conn (map client_of ports) ≡ None
+none_from conn [] i e = refl
+none_from conn (p ∷ ps) i e = by (nat_eq p.conn conn) (none_from conn ps (i + 1)) e
+  where
+    by : (b : Bool) → (search_from conn (i + 1) ps ≡ None → find conn (map client_of ps) ≡ None) → cond b (Some i) (search_from conn (i + 1) ps) ≡ None
+        → (if b then Some (client_of p) else find conn (map client_of ps)) ≡ None
+    by true rest e = absurd (true≢false (ap (λ (o : Option ℕ). is_some o) e))
+    by false rest e = rest e
+
+pub first_searched : (conn : ℕ) (ports : List Port) (at : ℕ) → position (λ p. nat_eq p.conn conn) ports ≡ Some at → IsFirstAt (map client_of ports) conn at
+first_searched conn ports at e =
+    let found = first_from conn ports 0 at (sym (position_from-zero (λ p. nat_eq p.conn conn) ports) ∙ e) in
+    let sum = found.sum in
+    let same : found.place ≡ at = omega (arith, sum) in
+    subst (IsFirstAt (map client_of ports) conn) same found.first
+
+pub none_searched : (conn : ℕ) (ports : List Port) → position (λ p. nat_eq p.conn conn) ports ≡ None → find conn (map client_of ports) ≡ None
+none_searched conn ports e = none_from conn ports 0 (sym (position_from-zero (λ p. nat_eq p.conn conn) ports) ∙ e)
+
+pub place_some : (conn : ℕ) (ports : List Port) (r : Option ℕ) → r ≡ position (λ p. nat_eq p.conn conn) ports → IfSome r (λ at. IsFirstAt (map client_of ports) conn at)
+place_some conn ports None e = tt
+place_some conn ports (Some at) e = first_searched conn ports at (sym e)
+
+pub place_none : (conn : ℕ) (ports : List Port) (r : Option ℕ) → r ≡ position (λ p. nat_eq p.conn conn) ports → IfNone r (find conn (map client_of ports) ≡ None)
+place_none conn ports None e = none_searched conn ports (sym e)
+place_none conn ports (Some at) e = tt

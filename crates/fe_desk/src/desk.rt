@@ -1,4 +1,4 @@
-ghost use Rattle.std.specs.Prelude.{◌≡◌, ℕ, Bool, true, false, List, map, Ok, Err, IfErr, OnOk, OnErr, IsErrOf};
+ghost use Rattle.std.specs.Prelude.{◌≡◌, ℕ, Bool, true, false, List, map, Ok, Err, IfErr, OnOk, OnErr, IsErrOf, [], length};
 ghost use Rattle.fe_state.specs.State.{ServerState};
 ghost use Rattle.fe_keeper.specs.declared.fault.Fault.TheVariants as keeper;
 ghost use Rattle.fe_mail.specs.Connections.{mails_on};

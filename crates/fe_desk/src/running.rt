@@ -1,4 +1,4 @@
-ghost use Rattle.std.specs.Prelude.{◌≡◌, None, List};
+ghost use Rattle.std.specs.Prelude.{◌≡◌, None, List, ℕ};
 ghost use Rattle.fe_disk.specs.Disk.{LeavesOnly};
 ghost use Rattle.fe_state.specs.State.{ServerState};
 ghost use Rattle.fe_state.specs.History.{IsHistory};
