@@ -1,6 +1,7 @@
 -- The messages that are left of a connection are taken one after the other.
-use Rattle.std.proofs.Common.{◌≡◌, ℕ, ◌<◌, Bool, true, false, true≢false, List, [], ◌∷◌, ◌++◌, length, map, Option, Some, None, refl, sym, ap, ◌∙◌, subst, append_assoc, get_or, arith}
-use Rattle.std.specs.Prelude.{is_some, slice_get, slice_set, IsErrOf}
+use Rattle.std.proofs.Common.{Vec, Global, ◌≡◌, ℕ, ◌<◌, Bool, true, false, true≢false, Result, Ok, Err, List, [], ◌∷◌, ◌++◌, length, map, Option, Some, None, refl, sym, ap, ◌∙◌, subst, append_assoc, get_or, arith}
+use Rattle.std.specs.Prelude.{is_some, slice_get, slice_set, nat_lt, IsErrOf}
+use Rattle.std.proofs.lemmas.Bool.Decides.{nat_tests}
 use Rattle.std.specs.Option.{option_map, option_map_or}
 use Rattle.std.proofs.lemmas.List.{length-map, map-set}
 use Rattle.std.proofs.lemmas.Option.{slice_get-map, slice_get_read}
@@ -80,6 +81,26 @@ port_changed ports conn at p q change place is changed =
 pub left_here : (ports : List Port) (conn at : ℕ) (p : Port) → IsFirstAt (map client_of ports) conn at → p ≡ get_or ports at p → left_among (find conn (map client_of ports)) ≡ (client_of p).left
 left_here ports conn at p place is = ap left_among (found_first (map client_of ports) conn at (client_of p) place (client_here ports conn at p place is))
 
+some_of : (ms : List ClientMessage) (b : Bool) → b ≡ nat_lt 0 (length ms) → b ≡ true → 0 < length ms
+some_of ms b is on = grind (arith, nat_tests)
+
+none_of : (ms : List ClientMessage) (b : Bool) → b ≡ nat_lt 0 (length ms) → b ≡ false → ms ≡ []
+none_of [] b is off = refl
+none_of (m ∷ ms) b is off = absurd (grind (arith, nat_tests))
+
+-- whether messages are left of a port
+pub some_left : (ports : List Port) (conn at : ℕ) (p : Port) (b : Bool) → IsFirstAt (map client_of ports) conn at → p ≡ get_or ports at p → b ≡ nat_lt 0 (length (client_of p).left) → b ≡ true
+    → 0 < length (left_among (find conn (map client_of ports)))
+some_left ports conn at p b place is has on =
+    subst (λ (ms : List ClientMessage). 0 < length ms) (sym (left_here ports conn at p place is)) (some_of (client_of p).left b has on)
+
+pub none_left_here : (ports : List Port) (conn at : ℕ) (p : Port) (b : Bool) → IsFirstAt (map client_of ports) conn at → p ≡ get_or ports at p → b ≡ nat_lt 0 (length (client_of p).left) → b ≡ false
+    → left_among (find conn (map client_of ports)) ≡ []
+none_left_here ports conn at p b place is has off = left_here ports conn at p place is ∙ none_of (client_of p).left b has off
+
+pub same_clients : (a b : Vec Port Global) → b ≡ a → map client_of b.items ≡ map client_of a.items
+same_clients a b same = ap (λ (v : Vec Port Global). map client_of v.items) same
+
 -- the first message left of a port was taken
 pub port_next : (s : Standing) (ports : List Port) (conn at : ℕ) (p q : Port) (m : ClientMessage) (es : List Entry) (g : FrontState) → s.clients ≡ map client_of ports
     → IsFirstAt (map client_of ports) conn at → p ≡ get_or ports at p → (client_of p).left ≡ m ∷ (client_of q).left → client_of q ≡ relieved (client_of q).left (client_of p)
@@ -158,6 +179,14 @@ taken_next conn s a r t here room owes taken next =
       owes = ap (λ (u : Standing). u.owes) next.after ∙ owes ∙ taken.owes;
     }
 
+-- and one is left less
+pub fewer_left : (a r t : Standing) (conn : ℕ) → r.clients ≡ a.clients → is_some (find conn a.clients) ≡ true → TakesNext r conn t → length (left_of t conn) < length (left_of a conn)
+fewer_left a r t conn clients here next =
+    let before : left_of a conn ≡ next.message ∷ next.left = ap (λ (cs : List Client). left_among (find conn cs)) (sym clients) ∙ next.first in
+    let now : left_of t conn ≡ next.left =
+    ap (λ (u : Standing). left_of u conn) next.after ∙ left-relieved conn next.left r.clients (ap (λ (cs : List Client). is_some (find conn cs)) clients ∙ here) in
+    omega (arith, ap length before, ap length now)
+
 again_by : (conn : ℕ) (a u : Standing) (ms : List ClientMessage) (v : Standing) → 0 < length ms → roomy (with_left a conn []) conn ≡ roomy (with_left u conn []) conn
     → TakesAll (with_left u conn []) conn ms v → TakesAll (with_left a conn []) conn ms v
 again_by conn a u [] v some same h = absurd (omega arith)
@@ -193,6 +222,10 @@ tells_after failures a b c (keeper.Mismatch place) fine tells = tells
 tells_after failures a b c (keeper.Damaged offset) fine tells = tells
 tells_after failures a b c keeper.Unformatted fine tells = tells
 
+-- what `?` tells is what the call told
+pub told_on : {T U : Type 0} (r : Result T Fault) (q : Result U Fault) (told fault other : Fault) → r ≡ Err told → told ≡ fault → q ≡ Err fault → IsErrOf r other → IsErrOf q other
+told_on r q told fault other is same was asked = let there : fault ≡ other = cc in cc
+
 -- ---- the loop
 
 -- messages of the connection whose client stands there were taken as far as to a desk
@@ -203,7 +236,7 @@ pub record Going {D : Type 0} (honest : D → Type 0) (may_leave : D → List �
   pub advances : Advances honest moment left_since old new
   pub fine : IsFine failures old new
 
-place_as : (clients others : List Client) (conn at : ℕ) → others ≡ clients → IsFirstAt clients conn at → IsFirstAt others conn at
+pub place_as : (clients others : List Client) (conn at : ℕ) → others ≡ clients → IsFirstAt clients conn at → IsFirstAt others conn at
 place_as clients others conn at same place = subst (λ (cs : List Client). IsFirstAt cs conn at) (sym same) place
 
 -- what making room did to a desk
@@ -238,3 +271,7 @@ module _ {D : Type 0} (honest : D → Type 0) (may_leave : D → List ℕ → Ty
         advances = advances_then honest may_leave moment left_since old r t (advances_both honest may_leave moment left_since old a r going.fine.works going.advances room.advances) same;
         fine = fine_both failures old r t (fine_both failures old a r going.fine room.fine) (fine_as failures r t room.fine.works same);
       }
+
+  pub going_stops : (conn at : ℕ) (old a u : DeskState D) → Going honest may_leave moment left_since failures conn at old a
+      → Advances honest moment left_since a u → Advances honest moment left_since old u
+  going_stops conn at old a u going advances = advances_both honest may_leave moment left_since old a u going.fine.works going.advances advances

@@ -36,6 +36,7 @@ impl<D: Disk> Parts<D> {
         ensures advances { Advances D.honest D.moment D.left_since (desk_of self.old) (desk_of self.new) }
         ensures fine { OnOk result (IsFine D.failures (desk_of self.old) (desk_of self.new)) }
         ensures fault { IfErr result (TellsStep D.failures (desk_of self.old) (desk_of self.new)) }
+        ensures written { IsErrOf result fault.Unwritten → ⊥ }
     {
         let Some(at) = self.place_of(conn) else {
             return Ok(());
