@@ -7,3 +7,4 @@ pub mod Emptying
 pub mod Advancing
 pub mod Leftovers
 pub mod Reading
+pub mod Pieces
