@@ -10,3 +10,6 @@ pub mod Replies
 pub mod Groups
 pub mod Runnings
 pub mod StepParts
+pub mod Leftovers
+pub mod Reading
+pub mod Pieces
