@@ -30,7 +30,7 @@ use Rattle.fe_desk.specs.Desk.{IsDesk, IsTied, IsHanded, unstored, cut_entries, 
 first_tied : (begun : ServerState) (s : Standing) → IsFirstStanding begun s → IsTied s begun
 first_tied begun s first =
     let none : unstored s ≡ [] =
-        ap (λ (h : Handed). cut_entries h ++ s.front.service.pending) first.handed ∙ first.front.pending in
+    ap (λ (h : Handed). cut_entries h ++ s.front.service.pending) first.handed ∙ first.front.pending in
     record {
       handed = subst (λ (h : Handed). IsHanded h s.front.out) (sym first.handed) first.front.out;
       legal = subst (λ (es : List Entry). AreLegal begun es) (sym none) tt;
