@@ -1,6 +1,6 @@
 -- A desk as it is opened.
 use Rattle.std.proofs.Common.{◌≡◌, ℕ, ◌≤◌, Bool, true, false, true≢false, List, [], ◌∷◌, ◌++◌, length, take, refl, sym, ap, subst, ◌∙◌, arith}
-use Rattle.std.specs.Prelude.{Option, is_some, map}
+use Rattle.std.specs.Prelude.{◌↔◌, Option, Result, Ok, Err, IfOk, IfErr, is_some, map}
 use Rattle.std.specs.Ordering.{nat_cmp}
 use Rattle.std.specs.FinMap.{FinMap, get, empty, get-empty}
 use Rattle.fe_mail.specs.declared.connection.Connection.{Connection}
@@ -9,7 +9,14 @@ use Rattle.fe_state.specs.History.{IsHistory, AreLegal, after_groups}
 use Rattle.fe_state.specs.declared.entry.Entry.{Entry}
 use Rattle.fe_front.specs.Front.{FrontState, IsFirst, is_connected}
 use Rattle.fe_front.specs.declared.out.Out.{Out}
+use Rattle.fe_disk.specs.Disk.{Rises}
+use Rattle.fe_keeper.specs.Keeper.{KeeperState}
 use Rattle.fe_keeper.specs.Stands.{StandsFor, EachStandsFor}
+use Rattle.fe_keeper.specs.declared.fault.Fault.{Fault}
+use Rattle.fe_keeper.specs.declared.fault.Fault.TheVariants as keeper
+use Rattle.fe_desk.specs.declared.fault.DeskFault.{DeskFault}
+use Rattle.fe_desk.specs.declared.fault.DeskFault.TheVariants.{Store, NoMemory}
+use Rattle.fe_desk.specs.Opened.{disk_after}
 use Rattle.fe_desk.specs.declared.handed.Handed.{Handed}
 use Rattle.fe_desk.specs.declared.handed.Handed.TheVariants.{Nothing}
 use Rattle.fe_desk.specs.declared.parts.Parts.{Parts}
@@ -23,7 +30,7 @@ use Rattle.fe_desk.specs.Desk.{IsDesk, IsTied, IsHanded, unstored, cut_entries, 
 first_tied : (begun : ServerState) (s : Standing) → IsFirstStanding begun s → IsTied s begun
 first_tied begun s first =
     let none : unstored s ≡ [] =
-        ap (λ (h : Handed). cut_entries h ++ s.front.service.pending) first.handed ∙ first.front.pending in
+    ap (λ (h : Handed). cut_entries h ++ s.front.service.pending) first.handed ∙ first.front.pending in
     record {
       handed = subst (λ (h : Handed). IsHanded h s.front.out) (sym first.handed) first.front.out;
       legal = subst (λ (es : List Entry). AreLegal begun es) (sym none) tt;
@@ -34,6 +41,10 @@ first_tied begun s first =
 none_connected : (begun : ServerState) (f : FrontState) (conn : ℕ) → IsFirst begun f → is_connected f conn ≡ true → ⊥
 none_connected begun f conn first is =
     true≢false (sym is ∙ ap (λ (m : FinMap nat_cmp Connection). is_some (get m conn)) first.connections ∙ ap (λ (o : Option Connection). is_some o) (get-empty nat_cmp conn))
+
+-- want of memory is no fault of the store
+none_both : (fault : DeskFault) {cause : Fault} → fault ≡ NoMemory false → fault ≡ Store cause → ⊥
+none_both fault {cause} short is = cc
 
 module _ {D : Type 0} where
   -- no group is there, so the history begins with the state
@@ -62,11 +73,40 @@ module _ {D : Type 0} where
         upheld = λ h begun from image may. stands_at begun d image from few (stands h image may);
       }
 
+-- ---- opening over a keeper
+
+module _ {D : Type 0} (r : Result (DeskState D) (DeskFault × D)) (k : KeeperState D) where
+  -- the disk is the keeper's, whether there was memory for the desk or not
+  pub disk_is : IfOk r (λ d. d.keeper ≡ k) → IfErr r (λ e. e.1 ≡ k.store.disk) → disk_after r ≡ k.store.disk
+  disk_is = by r
+    where
+      by : (x : Result (DeskState D) (DeskFault × D)) → IfOk x (λ d. d.keeper ≡ k) → IfErr x (λ e. e.1 ≡ k.store.disk) → disk_after x ≡ k.store.disk
+      by (Ok d) same none = ap (λ (x : KeeperState D). x.store.disk) same
+      by (Err e) none same = same
+
+  -- what is told is want of memory, and no call of the device failed
+  pub device_told : (failures : D → ℕ) (before : ℕ) → (Rises before (failures k.store.disk) → ⊥) → IfErr r (λ e. e.0 ≡ NoMemory false) → IfErr r (λ e. e.1 ≡ k.store.disk)
+      → IfErr r (λ e. (e.0 ≡ Store keeper.Device) ↔ Rises before (failures e.1))
+  device_told failures before calm = by r
+    where
+      by : (x : Result (DeskState D) (DeskFault × D)) → IfErr x (λ e. e.0 ≡ NoMemory false) → IfErr x (λ e. e.1 ≡ k.store.disk) → IfErr x (λ e. (e.0 ≡ Store keeper.Device) ↔ Rises before (failures e.1))
+      by (Ok d) fault disk = tt
+      by (Err e) fault disk =
+          (λ is. absurd (none_both e.0 fault is), λ rises. absurd (calm (subst (λ (d : D). Rises before (failures d)) disk rises)))
+
+  -- and the device has the size of a store
+  pub size_told : (A : Type 0) → A → IfErr r (λ e. e.0 ≡ NoMemory false) → IfErr r (λ e. (e.0 ≡ Store keeper.Unformatted) ↔ (A → ⊥))
+  size_told A size = by r
+    where
+      by : (x : Result (DeskState D) (DeskFault × D)) → IfErr x (λ e. e.0 ≡ NoMemory false) → IfErr x (λ e. (e.0 ≡ Store keeper.Unformatted) ↔ (A → ⊥))
+      by (Ok d) fault = tt
+      by (Err e) fault = (λ is. absurd (none_both e.0 fault is), λ none. absurd (none size))
+
 -- ---- the trace of a desk
 
-written_as : (ps : List Port) → map {B = ℕ × List ℕ} (λ (p : Port). (p.conn, p.written.items)) ps ≡ map {B = ℕ × List ℕ} (λ (c : Client). (c.conn, c.written)) (map client_of ps)
+written_as : (ps : List Port) → map {B = ℕ × List ℕ} (λ (p : Port). (p.conn, p.written)) ps ≡ map {B = ℕ × List ℕ} (λ (c : Client). (c.conn, c.written)) (map client_of ps)
 written_as [] = refl
-written_as (p ∷ ps) = let here : ℕ × List ℕ = (p.conn, p.written.items) in ap (λ (ws : List (ℕ × List ℕ)). here ∷ ws) (written_as ps)
+written_as (p ∷ ps) = let here : ℕ × List ℕ = (p.conn, p.written) in ap (λ (ws : List (ℕ × List ℕ)). here ∷ ws) (written_as ps)
 
 pub is_trace : {D : Type 0} (p : Parts D) → IsTraceOf p.trace (standing_of p) p.trace.synced
 is_trace p = record { groups = refl; written = written_as p.trace.ports.items; synced_is = refl }

@@ -1,15 +1,19 @@
 -- Runs of steps, one after the other.
-use Rattle.std.proofs.Common.{◌≡◌, ℕ, ◌+◌, ◌≤◌, ◌<◌, Bool, true, false, List, [], ◌∷◌, ◌++◌, length, take, get_or, refl, sym, ap, subst, ◌∙◌, arith}
-use Rattle.std.proofs.lemmas.List.{take_more}
+use Rattle.std.proofs.Common.{◌≡◌, ℕ, ◌+◌, ◌≤◌, ◌<◌, Bool, true, false, List, [], ◌∷◌, ◌++◌, length, take, get_or, add-one, zero, suc, Option, Some, None, refl, sym, ap, subst, ◌∙◌, arith}
+use Rattle.std.proofs.lemmas.List.{take_more, take_all, append-nil}
 use Rattle.fe_disk.specs.Disk.{LeavesOnly}
-use Rattle.fe_disk.proofs.Moments.{joined, weaker}
+use Rattle.fe_disk.proofs.Moments.{started, joined, weaker}
 use Rattle.fe_state.specs.State.{ServerState}
 use Rattle.fe_state.specs.History.{IsHistory, after_groups}
 use Rattle.fe_state.specs.declared.entry.Entry.{Entry}
 use Rattle.fe_keeper.specs.Stands.{StandsFor, EachStandsFor}
 use Rattle.fe_keeper.specs.Laws.{StandsForOne}
+use Rattle.fe_desk.specs.declared.fault.DeskFault.{DeskFault}
 use Rattle.fe_desk.specs.declared.step.Step.{Step}
-use Rattle.fe_desk.specs.Standing.{Standing, emptied}
+use Rattle.fe_desk.specs.Runs.{IsTaken, IsSilentAfter, IsRunOf}
+use Rattle.fe_desk.specs.Traces.{IsTraceOf}
+use Rattle.fe_desk.specs.declared.trace.Trace.{Trace}
+use Rattle.fe_desk.specs.Standing.{Standing, IsFirstStanding}
 use Rattle.fe_desk.specs.Steps.{DeskStep, DeskRun}
 use Rattle.fe_desk.specs.Crash.{DeskState, IsFrom, Advances, LeavesPrefix, disk_of}
 
@@ -42,9 +46,42 @@ module _ {D : Type 0} (honest : D → Type 0) (may_leave : D → List ℕ → Ty
       joined moment left_since disk (disk_of first) (disk_of last) (LeavesPrefix begun groups 0)
       (weaker moment left_since disk (disk_of first) (may_leave disk) (LeavesPrefix begun groups 0) (λ image may. stands_begun begun groups image (each image may)) opening)
       (weaker moment left_since (disk_of first) (disk_of last) (LeavesPrefix begun groups first.synced) (LeavesPrefix begun groups 0)
-        (λ image p. record {
-          state = p.state;
-          stands = p.stands;
-          prefix = record { kept = p.prefix.kept; least = omega arith; most = p.prefix.most; state_is = p.prefix.state_is };
-        })
-        (run.any_moment h works begun from))
+      (λ image p. record {
+        state = p.state;
+        stands = p.stands;
+        prefix = record { kept = p.prefix.kept; least = omega arith; most = p.prefix.most; state_is = p.prefix.state_is };
+      })
+      (run.any_moment h works begun from))
+
+  -- no step was taken
+  pub no_step : ((disk : D) (image : List ℕ) → honest disk → left_since disk (moment disk) image → may_leave disk image) → (d : DeskState D)
+      → (honest (disk_of d) → (begun : ServerState) → IsFrom begun d → (image : List ℕ) → may_leave (disk_of d) image → LeavesPrefix begun d.standing.groups d.synced image)
+      → Advances honest moment left_since d d
+  no_step only_now d upheld =
+      record {
+        more = [];
+        groups = sym (append-nil d.standing.groups);
+        synced = omega arith;
+        from = λ begun from. from;
+        any_moment = λ h works begun from.
+            started moment left_since (disk_of d) (LeavesPrefix begun d.standing.groups d.synced) (λ image left. upheld h begun from image (only_now (disk_of d) image h left));
+        honesty = (λ h. h, λ h. h);
+      }
+
+-- the steps before the one at fault were taken
+pub taken_to : (s last t : Standing) (steps : List Step) (k : ℕ) (fault : DeskFault) → DeskRun s (take k steps) last → IsSilentAfter fault t last → IsTaken s steps t (Some (k + 1, fault))
+taken_to s last t steps k fault run silent =
+    subst (λ (n : ℕ). IsTaken s steps t (Some (n, fault))) (sym (add-one k)) (last, run, silent)
+
+-- all of them were
+pub all_taken : (s t : Standing) (steps : List Step) (k : ℕ) → length steps ≤ k → DeskRun s (take k steps) t → DeskRun s steps t
+all_taken s t steps k le run = subst (λ (xs : List Step). DeskRun s xs t) (take_all k steps le) run
+
+-- a run from its parts
+pub run_of : {D : Type 0} (honest : D → Type 0) (seen : D → List ℕ) (disk : D) (steps : List Step) (begun : ServerState) (first last : Standing) (t : Trace) (n : ℕ) (fault : Option (ℕ × DeskFault))
+    → (honest disk → StandsFor (seen disk) begun) → IsFirstStanding begun first → IsTraceOf t last n → IsTaken first steps last fault → IsRunOf honest seen disk steps t fault
+run_of honest seen disk steps begun first last t n None stands begins trace taken =
+    (last, record { begun = begun; first = first; stands = stands; begins = begins; run = taken }, record { groups = trace.groups; written = trace.written; synced_is = refl })
+run_of honest seen disk steps begun first last t n (Some (zero, fault)) stands begins trace taken = absurd taken
+run_of honest seen disk steps begun first last t n (Some (suc k, fault)) stands begins trace taken =
+    (taken.0, record { begun = begun; first = first; stands = stands; begins = begins; run = taken.1 }, λ device. trace.written ∙ taken.2 device)

@@ -78,9 +78,9 @@ module _ {D : Type 0} (p q : Parts D) where
   emptied_desk honest may_leave desk same handed kept numbers =
       desk_as honest may_leave (desk_of p) (desk_of q) desk same
       (subst (λ (k : KeeperState D). IsTied (standing_of q) k.state) (sym same.keeper)
-        (tied_as (standing_of p) (standing_of q) p.keeper.state handed kept.out kept.pending kept.state desk.tied))
+      (tied_as (standing_of p) (standing_of q) p.keeper.state handed kept.out kept.pending kept.state desk.tied))
       (λ conn there.
-        found_as conn (clients_in p) (clients_in q) (numbers_as p.trace.ports.items q.trace.ports.items numbers) ∙ desk.known conn (kept.none_comes conn there))
+      found_as conn (clients_in p) (clients_in q) (numbers_as p.trace.ports.items q.trace.ports.items numbers) ∙ desk.known conn (kept.none_comes conn there))
 
   pub all_written : (r : Result (Unit {0}) AllocError) → OnOk r (clients_in q ≡ all_told p.front (clients_in p)) → OnOk r (q.front ≡ all_emptied p.front (clients_in p))
       → q.owes ≡ is_err r → q.handed ≡ p.handed → q.making ≡ p.making → q.trace.groups ≡ p.trace.groups → OnOk r (standing_of q ≡ emptied (standing_of p))
@@ -171,6 +171,7 @@ bytes_again s u t conn piece slice fed before next is same again go acts =
     empty (step.Bytes c p) a acted =
         subst (λ (xs : List ℕ). TakesBytes u (find conn u.clients) xs t) a.1 (subst (λ (n : ℕ). TakesBytes u (find n u.clients) p.items t) a.0 acted)
     empty other a acted = absurd a
+
     by : (b : Bool) → IsAgain b before next → TakesBytes u (find conn u.clients) (if b then [] else slice) t
     by false a = subst (λ (xs : List ℕ). TakesBytes u (find conn u.clients) xs t) (sym same) (subst (λ (x : Step). Acts u x t) (a ∙ is) acts)
     by true a = empty next (subst (λ (x : Step). IsAgain true x next) is a) acts

@@ -13,6 +13,7 @@ use crate::opening::open;
 use crate::step::Step;
 use crate::trace::Trace;
 use fe_disk::Disk;
+use fe_keeper::images_stand_for_one;
 use std::alloc::Global;
 
 /// What came of a run: its trace, the disk, and the fault that ended it with the number of its step, counted from 1; 0 is the
@@ -46,6 +47,7 @@ pub fn run<D: Disk>(alloc: Global, disk: D, steps: &[Step]) -> Ran<D>
             };
         }
     };
+    images_stand_for_one();
     let fault = take_steps(&mut desk, steps);
     let (trace, disk) = desk.into_parts();
     Ran { trace, disk, fault }

@@ -12,12 +12,12 @@ pub returns-clause-again : goal.returns-clause-again
 returns-clause-again g c =
     subst
     (λ (d : DeskState g.row.D.Denot).
-      (fed : Bool) (next : Step) (t : Standing) → IsErrOf c.step.result (NoMemory fed) → IsAgain fed c.args.step.now next → DeskStep (standing_of c.step.new.self) next t → DeskStep d.standing c.args.step.now t)
+    (fed : Bool) (next : Step) (t : Standing) → IsErrOf c.step.result (NoMemory fed) → IsAgain fed c.args.step.now next → DeskStep (standing_of c.step.new.self) next t → DeskStep d.standing c.args.step.now t)
     c.self.view_is c.step.ensures.again
 
 pub returns-clause-unwritten : goal.returns-clause-unwritten
 returns-clause-unwritten g c =
     subst
     (λ (d : DeskState g.row.D.Denot).
-      IsErrOf c.step.result Unwritten → DeskStep d.standing c.args.step.now (settled (standing_of c.step.new.self)) × (c.step.new.self.owes ≡ true))
+    IsErrOf c.step.result Unwritten → DeskStep d.standing c.args.step.now (settled (standing_of c.step.new.self)) × (c.step.new.self.owes ≡ true))
     c.self.view_is c.step.ensures.unwritten
