@@ -45,8 +45,8 @@ returns-then-not-connected-clause-taken g c =
     let b = desk_of c.take_left.new.self in
     let left_any : TookLeft honest may_leave moment since failures conn c.in-Some.at a c.take_left.result b = (record { desk_is = c.take_left.ensures.desk; taken = c.take_left.ensures.taken; again = c.take_left.ensures.again; still = c.take_left.ensures.still; clients = c.take_left.ensures.clients; owes = c.take_left.ensures.owes; advances = c.take_left.ensures.advances; fine = c.take_left.ensures.fine; fault = c.take_left.ensures.fault }) in
     let left = subst (λ (r : Result (Unit {0}) Fault). TookLeft honest may_leave moment since failures conn c.in-Some.at a r b) c.in_default-take_left.is left_any in
-    let made = bytes_off honest may_leave moment since failures conn c.in-Some.at piece a b client here left c.if-not-connected.true in
-    ?
+    let made = bytes_off honest may_leave moment since failures conn c.in-Some.at piece a b client here left (sym c.connected.ensures ∙ c.if-not-connected.true) in
+    made.taken
 
 pub returns-then-not-connected-clause-outputs : goal.returns-then-not-connected-clause-outputs
 returns-then-not-connected-clause-outputs g c =
@@ -56,7 +56,7 @@ returns-then-not-connected-clause-outputs g c =
     let b = desk_of c.take_left.new.self in
     let left_any : TookLeft honest may_leave moment since failures conn c.in-Some.at a c.take_left.result b = (record { desk_is = c.take_left.ensures.desk; taken = c.take_left.ensures.taken; again = c.take_left.ensures.again; still = c.take_left.ensures.still; clients = c.take_left.ensures.clients; owes = c.take_left.ensures.owes; advances = c.take_left.ensures.advances; fine = c.take_left.ensures.fine; fault = c.take_left.ensures.fault }) in
     let left = subst (λ (r : Result (Unit {0}) Fault). TookLeft honest may_leave moment since failures conn c.in-Some.at a r b) c.in_default-take_left.is left_any in
-    let made = bytes_off honest may_leave moment since failures conn c.in-Some.at piece a b client here left c.if-not-connected.true in
+    let made = bytes_off honest may_leave moment since failures conn c.in-Some.at piece a b client here left (sym c.connected.ensures ∙ c.if-not-connected.true) in
     made.outputs_are
 
 pub feed-requires : goal.feed-requires
@@ -152,8 +152,8 @@ returns-in-Err-take_left-clause-again g c =
     let n = desk_of c.take_left-2.new.self in
     let rest_any : TookLeft honest may_leave moment since failures conn c.in-Some.at m c.take_left-2.result n = (record { desk_is = c.take_left-2.ensures.desk; taken = c.take_left-2.ensures.taken; again = c.take_left-2.ensures.again; still = c.take_left-2.ensures.still; clients = c.take_left-2.ensures.clients; owes = c.take_left-2.ensures.owes; advances = c.take_left-2.ensures.advances; fine = c.take_left-2.ensures.fine; fault = c.take_left-2.ensures.fault }) in
     let rest = subst (λ (r : Result (Unit {0}) Fault). TookLeft honest may_leave moment since failures conn c.in-Some.at m r n) c.in-Err-take_left.is rest_any in
-    let made = bytes_more honest may_leave moment since failures conn c.in-Some.at piece a b m n client c.in-Err-take_left.fault here left c.if-not-connected.false fed rest in
-    ?
+    let made = bytes_more honest may_leave moment since failures conn c.in-Some.at piece a b m n client c.in-Err-take_left.fault here left (sym c.connected.ensures ∙ c.if-not-connected.false) fed rest in
+    λ fed_ e t h. made.again fed_ (ap (λ (f : DeskFault). Err f) (sym c.told-in-Err-take_left.ensures) ∙ e) t h
 
 pub returns-in-Err-take_left-clause-outputs : goal.returns-in-Err-take_left-clause-outputs
 returns-in-Err-take_left-clause-outputs g c =
@@ -170,7 +170,7 @@ returns-in-Err-take_left-clause-outputs g c =
     let n = desk_of c.take_left-2.new.self in
     let rest_any : TookLeft honest may_leave moment since failures conn c.in-Some.at m c.take_left-2.result n = (record { desk_is = c.take_left-2.ensures.desk; taken = c.take_left-2.ensures.taken; again = c.take_left-2.ensures.again; still = c.take_left-2.ensures.still; clients = c.take_left-2.ensures.clients; owes = c.take_left-2.ensures.owes; advances = c.take_left-2.ensures.advances; fine = c.take_left-2.ensures.fine; fault = c.take_left-2.ensures.fault }) in
     let rest = subst (λ (r : Result (Unit {0}) Fault). TookLeft honest may_leave moment since failures conn c.in-Some.at m r n) c.in-Err-take_left.is rest_any in
-    let made = bytes_more honest may_leave moment since failures conn c.in-Some.at piece a b m n client c.in-Err-take_left.fault here left c.if-not-connected.false fed rest in
+    let made = bytes_more honest may_leave moment since failures conn c.in-Some.at piece a b m n client c.in-Err-take_left.fault here left (sym c.connected.ensures ∙ c.if-not-connected.false) fed rest in
     made.outputs_are
 
 pub returns-in-Err-take_left-clause-advances : goal.returns-in-Err-take_left-clause-advances
@@ -188,7 +188,7 @@ returns-in-Err-take_left-clause-advances g c =
     let n = desk_of c.take_left-2.new.self in
     let rest_any : TookLeft honest may_leave moment since failures conn c.in-Some.at m c.take_left-2.result n = (record { desk_is = c.take_left-2.ensures.desk; taken = c.take_left-2.ensures.taken; again = c.take_left-2.ensures.again; still = c.take_left-2.ensures.still; clients = c.take_left-2.ensures.clients; owes = c.take_left-2.ensures.owes; advances = c.take_left-2.ensures.advances; fine = c.take_left-2.ensures.fine; fault = c.take_left-2.ensures.fault }) in
     let rest = subst (λ (r : Result (Unit {0}) Fault). TookLeft honest may_leave moment since failures conn c.in-Some.at m r n) c.in-Err-take_left.is rest_any in
-    let made = bytes_more honest may_leave moment since failures conn c.in-Some.at piece a b m n client c.in-Err-take_left.fault here left c.if-not-connected.false fed rest in
+    let made = bytes_more honest may_leave moment since failures conn c.in-Some.at piece a b m n client c.in-Err-take_left.fault here left (sym c.connected.ensures ∙ c.if-not-connected.false) fed rest in
     made.advances
 
 pub returns-then-bad-clause-taken : goal.returns-then-bad-clause-taken
@@ -210,8 +210,8 @@ returns-then-bad-clause-taken g c =
     let p2 = desk_of c.leave.new.self in
     let after : p2.standing ≡ after_frame q.decoder.is_bad n.standing conn = c.leave.ensures.gone ∙ ap (λ (x : Bool). after_frame x n.standing conn) (sym bad) in
     let groups : p2.standing.groups ≡ n.standing.groups = ap (λ (u : Standing). u.groups) c.leave.ensures.gone ∙ gone_groups n.standing conn in
-    let made = bytes_all honest may_leave moment since failures conn c.in-Some.at piece a b m n p2 client here left c.if-not-connected.false fed rest after (record { keeper = c.leave.ensures.keeper; groups = groups; synced = c.leave.ensures.synced }) c.leave.ensures.desk in
-    ?
+    let made = bytes_all honest may_leave moment since failures conn c.in-Some.at piece a b m n p2 client here left (sym c.connected.ensures ∙ c.if-not-connected.false) fed rest after (record { keeper = c.leave.ensures.keeper; groups = groups; synced = c.leave.ensures.synced }) c.leave.ensures.desk in
+    made.taken
 
 pub returns-then-bad-clause-outputs : goal.returns-then-bad-clause-outputs
 returns-then-bad-clause-outputs g c =
@@ -232,7 +232,7 @@ returns-then-bad-clause-outputs g c =
     let p2 = desk_of c.leave.new.self in
     let after : p2.standing ≡ after_frame q.decoder.is_bad n.standing conn = c.leave.ensures.gone ∙ ap (λ (x : Bool). after_frame x n.standing conn) (sym bad) in
     let groups : p2.standing.groups ≡ n.standing.groups = ap (λ (u : Standing). u.groups) c.leave.ensures.gone ∙ gone_groups n.standing conn in
-    let made = bytes_all honest may_leave moment since failures conn c.in-Some.at piece a b m n p2 client here left c.if-not-connected.false fed rest after (record { keeper = c.leave.ensures.keeper; groups = groups; synced = c.leave.ensures.synced }) c.leave.ensures.desk in
+    let made = bytes_all honest may_leave moment since failures conn c.in-Some.at piece a b m n p2 client here left (sym c.connected.ensures ∙ c.if-not-connected.false) fed rest after (record { keeper = c.leave.ensures.keeper; groups = groups; synced = c.leave.ensures.synced }) c.leave.ensures.desk in
     made.outputs_are
 
 pub returns-then-bad-clause-advances : goal.returns-then-bad-clause-advances
@@ -254,7 +254,7 @@ returns-then-bad-clause-advances g c =
     let p2 = desk_of c.leave.new.self in
     let after : p2.standing ≡ after_frame q.decoder.is_bad n.standing conn = c.leave.ensures.gone ∙ ap (λ (x : Bool). after_frame x n.standing conn) (sym bad) in
     let groups : p2.standing.groups ≡ n.standing.groups = ap (λ (u : Standing). u.groups) c.leave.ensures.gone ∙ gone_groups n.standing conn in
-    let made = bytes_all honest may_leave moment since failures conn c.in-Some.at piece a b m n p2 client here left c.if-not-connected.false fed rest after (record { keeper = c.leave.ensures.keeper; groups = groups; synced = c.leave.ensures.synced }) c.leave.ensures.desk in
+    let made = bytes_all honest may_leave moment since failures conn c.in-Some.at piece a b m n p2 client here left (sym c.connected.ensures ∙ c.if-not-connected.false) fed rest after (record { keeper = c.leave.ensures.keeper; groups = groups; synced = c.leave.ensures.synced }) c.leave.ensures.desk in
     made.advances
 
 pub returns-else-bad-clause-taken : goal.returns-else-bad-clause-taken
@@ -274,7 +274,7 @@ returns-else-bad-clause-taken g c =
     let rest = subst (λ (r : Result (Unit {0}) Fault). TookLeft honest may_leave moment since failures conn c.in-Some.at m r n) c.in_default-take_left-2.is rest_any in
     let bad : q.decoder.is_bad ≡ false = sym c.in-Ok.ensures.bad ∙ c.if-bad.false in
     let after : n.standing ≡ after_frame q.decoder.is_bad n.standing conn = ap (λ (x : Bool). after_frame x n.standing conn) (sym bad) in
-    let made = bytes_all honest may_leave moment since failures conn c.in-Some.at piece a b m n n client here left c.if-not-connected.false fed rest after (record { keeper = refl; groups = refl; synced = refl }) c.take_left-2.ensures.desk in
+    let made = bytes_all honest may_leave moment since failures conn c.in-Some.at piece a b m n n client here left (sym c.connected.ensures ∙ c.if-not-connected.false) fed rest after (record { keeper = refl; groups = refl; synced = refl }) c.take_left-2.ensures.desk in
     made.taken
 
 pub returns-else-bad-clause-outputs : goal.returns-else-bad-clause-outputs
@@ -294,7 +294,7 @@ returns-else-bad-clause-outputs g c =
     let rest = subst (λ (r : Result (Unit {0}) Fault). TookLeft honest may_leave moment since failures conn c.in-Some.at m r n) c.in_default-take_left-2.is rest_any in
     let bad : q.decoder.is_bad ≡ false = sym c.in-Ok.ensures.bad ∙ c.if-bad.false in
     let after : n.standing ≡ after_frame q.decoder.is_bad n.standing conn = ap (λ (x : Bool). after_frame x n.standing conn) (sym bad) in
-    let made = bytes_all honest may_leave moment since failures conn c.in-Some.at piece a b m n n client here left c.if-not-connected.false fed rest after (record { keeper = refl; groups = refl; synced = refl }) c.take_left-2.ensures.desk in
+    let made = bytes_all honest may_leave moment since failures conn c.in-Some.at piece a b m n n client here left (sym c.connected.ensures ∙ c.if-not-connected.false) fed rest after (record { keeper = refl; groups = refl; synced = refl }) c.take_left-2.ensures.desk in
     made.outputs_are
 
 pub returns-else-bad-clause-advances : goal.returns-else-bad-clause-advances
@@ -314,5 +314,5 @@ returns-else-bad-clause-advances g c =
     let rest = subst (λ (r : Result (Unit {0}) Fault). TookLeft honest may_leave moment since failures conn c.in-Some.at m r n) c.in_default-take_left-2.is rest_any in
     let bad : q.decoder.is_bad ≡ false = sym c.in-Ok.ensures.bad ∙ c.if-bad.false in
     let after : n.standing ≡ after_frame q.decoder.is_bad n.standing conn = ap (λ (x : Bool). after_frame x n.standing conn) (sym bad) in
-    let made = bytes_all honest may_leave moment since failures conn c.in-Some.at piece a b m n n client here left c.if-not-connected.false fed rest after (record { keeper = refl; groups = refl; synced = refl }) c.take_left-2.ensures.desk in
+    let made = bytes_all honest may_leave moment since failures conn c.in-Some.at piece a b m n n client here left (sym c.connected.ensures ∙ c.if-not-connected.false) fed rest after (record { keeper = refl; groups = refl; synced = refl }) c.take_left-2.ensures.desk in
     made.advances
