@@ -20,10 +20,10 @@ use Rattle.fe_desk.specs.Messages.{left_of, outputs, told_as}
 use Rattle.fe_desk.specs.Places.{IsFirstAt}
 use Rattle.fe_desk.specs.Crash.{DeskState, Advances, IsFine, HasFailed, Tells, TellsStep, disk_of}
 use Rattle.fe_desk.specs.Desk.{IsTied, IsDesk, client_of}
-use Rattle.fe_desk.proofs.Places.{found_first, number_here, client_there}
-use Rattle.fe_desk.proofs.Reading.{on_client-twice, find-on_client, on_client-alike, each-on_client, relieved, left_among, left_emptied, takes_all-keeps, first_again, piece_again, later_again, IsRead}
-use Rattle.fe_desk.proofs.Leftovers.{tells_after}
-use Rattle.fe_desk.proofs.Advancing.{HasStore, advances_then, advances_both, advances_itself, fine_both, fine_as}
+use Rattle.fe_desk.proofs.Places.{found_first, number_here, client_there, numbers, numbers_changed, first_by_numbers}
+use Rattle.fe_desk.proofs.Reading.{on_client-twice, find-on_client, on_client-alike, on_client-stays, found-on_client, each-on_client, relieved, left_among, left_emptied, takes_all-keeps, first_again, piece_again, later_again, IsRead}
+use Rattle.fe_desk.proofs.Leftovers.{tells_after, client_here, port_changed}
+use Rattle.fe_desk.proofs.Advancing.{HasStore, desk_as, advances_then, advances_both, advances_itself, fine_both, fine_as}
 
 -- ---- what is told
 
@@ -89,6 +89,10 @@ outputs_changed s t conn change keeps stays clients =
     let same : (c : Client) → part (change c) ≡ part c = λ c. let n = keeps c in let w = stays c in cc in
     ap (map part) clients ∙ each-on_client part conn change s.clients same
 
+-- a client that read a piece
+abbrev pub reading : Decoding → List ClientMessage → Client → Client
+reading decoder more c = record c { decoder = decoder; left = more }
+
 -- what of a connection that is gone stays
 record StaysBehind (s t : Standing) : Type 0 where
   pub owes : t.owes ≡ s.owes
@@ -100,15 +104,49 @@ frame_stays true s conn = by (is_making s conn)
   where
     left : (u : Standing) → outputs (with_left u conn []) ≡ outputs u
     left u = outputs_changed u (with_left u conn []) conn (relieved []) (λ d. refl) (λ d. refl) refl
+
     of : (u : Standing) → u.owes ≡ s.owes → outputs u ≡ outputs s → StaysBehind s (record (with_left u conn []) { front = (gone s conn).front })
     of u owes same = record { owes = owes; outputs_are = left u ∙ same }
+
     by : (b : Bool) → StaysBehind s (record (with_left (if b then record s { making = None } else s) conn []) { front = (gone s conn).front })
     by true = of (record s { making = None }) refl refl
     by false = of s refl refl
 
--- a client that read a piece
-abbrev pub reading : Decoding → List ClientMessage → Client → Client
-reading decoder more c = record c { decoder = decoder; left = more }
+pub gone_groups : (s : Standing) (conn : ℕ) → (gone s conn).groups ≡ s.groups
+gone_groups s conn = by (is_making s conn)
+  where
+    by : (b : Bool) → (if b then record s { making = None } else s).groups ≡ s.groups
+    by true = refl
+    by false = refl
+
+-- ---- the port of the client
+
+pub port_is_here : (s : Standing) (ports : List Port) (conn at : ℕ) (p : Port) → s.clients ≡ map client_of ports → IsFirstAt (map client_of ports) conn at → p ≡ get_or ports at p → IsHere s conn (client_of p)
+port_is_here s ports conn at p clients place is =
+    let here = client_here ports conn at p place is in
+    record {
+      found = ap (find conn) clients ∙ found_first (map client_of ports) conn at (client_of p) place here;
+      number = number_here (map client_of ports) conn at (client_of p) place here;
+    }
+
+pub port_same : (ports : List Port) (conn at : ℕ) (p q : Port) → IsFirstAt (map client_of ports) conn at → p ≡ get_or ports at p → client_of q ≡ client_of p → map client_of (slice_set ports at q) ≡ map client_of ports
+port_same ports conn at p q place is same =
+    port_changed ports conn at p q (λ c. c) place is same ∙ on_client-stays conn (λ c. c) (map client_of ports) (λ c found. refl)
+
+pub fed_place : (ports : List Port) (conn at : ℕ) (p q : Port) → IsFirstAt (map client_of ports) conn at → p ≡ get_or ports at p → client_of q ≡ reading q.decoder (client_of q).left (client_of p) → IsFirstAt (map client_of (slice_set ports at q)) conn at
+fed_place ports conn at p q place is client =
+    let change = reading q.decoder (client_of q).left in
+    first_by_numbers (map client_of ports) (map client_of (slice_set ports at q)) conn at
+    (ap numbers (port_changed ports conn at p q change place is client) ∙ numbers_changed (map client_of ports) conn change (λ c. refl)) place
+
+-- what is always true of a desk does not change with what a client read
+pub desk_reads : {D : Type 0} (honest : D → Type 0) (may_leave : D → List ℕ → Type 0) (b : DeskState D) (conn : ℕ) (change : Client → Client) (cs : List Client) → ((c : Client) → (change c).conn ≡ c.conn)
+    → cs ≡ on_client conn change b.standing.clients → IsDesk honest may_leave b → IsDesk honest may_leave (record b { standing = record b.standing { clients = cs } })
+desk_reads honest may_leave b conn change cs keeps clients is =
+    let new = record b { standing = record b.standing { clients = cs } } in
+    desk_as honest may_leave b new is (record { keeper = refl; groups = refl; synced = refl })
+    (record { handed = is.tied.handed; legal = is.tied.legal; state = is.tied.state })
+    (λ k on. ap (λ (ds : List Client). is_some (find k ds)) clients ∙ found-on_client conn change b.standing.clients k keeps ∙ is.known k on)
 
 module _ {D : Type 0} (honest : D → Type 0) (may_leave : D → List ℕ → Type 0) (moment : D → ℕ) (left_since : D → ℕ → List ℕ → Type 0) (failures : D → ℕ) where
   -- what taking the messages that are left of a connection leaves
@@ -176,6 +214,7 @@ module _ {D : Type 0} (honest : D → Type 0) (may_leave : D → List ℕ → Ty
     where
       same_err : {x y : DeskFault} → ◌≡◌ {A = Result (Unit {0}) DeskFault} (Err x) (Err y) → x ≡ y
       same_err e = cc
+
       again : (fed : Bool) → (fault ≡ keeper.NoMemory) × (false ≡ fed) → (t : Standing) → TakesBytes b.standing (find conn b.standing.clients) (if fed then [] else piece) t → TakesBytes a.standing (find conn a.standing.clients) piece t
       again fed is t h =
           let asked : ◌≡◌ {A = Result (Unit {0}) Fault} (Err fault) (Err keeper.NoMemory) = ap (λ (f : Fault). Err f) is.0 in
@@ -191,12 +230,12 @@ module _ {D : Type 0} (honest : D → Type 0) (may_leave : D → List ℕ → Ty
       record {
         desk_is = left.desk_is;
         taken =
-          bytes_from a.standing conn c piece b.standing here
-          (record {
-            mid = b.standing;
-            leftovers = left.taken;
-            reading = subst (λ (on : Bool). MatchBool on (TakesPiece b.standing conn c.decoder piece b.standing) (b.standing ≡ b.standing)) (sym off) refl;
-          });
+            bytes_from a.standing conn c piece b.standing here
+            (record {
+              mid = b.standing;
+              leftovers = left.taken;
+              reading = subst (λ (on : Bool). MatchBool on (TakesPiece b.standing conn c.decoder piece b.standing) (b.standing ≡ b.standing)) (sym off) refl;
+            });
         again = λ fed e. cc;
         owes = left.owes;
         outputs_are = left_outputs conn at a b (Ok tt) left;
@@ -206,7 +245,7 @@ module _ {D : Type 0} (honest : D → Type 0) (may_leave : D → List ℕ → Ty
         written = λ e. cc;
       }
 
-  all_taken : (conn at : ℕ) (a b : DeskState D) → TookLeft conn at a (Ok tt) b → left_of b.standing conn ≡ []
+  pub all_taken : (conn at : ℕ) (a b : DeskState D) → TookLeft conn at a (Ok tt) b → left_of b.standing conn ≡ []
   all_taken conn at a b left =
       ap (λ (cs : List Client). left_among (find conn cs)) (takes_all-keeps (with_left a.standing conn []) conn (left_of a.standing conn) b.standing left.taken)
       ∙ left_emptied conn a.standing.clients
@@ -229,8 +268,10 @@ module _ {D : Type 0} (honest : D → Type 0) (may_leave : D → List ℕ → Ty
     where
       same_err : {x y : DeskFault} → ◌≡◌ {A = Result (Unit {0}) DeskFault} (Err x) (Err y) → x ≡ y
       same_err e = cc
+
       none : left_of b.standing conn ≡ []
       none = all_taken conn at a b left
+
       again : (fed : Bool) → false ≡ fed → (t : Standing) → TakesBytes b.standing (find conn b.standing.clients) (if fed then [] else piece) t → TakesBytes a.standing (find conn a.standing.clients) piece t
       again fed is t h =
           let whole = subst (λ (b' : Bool). TakesBytes b.standing (find conn b.standing.clients) (if b' then [] else piece) t) (sym is) h in
@@ -249,6 +290,24 @@ module _ {D : Type 0} (honest : D → Type 0) (may_leave : D → List ℕ → Ty
     pub standing_is : new.standing ≡ record old.standing { clients = on_client conn (reading decoder more) old.standing.clients }
     pub keeper_is : new.keeper ≡ old.keeper
     pub synced_is : new.synced ≡ old.synced
+
+  abbrev pub fed_by : (conn at : ℕ) (piece : List ℕ) (b : DeskState D) (ports : List Port) (p q : Port) → b.standing.clients ≡ map client_of ports → IsFirstAt (map client_of ports) conn at → p ≡ get_or ports at p
+      → Reads p.decoder q.decoder piece (client_of q).left → client_of q ≡ reading q.decoder (client_of q).left (client_of p)
+      → HasFed conn piece b (record b { standing = record b.standing { clients = map client_of (slice_set ports at q) } })
+  fed_by conn at piece b ports p q clients place is reads client =
+      let change = reading q.decoder (client_of q).left in
+      record {
+        client = client_of p;
+        decoder = q.decoder;
+        more = (client_of q).left;
+        here = port_is_here b.standing ports conn at p clients place is;
+        reads = reads;
+        standing_is =
+            ap (λ (cs : List Client). record b.standing { clients = cs })
+            (port_changed ports conn at p q change place is client ∙ ap (on_client conn change) (sym clients));
+        keeper_is = refl;
+        synced_is = refl;
+      }
 
   fed_store : (conn : ℕ) (piece : List ℕ) (b m : DeskState D) → HasFed conn piece b m → HasStore b m
   fed_store conn piece b m fed = record { keeper = fed.keeper_is; groups = ap (λ (u : Standing). u.groups) fed.standing_is; synced = fed.synced_is }
@@ -313,8 +372,10 @@ module _ {D : Type 0} (honest : D → Type 0) (may_leave : D → List ℕ → Ty
     where
       same_err : {x y : DeskFault} → ◌≡◌ {A = Result (Unit {0}) DeskFault} (Err x) (Err y) → x ≡ y
       same_err e = cc
+
       none : left_of b.standing conn ≡ []
       none = all_taken conn at a b left
+
       again : (other : Bool) → (fault ≡ keeper.NoMemory) × (true ≡ other) → (t : Standing) → TakesBytes n.standing (find conn n.standing.clients) (if other then [] else piece) t → TakesBytes a.standing (find conn a.standing.clients) piece t
       again other is t h =
           let asked : ◌≡◌ {A = Result (Unit {0}) Fault} (Err fault) (Err keeper.NoMemory) = ap (λ (f : Fault). Err f) is.0 in
@@ -347,12 +408,12 @@ module _ {D : Type 0} (honest : D → Type 0) (may_leave : D → List ℕ → Ty
       record {
         desk_is = desk_is;
         taken =
-          bytes_from a.standing conn c piece p.standing here
-          (record {
-            mid = b.standing;
-            leftovers = left.taken;
-            reading = subst (λ (x : Bool). MatchBool x (TakesPiece b.standing conn c.decoder piece p.standing) (p.standing ≡ b.standing)) (sym on) piece_is;
-          });
+            bytes_from a.standing conn c piece p.standing here
+            (record {
+              mid = b.standing;
+              leftovers = left.taken;
+              reading = subst (λ (x : Bool). MatchBool x (TakesPiece b.standing conn c.decoder piece p.standing) (p.standing ≡ b.standing)) (sym on) piece_is;
+            });
         again = λ other e. cc;
         owes = ap (λ (u : Standing). u.owes) after ∙ behind.owes ∙ rest.owes ∙ ap (λ (u : Standing). u.owes) fed.standing_is ∙ left.owes;
         outputs_are = ap outputs after ∙ behind.outputs_are ∙ left_outputs conn at m n (Ok tt) rest ∙ fed_outputs conn piece b m fed ∙ left_outputs conn at a b (Ok tt) left;

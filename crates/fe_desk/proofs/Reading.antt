@@ -159,6 +159,7 @@ roomy_is_made s conn = behind (has_room (begun_room s conn).front)
     begun : (b : Bool) → is_making s conn ≡ b → is_making (if b then made (cleared s) else s) conn ≡ false
     begun true e = refl
     begun false e = e
+
     behind : (b : Bool) → is_making (if b then begun_room s conn else made (committed (cleared (begun_room s conn)))) conn ≡ false
     behind true = begun (is_making s conn) refl
     behind false = refl
@@ -271,11 +272,14 @@ rest_again mid u conn ns d e piece t is h = by (is_connected h.mid.front conn) r
   where
     taken : TakesAll (with_decoder mid conn e) conn is.more h.mid
     taken = is.again h.mid h.leftovers
+
     none : left_of h.mid conn ≡ []
     none = ap (λ (cs : List Client). left_among (find conn cs)) (takes_all-keeps (with_left u conn []) conn ns h.mid h.leftovers) ∙ left_emptied conn u.clients
+
     stays : (b : Bool) → is_connected h.mid.front conn ≡ false → h.mid ≡ after_frame b h.mid conn
     stays true off = sym (gone_already h.mid conn off (made_after (with_left u conn []) conn ns h.mid is.some h.leftovers) none)
     stays false off = refl
+
     by : (b : Bool) → is_connected h.mid.front conn ≡ b → MatchBool b (TakesPiece h.mid conn e [] t) (t ≡ h.mid) → TakesPiece mid conn d piece t
     by true on p =
         record {

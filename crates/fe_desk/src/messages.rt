@@ -41,8 +41,9 @@ impl<D: Disk> Parts<D> {
         let Some(at) = self.place_of(conn) else {
             return Ok(());
         };
-        self.take_left(at, conn)
-            .map_err(|fault| told(fault, false))?;
+        if let Err(fault) = self.take_left(at, conn) {
+            return Err(told(fault, false));
+        }
         // The messages that were left may have made the connection gone, as one that meets a full box does.
         if !self.front.connected(conn) {
             return Ok(());
@@ -50,7 +51,9 @@ impl<D: Disk> Parts<D> {
         let Ok(bad) = self.trace.ports[at].feed(self.alloc, piece) else {
             return Err(DeskFault::NoMemory { fed: false });
         };
-        self.take_left(at, conn).map_err(|fault| told(fault, true))?;
+        if let Err(fault) = self.take_left(at, conn) {
+            return Err(told(fault, true));
+        }
         if bad {
             self.leave(conn);
         }
