@@ -4,7 +4,6 @@ use Rattle.std.specs.Prelude.{◌↔◌, ◌||◌, nat_eq, nat_le, Result, Ok, E
 use Rattle.std.proofs.lemmas.Bool.Decides.{nat_tests}
 use Rattle.fe_disk.specs.Disk.{LeavesOnly}
 use Rattle.fe_state.specs.State.{ServerState}
-use Rattle.fe_state.specs.declared.batch.Batch.{Batch}
 use Rattle.fe_state.specs.declared.entry.Entry.{Entry}
 use Rattle.fe_front.specs.Front.{FrontState, has_room}
 use Rattle.fe_front.specs.Steps as front
