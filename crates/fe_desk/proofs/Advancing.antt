@@ -1,5 +1,5 @@
 -- How a desk's store goes on: over calls one after the other, and over what does not touch it.
-use Rattle.std.proofs.Common.{◌≡◌, ℕ, ◌≤◌, Bool, true, false, List, [], ◌∷◌, ◌++◌, length, take, refl, sym, ap, subst, ◌∙◌, append_assoc, arith}
+use Rattle.std.proofs.Common.{◌≡◌, ℕ, ◌≤◌, true, false, List, [], ◌++◌, length, take, refl, sym, ap, subst, ◌∙◌, append_assoc, arith}
 use Rattle.std.specs.Prelude.{is_some}
 use Rattle.std.proofs.lemmas.List.{append-nil, length-append, take-append-le}
 use Rattle.fe_disk.specs.Disk.{LeavesOnly}
@@ -7,11 +7,10 @@ use Rattle.fe_disk.proofs.Moments.{started, joined, weaker}
 use Rattle.fe_state.specs.State.{ServerState, after_all}
 use Rattle.fe_state.specs.History.{IsHistory, AreLegal, after_groups}
 use Rattle.fe_state.specs.declared.entry.Entry.{Entry}
-use Rattle.fe_front.specs.Front.{FrontState, is_connected}
-use Rattle.fe_front.specs.declared.out.Out.{Out}
+use Rattle.fe_front.specs.Front.{is_connected}
 use Rattle.fe_keeper.specs.Keeper.{KeeperState}
 use Rattle.fe_desk.specs.declared.handed.Handed.{Handed}
-use Rattle.fe_desk.specs.Standing.{Client, Standing}
+use Rattle.fe_desk.specs.Standing.{Standing}
 use Rattle.fe_desk.specs.Steps.{find}
 use Rattle.fe_desk.specs.Crash.{DeskState, IsFrom, LeavesPrefix, Advances, IsFine, disk_of}
 use Rattle.fe_desk.specs.Desk.{IsTied, IsDesk, IsHanded, unstored, cut_entries}

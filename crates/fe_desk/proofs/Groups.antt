@@ -1,11 +1,11 @@
 -- A batch that is handed to the store, as a group of the history.
-use Rattle.std.proofs.Common.{◌≡◌, ◌≢◌, ◌⊎◌, inl, inr, ⊎_elim, ℕ, ◌+◌, ◌-◌, ◌<◌, ◌≤◌, Bool, true, false, List, [], ◌∷◌, ◌++◌, length, take, refl, sym, ap, subst, ◌∙◌, arith}
-use Rattle.std.specs.Prelude.{◌↔◌, Option, Some, None, IfSome, is_some, Result, Ok, Err, is_ok, is_err, if◌then◌else◌, map}
+use Rattle.std.proofs.Common.{◌≡◌, ◌⊎◌, inl, inr, ⊎_elim, ℕ, ◌+◌, ◌-◌, ◌<◌, ◌≤◌, Bool, true, false, List, [], ◌∷◌, ◌++◌, length, take, refl, sym, ap, subst, ◌∙◌, arith}
+use Rattle.std.specs.Prelude.{◌↔◌, Option, Some, None, IfSome, is_some, OnOk, IsErr, Result, Ok, Err, is_ok, is_err, if◌then◌else◌, map}
 use Rattle.std.specs.Option.{option_map_or}
 use Rattle.std.proofs.lemmas.List.{append-nil, length-append, map-append, take-append-le, take_all}
 use Rattle.fe_disk.specs.Disk.{LeavesOnly}
 use Rattle.fe_disk.proofs.Moments.{weaker}
-use Rattle.fe_state.specs.State.{ServerState, IsLegal, after, after_all}
+use Rattle.fe_state.specs.State.{ServerState, after, after_all}
 use Rattle.fe_state.specs.History.{IsHistory, AreLegal, after_groups}
 use Rattle.fe_state.specs.declared.batch.Batch.{Batch}
 use Rattle.fe_state.specs.declared.entry.Entry.{Entry}
@@ -14,19 +14,22 @@ use Rattle.fe_service.proofs.Turns.{turns_place}
 use Rattle.fe_replica.specs.Taking.{IsMismatch, Elsewhere, Empty, Illegal}
 use Rattle.fe_front.specs.Front as front
 use Rattle.fe_front.specs.Front.{FrontState, out_length, is_connected}
-use Rattle.fe_front.specs.Posting.{IsOut}
+use Rattle.fe_front.specs.Posting.{IsOut, posted}
+use Rattle.fe_front.proofs.Keeping.{posted_all-keeps}
 use Rattle.fe_front.specs.declared.out.Out.{Out}
-use Rattle.fe_keeper.specs.Keeper.{KeeperState, StoreState, Progress, fits, must_begin, made_room, renewed, finished_by}
+use Rattle.fe_keeper.specs.Keeper.{StoreState, Progress, fits, must_begin, made_room, renewed, finished_by}
 use Rattle.fe_keeper.specs.declared.fault.Fault.{Fault}
 use Rattle.fe_keeper.specs.declared.fault.Fault.TheVariants.{Device, Failed, NoMemory, Mismatch}
 use Rattle.fe_keeper.specs.Stands.{StandsFor, StandsForEither, EachStandsFor}
-use Rattle.fe_desk.specs.declared.handed.Handed.TheVariants.{Cut, Stored}
+use Rattle.fe_desk.specs.declared.handed.Handed.{Handed}
+use Rattle.fe_desk.specs.declared.handed.Handed.TheVariants.{Nothing, Cut, Stored}
 use Rattle.fe_desk.specs.Standing.{Standing}
-use Rattle.fe_desk.specs.Storing.{handing}
+use Rattle.fe_desk.specs.Storing.{handing, stored, stored_from}
 use Rattle.fe_desk.specs.Steps.{find}
 use Rattle.fe_desk.proofs.Advancing.{prefix_more}
+use Rattle.fe_desk.proofs.Coming.{pending-posted}
 use Rattle.fe_desk.specs.Crash.{DeskState, IsFrom, LeavesPrefix, Advances, disk_of}
-use Rattle.fe_desk.specs.Desk.{IsTied, IsDesk}
+use Rattle.fe_desk.specs.Desk.{IsHanded, IsTied, IsDesk, cut_entries, unstored}
 
 -- ---- entries behind entries
 
@@ -80,6 +83,35 @@ pub tied_cut : (s : Standing) (groups : List (List Entry)) (replica next : Serve
 tied_cut s groups replica next batch back same is tied =
     subst (λ (r : ServerState). IsTied (record (handing s (Cut back)) { groups = groups }) r) (sym is)
     (subst (λ (b : Batch). IsTied (record (handing s (Cut b)) { groups = groups }) replica) (sym same) (record { handed = tied.handed; legal = tied.legal; state = tied.state }))
+
+-- no batch is cut: there is none to store
+pub not_cut : (s : Standing) → ((batch : Batch) → s.handed ≡ Cut batch → ⊥) → stored s ≡ s
+not_cut s none = by s.handed none
+  where
+    by : (h : Handed) → ((batch : Batch) → h ≡ Cut batch → ⊥) → stored_from h s ≡ s
+    by Nothing none = refl
+    by (Stored batch) none = refl
+    by (Cut batch) none = absurd (none batch refl)
+
+-- ---- a batch that is posted
+
+-- the batch that is out is not refused
+pub posts : {T E : Type 0} (r : Result T E) (f g : FrontState) (batch : Batch) → (IsErr r ↔ (IsOut f.out batch → ⊥)) → OnOk r (g ≡ posted f batch) → IsOut f.out batch → g ≡ posted f batch
+posts (Ok x) f g batch refused clause out = clause
+posts (Err e) f g batch refused clause out = absurd (refused.0 refl out)
+
+pub tied_posted : (s t : Standing) (replica : ServerState) (batch : Batch) → s.handed ≡ Stored batch → t.handed ≡ Nothing → t.front ≡ posted s.front batch → IsTied s replica → IsTied t replica
+tied_posted s t replica batch handed after is tied =
+    let pending : t.front.service.pending ≡ s.front.service.pending = pending-posted s.front t.front batch is in
+    let state : t.front.service.state ≡ s.front.service.state = ap (λ (f : FrontState). f.service.state) is ∙ (posted_all-keeps s.front batch.entries batch.first).state in
+    let out : t.front.out ≡ None = ap (λ (f : FrontState). f.out) is in
+    let before : unstored s ≡ s.front.service.pending = ap (λ (h : Handed). cut_entries h ++ s.front.service.pending) handed in
+    let same : unstored t ≡ unstored s = ap (λ (h : Handed). cut_entries h ++ t.front.service.pending) after ∙ pending ∙ sym before in
+    record {
+      handed = subst (λ (h : Handed). IsHanded h t.front.out) (sym after) out;
+      legal = subst (λ (es : List Entry). AreLegal replica es) (sym same) tied.legal;
+      state = state ∙ tied.state ∙ ap (λ (es : List Entry). after_all replica es) (sym same);
+    }
 
 -- ---- the groups of the trace
 

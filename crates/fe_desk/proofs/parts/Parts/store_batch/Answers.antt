@@ -1,15 +1,14 @@
-use Rattle.std.proofs.Common.{◌≡◌, inl, inr, ℕ, Bool, false, List, ◌∷◌, [], ◌++◌, length, refl, sym, ap, subst, ◌∙◌, arith}
+use Rattle.std.proofs.Common.{◌≡◌, inl, inr, false, ◌∷◌, [], ◌++◌, length, refl, sym, ap, subst, ◌∙◌, arith}
 use Rattle.std.specs.Prelude.{map}
 use Rattle.std.proofs.lemmas.List.{length-map}
-use Rattle.fe_state.specs.State.{ServerState, after_all}
+use Rattle.fe_state.specs.State.{after_all}
 use Rattle.fe_state.specs.declared.batch.Batch.{Batch}
-use Rattle.fe_state.specs.declared.entry.Entry.{Entry}
 use Rattle.fe_keeper.specs.Keeper.{StoreState}
 use Rattle.fe_keeper.specs.declared.fault.Fault.{Fault}
-use Rattle.fe_keeper.specs.declared.fault.Fault.TheVariants.{Device, NoMemory}
+use Rattle.fe_keeper.specs.declared.fault.Fault.TheVariants.{Device}
 use Rattle.fe_desk.specs.declared.handed.Handed.TheVariants.{Cut}
 use Rattle.fe_desk.specs.Storing.{handing}
-use Rattle.fe_desk.specs.Crash.{HasFailed, Tells, with_handed}
+use Rattle.fe_desk.specs.Crash.{Tells, with_handed}
 use Rattle.fe_desk.specs.Desk.{desk_of, standing_of, IsTied}
 use Rattle.fe_desk.proofs.Advancing.{advances_itself, advances_as}
 use Rattle.fe_desk.proofs.Groups.{legal_both, tied_stored, tied_cut, pushed, unpushed, popped, appends_working, advances_group, begins_there, no_mismatch, only_device, desk_stored, desk_torn, desk_kept, advances_kept}
