@@ -13,3 +13,4 @@ pub mod StepParts
 pub mod Leftovers
 pub mod Reading
 pub mod Pieces
+pub mod Making

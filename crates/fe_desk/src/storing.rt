@@ -1,13 +1,13 @@
 //! The way of a batch: it is cut, stored as a group, and posted.
 
-ghost use Rattle.std.specs.Prelude.{◌≡◌, false, Some, Ok, IsTrue, IfOk, IfErr, OnOk, OnErr, IsErrOf};
+ghost use Rattle.std.specs.Prelude.{◌≡◌, ◌⊎◌, false, Some, Ok, IsTrue, IfOk, IfErr, OnOk, OnErr, IsErrOf};
 ghost use Rattle.fe_state.specs.declared.batch.Batch.{Batch};
 ghost use Rattle.fe_front.specs.Front.{has_room};
 ghost use Rattle.fe_keeper.specs.declared.fault.Fault.TheVariants.{Device, NoMemory};
 ghost use Rattle.fe_desk.specs.declared.handed.Handed.TheVariants.{Cut};
 ghost use Rattle.fe_desk.specs.Standing.{Standing};
 ghost use Rattle.fe_desk.specs.Storing as way;
-ghost use Rattle.fe_desk.specs.Storing.{handing, stored, posted, cleared, roomy};
+ghost use Rattle.fe_desk.specs.Storing.{handing, stored, posted, cleared, made, committed, begun_room, roomy};
 ghost use Rattle.fe_desk.specs.Crash.{Advances, IsFine, Tells, with_handed};
 ghost use Rattle.fe_desk.specs.Desk.{desk_of, standing_of, IsDesk};
 
@@ -118,6 +118,7 @@ impl<D: Disk> Parts<D> {
         ensures desk { IsDesk D.honest D.may_leave (desk_of self.new) }
         ensures cleared { OnOk result (standing_of self.new ≡ cleared (standing_of self.old)) }
         ensures memory { IsErrOf result NoMemory → standing_of self.new ≡ standing_of self.old }
+        ensures owes { self.new.owes ≡ self.old.owes }
         ensures ports { self.new.trace.ports ≡ self.old.trace.ports }
         ensures advances { Advances D.honest D.moment D.left_since (desk_of self.old) (desk_of self.new) }
         ensures fine { OnOk result (IsFine D.failures (desk_of self.old) (desk_of self.new)) }
@@ -142,13 +143,48 @@ impl<D: Disk> Parts<D> {
         ensures fine { OnOk result (IsFine D.failures (desk_of self.old) (desk_of self.new)) }
         ensures fault { IfErr result (Tells D.failures (desk_of self.old) (desk_of self.new)) }
     {
+        self.go_on(conn)?;
+        if self.front.room() {
+            return Ok(());
+        }
+        self.commit(conn)
+    }
+
+    /// Goes on with the room that was begun for a message of this connection, if it was.
+    fn go_on(&mut self, conn: u64) -> Result<(), Fault>
+        requires desk { IsDesk D.honest D.may_leave (desk_of self.old) }
+        requires works { self.old.keeper.store.has_failed ≡ false }
+        ensures desk { IsDesk D.honest D.may_leave (desk_of self.new) }
+        ensures begun { OnOk result (standing_of self.new ≡ begun_room (standing_of self.old) conn) }
+        ensures memory { IsErrOf result NoMemory → standing_of self.new ≡ standing_of self.old }
+        ensures owes { self.new.owes ≡ self.old.owes }
+        ensures ports { self.new.trace.ports ≡ self.old.trace.ports }
+        ensures advances { Advances D.honest D.moment D.left_since (desk_of self.old) (desk_of self.new) }
+        ensures fine { OnOk result (IsFine D.failures (desk_of self.old) (desk_of self.new)) }
+        ensures fault { IfErr result (Tells D.failures (desk_of self.old) (desk_of self.new)) }
+    {
         if self.making == Some(conn) {
             self.clear()?;
             self.making = None;
         }
-        if self.front.room() {
-            return Ok(());
-        }
+        Ok(())
+    }
+
+    /// Stores and posts what is out, and then what is pending. Where memory is short behind the cut, room is begun for
+    /// this connection.
+    fn commit(&mut self, conn: u64) -> Result<(), Fault>
+        requires desk { IsDesk D.honest D.may_leave (desk_of self.old) }
+        requires works { self.old.keeper.store.has_failed ≡ false }
+        ensures desk { IsDesk D.honest D.may_leave (desk_of self.new) }
+        ensures committed { OnOk result (standing_of self.new ≡ made (committed (cleared (standing_of self.old)))) }
+        ensures memory { IsErrOf result NoMemory
+            → (standing_of self.new ≡ standing_of self.old) ⊎ (begun_room (standing_of self.new) conn ≡ made (committed (cleared (standing_of self.old)))) }
+        ensures owes { self.new.owes ≡ self.old.owes }
+        ensures ports { self.new.trace.ports ≡ self.old.trace.ports }
+        ensures advances { Advances D.honest D.moment D.left_since (desk_of self.old) (desk_of self.new) }
+        ensures fine { OnOk result (IsFine D.failures (desk_of self.old) (desk_of self.new)) }
+        ensures fault { IfErr result (Tells D.failures (desk_of self.old) (desk_of self.new)) }
+    {
         self.clear()?;
         self.cut();
         self.making = Some(conn);
