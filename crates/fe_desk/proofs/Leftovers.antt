@@ -48,11 +48,11 @@ tied_enters s t replica es handed enters tied =
     record {
       handed = subst (λ h. IsHanded h t.front.out) (sym handed) (subst (λ o. IsHanded s.handed o) (sym enters.out) tied.handed);
       legal =
-        subst (AreLegal replica) (sym more)
-        (legal-append replica (unstored s) es tied.legal (subst (λ (x : ServerState). AreLegal x es) tied.state enters.legal));
+          subst (AreLegal replica) (sym more)
+          (legal-append replica (unstored s) es tied.legal (subst (λ (x : ServerState). AreLegal x es) tied.state enters.legal));
       state =
-        enters.state ∙ ap (λ (x : ServerState). after_all x es) tied.state ∙ sym (after-append replica (unstored s) es)
-        ∙ ap (after_all replica) (sym more);
+          enters.state ∙ ap (λ (x : ServerState). after_all x es) tied.state ∙ sym (after-append replica (unstored s) es)
+          ∙ ap (after_all replica) (sym more);
     }
 
 -- a desk where entries entered and a client changed
@@ -114,8 +114,8 @@ port_next s ports conn at p q m es g clients place is first client takes =
       first = ap (λ (cs : List Client). left_among (find conn cs)) clients ∙ left_here ports conn at p place is ∙ first;
       takes = takes;
       after =
-        ap (λ (cs : List Client). record s { front = g; clients = cs })
-        (port_changed ports conn at p q (relieved (client_of q).left) place is client ∙ ap (on_client conn (relieved (client_of q).left)) (sym clients));
+          ap (λ (cs : List Client). record s { front = g; clients = cs })
+          (port_changed ports conn at p q (relieved (client_of q).left) place is client ∙ ap (on_client conn (relieved (client_of q).left)) (sym clients));
     }
 
 -- ---- one message
@@ -134,9 +134,9 @@ next_one s r t conn room next =
       front = next.front;
       takes = subst (λ (u : Standing). Takes u.front conn next.message next.entries next.front) (sym roomy_is) next.takes;
       after =
-        ap (λ (u : Standing). with_left u conn []) next.after
-        ∙ ap (λ (ds : List Client). record r { clients = ds; front = next.front }) clients
-        ∙ ap (λ (u : Standing). record u { front = next.front }) (sym roomy_is);
+          ap (λ (u : Standing). with_left u conn []) next.after
+          ∙ ap (λ (ds : List Client). record r { clients = ds; front = next.front }) clients
+          ∙ ap (λ (u : Standing). record u { front = next.front }) (sym roomy_is);
     }
 
 -- ---- as far as messages were taken
@@ -172,9 +172,9 @@ taken_next conn s a r t here room owes taken next =
     let left : left_of t conn ≡ next.left = ap (λ (cs : List Client). left_among (find conn cs)) clients ∙ left-relieved conn next.left s.clients here in
     record {
       again = λ v h.
-        taken.again v
-        (subst (λ (ms : List ClientMessage). TakesAll (with_left a conn []) conn ms v) (sym before)
-        (with_left t conn [], next_one a r t conn room next, subst (λ (ms : List ClientMessage). TakesAll (with_left t conn []) conn ms v) left h));
+          taken.again v
+          (subst (λ (ms : List ClientMessage). TakesAll (with_left a conn []) conn ms v) (sym before)
+          (with_left t conn [], next_one a r t conn room next, subst (λ (ms : List ClientMessage). TakesAll (with_left t conn []) conn ms v) left h));
       clients = clients ∙ ap (λ (ms : List ClientMessage). on_client conn (relieved ms) s.clients) (sym left);
       owes = ap (λ (u : Standing). u.owes) next.after ∙ owes ∙ taken.owes;
     }

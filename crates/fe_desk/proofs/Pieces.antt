@@ -100,8 +100,10 @@ frame_stays true s conn = by (is_making s conn)
   where
     left : (u : Standing) → outputs (with_left u conn []) ≡ outputs u
     left u = outputs_changed u (with_left u conn []) conn (relieved []) (λ d. refl) (λ d. refl) refl
+
     of : (u : Standing) → u.owes ≡ s.owes → outputs u ≡ outputs s → StaysBehind s (record (with_left u conn []) { front = (gone s conn).front })
     of u owes same = record { owes = owes; outputs_are = left u ∙ same }
+
     by : (b : Bool) → StaysBehind s (record (with_left (if b then record s { making = None } else s) conn []) { front = (gone s conn).front })
     by true = of (record s { making = None }) refl refl
     by false = of s refl refl
@@ -176,6 +178,7 @@ module _ {D : Type 0} (honest : D → Type 0) (may_leave : D → List ℕ → Ty
     where
       same_err : {x y : DeskFault} → ◌≡◌ {A = Result (Unit {0}) DeskFault} (Err x) (Err y) → x ≡ y
       same_err e = cc
+
       again : (fed : Bool) → (fault ≡ keeper.NoMemory) × (false ≡ fed) → (t : Standing) → TakesBytes b.standing (find conn b.standing.clients) (if fed then [] else piece) t → TakesBytes a.standing (find conn a.standing.clients) piece t
       again fed is t h =
           let asked : ◌≡◌ {A = Result (Unit {0}) Fault} (Err fault) (Err keeper.NoMemory) = ap (λ (f : Fault). Err f) is.0 in
@@ -191,12 +194,12 @@ module _ {D : Type 0} (honest : D → Type 0) (may_leave : D → List ℕ → Ty
       record {
         desk_is = left.desk_is;
         taken =
-          bytes_from a.standing conn c piece b.standing here
-          (record {
-            mid = b.standing;
-            leftovers = left.taken;
-            reading = subst (λ (on : Bool). MatchBool on (TakesPiece b.standing conn c.decoder piece b.standing) (b.standing ≡ b.standing)) (sym off) refl;
-          });
+            bytes_from a.standing conn c piece b.standing here
+            (record {
+              mid = b.standing;
+              leftovers = left.taken;
+              reading = subst (λ (on : Bool). MatchBool on (TakesPiece b.standing conn c.decoder piece b.standing) (b.standing ≡ b.standing)) (sym off) refl;
+            });
         again = λ fed e. cc;
         owes = left.owes;
         outputs_are = left_outputs conn at a b (Ok tt) left;
@@ -229,8 +232,10 @@ module _ {D : Type 0} (honest : D → Type 0) (may_leave : D → List ℕ → Ty
     where
       same_err : {x y : DeskFault} → ◌≡◌ {A = Result (Unit {0}) DeskFault} (Err x) (Err y) → x ≡ y
       same_err e = cc
+
       none : left_of b.standing conn ≡ []
       none = all_taken conn at a b left
+
       again : (fed : Bool) → false ≡ fed → (t : Standing) → TakesBytes b.standing (find conn b.standing.clients) (if fed then [] else piece) t → TakesBytes a.standing (find conn a.standing.clients) piece t
       again fed is t h =
           let whole = subst (λ (b' : Bool). TakesBytes b.standing (find conn b.standing.clients) (if b' then [] else piece) t) (sym is) h in
@@ -313,8 +318,10 @@ module _ {D : Type 0} (honest : D → Type 0) (may_leave : D → List ℕ → Ty
     where
       same_err : {x y : DeskFault} → ◌≡◌ {A = Result (Unit {0}) DeskFault} (Err x) (Err y) → x ≡ y
       same_err e = cc
+
       none : left_of b.standing conn ≡ []
       none = all_taken conn at a b left
+
       again : (other : Bool) → (fault ≡ keeper.NoMemory) × (true ≡ other) → (t : Standing) → TakesBytes n.standing (find conn n.standing.clients) (if other then [] else piece) t → TakesBytes a.standing (find conn a.standing.clients) piece t
       again other is t h =
           let asked : ◌≡◌ {A = Result (Unit {0}) Fault} (Err fault) (Err keeper.NoMemory) = ap (λ (f : Fault). Err f) is.0 in
@@ -347,12 +354,12 @@ module _ {D : Type 0} (honest : D → Type 0) (may_leave : D → List ℕ → Ty
       record {
         desk_is = desk_is;
         taken =
-          bytes_from a.standing conn c piece p.standing here
-          (record {
-            mid = b.standing;
-            leftovers = left.taken;
-            reading = subst (λ (x : Bool). MatchBool x (TakesPiece b.standing conn c.decoder piece p.standing) (p.standing ≡ b.standing)) (sym on) piece_is;
-          });
+            bytes_from a.standing conn c piece p.standing here
+            (record {
+              mid = b.standing;
+              leftovers = left.taken;
+              reading = subst (λ (x : Bool). MatchBool x (TakesPiece b.standing conn c.decoder piece p.standing) (p.standing ≡ b.standing)) (sym on) piece_is;
+            });
         again = λ other e. cc;
         owes = ap (λ (u : Standing). u.owes) after ∙ behind.owes ∙ rest.owes ∙ ap (λ (u : Standing). u.owes) fed.standing_is ∙ left.owes;
         outputs_are = ap outputs after ∙ behind.outputs_are ∙ left_outputs conn at m n (Ok tt) rest ∙ fed_outputs conn piece b m fed ∙ left_outputs conn at a b (Ok tt) left;
