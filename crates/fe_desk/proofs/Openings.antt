@@ -1,14 +1,13 @@
 -- A desk as it is opened.
-use Rattle.std.proofs.Common.{◌≡◌, ℕ, ◌≤◌, Bool, true, false, true≢false, List, [], ◌∷◌, ◌++◌, length, take, refl, sym, ap, subst, ◌∙◌, arith}
+use Rattle.std.proofs.Common.{◌≡◌, ℕ, ◌≤◌, true, false, true≢false, List, [], ◌∷◌, ◌++◌, length, take, refl, sym, ap, subst, ◌∙◌, arith}
 use Rattle.std.specs.Prelude.{◌↔◌, Option, Result, Ok, Err, IfOk, IfErr, is_some, map}
 use Rattle.std.specs.Ordering.{nat_cmp}
-use Rattle.std.specs.FinMap.{FinMap, get, empty, get-empty}
+use Rattle.std.specs.FinMap.{FinMap, get, get-empty}
 use Rattle.fe_mail.specs.declared.connection.Connection.{Connection}
 use Rattle.fe_state.specs.State.{ServerState, after_all}
 use Rattle.fe_state.specs.History.{IsHistory, AreLegal, after_groups}
 use Rattle.fe_state.specs.declared.entry.Entry.{Entry}
 use Rattle.fe_front.specs.Front.{FrontState, IsFirst, is_connected}
-use Rattle.fe_front.specs.declared.out.Out.{Out}
 use Rattle.fe_disk.specs.Disk.{Rises}
 use Rattle.fe_keeper.specs.Keeper.{KeeperState}
 use Rattle.fe_keeper.specs.Stands.{StandsFor, EachStandsFor}
@@ -18,12 +17,10 @@ use Rattle.fe_desk.specs.declared.fault.DeskFault.{DeskFault}
 use Rattle.fe_desk.specs.declared.fault.DeskFault.TheVariants.{Store, NoMemory}
 use Rattle.fe_desk.specs.Opened.{disk_after}
 use Rattle.fe_desk.specs.declared.handed.Handed.{Handed}
-use Rattle.fe_desk.specs.declared.handed.Handed.TheVariants.{Nothing}
 use Rattle.fe_desk.specs.declared.parts.Parts.{Parts}
 use Rattle.fe_desk.specs.declared.port.Port.{Port}
 use Rattle.fe_desk.specs.Traces.{IsTraceOf}
 use Rattle.fe_desk.specs.Standing.{Client, Standing, IsFirstStanding}
-use Rattle.fe_desk.specs.Steps.{find}
 use Rattle.fe_desk.specs.Crash.{DeskState, IsFrom, LeavesPrefix, disk_of}
 use Rattle.fe_desk.specs.Desk.{IsDesk, IsTied, IsHanded, unstored, cut_entries, client_of, standing_of}
 

@@ -1,13 +1,11 @@
 -- Runs of steps, one after the other.
-use Rattle.std.proofs.Common.{◌≡◌, ℕ, ◌+◌, ◌≤◌, ◌<◌, Bool, true, false, List, [], ◌∷◌, ◌++◌, length, take, get_or, add-one, zero, suc, Option, Some, None, refl, sym, ap, subst, ◌∙◌, arith}
-use Rattle.std.proofs.lemmas.List.{take_more, take_all, append-nil}
+use Rattle.std.proofs.Common.{◌≡◌, ℕ, ◌+◌, ◌≤◌, ◌<◌, false, List, [], ◌∷◌, ◌++◌, length, take, get_or, add-one, zero, suc, Option, Some, None, refl, sym, ap, subst, ◌∙◌, arith}
+use Rattle.std.proofs.lemmas.List.{take_more, append-nil}
 use Rattle.fe_disk.specs.Disk.{LeavesOnly}
 use Rattle.fe_disk.proofs.Moments.{started, joined, weaker}
 use Rattle.fe_state.specs.State.{ServerState}
-use Rattle.fe_state.specs.History.{IsHistory, after_groups}
 use Rattle.fe_state.specs.declared.entry.Entry.{Entry}
 use Rattle.fe_keeper.specs.Stands.{StandsFor, EachStandsFor}
-use Rattle.fe_keeper.specs.Laws.{StandsForOne}
 use Rattle.fe_desk.specs.declared.fault.DeskFault.{DeskFault}
 use Rattle.fe_desk.specs.declared.step.Step.{Step}
 use Rattle.fe_desk.specs.Runs.{IsTaken, IsSilentAfter, IsRunOf}
@@ -72,10 +70,6 @@ module _ {D : Type 0} (honest : D → Type 0) (may_leave : D → List ℕ → Ty
 pub taken_to : (s last t : Standing) (steps : List Step) (k : ℕ) (fault : DeskFault) → DeskRun s (take k steps) last → IsSilentAfter fault t last → IsTaken s steps t (Some (k + 1, fault))
 taken_to s last t steps k fault run silent =
     subst (λ (n : ℕ). IsTaken s steps t (Some (n, fault))) (sym (add-one k)) (last, run, silent)
-
--- all of them were
-pub all_taken : (s t : Standing) (steps : List Step) (k : ℕ) → length steps ≤ k → DeskRun s (take k steps) t → DeskRun s steps t
-all_taken s t steps k le run = subst (λ (xs : List Step). DeskRun s xs t) (take_all k steps le) run
 
 -- a run from its parts
 pub run_of : {D : Type 0} (honest : D → Type 0) (seen : D → List ℕ) (disk : D) (steps : List Step) (begun : ServerState) (first last : Standing) (t : Trace) (n : ℕ) (fault : Option (ℕ × DeskFault))

@@ -1,6 +1,6 @@
 -- What emptying the boxes keeps of a desk, and how the parts of a step come together.
-use Rattle.std.proofs.Common.{◌≡◌, ℕ, Vec, Global, Bool, true, false, true≢false, List, [], ◌∷◌, ◌++◌, length, refl, sym, ap, subst, ◌∙◌}
-use Rattle.std.specs.Prelude.{nat_eq, is_some, is_err, map, Option, Some, None, Result, Ok, Err, OnOk, OnErr, MatchBool, if◌then◌else◌}
+use Rattle.std.proofs.Common.{◌≡◌, ℕ, Vec, Global, Bool, true, false, true≢false, List, [], ◌∷◌, refl, sym, ap, subst, ◌∙◌}
+use Rattle.std.specs.Prelude.{nat_eq, is_some, is_err, map, Some, None, Result, Ok, Err, OnOk, OnErr, MatchBool, if◌then◌else◌}
 use Rattle.std.specs.declared.alloc.AllocError.{AllocError}
 use Rattle.fe_mail.specs.Connections.{mails_on}
 use Rattle.fe_front.specs.Front.{FrontState, is_connected}
@@ -12,7 +12,6 @@ use Rattle.fe_desk.specs.declared.step.Step.TheVariants as step
 use Rattle.fe_desk.specs.Standing.{Client, Standing, emptied, settled, all_told, all_emptied}
 use Rattle.fe_desk.specs.Steps.{find, Acts, DeskStep, IsAgain, Connects, TakesBytes, unmade, gone}
 use Rattle.fe_desk.specs.Storing.{is_making}
-use Rattle.fe_desk.specs.Messages.{outputs}
 use Rattle.fe_desk.specs.Keeping.{AreToldLater, KeepsFront}
 use Rattle.fe_desk.specs.Desk.{IsDesk, IsTied, client_of, desk_of, standing_of}
 use Rattle.fe_desk.proofs.Advancing.{HasStore, desk_as, tied_as}
