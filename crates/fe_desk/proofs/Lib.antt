@@ -14,3 +14,4 @@ pub mod Leftovers
 pub mod Reading
 pub mod Pieces
 pub mod Making
+pub mod Unchecked

@@ -10,6 +10,7 @@ pub mod Messages
 pub mod Traces
 pub mod Crash
 pub mod Desk
+pub mod Checks
 pub mod Opened
 pub mod Runs
 pub mod Laws

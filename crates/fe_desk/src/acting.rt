@@ -10,6 +10,7 @@ ghost use Rattle.fe_desk.specs.Steps.{DeskStep, Acts, IsAgain};
 ghost use Rattle.fe_desk.specs.Messages.{outputs};
 ghost use Rattle.fe_desk.specs.Crash.{Advances, IsFine, Tells, TellsStep};
 ghost use Rattle.fe_desk.specs.Desk.{desk_of, standing_of, IsDesk};
+ghost use Rattle.fe_desk.specs.Checks.{Checks};
 
 use crate::fault::DeskFault;
 use crate::messages::told;
@@ -26,6 +27,7 @@ impl<D: Disk> Parts<D> {
         requires desk { IsDesk D.honest D.may_leave (desk_of self.old) }
         ensures desk { IsDesk D.honest D.may_leave (desk_of self.new) }
         ensures stepped { OnOk result (DeskStep (standing_of self.old) step.now (standing_of self.new)) }
+        ensures checked { OnOk result (Checks step.now self.old.keeper self.new.keeper) }
         ensures again { (fed : Bool) (next : Steps) (t : Standing) → IsErrOf result (fault.NoMemory fed) → IsAgain fed step.now next
             → DeskStep (standing_of self.new) next t → DeskStep (standing_of self.old) step.now t }
         ensures unwritten { IsErrOf result fault.Unwritten → DeskStep (standing_of self.old) step.now (settled (standing_of self.new)) × (self.new.owes ≡ true) }
@@ -87,6 +89,7 @@ impl<D: Disk> Parts<D> {
         requires works { self.old.keeper.store.has_failed ≡ false }
         ensures desk { IsDesk D.honest D.may_leave (desk_of self.new) }
         ensures acts { OnOk result (Acts (standing_of self.old) step.now (standing_of self.new)) }
+        ensures checked { OnOk result (Checks step.now self.old.keeper self.new.keeper) }
         ensures again { (fed : Bool) (next : Steps) (t : Standing) → IsErrOf result (fault.NoMemory fed) → IsAgain fed step.now next
             → Acts (standing_of self.new) next t → Acts (standing_of self.old) step.now t }
         ensures owes { self.new.owes ≡ self.old.owes }
@@ -126,6 +129,7 @@ impl<D: Disk> Parts<D> {
         requires works { self.old.keeper.store.has_failed ≡ false }
         ensures desk { IsDesk D.honest D.may_leave (desk_of self.new) }
         ensures standing { standing_of self.new ≡ standing_of self.old }
+        ensures checked { OnOk result (Checks step.now self.old.keeper self.new.keeper) }
         ensures advances { Advances D.honest D.moment D.left_since (desk_of self.old) (desk_of self.new) }
         ensures fine { OnOk result (IsFine D.failures (desk_of self.old) (desk_of self.new)) }
         ensures fault { IfErr result (Tells D.failures (desk_of self.old) (desk_of self.new)) }

@@ -8,6 +8,7 @@ ghost use Rattle.fe_desk.specs.declared.fault.DeskFault.TheVariants as fault;
 ghost use Rattle.fe_desk.specs.declared.step.Step.{Step as Steps};
 ghost use Rattle.fe_desk.specs.Standing.{Standing, IsFirstStanding, settled};
 ghost use Rattle.fe_desk.specs.Steps.{DeskStep, Acts, IsAgain};
+ghost use Rattle.fe_desk.specs.Checks.{Checks};
 ghost use Rattle.fe_desk.specs.Messages.{outputs};
 ghost use Rattle.fe_desk.specs.Crash.{DeskState, Advances, IsFrom, IsFine, TellsStep, LeavesPrefix, disk_of};
 ghost use Rattle.fe_desk.specs.Traces.{IsTraceOf};
@@ -79,6 +80,8 @@ impl<D: Disk> Desk<D> {
         ensures again { (fed : Bool) (next : Steps) (t : Standing) → IsErrOf result (fault.NoMemory fed) → IsAgain fed step.now next
             → DeskStep self.new.standing next t → DeskStep self.old.standing step.now t }
         ensures unwritten { IsErrOf result fault.Unwritten → DeskStep self.old.standing step.now (settled self.new.standing) × (self.new.standing.owes ≡ true) }
+        // A checkpoint goes on as the step says.
+        ensures checked { OnOk result (Checks step.now self.old.keeper self.new.keeper) }
         ensures boxes { OnOk result ((conn : ℕ) → mails_on self.new.standing.front.connections conn ≡ []) }
 
         // The groups are a history from the state that was opened. A stop at any moment leaves a prefix of it, with all
