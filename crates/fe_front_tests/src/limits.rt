@@ -53,7 +53,7 @@ fn post_both(rt: &impl Abort, front: &mut Front, long: Batch) {
     assert_eq!(rt; front.durable(), 1);
 }
 
-fn check_batches(rt: &impl Abort, alloc: Global, front: &mut Front) -> Result<(), AllocError> {
+fn check_batches(rt: &impl Abort, alloc: Global, front: &mut Front) -> Result<(), Fail> {
     assert!(rt; is_strange(front, Batch::new(alloc, 0)?));
     come(rt, front, 1, 7);
     post_both(rt, front, long_batch(alloc)?);
@@ -63,7 +63,7 @@ fn check_batches(rt: &impl Abort, alloc: Global, front: &mut Front) -> Result<()
 #[test]
 fn strange_batch(rt: HostRuntime) -> Result<(), Fail> {
     let mut front = new_front(&rt)?;
-    Ok(check_batches(&rt, rt.alloc(), &mut front)?)
+    check_batches(&rt, rt.alloc(), &mut front)
 }
 
 /// A connection with 128 mails in its box.

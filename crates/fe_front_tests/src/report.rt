@@ -58,7 +58,7 @@ fn check_mailed(
     alloc: Global,
     front: &mut Front,
     lines: &str,
-) -> Result<(), AllocError> {
+) -> Result<(), Fail> {
     check_report(rt, alloc, front, lines)?;
     let text = report(alloc, front)?;
     front.mail_text(1, ReportText::new(text));
@@ -70,7 +70,7 @@ fn check_mailed(
 fn wait_report(rt: HostRuntime) -> Result<(), Fail> {
     let mut front = new_front(&rt)?;
     two_wait(&rt, &mut front);
-    Ok(check_mailed(&rt, rt.alloc(), &mut front, TWO_WAIT)?)
+    check_mailed(&rt, rt.alloc(), &mut front, TWO_WAIT)
 }
 
 fn report_at_last(alloc: Global, front: &Front) -> Result<String, AllocError> {
@@ -80,7 +80,7 @@ fn report_at_last(alloc: Global, front: &Front) -> Result<String, AllocError> {
     }
 }
 
-fn check_at_last(rt: &impl Abort, alloc: Global, front: &Front) -> Result<(), AllocError> {
+fn check_at_last(rt: &impl Abort, alloc: Global, front: &Front) -> Result<(), Fail> {
     let text = report_at_last(alloc, front)?;
     assert_eq!(rt; text.as_str(), TWO_WAIT);
     Ok(())
@@ -90,20 +90,20 @@ fn check_at_last(rt: &impl Abort, alloc: Global, front: &Front) -> Result<(), Al
 fn report_where_memory_ends(rt: HostRuntime) -> Result<(), Fail> {
     let mut front = new_front(&rt)?;
     two_wait(&rt, &mut front);
-    Ok(check_at_last(&rt, rt.alloc(), &front)?)
+    check_at_last(&rt, rt.alloc(), &front)
 }
 
 /// Nothing waits, without sessions and with some.
-fn check_none(rt: &impl Abort, alloc: Global, front: &mut Front) -> Result<(), AllocError> {
+fn check_none(rt: &impl Abort, alloc: Global, front: &mut Front) -> Result<(), Fail> {
     check_report(rt, alloc, front, "waiting 0\n")?;
     four_come(rt, front);
-    check_report(rt, alloc, front, "waiting 0\n")
+    Ok(check_report(rt, alloc, front, "waiting 0\n")?)
 }
 
 #[test]
 fn report_of_none(rt: HostRuntime) -> Result<(), Fail> {
     let mut front = new_front(&rt)?;
-    Ok(check_none(&rt, rt.alloc(), &mut front)?)
+    check_none(&rt, rt.alloc(), &mut front)
 }
 
 const ALL_WAIT: &str =
@@ -120,15 +120,15 @@ fn all_wait(rt: &impl Abort, front: &mut Front) {
 }
 
 /// The report is the same before and after the close is posted.
-fn check_all(rt: &impl Abort, alloc: Global, front: &mut Front) -> Result<(), AllocError> {
+fn check_all(rt: &impl Abort, alloc: Global, front: &mut Front) -> Result<(), Fail> {
     check_report(rt, alloc, front, ALL_WAIT)?;
     assert_eq!(rt; commit(rt, front), 6);
-    check_report(rt, alloc, front, ALL_WAIT)
+    Ok(check_report(rt, alloc, front, ALL_WAIT)?)
 }
 
 #[test]
 fn report_where_all_wait(rt: HostRuntime) -> Result<(), Fail> {
     let mut front = new_front(&rt)?;
     all_wait(&rt, &mut front);
-    Ok(check_all(&rt, rt.alloc(), &mut front)?)
+    check_all(&rt, rt.alloc(), &mut front)
 }
