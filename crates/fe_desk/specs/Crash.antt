@@ -1,0 +1,78 @@
+-- What a stop leaves of a desk's store.
+use Rattle.std.specs.Prelude.{◌≡◌, ◌↔◌, ℕ, ◌≤◌, true, false, List, ◌++◌, length, take}
+use Rattle.fe_disk.specs.Disk.{LeavesOnly, Rises}
+use Rattle.fe_state.specs.State.{ServerState}
+use Rattle.fe_state.specs.History.{IsHistory, after_groups}
+use Rattle.fe_state.specs.declared.entry.Entry.{Entry}
+use Rattle.fe_keeper.specs.Keeper.{KeeperState}
+use Rattle.fe_keeper.specs.Prefix.{IsCrashPrefix}
+use Rattle.fe_keeper.specs.Stands.{StandsFor}
+use Rattle.fe_keeper.specs.declared.fault.Fault.{Fault}
+use Rattle.fe_keeper.specs.declared.fault.Fault.TheVariants as keeper
+use Rattle.fe_desk.specs.declared.fault.DeskFault.{DeskFault}
+use Rattle.fe_desk.specs.declared.fault.DeskFault.TheVariants as desk
+use Rattle.fe_desk.specs.declared.handed.Handed.{Handed}
+use Rattle.fe_desk.specs.Standing.{Standing}
+use Rattle.fe_desk.specs.Storing.{handing}
+
+-- a desk as its callers see it: where its run stands, its keeper, and how many of the groups are known to be stored
+pub record DeskState (D : Type 0) : Type 0 where
+  pub standing : Standing
+  pub keeper : KeeperState D
+  pub synced : ℕ
+
+abbrev pub disk_of : {D : Type 0} → DeskState D → D
+disk_of d = d.keeper.store.disk
+
+-- a desk with this batch on its way to the store
+abbrev pub with_handed : {D : Type 0} → DeskState D → Handed → DeskState D
+with_handed d handed = record d { standing = handing d.standing handed }
+
+-- The groups are a history from the state that was opened, and those that are stored lead to the replica.
+pub record IsFrom {D : Type 0} (begun : ServerState) (d : DeskState D) : Type 0 where
+  pub history : IsHistory begun d.standing.groups
+  pub replica : d.keeper.state ≡ after_groups begun (take d.synced d.standing.groups)
+
+-- an image stands for the state after whole groups from the front of a history, k of them at least
+pub record LeavesPrefix (begun : ServerState) (groups : List (List Entry)) (k : ℕ) (image : List ℕ) : Type 0 where
+  pub state : ServerState
+  pub stands : StandsFor image state
+  pub prefix : IsCrashPrefix begun groups k state
+
+-- Calls go on with the store: the groups get more behind them, no fewer are stored, and at every moment each image that a
+-- stop leaves stands for a prefix of the history, which holds all groups that were stored before.
+pub record Advances {D : Type 0} (honest : D → Type 0) (moment : D → ℕ) (left_since : D → ℕ → List ℕ → Type 0) (old new : DeskState D) : Type 0 where
+  pub more : List (List Entry)
+  pub groups : new.standing.groups ≡ old.standing.groups ++ more
+  pub synced : old.synced ≤ new.synced
+  pub from : (begun : ServerState) → IsFrom begun old → IsFrom begun new
+  pub any_moment : honest (disk_of old) → old.keeper.store.has_failed ≡ false → (begun : ServerState) → IsFrom begun old
+      → LeavesOnly moment left_since (disk_of old) (disk_of new) (LeavesPrefix begun new.standing.groups old.synced)
+  pub honesty : honest (disk_of new) ↔ honest (disk_of old)
+
+-- ---- what calls answer of the store
+
+-- the disk works, and no call of it failed
+pub record IsFine {D : Type 0} (failures : D → ℕ) (old new : DeskState D) : Type 0 where
+  pub works : new.keeper.store.has_failed ≡ false
+  pub still : failures (disk_of new) ≡ failures (disk_of old)
+
+-- a call of the disk failed
+pub record HasFailed {D : Type 0} (failures : D → ℕ) (old new : DeskState D) : Type 0 where
+  pub failed : new.keeper.store.has_failed ≡ true
+  pub rises : Rises (failures (disk_of old)) (failures (disk_of new))
+
+-- what the keeper tells, where it had not failed
+abbrev pub Tells : {D : Type 0} → (D → ℕ) → DeskState D → DeskState D → Fault → Type 0
+Tells failures old new keeper.Device = HasFailed failures old new
+Tells failures old new keeper.Failed = ⊥
+Tells failures old new keeper.NoMemory = IsFine failures old new
+Tells failures old new (keeper.Mismatch place) = ⊥
+Tells failures old new (keeper.Damaged offset) = ⊥
+Tells failures old new keeper.Unformatted = ⊥
+
+-- what a step tells, where the keeper had not failed
+abbrev pub TellsStep : {D : Type 0} → (D → ℕ) → DeskState D → DeskState D → DeskFault → Type 0
+TellsStep failures old new (desk.Store cause) = (cause ≡ keeper.Device) × HasFailed failures old new
+TellsStep failures old new (desk.NoMemory fed) = IsFine failures old new
+TellsStep failures old new desk.Unwritten = IsFine failures old new

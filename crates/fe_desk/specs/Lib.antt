@@ -1,0 +1,15 @@
+pub mod Frames
+pub mod Mails
+pub mod Standing
+pub mod Keeping
+pub mod Storing
+pub mod Taking
+pub mod Steps
+pub mod Places
+pub mod Messages
+pub mod Traces
+pub mod Crash
+pub mod Desk
+pub mod Opened
+pub mod Runs
+pub mod Laws

@@ -1,0 +1,16 @@
+-- What opening a desk gives.
+use Rattle.std.specs.Prelude.{◌≡◌, ◌⊎◌, ℕ, false, Result, Ok, Err}
+use Rattle.fe_keeper.specs.declared.fault.Fault.TheVariants as keeper
+use Rattle.fe_desk.specs.declared.fault.DeskFault.{DeskFault}
+use Rattle.fe_desk.specs.declared.fault.DeskFault.TheVariants.{Store, NoMemory}
+use Rattle.fe_desk.specs.Crash.{DeskState, disk_of}
+
+-- the disk, after a desk was opened on it or not
+abbrev pub disk_after : {D : Type 0} → Result (DeskState D) (DeskFault × D) → D
+disk_after (Ok desk) = disk_of desk
+disk_after (Err refused) = refused.1
+
+-- what may come of opening
+abbrev pub IsOpenFault : DeskFault → Type 0
+IsOpenFault fault =
+    (fault ≡ Store keeper.Device) ⊎ ((fault ≡ NoMemory false) ⊎ ((fault ≡ Store keeper.Unformatted) ⊎ ((offset : ℕ) × (fault ≡ Store (keeper.Damaged offset)))))

@@ -1,0 +1,121 @@
+-- A run of the desk: what each step does.
+use Rattle.std.specs.Prelude.{◌≡◌, ℕ, Bool, true, false, nat_eq, nat_lt, ◌||◌, List, [], ◌∷◌, ◌++◌, length, Option, Some, None, if◌then◌else◌, is_some, MatchBool}
+use Rattle.fe_wire.specs.Stream.{Decoding, HasRead, HasReadFrom}
+use Rattle.fe_wire.specs.declared.client_message.ClientMessage.{ClientMessage}
+use Rattle.fe_wire.specs.declared.version.Version.TheVariants.{Two}
+use Rattle.fe_front.specs.Front.{FrontState, is_connected}
+use Rattle.fe_front.specs.Steps as front
+use Rattle.fe_desk.specs.declared.step.Step.{Step}
+use Rattle.fe_desk.specs.declared.step.Step.TheVariants as step
+use Rattle.fe_desk.specs.Standing.{Client, Standing, emptied, settled}
+use Rattle.fe_desk.specs.Storing.{cut, stored, posted, is_making}
+use Rattle.fe_desk.specs.Taking.{TakesAll}
+
+-- ---- the client of a connection number
+
+abbrev pub find : ℕ → List Client → Option Client
+find conn [] = None
+find conn (c ∷ cs) = if nat_eq c.conn conn then Some c else find conn cs
+
+-- the clients, with the one of a number changed
+abbrev pub on_client : ℕ → (Client → Client) → List Client → List Client
+on_client conn change [] = []
+on_client conn change (c ∷ cs) = if nat_eq c.conn conn then change c ∷ cs else c ∷ on_client conn change cs
+
+abbrev pub with_left : Standing → ℕ → List ClientMessage → Standing
+with_left s conn left = record s { clients = on_client conn (λ c. record c { left = left }) s.clients }
+
+abbrev pub with_decoder : Standing → ℕ → Decoding → Standing
+with_decoder s conn d = record s { clients = on_client conn (λ c. record c { decoder = d }) s.clients }
+
+-- ---- connections come and go
+
+-- a decoder of version 2 at the beginning of its stream
+pub record BeginsStream (d : Decoding) : Type 0 where
+  pub version : d.version ≡ Two
+  pub read : HasRead d [] []
+
+-- a client that comes for the first time
+abbrev pub new_client : ℕ → Decoding → Client
+new_client conn d = record { conn = conn; decoder = d; left = []; reply = None; written = [] }
+
+-- the clients after a connection came: what is written goes on behind what was written to its number before
+abbrev pub clients_with : List Client → ℕ → Decoding → List Client
+clients_with cs conn d =
+    if is_some (find conn cs) then on_client conn (λ c. record c { decoder = d; left = [] }) cs else cs ++ new_client conn d ∷ []
+
+-- no room is being made for a connection any more
+abbrev pub unmade : Standing → ℕ → Standing
+unmade s conn = if is_making s conn then record s { making = None } else s
+
+-- a connection came, with a stream of its own
+pub record Connects (s : Standing) (conn : ℕ) (t : Standing) : Type 0 where
+  pub decoder : Decoding
+  pub begins : BeginsStream decoder
+  pub after : t ≡ record (unmade s conn) { front = front.connected s.front conn; clients = clients_with s.clients conn decoder }
+
+-- a connection is gone, with the messages that were left
+abbrev pub gone : Standing → ℕ → Standing
+gone s conn = record (with_left (unmade s conn) conn []) { front = front.dropped s.front conn }
+
+-- ---- bytes of a connection
+
+-- The piece is read behind what was read before, and completes these messages.
+pub record Reads (old new : Decoding) (piece : List ℕ) (more : List ClientMessage) : Type 0 where
+  pub version : new.version ≡ old.version
+  pub reads : (start : ℕ) (before : List ℕ) (earlier : List ClientMessage) → HasReadFrom start old before earlier
+      → HasReadFrom start new (before ++ piece) (earlier ++ more)
+
+-- a bad frame makes the connection gone
+abbrev pub after_frame : Bool → Standing → ℕ → Standing
+after_frame bad s conn = if bad then gone s conn else s
+
+-- The piece is read, and the messages that it completes are taken.
+pub record TakesPiece (s : Standing) (conn : ℕ) (before : Decoding) (piece : List ℕ) (t : Standing) : Type 0 where
+  pub decoder : Decoding
+  pub more : List ClientMessage
+  pub last : Standing
+  pub reads : Reads before decoder piece more
+  pub takes : TakesAll (with_decoder s conn decoder) conn more last
+  pub after : t ≡ after_frame decoder.is_bad last conn
+
+-- The messages that were left of a connection are taken, and then the piece, if it is still there.
+pub record TakesFrom (s : Standing) (conn : ℕ) (left : List ClientMessage) (before : Decoding) (piece : List ℕ) (t : Standing) : Type 0 where
+  pub mid : Standing
+  pub leftovers : TakesAll (with_left s conn []) conn left mid
+  pub reading : MatchBool (is_connected mid.front conn) (TakesPiece mid conn before piece t) (t ≡ mid)
+
+abbrev pub TakesBytes : Standing → Option Client → List ℕ → Standing → Type 0
+TakesBytes s None piece t = t ≡ s
+TakesBytes s (Some c) piece t = TakesFrom s c.conn c.left c.decoder piece t
+
+-- ---- steps
+
+-- what a step does before the boxes are emptied
+abbrev pub Acts : Standing → Step → Standing → Type 0
+Acts s (step.Connect conn) t = MatchBool (is_connected s.front conn) (t ≡ s) (Connects s conn t)
+Acts s (step.Bytes conn piece) t = TakesBytes s (find conn s.clients) piece.items t
+Acts s (step.Gone conn) t = t ≡ gone s conn
+Acts s step.Cut t = t ≡ cut s
+Acts s step.Append t = t ≡ stored s
+Acts s step.Post t = t ≡ posted s
+Acts s step.CheckBegin t = t ≡ s
+Acts s step.CheckStep t = t ≡ s
+Acts s step.CheckFinish t = t ≡ s
+
+-- A step: what an earlier one left unwritten is written, the step acts, and every box is emptied.
+pub record DeskStep (s : Standing) (step : Step) (t : Standing) : Type 0 where
+  pub last : Standing
+  pub acts : Acts (settled s) step last
+  pub after : t ≡ emptied last
+
+-- steps, one after another
+abbrev pub DeskRun : Standing → List Step → Standing → Type 0
+DeskRun s [] t = t ≡ s
+DeskRun s (step ∷ steps) t = (u : Standing) × DeskStep s step u × DeskRun u steps t
+
+-- how a step is given again that found no memory: as it was, or with an empty piece where its bytes were taken
+abbrev pub IsAgain : Bool → Step → Step → Type 0
+IsAgain false before next = next ≡ before
+IsAgain true (step.Bytes conn piece) (step.Bytes c p) = (c ≡ conn) × (p.items ≡ [])
+IsAgain true before next = ⊥

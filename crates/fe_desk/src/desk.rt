@@ -1,0 +1,134 @@
+ghost use Rattle.std.specs.Prelude.{◌≡◌, ℕ, Bool, true, false, List, map, Ok, Err, IfErr, OnOk, OnErr, IsErrOf, [], length};
+ghost use Rattle.fe_state.specs.State.{ServerState};
+ghost use Rattle.fe_keeper.specs.declared.fault.Fault.TheVariants as keeper;
+ghost use Rattle.fe_mail.specs.Connections.{mails_on};
+ghost use Rattle.fe_front.specs.Front.{IsFirst};
+ghost use Rattle.fe_keeper.specs.Stands.{EachStandsFor};
+ghost use Rattle.fe_desk.specs.declared.fault.DeskFault.TheVariants as fault;
+ghost use Rattle.fe_desk.specs.declared.step.Step.{Step as Steps};
+ghost use Rattle.fe_desk.specs.Standing.{Standing, IsFirstStanding, settled};
+ghost use Rattle.fe_desk.specs.Steps.{DeskStep, Acts, IsAgain};
+ghost use Rattle.fe_desk.specs.Messages.{outputs};
+ghost use Rattle.fe_desk.specs.Crash.{DeskState, Advances, IsFrom, IsFine, TellsStep, LeavesPrefix, disk_of};
+ghost use Rattle.fe_desk.specs.Traces.{IsTraceOf};
+
+use crate::fault::DeskFault;
+use crate::handed::Handed;
+use crate::parts::Parts;
+use crate::step::Step;
+use crate::trace::Trace;
+use fe_disk::Disk;
+use fe_front::Front;
+use fe_keeper::Keeper;
+use std::alloc::Global;
+use std::marker::Model;
+
+/// The front, its connections' streams, and the keeper of a store.
+///
+/// Mails are written only at a step's end, so each answer that was written was synced before.
+#[derive(Drop)]
+pub struct Desk<D: Disk> {
+    parts: Parts<D>,
+}
+
+impl<D: Disk> Model for Desk<D> {
+    ghost use Rattle.fe_desk.specs.Crash.{DeskState};
+    ghost use Rattle.std.specs.Coded.{codes};
+    ghost use Rattle.fe_state.specs.State.{state_code};
+    ghost use Rattle.fe_front.specs.Front.{front_code};
+
+    ghost Value = { DeskState D };
+
+    ghost coded = { Prim.hlevel (codes, state_code, front_code) };
+
+    ghost use Rattle.fe_desk.specs.Desk.{desk_of, IsDesk};
+
+    ghost view = { λ d. desk_of d.parts };
+
+    ghost invariant = { λ d. IsDesk D.honest D.may_leave (desk_of d.parts) };
+}
+
+impl<D: Disk> Desk<D> {
+    /// A desk with no connection over a front and a keeper of one state.
+    pub(crate) fn over(alloc: Global, front: Front, keeper: Keeper<D>) -> Desk<D>
+        requires first { IsFirst keeper.state front }
+        requires stands { D.honest keeper.store.disk → EachStandsFor D.may_leave keeper.store.disk keeper.state }
+        ensures first { IsFirstStanding keeper.state result.standing }
+        ensures keeper { result.keeper ≡ keeper }
+        ensures synced { result.synced ≡ 0 }
+    {
+        let parts = Parts {
+            front,
+            keeper,
+            trace: Trace::new(alloc),
+            handed: Handed::Nothing,
+            making: None,
+            owes: false,
+            alloc,
+        };
+        Desk { parts }
+    }
+
+    /// Takes a step. At its end all mails are written.
+    ///
+    /// After a fault of the device each step answers `Store(Failed)` and does nothing.
+    pub fn step(&mut self, step: &Step) -> Result<(), DeskFault>
+        // The step of a run, whatever pieces the bytes come in.
+        ensures stepped { OnOk result (DeskStep self.old.standing step.now self.new.standing) }
+        // Where memory is short, the step is given again, to the same effect.
+        ensures again { (fed : Bool) (next : Steps) (t : Standing) → IsErrOf result (fault.NoMemory fed) → IsAgain fed step.now next
+            → DeskStep self.new.standing next t → DeskStep self.old.standing step.now t }
+        ensures unwritten { IsErrOf result fault.Unwritten → DeskStep self.old.standing step.now (settled self.new.standing) × (self.new.standing.owes ≡ true) }
+        ensures boxes { OnOk result ((conn : ℕ) → mails_on self.new.standing.front.connections conn ≡ []) }
+
+        // The groups are a history from the state that was opened. A stop at any moment leaves a prefix of it, with all
+        // groups that were stored before.
+        ensures advances { Advances D.honest D.moment D.left_since self.old self.new }
+        ensures stands { D.honest (disk_of self.new) → (begun : ServerState) → IsFrom begun self.new → (image : List ℕ) → D.may_leave (disk_of self.new) image
+            → LeavesPrefix begun self.new.standing.groups self.new.synced image }
+        ensures synced { self.new.keeper.store.has_failed ≡ false → self.new.synced ≡ length self.new.standing.groups }
+
+        ensures failed { self.old.keeper.store.has_failed ≡ true → (result ≡ Err (fault.Store keeper.Failed)) × (self.new ≡ self.old) }
+        ensures fine { self.old.keeper.store.has_failed ≡ false → OnOk result (IsFine D.failures self.old self.new) }
+        ensures fault { self.old.keeper.store.has_failed ≡ false → IfErr result (TellsStep D.failures self.old self.new) }
+        // Nothing of a step that the device failed is written.
+        ensures silent { IsErrOf result (fault.Store keeper.Device) → outputs self.new.standing ≡ outputs (settled self.old.standing) }
+    {
+        self.parts.step(step)
+    }
+
+    /// What the desk did since it was opened.
+    pub fn trace(&self) -> &Trace
+        ensures { IsTraceOf result.now self.now.standing self.now.synced }
+    {
+        &self.parts.trace
+    }
+
+    /// The keeper of the store.
+    pub fn keeper(&self) -> &Keeper<D>
+        ensures { result.now ≡ self.now.keeper }
+    {
+        &self.parts.keeper
+    }
+
+    /// The trace and the disk.
+    pub(crate) fn into_parts(self) -> (Trace, D)
+        ensures trace { IsTraceOf result.0 self.standing self.synced }
+        ensures disk { result.1 ≡ disk_of self }
+        ensures stands { D.honest (disk_of self) → (begun : ServerState) → IsFrom begun self → (image : List ℕ) → D.may_leave (disk_of self) image
+            → LeavesPrefix begun self.standing.groups self.synced image }
+    {
+        let Desk { parts } = self;
+        let Parts { keeper, trace, .. } = parts;
+        (trace, keeper.into_disk())
+    }
+
+    /// The disk, as the steps left it.
+    pub fn into_disk(self) -> D
+        ensures { result ≡ disk_of self }
+    {
+        let Desk { parts } = self;
+        let Parts { keeper, .. } = parts;
+        keeper.into_disk()
+    }
+}

@@ -1,0 +1,14 @@
+use fe_keeper::Fault;
+
+/// Why a step did nothing, or not all.
+#[derive(Clone, Copy, Debug, PartialEq, Eq)]
+pub enum DeskFault {
+    /// The store is at fault: `Device` where the device failed in this step, `Failed` in each step after that. The store
+    /// has to be opened again.
+    Store(Fault),
+    /// There was no memory. What was done before in the step stands, and the step may be given again: as it was, or with an
+    /// empty piece where its bytes were taken (`fed`).
+    NoMemory { fed: bool },
+    /// The step took effect. There was no memory for some of its mails, which the next step writes first.
+    Unwritten,
+}

@@ -1,0 +1,12 @@
+use fe_state::Batch;
+
+/// The batch that is out of the front.
+#[derive(Debug, Drop)]
+pub(crate) enum Handed {
+    /// There is none.
+    Nothing,
+    /// It is cut and not stored.
+    Cut(Batch),
+    /// It is stored and not posted.
+    Stored(Batch),
+}

@@ -1,0 +1,34 @@
+//! A desk: the front, its connections' streams and the keeper of the store, in one thread.
+//!
+//! Bytes of connections come in as steps, and the frames of their mails go out. What was handed to the store and what was
+//! written to each connection is the desk's trace (`docs/model.md`, "The desk").
+#![tactic(auto)]
+
+mod acting;
+mod connections;
+mod desk;
+mod fault;
+mod handed;
+mod laws;
+mod messages;
+mod opening;
+mod parts;
+mod port;
+mod reply;
+mod running;
+mod step;
+mod storing;
+mod taking;
+mod telling;
+mod trace;
+mod written;
+
+pub use desk::Desk;
+pub use fault::DeskFault;
+pub use laws::lives_join;
+pub use opening::{format, open};
+pub use port::Port;
+pub use running::{Ran, run};
+pub use step::Step;
+pub use trace::Trace;
+pub use written::Written;

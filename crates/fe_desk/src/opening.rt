@@ -1,0 +1,75 @@
+ghost use Rattle.std.specs.Prelude.{◌≡◌, ◌≢◌, ◌⊎◌, ◌↔◌, false, None, IfOk, IfErr};
+ghost use Rattle.fe_disk.specs.Disk.{Rises};
+ghost use Rattle.fe_state.specs.State.{ServerState, first_state};
+ghost use Rattle.fe_journal.specs.Steps.{OnlyReads};
+ghost use Rattle.fe_journal.specs.Layout.{device_bytes};
+ghost use Rattle.fe_keeper.specs.Stands.{StandsFor, EachStandsFor};
+ghost use Rattle.fe_keeper.specs.declared.fault.Fault.TheVariants as keeper;
+ghost use Rattle.fe_desk.specs.declared.fault.DeskFault.TheVariants.{Store, NoMemory};
+ghost use Rattle.fe_desk.specs.Standing.{IsFirstStanding};
+ghost use Rattle.fe_desk.specs.Crash.{disk_of};
+ghost use Rattle.fe_desk.specs.Opened.{disk_after, IsOpenFault};
+
+use crate::desk::Desk;
+use crate::fault::DeskFault;
+use crate::messages::told;
+use fe_disk::Disk;
+use fe_front::Front;
+use fe_keeper::Keeper;
+use std::alloc::Global;
+
+/// Opens a store: a sync, and then only reads. The desk begins with the state that the disk stands for: nothing waits, and
+/// no connection is there.
+pub fn open<D: Disk>(alloc: Global, disk: D) -> Result<Desk<D>, (DeskFault, D)>
+    ensures opened { D.honest disk → IfOk result (λ desk. StandsFor (D.seen disk) desk.keeper.state) }
+    ensures stands { D.honest disk → IfOk result (λ desk. EachStandsFor D.may_leave (disk_of desk) desk.keeper.state) }
+    ensures first { IfOk result (λ desk. IsFirstStanding desk.keeper.state desk.standing × (desk.synced ≡ 0)) }
+    // A store that stands for a state is refused only for its device or for memory.
+    ensures refused { D.honest disk → (s : ServerState) → StandsFor (D.seen disk) s → IfErr result (λ e. (e.0 ≡ Store keeper.Device) ⊎ (e.0 ≡ NoMemory false)) }
+    ensures reads { D.honest disk → OnlyReads D.seen D.may_leave D.moment D.left_since disk (disk_after result) }
+    ensures works { IfOk result (λ desk. desk.keeper.store.has_failed ≡ false) }
+    ensures device { IfErr result (λ e. (e.0 ≡ Store keeper.Device) ↔ Rises (D.failures disk) (D.failures e.1)) }
+    ensures still { IfOk result (λ desk. D.failures (disk_of desk) ≡ D.failures disk) }
+    ensures faults { IfErr result (λ e. IsOpenFault e.0) }
+    ensures honesty { D.honest (disk_after result) ↔ D.honest disk }
+    ensures size { D.size (disk_after result) ≡ D.size disk }
+{
+    match fe_keeper::open(alloc, disk) {
+        Ok(keeper) => desk_over(alloc, keeper),
+        Err((fault, disk)) => Err((told(fault, false), disk)),
+    }
+}
+
+/// Makes a new store of format 2 on the device, whatever was there.
+pub fn format<D: Disk>(alloc: Global, disk: D) -> Result<Desk<D>, (DeskFault, D)>
+    ensures formatted { D.honest disk → IfOk result (λ desk. EachStandsFor D.may_leave (disk_of desk) first_state) }
+    ensures first { IfOk result (λ desk. IsFirstStanding first_state desk.standing × (desk.keeper.state ≡ first_state) × (desk.synced ≡ 0)) }
+    ensures unformatted { IfErr result (λ e. (e.0 ≡ Store keeper.Unformatted) ↔ (D.size disk ≢ device_bytes)) }
+    ensures works { IfOk result (λ desk. desk.keeper.store.has_failed ≡ false) }
+    ensures device { IfErr result (λ e. e.0 ≡ Store keeper.Device → Rises (D.failures disk) (D.failures e.1)) }
+    ensures faults { IfErr result (λ e. (e.0 ≡ Store keeper.Device) ⊎ ((e.0 ≡ Store keeper.Unformatted) ⊎ (e.0 ≡ NoMemory false))) }
+    ensures honesty { D.honest (disk_after result) ↔ D.honest disk }
+{
+    match fe_keeper::format(alloc, disk) {
+        Ok(keeper) => desk_over(alloc, keeper),
+        Err((fault, disk)) => Err((told(fault, false), disk)),
+    }
+}
+
+/// A desk over a keeper, with no connection.
+fn desk_over<D: Disk>(alloc: Global, keeper: Keeper<D>) -> Result<Desk<D>, (DeskFault, D)>
+    requires works { keeper.store.has_failed ≡ false }
+    ensures first { IfOk result (λ desk. IsFirstStanding keeper.state desk.standing) }
+    ensures keeper { IfOk result (λ desk. desk.keeper ≡ keeper) }
+    ensures synced { IfOk result (λ desk. desk.synced ≡ 0) }
+    ensures fault { IfErr result (λ e. e.0 ≡ NoMemory false) }
+    ensures disk { IfErr result (λ e. e.1 ≡ keeper.store.disk) }
+{
+    let Ok(state) = keeper.state().copy() else {
+        return Err((DeskFault::NoMemory { fed: false }, keeper.into_disk()));
+    };
+    match Front::new(alloc, state) {
+        Ok(front) => Ok(Desk::over(alloc, front, keeper)),
+        Err(_) => Err((DeskFault::NoMemory { fed: false }, keeper.into_disk())),
+    }
+}

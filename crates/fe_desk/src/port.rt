@@ -1,0 +1,126 @@
+//! The server's end of the connections of one number.
+
+ghost use Rattle.std.specs.Prelude.{◌≡◌, [], nat_lt, length, ◌++◌, None, Some, OnOk, OnErr, IfOk};
+ghost use Rattle.std.specs.Option.{option_map_or};
+ghost use Rattle.fe_wire.specs.Spelling.{reply_spelling};
+ghost use Rattle.fe_desk.specs.Mails.{emptied_box};
+ghost use Rattle.fe_desk.specs.Standing.{told};
+ghost use Rattle.fe_desk.specs.Steps.{BeginsStream, Reads, new_client};
+ghost use Rattle.fe_desk.specs.Desk.{client_of};
+ghost use Rattle.fe_desk.specs.Keeping.{KeepsFront, KeepsEmpty, IsToldLater};
+
+use crate::reply::Reply;
+use crate::written::Written;
+use fe_front::Front;
+use fe_wire::{ClientMessage, Decoder, Version};
+use std::alloc::{AllocError, Global};
+use std::mem;
+
+/// A connection number, and what was written to its connections.
+#[derive(Drop)]
+pub struct Port {
+    pub conn: u64,
+    /// The frames of its mails, all of them in order. Where the number was connected again they go on behind the earlier.
+    pub written: Written,
+    pub(crate) decoder: Decoder,
+    /// Messages that came whole. Those before `next` are taken.
+    pub(crate) left: Vec<ClientMessage>,
+    pub(crate) next: usize,
+    /// The reply that tells a mail which was taken out of its box and is not written.
+    pub(crate) reply: Option<Reply>,
+}
+
+impl Port {
+    /// A number that comes for the first time.
+    pub(crate) fn new(alloc: Global, conn: u64) -> Port
+        ensures client { client_of result ≡ new_client conn result.decoder }
+        ensures begins { BeginsStream result.decoder }
+    {
+        Port {
+            conn,
+            written: Written::new(alloc),
+            decoder: Decoder::with_version(Version::Two),
+            left: Vec::new(alloc),
+            next: 0,
+            reply: None,
+        }
+    }
+
+    /// The connection comes anew.
+    pub(crate) fn restart(&mut self)
+        ensures client { client_of self.new ≡ record (client_of self.old) { decoder = self.new.decoder; left = [] } }
+        ensures begins { BeginsStream self.new.decoder }
+    {
+        self.decoder = Decoder::with_version(Version::Two);
+        self.forget();
+    }
+
+    /// The messages that are left are dropped.
+    pub(crate) fn forget(&mut self)
+        ensures { client_of self.new ≡ record (client_of self.old) { left = [] } }
+    {
+        self.left.clear();
+        self.next = 0;
+    }
+
+    /// Whether messages are left.
+    pub(crate) fn has_left(&self) -> bool
+        ensures { result ≡ nat_lt 0 (length (client_of self.now).left) }
+    {
+        self.next < self.left.len()
+    }
+
+    /// Reads the next piece of the stream, where no message is left. Whether the stream is at a bad frame then.
+    pub(crate) fn feed(&mut self, alloc: Global, piece: &[u8]) -> Result<bool, AllocError>
+        requires { (client_of self.old).left ≡ [] }
+        ensures reads { OnOk result (Reads self.old.decoder self.new.decoder piece.now (client_of self.new).left) }
+        ensures client { OnOk result (client_of self.new ≡ record (client_of self.old) { decoder = self.new.decoder; left = (client_of self.new).left }) }
+        ensures bad { IfOk result (λ bad. bad ≡ self.new.decoder.is_bad) }
+        ensures err { OnErr result (client_of self.new ≡ client_of self.old) }
+    {
+        let fed = self.decoder.feed(alloc, piece)?;
+        let bad = fed.fault.is_some();
+        self.left = fed.messages;
+        self.next = 0;
+        Ok(bad)
+    }
+
+    /// Writes all mails of the connection. Where memory is short, those that are not written stay.
+    pub(crate) fn take_mails(&mut self, front: &mut Front) -> Result<(), AllocError>
+        ensures told { OnOk result (client_of self.new ≡ told front.old (client_of self.old)) }
+        ensures emptied { OnOk result (front.new ≡ emptied_box front.old self.old.conn) }
+        // What is not written is written later, to the same effect.
+        ensures later { OnErr result (IsToldLater front.old (client_of self.old) front.new (client_of self.new)) }
+        ensures front { KeepsFront front.old front.new }
+        ensures empty { KeepsEmpty front.old front.new }
+    {
+        self.write_waiting()?;
+        while let Some(mail) = front.take_mail(self.conn) {
+            self.write(Reply::of(mail))?;
+        }
+        Ok(())
+    }
+
+    /// Writes the reply that waits, if one does.
+    fn write_waiting(&mut self) -> Result<(), AllocError>
+        ensures written { OnOk result (client_of self.new ≡ record (client_of self.old) { reply = None; written = self.old.written ++ option_map_or reply_spelling self.old.reply [] }) }
+        ensures err { OnErr result (client_of self.new ≡ client_of self.old) }
+    {
+        match mem::take(&mut self.reply) {
+            Some(reply) => self.write(reply),
+            None => Ok(()),
+        }
+    }
+
+    /// Writes a reply, or keeps it where there is no memory.
+    fn write(&mut self, reply: Reply) -> Result<(), AllocError>
+        ensures written { OnOk result (client_of self.new ≡ record (client_of self.old) { written = self.old.written ++ reply_spelling reply }) }
+        ensures err { OnErr result (client_of self.new ≡ record (client_of self.old) { reply = Some reply }) }
+    {
+        if self.written.put(&reply).is_err() {
+            self.reply = Some(reply);
+            return Err(AllocError);
+        }
+        Ok(())
+    }
+}

@@ -1,0 +1,71 @@
+ghost use Rattle.std.specs.Prelude.{◌≡◌, None, List, ℕ, false};
+ghost use Rattle.fe_disk.specs.Disk.{LeavesOnly};
+ghost use Rattle.fe_state.specs.State.{ServerState};
+ghost use Rattle.fe_state.specs.History.{IsHistory};
+ghost use Rattle.fe_keeper.specs.Stands.{EachStandsFor};
+ghost use Rattle.fe_desk.specs.Crash.{Advances, IsFrom, LeavesPrefix, disk_of};
+ghost use Rattle.fe_desk.specs.Runs.{IsRunOf, IsTaken, HasOpened};
+ghost use Rattle.fe_desk.specs.Traces.{groups_of};
+
+use crate::desk::Desk;
+use crate::fault::DeskFault;
+use crate::opening::open;
+use crate::step::Step;
+use crate::trace::Trace;
+use fe_disk::Disk;
+use fe_keeper::images_stand_for_one;
+use std::alloc::Global;
+
+/// What came of a run: its trace, the disk, and the fault that ended it with the number of its step, counted from 1; 0 is the
+/// opening.
+#[derive(Drop)]
+pub struct Ran<D: Disk> {
+    pub trace: Trace,
+    pub disk: D,
+    pub fault: Option<(u64, DeskFault)>,
+}
+
+/// Opens a store and takes the steps, in order, as far as to a fault.
+pub fn run<D: Disk>(alloc: Global, disk: D, steps: &[Step]) -> Ran<D>
+    // The trace is that of a run of the steps, all of them or those before the one at fault.
+    ensures ran { IsRunOf D.honest D.seen disk steps.now result.trace result.fault }
+    // A stop at any moment leaves a prefix of the history, which begins with the state that was there.
+    ensures history { D.honest disk → (s : ServerState) → EachStandsFor D.may_leave disk s → IsHistory s (groups_of result.trace) }
+    ensures any_moment { D.honest disk → (s : ServerState) → EachStandsFor D.may_leave disk s
+        → LeavesOnly D.moment D.left_since disk result.disk (LeavesPrefix s (groups_of result.trace) 0) }
+    // And at the end one that holds all groups that were stored.
+    ensures stands { D.honest disk → (s : ServerState) → EachStandsFor D.may_leave disk s → HasOpened result.fault
+        → (image : List ℕ) → D.may_leave result.disk image → LeavesPrefix s (groups_of result.trace) result.trace.synced image }
+{
+    let mut desk = match open(alloc, disk) {
+        Ok(desk) => desk,
+        Err((fault, disk)) => {
+            return Ran {
+                trace: Trace::new(alloc),
+                disk,
+                fault: Some((0, fault)),
+            };
+        }
+    };
+    images_stand_for_one();
+    let fault = take_steps(&mut desk, steps);
+    let (trace, disk) = desk.into_parts();
+    Ran { trace, disk, fault }
+}
+
+/// Takes the steps as far as to a fault.
+fn take_steps<D: Disk>(desk: &mut Desk<D>, steps: &[Step]) -> Option<(u64, DeskFault)>
+    requires settled { desk.old.standing.owes ≡ false }
+    requires works { desk.old.keeper.store.has_failed ≡ false }
+    requires stands { D.honest (disk_of desk.old) → (begun : ServerState) → IsFrom begun desk.old → (image : List ℕ) → D.may_leave (disk_of desk.old) image
+        → LeavesPrefix begun desk.old.standing.groups desk.old.synced image }
+    ensures taken { IsTaken desk.old.standing steps.now desk.new.standing result }
+    ensures advances { Advances D.honest D.moment D.left_since desk.old desk.new }
+{
+    for k in 0..steps.len() {
+        if let Err(fault) = desk.step(&steps[k]) {
+            return Some((k as u64 + 1, fault));
+        }
+    }
+    None
+}

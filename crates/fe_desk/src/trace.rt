@@ -1,0 +1,31 @@
+ghost use Rattle.std.specs.Prelude.{◌≡◌, []};
+
+use crate::port::Port;
+use fe_state::Entry;
+use std::alloc::Global;
+
+/// What a desk did since it was opened.
+#[derive(Drop)]
+pub struct Trace {
+    /// The groups that were handed to the store, in order.
+    pub groups: Vec<Vec<Entry>>,
+    /// How many of them are stored: all, but for a last one whose append the device failed.
+    pub synced: u64,
+    /// What was written to each connection number, in the order in which the numbers came first.
+    pub ports: Vec<Port>,
+}
+
+impl Trace {
+    /// That of no step.
+    pub(crate) fn new(alloc: Global) -> Trace
+        ensures groups { result.groups.items ≡ [] }
+        ensures ports { result.ports.items ≡ [] }
+        ensures synced { result.synced ≡ 0 }
+    {
+        Trace {
+            groups: Vec::new(alloc),
+            synced: 0,
+            ports: Vec::new(alloc),
+        }
+    }
+}
