@@ -22,19 +22,29 @@ fn all_wait(rt: &impl Abort, front: &mut Front) {
     wait_from(rt, front, 1, 2);
 }
 
+/// An array of one word, for which 2,047 requests wait.
+fn fill(rt: &impl Abort, front: &mut Front) {
+    come(rt, front, 1, 1);
+    assert!(rt; call(rt, front, 1, 1, create(rt, 1)).is_ok());
+    assert!(rt; settle(rt, front, 1, 2).is_ok());
+    all_wait(rt, front);
+    assert_eq!(rt; commit(rt, front), 66);
+    assert_eq!(rt; front.books().waiting, 2047);
+}
+
+/// One more request, by which all of them are served.
+fn write_word(rt: &impl Abort, front: &mut Front) {
+    let outcome = call(rt, front, 1, 33, access(0, Op::WriteEf(9), false));
+    assert_eq!(rt; outcome, Ok(Outcome::Completed { entries: 2048 }));
+    assert_eq!(rt; front.books().waiting, 0);
+    assert_eq!(rt; commit(rt, front), 2048);
+    assert_eq!(rt; front.books().completed, 2049);
+}
+
 #[test]
 fn full_cascade(rt: HostRuntime) -> Result<(), Fail> {
     let mut front = new_front(&rt)?;
-    come(&rt, &mut front, 1, 1);
-    assert!(rt; call(&rt, &mut front, 1, 1, create(&rt, 1)).is_ok());
-    assert!(rt; settle(&rt, &mut front, 1, 2).is_ok());
-    all_wait(&rt, &mut front);
-    assert_eq!(rt; commit(&rt, &mut front), 66);
-    assert_eq!(rt; front.books().waiting, 2047);
-    let outcome = call(&rt, &mut front, 1, 33, access(0, Op::WriteEf(9), false));
-    assert_eq!(rt; outcome, Ok(Outcome::Completed { entries: 2048 }));
-    assert_eq!(rt; front.books().waiting, 0);
-    assert_eq!(rt; commit(&rt, &mut front), 2048);
-    assert_eq!(rt; front.books().completed, 2049);
+    fill(&rt, &mut front);
+    write_word(&rt, &mut front);
     Ok(())
 }

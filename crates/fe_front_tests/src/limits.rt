@@ -4,53 +4,92 @@ use crate::events::{attach, come, commit, connect, new_front, settle};
 use fe_front::Front;
 use fe_mail::Refusal;
 use fe_state::{Batch, Entry, Request, State};
+use std::alloc::{AllocError, Global};
+use std::process::Abort;
 use std::test::Fail;
 
-#[test]
-fn ends(rt: HostRuntime) -> Result<(), Fail> {
+/// A front with one place left.
+fn late_front(rt: &HostRuntime) -> Result<Front, Fail> {
     let state = State::starting(rt.alloc(), 9223372036854773758, 1)?;
-    let mut front = Front::new(rt.alloc(), state)?;
-    connect(&rt, &mut front, 1);
-    assert_eq!(rt; attach(&rt, &mut front, 1, 7), Ok(()));
-    assert_eq!(rt; settle(&rt, &mut front, 1, 1), Err(Refusal::Spent));
-    assert_eq!(rt; attach(&rt, &mut front, 1, 7), Err(Refusal::Spent));
-    Ok(())
+    Ok(Front::new(rt.alloc(), state)?)
+}
+
+fn check_end(rt: &impl Abort, front: &mut Front) {
+    connect(rt, front, 1);
+    assert_eq!(rt; attach(rt, front, 1, 7), Ok(()));
+    assert_eq!(rt; settle(rt, front, 1, 1), Err(Refusal::Spent));
+    assert_eq!(rt; attach(rt, front, 1, 7), Err(Refusal::Spent));
 }
 
 #[test]
-fn strange_batch(rt: HostRuntime) -> Result<(), Fail> {
+fn ends(rt: HostRuntime) -> Result<(), Fail> {
+    let mut front = late_front(&rt)?;
+    check_end(&rt, &mut front);
+    Ok(())
+}
+
+/// The batch of a session's beginning and its end.
+fn long_batch(alloc: Global) -> Result<Batch, AllocError> {
     let _named: Option<Request> = None;
-    let mut front = new_front(&rt)?;
-    assert!(rt; front.post(Batch::new(rt.alloc(), 0)?).is_err());
-    come(&rt, &mut front, 1, 7);
-    let right = front.cut();
-    assert!(rt; right.is_some());
-    let mut long = Batch::new(rt.alloc(), 0)?;
+    let mut long = Batch::new(alloc, 0)?;
     long.push(Entry::Attached {
         session: 7,
         floor: 1,
     });
     long.push(Entry::Closed { session: 7 });
-    assert!(rt; front.post(long).is_err());
+    Ok(long)
+}
+
+fn is_strange(front: &mut Front, batch: Batch) -> bool {
+    front.post(batch).is_err()
+}
+
+/// The batch of session 7's beginning is out: the other one is refused, and then that one is posted.
+fn post_both(rt: &impl Abort, front: &mut Front, long: Batch) {
+    let right = front.cut();
+    assert!(rt; right.is_some());
+    assert!(rt; is_strange(front, long));
     assert!(rt; front.post(right.unwrap()).is_ok());
     assert_eq!(rt; front.durable(), 1);
+}
+
+fn check_batches(rt: &impl Abort, alloc: Global, front: &mut Front) -> Result<(), Fail> {
+    assert!(rt; is_strange(front, Batch::new(alloc, 0)?));
+    come(rt, front, 1, 7);
+    post_both(rt, front, long_batch(alloc)?);
     Ok(())
 }
 
 #[test]
-fn full_mailbox(rt: HostRuntime) -> Result<(), Fail> {
+fn strange_batch(rt: HostRuntime) -> Result<(), Fail> {
     let mut front = new_front(&rt)?;
-    come(&rt, &mut front, 1, 7);
-    assert_eq!(rt; commit(&rt, &mut front), 1);
+    check_batches(&rt, rt.alloc(), &mut front)
+}
+
+/// A connection with 128 mails in its box.
+fn fill_box(rt: &impl Abort, front: &mut Front) {
+    come(rt, front, 1, 7);
+    assert_eq!(rt; commit(rt, front), 1);
     for _ in 0..127 {
         front.mail_refusal(1, 5, Refusal::NotWaiting);
     }
     assert!(rt; front.connected(1));
     assert_eq!(rt; front.books().left, 128);
+}
+
+/// One more mail, and the connection goes.
+fn overfill_box(rt: &impl Abort, front: &mut Front) {
     front.mail_refusal(1, 5, Refusal::NotWaiting);
     assert!(rt; !front.connected(1));
     assert_eq!(rt; front.books().dropped, 129);
     assert_eq!(rt; front.books().mails, 129);
     assert!(rt; !front.attached(7));
+}
+
+#[test]
+fn full_mailbox(rt: HostRuntime) -> Result<(), Fail> {
+    let mut front = new_front(&rt)?;
+    fill_box(&rt, &mut front);
+    overfill_box(&rt, &mut front);
     Ok(())
 }

@@ -44,35 +44,53 @@ fn refusals_have_codes_and_names(rt: HostRuntime) {
     }
 }
 
+fn check_full_box(rt: &impl Abort, connections: &mut Connections) {
+    connect(rt, connections, 9);
+    for number in 0..129 {
+        assert_eq!(rt; put(rt, connections, 9, number), number < 128);
+    }
+    for number in 0..128 {
+        assert_eq!(rt; take(connections, 9), Some(number));
+    }
+    assert_eq!(rt; take(connections, 9), None);
+}
+
 #[test]
 fn full_box_refuses(rt: HostRuntime) {
     let mut connections = Connections::new(rt.alloc());
-    connect(&rt, &mut connections, 9);
-    for number in 0..129 {
-        assert_eq!(rt; put(&rt, &mut connections, 9, number), number < 128);
+    check_full_box(&rt, &mut connections);
+}
+
+/// A hundred connections come, with one mail each.
+fn hundred_come(rt: &impl Abort, connections: &mut Connections) {
+    for conn in 0..100 {
+        connect(rt, connections, conn * 1000);
+        assert!(rt; put(rt, connections, conn * 1000, conn));
     }
-    for number in 0..128 {
-        assert_eq!(rt; take(&mut connections, 9), Some(number));
+}
+
+/// One of them goes with its mails, and comes again.
+fn one_again(rt: &impl Abort, connections: &mut Connections) {
+    assert!(rt; connections.is_connected(3000));
+    connections.set_session(3000, Some(7));
+    assert!(rt; put(rt, connections, 3000, 1));
+    assert_eq!(rt; connections.remove(3000), 2);
+    assert_eq!(rt; connections.remove(3000), 0);
+    connect(rt, connections, 3000);
+}
+
+fn take_others(rt: &impl Abort, connections: &mut Connections) {
+    for conn in 4..100 {
+        assert_eq!(rt; take(connections, conn * 1000), Some(conn));
     }
-    assert_eq!(rt; take(&mut connections, 9), None);
 }
 
 #[test]
 fn connection_comes_again(rt: HostRuntime) {
     let mut connections = Connections::new(rt.alloc());
-    for conn in 0..100 {
-        connect(&rt, &mut connections, conn * 1000);
-        assert!(rt; put(&rt, &mut connections, conn * 1000, conn));
-    }
-    assert!(rt; connections.is_connected(3000));
-    connections.set_session(3000, Some(7));
-    assert!(rt; put(&rt, &mut connections, 3000, 1));
-    assert_eq!(rt; connections.remove(3000), 2);
-    assert_eq!(rt; connections.remove(3000), 0);
-    connect(&rt, &mut connections, 3000);
-    for conn in 4..100 {
-        assert_eq!(rt; take(&mut connections, conn * 1000), Some(conn));
-    }
+    hundred_come(&rt, &mut connections);
+    one_again(&rt, &mut connections);
+    take_others(&rt, &mut connections);
 }
 
 #[test]

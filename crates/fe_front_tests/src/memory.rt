@@ -58,16 +58,24 @@ fn check_served(rt: &impl Abort, front: &mut Front) {
     assert_eq!(rt; take_all(front, 1), 4);
 }
 
+fn front_at_last(alloc: Global) -> Result<Front, AllocError> {
+    match new_front(alloc) {
+        Ok(front) => Ok(front),
+        Err(_) => new_front(alloc),
+    }
+}
+
+fn check_front(rt: &impl Abort, front: &mut Front) {
+    connect_at_last(rt, front);
+    assert_eq!(rt; attach(rt, front, 1, 7), Ok(()));
+    create_at_last(rt, front);
+    check_served(rt, front);
+}
+
 #[test]
 fn front_where_memory_ends(rt: HostRuntime) -> Result<(), Fail> {
     let _named: Option<Request> = None;
-    let mut front = match new_front(rt.alloc()) {
-        Ok(front) => front,
-        Err(_) => new_front(rt.alloc())?,
-    };
-    connect_at_last(&rt, &mut front);
-    assert_eq!(rt; attach(&rt, &mut front, 1, 7), Ok(()));
-    create_at_last(&rt, &mut front);
-    check_served(&rt, &mut front);
+    let mut front = front_at_last(rt.alloc())?;
+    check_front(&rt, &mut front);
     Ok(())
 }

@@ -55,6 +55,26 @@ fn answered(
     reply(rt, alloc, front)
 }
 
+/// The call of a frame is answered with a frame.
+fn check_frames(
+    rt: &impl Abort,
+    alloc: Global,
+    front: &mut Front,
+    asked: &[u8],
+    wanted: &[u8],
+) -> Result<(), Fail> {
+    let told = answered(rt, alloc, front, asked)?;
+    assert_eq!(rt; told.as_slice(), wanted);
+    Ok(())
+}
+
+/// The frame of a call.
+fn call_frame(alloc: Global, number: u64, request: Request) -> Result<Vec<u8>, Fail> {
+    let mut asked = Vec::new(alloc);
+    put_message(&mut asked, &ClientMessage::Call { number, request })?;
+    Ok(asked)
+}
+
 /// A call is answered so.
 fn check(
     rt: &impl Abort,
@@ -64,10 +84,20 @@ fn check(
     request: Request,
     answer: Answer,
 ) -> Result<(), Fail> {
-    let mut asked = Vec::new(alloc);
-    put_message(&mut asked, &ClientMessage::Call { number, request })?;
-    let told = answered(rt, alloc, front, &asked)?;
-    assert_eq!(rt; told.as_slice(), frame(alloc, number, answer)?.as_slice());
+    let asked = call_frame(alloc, number, request)?;
+    let wanted = frame(alloc, number, answer)?;
+    check_frames(rt, alloc, front, &asked, &wanted)
+}
+
+/// The first mail of connection 1 has this frame.
+fn check_reply(
+    rt: &impl Abort,
+    alloc: Global,
+    front: &mut Front,
+    wanted: &[u8],
+) -> Result<(), Fail> {
+    let told = reply(rt, alloc, front)?;
+    assert_eq!(rt; told.as_slice(), wanted);
     Ok(())
 }
 
@@ -75,7 +105,7 @@ fn check(
 fn check_again(rt: &impl Abort, alloc: Global, front: &mut Front) -> Result<(), Fail> {
     let (number, request) = fed(alloc, NO_WAIT)?;
     assert_eq!(rt; call(rt, front, 1, number, request), Ok(Outcome::SentAgain));
-    assert_eq!(rt; reply(rt, alloc, front)?.as_slice(), NOT_NOW);
+    check_reply(rt, alloc, front, NOT_NOW)?;
     let waits = call(rt, front, 1, 2, access(0, Op::ReadFe, false));
     assert_eq!(rt; waits, Err(Refusal::NumberUsed));
     Ok(())
@@ -101,15 +131,18 @@ fn make_cells(rt: &impl Abort, front: &mut Front) {
     assert_eq!(rt; take_all(front, 1), 2);
 }
 
+/// A call of an empty word that is not to wait is answered so, also once the word is full; then other calls.
+fn check_cells(rt: &impl Abort, alloc: Global, front: &mut Front) -> Result<(), Fail> {
+    make_cells(rt, front);
+    check_frames(rt, alloc, front, NO_WAIT, NOT_NOW)?;
+    let write = access(0, Op::WriteEf(5), false);
+    check(rt, alloc, front, 3, write, Answer::Done)?;
+    check_again(rt, alloc, front)?;
+    check_others(rt, alloc, front)
+}
+
 #[test]
 fn no_wait(rt: HostRuntime) -> Result<(), Fail> {
     let mut front = new_front(&rt)?;
-    make_cells(&rt, &mut front);
-    let told = answered(&rt, rt.alloc(), &mut front, NO_WAIT)?;
-    assert_eq!(rt; told.as_slice(), NOT_NOW);
-    let write = access(0, Op::WriteEf(5), false);
-    check(&rt, rt.alloc(), &mut front, 3, write, Answer::Done)?;
-    check_again(&rt, rt.alloc(), &mut front)?;
-    check_others(&rt, rt.alloc(), &mut front)?;
-    Ok(())
+    check_cells(&rt, rt.alloc(), &mut front)
 }

@@ -5,6 +5,7 @@ use fe_front::{Front, Outcome};
 use fe_mail::{Mail, ReportText};
 use fe_report::report;
 use fe_words::Op;
+use std::alloc::{AllocError, Global};
 use std::process::Abort;
 use std::test::Fail;
 
@@ -24,62 +25,110 @@ fn waits(rt: &impl Abort, front: &mut Front, conn: u64, number: u64, index: u32,
 const TWO_WAIT: &str =
     "waiting 2\nword 1 0 session 8 number 1 readff\nword 1 1 session 9 number 1 readfe\nsession 8 waits 1\nsession 9 waits 1\nall-wait no\n";
 
+/// Two sessions wait, beside two that do not.
+fn two_wait(rt: &impl Abort, front: &mut Front) {
+    four_come(rt, front);
+    waits(rt, front, 2, 1, 0, Op::ReadFf);
+    waits(rt, front, 3, 1, 1, Op::ReadFe);
+}
+
+/// The report has these lines.
+fn check_report(
+    rt: &impl Abort,
+    alloc: Global,
+    front: &Front,
+    lines: &str,
+) -> Result<(), AllocError> {
+    let text = report(alloc, front)?;
+    assert_eq!(rt; text.as_str(), lines);
+    Ok(())
+}
+
+/// The first mail of connection 1 is a report of these lines.
+fn check_box(rt: &impl Abort, front: &mut Front, lines: &str) {
+    match mail(rt, front, 1) {
+        Mail::Report(text) => assert_eq!(rt; text.as_str(), lines),
+        _ => panic!(rt; "no report is in the box"),
+    }
+}
+
+/// The report comes out of a box as it was.
+fn check_mailed(
+    rt: &impl Abort,
+    alloc: Global,
+    front: &mut Front,
+    lines: &str,
+) -> Result<(), Fail> {
+    check_report(rt, alloc, front, lines)?;
+    let text = report(alloc, front)?;
+    front.mail_text(1, ReportText::new(text));
+    check_box(rt, front, lines);
+    Ok(())
+}
+
 #[test]
 fn wait_report(rt: HostRuntime) -> Result<(), Fail> {
     let mut front = new_front(&rt)?;
-    four_come(&rt, &mut front);
-    waits(&rt, &mut front, 2, 1, 0, Op::ReadFf);
-    waits(&rt, &mut front, 3, 1, 1, Op::ReadFe);
-    let text = report(rt.alloc(), &front)?;
-    assert_eq!(rt; text.as_str(), TWO_WAIT);
-    front.mail_text(1, ReportText::new(text));
-    match mail(&rt, &mut front, 1) {
-        Mail::Report(text) => assert_eq!(rt; text.as_str(), TWO_WAIT),
-        _ => panic!(rt; "no report is in the box"),
+    two_wait(&rt, &mut front);
+    check_mailed(&rt, rt.alloc(), &mut front, TWO_WAIT)
+}
+
+fn report_at_last(alloc: Global, front: &Front) -> Result<String, AllocError> {
+    match report(alloc, front) {
+        Ok(text) => Ok(text),
+        Err(_) => report(alloc, front),
     }
+}
+
+fn check_at_last(rt: &impl Abort, alloc: Global, front: &Front) -> Result<(), Fail> {
+    let text = report_at_last(alloc, front)?;
+    assert_eq!(rt; text.as_str(), TWO_WAIT);
     Ok(())
 }
 
 #[test]
 fn report_where_memory_ends(rt: HostRuntime) -> Result<(), Fail> {
     let mut front = new_front(&rt)?;
-    four_come(&rt, &mut front);
-    waits(&rt, &mut front, 2, 1, 0, Op::ReadFf);
-    waits(&rt, &mut front, 3, 1, 1, Op::ReadFe);
-    let text = match report(rt.alloc(), &front) {
-        Ok(text) => text,
-        Err(_) => report(rt.alloc(), &front)?,
-    };
-    assert_eq!(rt; text.as_str(), TWO_WAIT);
-    Ok(())
+    two_wait(&rt, &mut front);
+    check_at_last(&rt, rt.alloc(), &front)
+}
+
+/// Nothing waits, without sessions and with some.
+fn check_none(rt: &impl Abort, alloc: Global, front: &mut Front) -> Result<(), Fail> {
+    check_report(rt, alloc, front, "waiting 0\n")?;
+    four_come(rt, front);
+    Ok(check_report(rt, alloc, front, "waiting 0\n")?)
 }
 
 #[test]
 fn report_of_none(rt: HostRuntime) -> Result<(), Fail> {
     let mut front = new_front(&rt)?;
-    let text = report(rt.alloc(), &front)?;
-    assert_eq!(rt; text.as_str(), "waiting 0\n");
-    four_come(&rt, &mut front);
-    let text = report(rt.alloc(), &front)?;
-    assert_eq!(rt; text.as_str(), "waiting 0\n");
-    Ok(())
+    check_none(&rt, rt.alloc(), &mut front)
+}
+
+const ALL_WAIT: &str =
+    "waiting 4\nword 1 0 session 10 number 1 readfe\nword 1 1 session 8 number 3 writeff\nword 1 1 session 8 number 7 readff\nword 1 1 session 9 number 2 int_fetch_add\nsession 8 waits 2\nsession 9 waits 1\nsession 10 waits 1\nall-wait yes\n";
+
+/// Three sessions wait, and the fourth closes.
+fn all_wait(rt: &impl Abort, front: &mut Front) {
+    four_come(rt, front);
+    waits(rt, front, 3, 2, 1, Op::IntFetchAdd(5));
+    waits(rt, front, 2, 7, 1, Op::ReadFf);
+    waits(rt, front, 2, 3, 1, Op::WriteFf(8));
+    waits(rt, front, 4, 1, 0, Op::ReadFe);
+    assert!(rt; bye(rt, front, 1).is_ok());
+}
+
+/// The report is the same before and after the close is posted.
+fn check_all(rt: &impl Abort, alloc: Global, front: &mut Front) -> Result<(), Fail> {
+    check_report(rt, alloc, front, ALL_WAIT)?;
+    assert_eq!(rt; commit(rt, front), 6);
+    Ok(check_report(rt, alloc, front, ALL_WAIT)?)
 }
 
 #[test]
 fn report_where_all_wait(rt: HostRuntime) -> Result<(), Fail> {
     let mut front = new_front(&rt)?;
-    four_come(&rt, &mut front);
-    waits(&rt, &mut front, 3, 2, 1, Op::IntFetchAdd(5));
-    waits(&rt, &mut front, 2, 7, 1, Op::ReadFf);
-    waits(&rt, &mut front, 2, 3, 1, Op::WriteFf(8));
-    waits(&rt, &mut front, 4, 1, 0, Op::ReadFe);
-    assert!(rt; bye(&rt, &mut front, 1).is_ok());
-    let lines =
-        "waiting 4\nword 1 0 session 10 number 1 readfe\nword 1 1 session 8 number 3 writeff\nword 1 1 session 8 number 7 readff\nword 1 1 session 9 number 2 int_fetch_add\nsession 8 waits 2\nsession 9 waits 1\nsession 10 waits 1\nall-wait yes\n";
-    let text = report(rt.alloc(), &front)?;
-    assert_eq!(rt; text.as_str(), lines);
-    assert_eq!(rt; commit(&rt, &mut front), 6);
-    let text = report(rt.alloc(), &front)?;
-    assert_eq!(rt; text.as_str(), lines);
-    Ok(())
+    all_wait(&rt, &mut front);
+    check_all(&rt, rt.alloc(), &mut front)
 }

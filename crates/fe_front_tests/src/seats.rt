@@ -1,10 +1,11 @@
 // Sessions sit down, wait and leave, so that a slot has several sessions one after the other, and
 // each request stays with the session that made it.
-ghost use Rattle.std.specs.Prelude.{◌≡◌, ◌<◌, Some};
+ghost use Rattle.std.specs.Prelude.{◌≡◌, ◌<◌, Some, IfOk};
 ghost use Rattle.std.specs.FinMap as map;
 
 use fe_seats::{Seat, Seats, Turn};
 use fe_words::Op;
+use std::alloc::{AllocError, Global};
 use std::process::Abort;
 use std::test::Fail;
 
@@ -100,36 +101,87 @@ fn finish_all(rt: &impl Abort, seats: &mut Seats, index: u32) -> u32
     2048
 }
 
-#[test]
-fn sessions_come_and_go(rt: HostRuntime) -> Result<(), Fail> {
-    let mut seats = Seats::new(rt.alloc())?;
-    seats.add_array(ARRAY, WORDS)?;
+// 64 sessions come, and two requests of each wait.
+fn all_come(rt: &impl Abort, seats: &mut Seats)
+    requires { map.get seats.old.arrays 1 ≡ Some 8 }
+    ensures { map.get seats.new.arrays 1 ≡ Some 8 }
+{
     for session in 1000..1064 {
-        sit(&rt, &mut seats, session);
-        wait(&rt, &mut seats, session, 1);
-        wait(&rt, &mut seats, session, 2);
+        sit(rt, seats, session);
+        wait(rt, seats, session, 1);
+        wait(rt, seats, session, 2);
     }
+}
+
+// Half of them leave.
+fn half_leave(rt: &impl Abort, seats: &mut Seats)
+    ensures { seats.new.arrays ≡ seats.old.arrays }
+{
     for session in 1000..1032 {
-        close(&rt, &mut seats, session);
-        leave(&rt, &mut seats, session, 2);
+        close(rt, seats, session);
+        leave(rt, seats, session, 2);
     }
     assert_eq!(rt; seats.len(), 64);
+}
+
+// Others come in their slots.
+fn others_come(rt: &impl Abort, seats: &mut Seats)
+    requires { map.get seats.old.arrays 1 ≡ Some 8 }
+    ensures { map.get seats.new.arrays 1 ≡ Some 8 }
+{
     for session in 2000..2032 {
-        sit(&rt, &mut seats, session);
+        sit(rt, seats, session);
         assert_eq!(rt; seats.find(session, 1), None);
-        wait(&rt, &mut seats, session, 3);
+        wait(rt, seats, session, 3);
     }
     assert_eq!(rt; seats.seat_count(), 64);
+}
+
+// A request is cancelled, once.
+fn cancel_one(rt: &impl Abort, seats: &mut Seats)
+    ensures { seats.new.arrays ≡ seats.old.arrays }
+{
     assert_eq!(rt; seats.find(1063, 2), Some(request(1063, 2)));
     assert_eq!(rt; seats.cancel(1063, 2), Some(request(1063, 2)));
     assert_eq!(rt; seats.cancel(1063, 2), None);
     assert_eq!(rt; seats.cancel(1000, 2), None);
     assert_eq!(rt; seats.count_of(1063), 1);
+}
+
+// All that waits is finished.
+fn finish_words(rt: &impl Abort, seats: &mut Seats)
+    requires { map.get seats.old.arrays 1 ≡ Some 8 }
+{
     for index in 0..WORDS {
         // four of the sessions that stayed, with two requests each, and four that came
         let count = if index == 7 { 11 } else { 12 };
-        assert_eq!(rt; finish_all(&rt, &mut seats, index), count);
+        assert_eq!(rt; finish_all(rt, seats, index), count);
     }
     assert_eq!(rt; seats.len(), 0);
+}
+
+// Seats with an array of eight words.
+fn new_seats(alloc: Global) -> Result<Seats, AllocError>
+    ensures { IfOk result (λ seats. map.get seats.arrays 1 ≡ Some 8) }
+{
+    let mut seats = Seats::new(alloc)?;
+    seats.add_array(ARRAY, WORDS)?;
+    Ok(seats)
+}
+
+fn check_seats(rt: &impl Abort, seats: &mut Seats)
+    requires { map.get seats.old.arrays 1 ≡ Some 8 }
+{
+    all_come(rt, seats);
+    half_leave(rt, seats);
+    others_come(rt, seats);
+    cancel_one(rt, seats);
+    finish_words(rt, seats);
+}
+
+#[test]
+fn sessions_come_and_go(rt: HostRuntime) -> Result<(), Fail> {
+    let mut seats = new_seats(rt.alloc())?;
+    check_seats(&rt, &mut seats);
     Ok(())
 }

@@ -1,4 +1,5 @@
 ghost use Rattle.std.specs.Prelude.{◌≡◌, false};
+ghost use Rattle.fe_codec.specs.Image.{StateOfFormat};
 
 mod memory;
 
@@ -7,7 +8,8 @@ use fe_codec::{
 };
 use fe_state::{Answer, Entry, Kept, Name, Request, State};
 use fe_words::{Op, Tag, Word};
-use std::alloc::Global;
+use std::alloc::{AllocError, Global};
+use std::process::Abort;
 use std::test::Fail;
 
 /// A finished `writeef` of session 7, number 2, in format 1.
@@ -186,48 +188,70 @@ fn empty_image(rt: HostRuntime) -> Result<(), Fail> {
     Ok(())
 }
 
+/// Whether the image of the state is these bytes.
+fn is_spelled(
+    alloc: Global,
+    format: Format,
+    state: &State,
+    bytes: &[u8],
+) -> Result<bool, AllocError>
+    requires { StateOfFormat format state.now }
+{
+    let mut out = Vec::new(alloc);
+    put_image(format, state, &mut out)?;
+    Ok(out.as_slice() == bytes)
+}
+
 /// Reads an image, and spells the state again.
 fn same_again(alloc: Global, format: Format, bytes: &[u8]) -> Result<State, Fail> {
     let state = read_image(alloc, format, bytes)
         .ok()
         .ok_or("the bytes are an image")?;
-    let mut out = Vec::new(alloc);
-    put_image(format, &state, &mut out)?;
-    if out.as_slice() != bytes {
-        return Err(Fail::from("the image is another"));
+    if is_spelled(alloc, format, &state, bytes)? {
+        Ok(state)
+    } else {
+        Err(Fail::from("the image is another"))
     }
-    Ok(state)
 }
 
 fn fault(alloc: Global, bytes: &[u8]) -> Option<ImageFault> {
     read_image(alloc, Format::One, bytes).err()
 }
 
-#[test]
-fn image_both_ways(rt: HostRuntime) -> Result<(), Fail> {
-    let empty = same_again(rt.alloc(), Format::One, &EMPTY)?;
-    assert!(&rt; empty.place() == 0 && empty.next_id() == 1);
-    let state = same_again(rt.alloc(), Format::One, &IMAGE)?;
-    assert!(&rt; state.place() == 9 && state.next_id() == 3);
-    let cells = Name::new(b"cells").ok_or("a short name")?;
-    assert!(&rt; state.array_at(0) == Some((1, cells, 2)));
-    let word = Word {
-        value: 42,
-        tag: Tag::Full,
-    };
-    assert!(&rt; state.word(1, 0) == Some(word));
-    let word = Word {
-        value: 7,
-        tag: Tag::Empty,
-    };
-    assert!(&rt; state.word(1, 1) == Some(word));
-    assert!(&rt; state.floor(7) == Some(1) && state.floor(8) == Some(5));
+fn check_counts(rt: &impl Abort, state: &State, place: u64, next_id: u64) {
+    assert!(rt; state.place() == place && state.next_id() == next_id);
+}
+
+fn check_word(rt: &impl Abort, state: &State, index: u32, value: u64, tag: Tag) {
+    assert!(rt; state.word(1, index) == Some(Word { value, tag }));
+}
+
+/// The state of `IMAGE`.
+fn check_image(rt: &impl Abort, state: &State) {
+    check_counts(rt, state, 9, 3);
+    let cells = Name::new(b"cells").expect(rt, "a short name");
+    assert!(rt; state.array_at(0) == Some((1, cells, 2)));
+    check_word(rt, state, 0, 42, Tag::Full);
+    check_word(rt, state, 1, 7, Tag::Empty);
+    assert!(rt; state.floor(7) == Some(1) && state.floor(8) == Some(5));
+}
+
+fn check_empty(rt: &impl Abort, alloc: Global) -> Result<(), Fail> {
+    let empty = same_again(alloc, Format::One, &EMPTY)?;
+    check_counts(rt, &empty, 0, 1);
     Ok(())
 }
 
 #[test]
-fn kept_answers_both_ways(rt: HostRuntime) -> Result<(), Fail> {
-    let state = same_again(rt.alloc(), Format::Two, &LONG_IMAGE)?;
+fn image_both_ways(rt: HostRuntime) -> Result<(), Fail> {
+    check_empty(&rt, rt.alloc())?;
+    let state = same_again(rt.alloc(), Format::One, &IMAGE)?;
+    check_image(&rt, &state);
+    Ok(())
+}
+
+/// What the state of `LONG_IMAGE` keeps for session 7.
+fn check_kept(rt: &impl Abort, state: &State) {
     let request = Request::Access {
         array: 1,
         index: 1,
@@ -239,7 +263,7 @@ fn kept_answers_both_ways(rt: HostRuntime) -> Result<(), Fail> {
         answer: Answer::NotNow,
         place: 6,
     };
-    assert!(&rt; state.kept(7, 5) == Some(kept));
+    assert!(rt; state.kept(7, 5) == Some(kept));
     let request = Request::Access {
         array: 1,
         index: 0,
@@ -251,8 +275,14 @@ fn kept_answers_both_ways(rt: HostRuntime) -> Result<(), Fail> {
         answer: Answer::Value(40),
         place: 8,
     };
-    assert!(&rt; state.kept(7, 32) == Some(kept));
-    assert!(&rt; state.kept(7, 4) == None);
+    assert!(rt; state.kept(7, 32) == Some(kept));
+    assert!(rt; state.kept(7, 4) == None);
+}
+
+#[test]
+fn kept_answers_both_ways(rt: HostRuntime) -> Result<(), Fail> {
+    let state = same_again(rt.alloc(), Format::Two, &LONG_IMAGE)?;
+    check_kept(&rt, &state);
     Ok(())
 }
 

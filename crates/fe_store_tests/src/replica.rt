@@ -4,6 +4,7 @@ use fe_replica::{Refused, ReplayFault, replay, take};
 use fe_state::{Answer, Entry, Name, Request, State, UndoLog};
 use fe_words::Tag;
 use std::alloc::{AllocError, Global};
+use std::process::Abort;
 use std::test::Fail;
 
 const ATTACHED: Entry = Entry::Attached {
@@ -36,19 +37,34 @@ fn created() -> Option<Entry> {
     })
 }
 
+/// The entries are refused at the place.
+fn check_refused(
+    rt: &impl Abort,
+    alloc: Global,
+    state: &mut State,
+    entries: &[Entry],
+    place: u64,
+) -> Result<(), AllocError> {
+    let told = taken(alloc, state, entries)?;
+    assert!(rt; told == Err(Refused::Mismatch { place }));
+    Ok(())
+}
+
+/// No entry, a first and a second one that are not legal.
+fn check_mismatch(rt: &impl Abort, alloc: Global, state: &mut State) -> Result<(), Fail> {
+    let closed = Entry::Closed { session: 7 };
+    let other = Entry::Closed { session: 8 };
+    check_refused(rt, alloc, state, &[], 0)?;
+    check_refused(rt, alloc, state, &[closed], 0)?;
+    check_refused(rt, alloc, state, &[ATTACHED, other], 1)?;
+    assert!(rt; state.place() == 0 && state.session_count() == 0);
+    Ok(())
+}
+
 #[test]
 fn mismatch(rt: HostRuntime) -> Result<(), Fail> {
     let mut state = State::new(rt.alloc())?;
-    let none = taken(rt.alloc(), &mut state, &[])?;
-    assert!(&rt; none == Err(Refused::Mismatch { place: 0 }));
-    let closed = [Entry::Closed { session: 7 }];
-    let first = taken(rt.alloc(), &mut state, &closed)?;
-    assert!(&rt; first == Err(Refused::Mismatch { place: 0 }));
-    let other = [ATTACHED, Entry::Closed { session: 8 }];
-    let second = taken(rt.alloc(), &mut state, &other)?;
-    assert!(&rt; second == Err(Refused::Mismatch { place: 1 }));
-    assert!(&rt; state.place() == 0 && state.session_count() == 0);
-    Ok(())
+    check_mismatch(&rt, rt.alloc(), &mut state)
 }
 
 #[test]

@@ -1,11 +1,11 @@
 // The lists of words and sessions are driven together, through cancelled, finished and dropped
 // requests, until nothing waits; and each allocation is refused in turn, by `rt try --fail-alloc`.
-ghost use Rattle.std.specs.Prelude.{◌≡◌, ◌<◌, Some, OnOk};
+ghost use Rattle.std.specs.Prelude.{◌≡◌, ◌<◌, Some, OnOk, IfOk};
 ghost use Rattle.std.specs.FinMap as map;
 
 use fe_waits::{Row, Waits};
 use fe_words::Op;
-use std::alloc::AllocError;
+use std::alloc::{AllocError, Global};
 use std::process::Abort;
 use std::test::Fail;
 
@@ -96,36 +96,76 @@ fn cancel_each(rt: &impl Abort, waits: &mut Waits, number: u64)
     }
 }
 
-#[test]
-fn both_families(rt: HostRuntime) -> Result<(), Fail> {
-    let mut waits = Waits::new(rt.alloc())?;
-    waits.add_array(ARRAY, WORDS)?;
-    fill(&rt, &mut waits);
-    cancel_each(&rt, &mut waits, 16);
+// Some requests on the words of each slot are finished, and all of every second slot are dropped.
+fn finish_slots(rt: &impl Abort, waits: &mut Waits)
+    requires { map.get waits.old.arrays 1 ≡ Some 8 }
+    ensures { map.get waits.new.arrays 1 ≡ Some 8 }
+{
     for slot in 0..64 {
-        finish(&rt, &mut waits, slot as u32 % WORDS, 20);
+        finish(rt, waits, slot as u32 % WORDS, 20);
         if slot % 2 == 1 {
-            drop_slot(&rt, &mut waits, slot);
+            drop_slot(rt, waits, slot);
         }
     }
+}
+
+// All that waits on a word is finished, word by word.
+fn finish_words(rt: &impl Abort, waits: &mut Waits)
+    requires { map.get waits.old.arrays 1 ≡ Some 8 }
+    ensures { map.get waits.new.arrays 1 ≡ Some 8 }
+{
     for index in 0..WORDS {
-        finish(&rt, &mut waits, index, 2048);
+        finish(rt, waits, index, 2048);
         assert!(rt; waits.first_on(ARRAY, index).is_none());
     }
     assert_eq!(rt; waits.len(), 0);
-    fill(&rt, &mut waits);
+}
+
+fn drop_slots(rt: &impl Abort, waits: &mut Waits) {
     for slot in 0..64 {
-        drop_slot(&rt, &mut waits, slot);
+        drop_slot(rt, waits, slot);
     }
     assert_eq!(rt; waits.len(), 0);
+}
+
+// Lists with an array of eight words.
+fn new_waits(alloc: Global) -> Result<Waits, AllocError>
+    ensures { IfOk result (λ waits. map.get waits.arrays 1 ≡ Some 8) }
+{
+    let mut waits = Waits::new(alloc)?;
+    waits.add_array(ARRAY, WORDS)?;
+    Ok(waits)
+}
+
+fn check_waits(rt: &impl Abort, waits: &mut Waits)
+    requires { map.get waits.old.arrays 1 ≡ Some 8 }
+{
+    fill(rt, waits);
+    cancel_each(rt, waits, 16);
+    finish_slots(rt, waits);
+    finish_words(rt, waits);
+    fill(rt, waits);
+    drop_slots(rt, waits);
+}
+
+#[test]
+fn both_families(rt: HostRuntime) -> Result<(), Fail> {
+    let mut waits = new_waits(rt.alloc())?;
+    check_waits(&rt, &mut waits);
     Ok(())
+}
+
+// Lists whose one array is gone.
+fn emptied(alloc: Global) -> Result<Waits, AllocError> {
+    let mut waits = Waits::new(alloc)?;
+    waits.add_array(ARRAY, WORDS)?;
+    waits.drop_array(ARRAY);
+    Ok(waits)
 }
 
 #[test]
 fn an_array_goes(rt: HostRuntime) -> Result<(), Fail> {
-    let mut waits = Waits::new(rt.alloc())?;
-    waits.add_array(ARRAY, WORDS)?;
-    waits.drop_array(ARRAY);
+    let waits = emptied(rt.alloc())?;
     assert_eq!(rt; waits.len(), 0);
     Ok(())
 }

@@ -102,24 +102,47 @@ fn fed_in_pieces(
     Ok(messages)
 }
 
+/// The decoder gives these messages and this fault for a piece.
+fn check_fed(
+    rt: &impl Abort,
+    alloc: Global,
+    decoder: &mut Decoder,
+    piece: &[u8],
+    messages: &[ClientMessage],
+    fault: Option<BadFrame>,
+) -> Result<(), AllocError> {
+    let fed = decoder.feed(alloc, piece)?;
+    assert_eq!(rt; fed.messages.as_slice(), messages);
+    assert_eq!(rt; fed.fault, fault);
+    Ok(())
+}
+
+/// A stream is fed as these messages, whole and a byte at a time, with no fault.
+fn check_stream(
+    rt: &impl Abort,
+    alloc: Global,
+    version: Version,
+    stream: &[u8],
+    wanted: &[ClientMessage],
+) -> Result<(), AllocError> {
+    let mut decoder = Decoder::with_version(version);
+    check_fed(rt, alloc, &mut decoder, stream, wanted, None)?;
+    let messages = fed_in_pieces(alloc, Decoder::with_version(version), stream)?;
+    assert_eq!(rt; messages.as_slice(), wanted);
+    Ok(())
+}
+
 #[test]
 fn frames_in_pieces(rt: HostRuntime) -> Result<(), Fail> {
     let wanted = first_path().ok_or("five bytes")?;
     let stream = joined(rt.alloc(), &FRAMES)?;
-    let fed = Decoder::new().feed(rt.alloc(), &stream)?;
-    assert_eq!(rt; fed.messages.as_slice(), wanted.as_slice());
-    assert_eq!(rt; fed.fault, None);
-    let messages = fed_in_pieces(rt.alloc(), Decoder::new(), &stream)?;
-    assert_eq!(rt; messages.as_slice(), wanted.as_slice());
-    Ok(())
+    Ok(check_stream(&rt, rt.alloc(), Version::One, &stream, &wanted)?)
 }
 
 #[test]
 fn mid_frame_completes_nothing(rt: HostRuntime) -> Result<(), Fail> {
     let mut decoder = Decoder::new();
-    let fed = decoder.feed(rt.alloc(), &FRAMES[0][..12])?;
-    assert_eq!(rt; fed.messages.len(), 0);
-    assert_eq!(rt; fed.fault, None);
+    check_fed(&rt, rt.alloc(), &mut decoder, &FRAMES[0][..12], &[], None)?;
     Ok(())
 }
 
@@ -131,13 +154,9 @@ fn check_fault(
     offset: u64,
 ) -> Result<(), AllocError> {
     let fault = Some(BadFrame { offset });
-    let fed = decoder.feed(alloc, ATTACH_AND_BAD)?;
-    assert_eq!(rt; fed.messages.as_slice(), [ATTACH].as_slice());
-    assert_eq!(rt; fed.fault, fault);
+    check_fed(rt, alloc, &mut decoder, ATTACH_AND_BAD, &[ATTACH], fault)?;
     for _ in 0..2 {
-        let fed = decoder.feed(alloc, FRAMES[0])?;
-        assert_eq!(rt; fed.messages.len(), 0);
-        assert_eq!(rt; fed.fault, fault);
+        check_fed(rt, alloc, &mut decoder, FRAMES[0], &[], fault)?;
     }
     Ok(())
 }
@@ -155,6 +174,19 @@ fn offset_stands_still(rt: HostRuntime) -> Result<(), Fail> {
     Ok(())
 }
 
+/// The message is put as the frame.
+fn check_put(
+    rt: &impl Abort,
+    alloc: Global,
+    message: &ClientMessage,
+    frame: &[u8],
+) -> Result<(), AllocError> {
+    let mut out = Vec::new(alloc);
+    put_message(&mut out, message)?;
+    assert_eq!(rt; out.as_slice(), frame);
+    Ok(())
+}
+
 /// The message is put as the frame, and the frame is fed as the message, whole and a byte at a time.
 fn check_frame(
     rt: &impl Abort,
@@ -162,14 +194,8 @@ fn check_frame(
     message: ClientMessage,
     frame: &[u8],
 ) -> Result<(), AllocError> {
-    let mut out = Vec::new(alloc);
-    put_message(&mut out, &message)?;
-    assert_eq!(rt; out.as_slice(), frame);
-    let fed = Decoder::with_version(Version::Two).feed(alloc, frame)?;
-    assert_eq!(rt; fed.messages.as_slice(), [message].as_slice());
-    let messages = fed_in_pieces(alloc, Decoder::with_version(Version::Two), frame)?;
-    assert_eq!(rt; messages.as_slice(), [message].as_slice());
-    Ok(())
+    check_put(rt, alloc, &message, frame)?;
+    check_stream(rt, alloc, Version::Two, frame, [message].as_slice())
 }
 
 #[test]
@@ -218,6 +244,59 @@ fn long_names(rt: HostRuntime) -> Result<(), Fail> {
 }
 
 /// The reply is put as the frame.
+fn check_told(
+    rt: &impl Abort,
+    alloc: Global,
+    reply: &ServerMessage,
+    frame: &[u8],
+) -> Result<(), AllocError>
+    requires { HasRefusalCode reply.now }
+{
+    let mut out = Vec::new(alloc);
+    put_reply(&mut out, reply)?;
+    assert_eq!(rt; out.as_slice(), frame);
+    Ok(())
+}
+
+/// Whether two replies are the same, and none is a report.
+fn is_same(one: &ServerMessage, two: &ServerMessage) -> bool {
+    match (one, two) {
+        (
+            ServerMessage::Welcome { session, floor },
+            ServerMessage::Welcome {
+                session: s,
+                floor: f,
+            },
+        ) => session == s && floor == f,
+        (
+            ServerMessage::Answer { number, answer },
+            ServerMessage::Answer {
+                number: n,
+                answer: a,
+            },
+        ) => number == n && answer == a,
+        (ServerMessage::Refused { number, code }, ServerMessage::Refused { number: n, code: c }) =>
+            number == n && code == c,
+        (ServerMessage::Withdrawn { number }, ServerMessage::Withdrawn { number: n }) => {
+            number == n
+        }
+        (ServerMessage::Settled { floor }, ServerMessage::Settled { floor: f }) => floor == f,
+        (ServerMessage::Goodbye { session }, ServerMessage::Goodbye { session: s }) => {
+            session == s
+        }
+        _ => false,
+    }
+}
+
+/// Whether the frame is read as the reply.
+fn is_read(alloc: Global, reply: &ServerMessage, frame: &[u8]) -> Result<bool, AllocError> {
+    match read_reply(alloc, frame)? {
+        Some(read) => Ok(is_same(&read, reply)),
+        None => Ok(false),
+    }
+}
+
+/// The reply is put as the frame, and the frame is read as the reply.
 fn check_reply(
     rt: &impl Abort,
     alloc: Global,
@@ -226,58 +305,39 @@ fn check_reply(
 ) -> Result<(), AllocError>
     requires { HasRefusalCode reply }
 {
-    let mut out = Vec::new(alloc);
-    put_reply(&mut out, &reply)?;
-    assert_eq!(rt; out.as_slice(), frame);
+    check_told(rt, alloc, &reply, frame)?;
+    assert!(rt; is_read(alloc, &reply, frame)?);
     Ok(())
 }
+
+fn check_answer(
+    rt: &impl Abort,
+    alloc: Global,
+    number: u64,
+    answer: Answer,
+    frame: &[u8],
+) -> Result<(), AllocError> {
+    check_reply(rt, alloc, ServerMessage::Answer { number, answer }, frame)
+}
+
+/// The reply to `NO_WAIT` where the word is empty.
+const NOT_NOW: &[u8] = b"\0\0\0\x16\x42\0\0\0\0\0\0\0\x02\x0b\0\0\0\0\0\0\0\0\0\0\0\0";
 
 #[test]
 fn no_wait(rt: HostRuntime) -> Result<(), Fail> {
     check_frame(&rt, rt.alloc(), access(2, Op::ReadFe, true), NO_WAIT)?;
-    let (number, answer) = (2, Answer::NotNow);
-    let frame = b"\0\0\0\x16\x42\0\0\0\0\0\0\0\x02\x0b\0\0\0\0\0\0\0\0\0\0\0\0";
-    check_reply(
-        &rt,
-        rt.alloc(),
-        ServerMessage::Answer { number, answer },
-        frame,
-    )?;
-    let read = read_reply(rt.alloc(), frame)?;
-    assert!(rt;
-        matches!(
-            read,
-            Some(ServerMessage::Answer {
-                number: 2,
-                answer: Answer::NotNow
-            })
-        )
-    );
-    let fed = Decoder::new().feed(rt.alloc(), NO_WAIT)?;
-    assert_eq!(rt; fed.messages.len(), 0);
-    assert_eq!(rt; fed.fault, Some(BadFrame { offset: 0 }));
+    check_answer(&rt, rt.alloc(), 2, Answer::NotNow, NOT_NOW)?;
+    let fault = Some(BadFrame { offset: 0 });
+    let mut decoder = Decoder::new();
+    check_fed(&rt, rt.alloc(), &mut decoder, NO_WAIT, &[], fault)?;
     Ok(())
 }
 
 #[test]
 fn replies_of_first_path(rt: HostRuntime) -> Result<(), Fail> {
     let (session, floor) = (7, 1);
-    check_reply(
-        &rt,
-        rt.alloc(),
-        ServerMessage::Welcome { session, floor },
-        REPLIES[0],
-    )?;
-    let read = read_reply(rt.alloc(), REPLIES[0])?;
-    assert!(rt;
-        matches!(
-            read,
-            Some(ServerMessage::Welcome {
-                session: 7,
-                floor: 1
-            })
-        )
-    );
+    let welcome = ServerMessage::Welcome { session, floor };
+    check_reply(&rt, rt.alloc(), welcome, REPLIES[0])?;
     let answers = [
         Answer::Array { id: 1, length: 2 },
         Answer::Done,
@@ -285,16 +345,7 @@ fn replies_of_first_path(rt: HostRuntime) -> Result<(), Fail> {
         Answer::Value(42),
     ];
     for ((number, answer), frame) in (1..).zip(answers).zip(&REPLIES[1..]) {
-        check_reply(
-            &rt,
-            rt.alloc(),
-            ServerMessage::Answer { number, answer },
-            frame,
-        )?;
-        match read_reply(rt.alloc(), frame)? {
-            Some(ServerMessage::Answer { answer: read, .. }) => assert_eq!(rt; read, answer),
-            _ => return Err("an answer".into()),
-        }
+        check_answer(&rt, rt.alloc(), number, answer, frame)?;
     }
     Ok(())
 }
@@ -304,40 +355,13 @@ fn each_kind_of_server(rt: HostRuntime) -> Result<(), Fail> {
     let alloc = rt.alloc();
     let frame = b"\0\0\0\x09\x43\0\0\0\0\0\0\0\x07";
     check_reply(&rt, alloc, ServerMessage::Withdrawn { number: 7 }, frame)?;
-    assert!(rt;
-        matches!(
-            read_reply(alloc, frame)?,
-            Some(ServerMessage::Withdrawn { number: 7 })
-        )
-    );
     let frame = b"\0\0\0\x09\x44\0\0\0\0\0\0\0\x05";
     check_reply(&rt, alloc, ServerMessage::Settled { floor: 5 }, frame)?;
-    assert!(rt;
-        matches!(
-            read_reply(alloc, frame)?,
-            Some(ServerMessage::Settled { floor: 5 })
-        )
-    );
     let frame = b"\0\0\0\x09\x45\0\0\0\0\0\0\0\x07";
     check_reply(&rt, alloc, ServerMessage::Goodbye { session: 7 }, frame)?;
-    assert!(rt;
-        matches!(
-            read_reply(alloc, frame)?,
-            Some(ServerMessage::Goodbye { session: 7 })
-        )
-    );
     let (number, code) = (5, 10);
     let frame = b"\0\0\0\x0a\x46\0\0\0\0\0\0\0\x05\x0a";
     check_reply(&rt, alloc, ServerMessage::Refused { number, code }, frame)?;
-    assert!(rt;
-        matches!(
-            read_reply(alloc, frame)?,
-            Some(ServerMessage::Refused {
-                number: 5,
-                code: 10
-            })
-        )
-    );
     Ok(())
 }
 
@@ -349,7 +373,7 @@ fn reports(rt: HostRuntime) -> Result<(), Fail> {
     };
     assert_eq!(rt; text.as_str(), "waiting 0\n");
     let text = ReportText::new(text.into_string());
-    check_reply(&rt, rt.alloc(), ServerMessage::Report(text), frame)?;
+    check_told(&rt, rt.alloc(), &ServerMessage::Report(text), frame)?;
     Ok(())
 }
 
@@ -361,16 +385,29 @@ fn fed_at_last(decoder: &mut Decoder, alloc: Global, piece: &[u8]) -> Result<Fed
     }
 }
 
+/// The first five bytes of a frame give nothing, and the rest gives the message.
+fn check_at_last(
+    rt: &impl Abort,
+    alloc: Global,
+    decoder: &mut Decoder,
+    frame: &[u8],
+    message: ClientMessage,
+) -> Result<(), AllocError> {
+    assert!(rt; 5 <= frame.len());
+    let (front, back) = frame.split_at(5);
+    check_fed(rt, alloc, decoder, front, &[], None)?;
+    let fed = fed_at_last(decoder, alloc, back)?;
+    assert_eq!(rt; fed.messages.as_slice(), [message].as_slice());
+    Ok(())
+}
+
 /// One refused allocation, wherever it comes, shows in no message.
 #[test]
 fn want_of_memory(rt: HostRuntime) -> Result<(), Fail> {
     let wanted = first_path().ok_or("five bytes")?;
     let mut decoder = Decoder::new();
     for (frame, message) in FRAMES.iter().zip(wanted) {
-        let (front, back) = frame.split_at(5);
-        assert_eq!(rt; decoder.feed(rt.alloc(), front)?.messages.len(), 0);
-        let fed = fed_at_last(&mut decoder, rt.alloc(), back)?;
-        assert_eq!(rt; fed.messages.as_slice(), [message].as_slice());
+        check_at_last(&rt, rt.alloc(), &mut decoder, frame, message)?;
     }
     Ok(())
 }

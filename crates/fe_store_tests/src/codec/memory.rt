@@ -33,15 +33,24 @@ fn put_at_last(rt: &impl Abort, state: &State, out: &mut Vec<u8>) -> Result<(), 
     Ok(())
 }
 
+fn check_group(rt: &impl Abort, alloc: Global) -> Result<(), Fail> {
+    let read = group_at_last(alloc)?;
+    assert!(rt; read.is_some());
+    Ok(())
+}
+
+fn check_put(rt: &impl Abort, alloc: Global, state: &State) -> Result<(), Fail> {
+    let mut out = Vec::new(alloc);
+    put_at_last(rt, state, &mut out)?;
+    assert!(rt; out.as_slice() == LONG_IMAGE.as_slice());
+    Ok(())
+}
+
 #[test]
 fn codec_where_memory_ends(rt: HostRuntime) -> Result<(), Fail> {
+    check_group(&rt, rt.alloc())?;
     let state = image_at_last(&rt, rt.alloc())
         .ok()
         .ok_or("the bytes are an image")?;
-    let mut out = Vec::new(rt.alloc());
-    put_at_last(&rt, &state, &mut out)?;
-    assert!(&rt; out.as_slice() == LONG_IMAGE.as_slice());
-    let read = group_at_last(rt.alloc())?;
-    assert!(&rt; read.is_some());
-    Ok(())
+    check_put(&rt, rt.alloc(), &state)
 }

@@ -1,5 +1,6 @@
 use super::{read, write};
 use fe_disk::{DeviceFault, Disk, Fuse, MemoryDisk, Torn};
+use std::alloc::{AllocError, Global};
 use std::process::Abort;
 use std::test::Fail;
 
@@ -24,19 +25,47 @@ fn two_writes(rt: &impl Abort, disk: &mut Fuse<MemoryDisk>) -> Result<(), Device
     disk.sync()
 }
 
+// The calls fail from the first on that the fuse does not pass.
+fn burn(rt: &impl Abort, fuse: &mut Fuse<MemoryDisk>, calls: u64) {
+    assert_eq!(rt; two_writes(rt, fuse).is_ok(), calls == 4);
+    assert_eq!(rt; fuse.failures(), if calls == 4 { 0 } else { 1 });
+    assert_eq!(rt; fuse.sync(), Err(DeviceFault));
+    assert_eq!(rt; fuse.failures(), if calls == 4 { 1 } else { 2 });
+}
+
+fn burnt(rt: &impl Abort, alloc: Global, calls: u64) -> Result<MemoryDisk, AllocError> {
+    let mut fuse = Fuse::new(MemoryDisk::new(alloc, 8)?, calls);
+    burn(rt, &mut fuse, calls);
+    Ok(fuse.into_inner())
+}
+
+fn check_bytes(
+    rt: &impl Abort,
+    left: &mut MemoryDisk,
+    calls: u64,
+    want: [u8; 2],
+) -> Result<(), Fail> {
+    let mut found = [0; 2];
+    read(rt, left, 0, &mut found)?;
+    assert_eq!(rt; found, want, "after {calls} calls");
+    Ok(())
+}
+
+fn check_row(
+    rt: &impl Abort,
+    alloc: Global,
+    calls: u64,
+    torn: Torn,
+    want: [u8; 2],
+) -> Result<(), Fail> {
+    let mut left = burnt(rt, alloc, calls)?.stopped(torn)?;
+    check_bytes(rt, &mut left, calls, want)
+}
+
 #[test]
 fn burns_at_each_call(rt: HostRuntime) -> Result<(), Fail> {
     for (calls, torn, want) in STOPS {
-        let mut fuse = Fuse::new(MemoryDisk::new(rt.alloc(), 8)?, calls);
-        assert_eq!(rt; two_writes(&rt, &mut fuse).is_ok(), calls == 4);
-        assert_eq!(rt; fuse.failures(), if calls == 4 { 0 } else { 1 });
-        assert_eq!(rt; fuse.sync(), Err(DeviceFault));
-        assert_eq!(rt; fuse.failures(), if calls == 4 { 1 } else { 2 });
-
-        let mut left = fuse.into_inner().stopped(torn)?;
-        let mut found = [0; 2];
-        read(&rt, &mut left, 0, &mut found)?;
-        assert_eq!(rt; found, want, "after {calls} calls");
+        check_row(&rt, rt.alloc(), calls, torn, want)?;
     }
     Ok(())
 }

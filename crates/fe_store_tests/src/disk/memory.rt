@@ -1,6 +1,7 @@
 use super::plain::{Plain, SIZE};
 use super::{read, write};
-use fe_disk::{Disk, MemoryDisk, Torn};
+use fe_disk::{DeviceFault, Disk, MemoryDisk, Torn};
+use std::process::Abort;
 use std::test::Fail;
 
 const TORN: [Torn; 4] = [Torn::Kept, Torn::Lost, Torn::Byte(0x01), Torn::Byte(0x37)];
@@ -24,34 +25,78 @@ const STEPS: [Step; 11] = [
     Step::Write(0, &[17; 16]),
 ];
 
+// Makes the call on the disk and on the table.
+fn make(
+    rt: &impl Abort,
+    disk: &mut MemoryDisk,
+    plain: &mut Plain,
+    step: &Step,
+) -> Result<(), DeviceFault> {
+    match step {
+        Step::Write(at, bytes) => {
+            write(rt, disk, *at, bytes)?;
+            plain.write(*at, bytes);
+        }
+        Step::Sync => {
+            disk.sync()?;
+            plain.sync();
+        }
+    }
+    Ok(())
+}
+
+fn check_bytes(
+    rt: &impl Abort,
+    disk: &mut MemoryDisk,
+    want: [u8; SIZE],
+    k: usize,
+) -> Result<(), Fail> {
+    let mut found = [0; SIZE];
+    read(rt, disk, 0, &mut found)?;
+    assert_eq!(rt; found, want, "after step {k}");
+    Ok(())
+}
+
+// A disk that a stop left has these bytes, also after a further stop.
+fn check_left(
+    rt: &impl Abort,
+    left: &mut MemoryDisk,
+    want: [u8; SIZE],
+    k: usize,
+) -> Result<(), Fail> {
+    check_bytes(rt, left, want, k)?;
+    let mut again = left.stopped(Torn::Byte(0x55))?;
+    check_bytes(rt, &mut again, want, k)
+}
+
+fn check_stop(
+    rt: &impl Abort,
+    disk: &MemoryDisk,
+    torn: Torn,
+    want: [u8; SIZE],
+    k: usize,
+) -> Result<(), Fail> {
+    let mut left = disk.stopped(torn)?;
+    check_left(rt, &mut left, want, k)
+}
+
+fn check_stops(rt: &impl Abort, disk: &mut MemoryDisk, plain: &mut Plain) -> Result<(), Fail> {
+    for (k, step) in STEPS.iter().enumerate() {
+        make(rt, disk, plain, step)?;
+        for torn in TORN {
+            check_stop(rt, disk, torn, plain.left(torn), k)?;
+        }
+    }
+    assert_eq!(rt; disk.failures(), 0);
+    Ok(())
+}
+
 // After each call, a stop leaves what the table says, and what it leaves is on the disk.
 #[test]
 fn stops_as_the_table_says(rt: HostRuntime) -> Result<(), Fail> {
     let mut disk = MemoryDisk::new(rt.alloc(), SIZE)?;
     let mut plain = Plain::new();
-    for (k, step) in STEPS.iter().enumerate() {
-        match step {
-            Step::Write(at, bytes) => {
-                write(&rt, &mut disk, *at, bytes)?;
-                plain.write(*at, bytes);
-            }
-            Step::Sync => {
-                disk.sync()?;
-                plain.sync();
-            }
-        }
-        for torn in TORN {
-            let mut left = disk.stopped(torn)?;
-            let mut found = [0; SIZE];
-            read(&rt, &mut left, 0, &mut found)?;
-            assert_eq!(rt; found, plain.left(torn), "after step {k}");
-            let mut again = left.stopped(Torn::Byte(0x55))?;
-            read(&rt, &mut again, 0, &mut found)?;
-            assert_eq!(rt; found, plain.left(torn), "after step {k}");
-        }
-    }
-    assert_eq!(rt; disk.failures(), 0);
-    Ok(())
+    check_stops(&rt, &mut disk, &mut plain)
 }
 
 // A write or a sync whose record finds no memory is a device fault that leaves the disk as it was.

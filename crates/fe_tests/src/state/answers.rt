@@ -12,9 +12,7 @@ fn check_access(rt: &impl Abort, state: &State, index: u32, op: Op, answer: Opti
     check_reply(rt, state, access(index, op, true), Some(at_once));
 }
 
-#[test]
-fn operations_on_a_full_and_an_empty_word(rt: HostRuntime) -> Result<(), Fail> {
-    let state = with_cells(&rt, rt.alloc())?;
+fn check_operations(rt: &impl Abort, state: &State) {
     let (done, five, zero) = (Answer::Done, Answer::Value(5), Answer::Value(0));
     let rows = [
         (Op::ReadFe, Some(five), None),
@@ -27,15 +25,19 @@ fn operations_on_a_full_and_an_empty_word(rt: HostRuntime) -> Result<(), Fail> {
         (Op::IntFetchAdd(9), Some(five), None),
     ];
     for (op, full, empty) in rows {
-        check_access(&rt, &state, 1, op, full);
-        check_access(&rt, &state, 0, op, empty);
+        check_access(rt, state, 1, op, full);
+        check_access(rt, state, 0, op, empty);
     }
-    Ok(())
 }
 
 #[test]
-fn create_refusals(rt: HostRuntime) -> Result<(), Fail> {
+fn operations_on_a_full_and_an_empty_word(rt: HostRuntime) -> Result<(), Fail> {
     let state = with_cells(&rt, rt.alloc())?;
+    check_operations(&rt, &state);
+    Ok(())
+}
+
+fn check_creations(rt: &impl Abort, state: &State) {
     let made = Answer::Array {
         id: 2,
         length: 65534,
@@ -52,26 +54,36 @@ fn create_refusals(rt: HostRuntime) -> Result<(), Fail> {
         (b"abcdefghijklmnopqrstuvwxyz_01234", 65534, made),
     ];
     for (bytes, length, answer) in rows {
-        let request = create(&rt, bytes, length, Tag::Full);
-        check_reply(&rt, &state, request, Some(answer));
+        let request = create(rt, bytes, length, Tag::Full);
+        check_reply(rt, state, request, Some(answer));
     }
-    Ok(())
 }
 
 #[test]
-fn other_replies(rt: HostRuntime) -> Result<(), Fail> {
+fn create_refusals(rt: HostRuntime) -> Result<(), Fail> {
     let state = with_cells(&rt, rt.alloc())?;
+    check_creations(&rt, &state);
+    Ok(())
+}
+
+fn check_others(rt: &impl Abort, state: &State) {
     let cells = Answer::Array { id: 1, length: 2 };
     let rows = [
-        (find(&rt, b"cells"), cells),
-        (find(&rt, b"w"), Answer::NoArray),
-        (find(&rt, b""), Answer::BadName),
+        (find(rt, b"cells"), cells),
+        (find(rt, b"w"), Answer::NoArray),
+        (find(rt, b""), Answer::BadName),
         (Request::Remove { array: 1 }, Answer::Done),
         (Request::Remove { array: 2 }, Answer::NoArray),
         (access(2, Op::ReadXx, true), Answer::BadIndex),
     ];
     for (request, answer) in rows {
-        check_reply(&rt, &state, request, Some(answer));
+        check_reply(rt, state, request, Some(answer));
     }
+}
+
+#[test]
+fn other_replies(rt: HostRuntime) -> Result<(), Fail> {
+    let state = with_cells(&rt, rt.alloc())?;
+    check_others(&rt, &state);
     Ok(())
 }

@@ -35,17 +35,27 @@ fn check_loaded(rt: &impl Abort, state: &State) {
     }
 }
 
-#[test]
-fn an_image_is_loaded(rt: HostRuntime) -> Result<(), Fail> {
-    let mut state = State::starting(rt.alloc(), 10, 3)?;
+/// A state at place 10 with session 7, and with the array 2, `cells`, of two empty words.
+fn begun(rt: &impl Abort, alloc: Global) -> Result<State, AllocError> {
+    let mut state = State::starting(alloc, 10, 3)?;
     state.load_session(7, 5);
-    let cells = name(&rt, b"cells");
+    let cells = name(rt, b"cells");
     assert!(rt; cells.is_plain());
     state.load_array(2, cells, 2)?;
-    fill(&rt, &mut state);
-    keep_done(&rt, &mut state);
-    check_loaded(&rt, &state);
+    Ok(state)
+}
+
+fn load(rt: &impl Abort, state: &mut State) {
+    fill(rt, state);
+    keep_done(rt, state);
+    check_loaded(rt, state);
     assert_eq!(rt; state.next_id(), 3);
+}
+
+#[test]
+fn an_image_is_loaded(rt: HostRuntime) -> Result<(), Fail> {
+    let mut state = begun(&rt, rt.alloc())?;
+    load(&rt, &mut state);
     Ok(())
 }
 

@@ -1,4 +1,4 @@
-use super::undoing::there_and_back;
+use super::undoing::undo_all;
 use super::*;
 
 /// Session 7 finishes the creation of an array of one word under the id, and settles it.
@@ -21,16 +21,20 @@ fn with_64_arrays(rt: &impl Abort, alloc: Global) -> Result<State, AllocError> {
     Ok(state)
 }
 
-#[test]
-fn a_65th_array_is_refused(rt: HostRuntime) -> Result<(), Fail> {
-    let mut state = with_64_arrays(&rt, rt.alloc())?;
-    let further = create(&rt, b"further", 1, Tag::Full);
+fn check_65th(rt: &impl Abort, state: &mut State) -> Result<(), AllocError> {
+    let further = create(rt, b"further", 1, Tag::Full);
     assert_eq!(rt; state.answer_to(&further), Some(Answer::ArrayLimit));
-    pass(&rt, &mut state, finished(65, further, Answer::ArrayLimit))?;
+    pass(rt, state, finished(65, further, Answer::ArrayLimit))?;
     assert!(rt; state.array_at(63).is_some());
     assert!(rt; state.array_at(64).is_none());
     assert_eq!(rt; state.next_id(), 65);
     Ok(())
+}
+
+#[test]
+fn a_65th_array_is_refused(rt: HostRuntime) -> Result<(), Fail> {
+    let mut state = with_64_arrays(&rt, rt.alloc())?;
+    Ok(check_65th(&rt, &mut state)?)
 }
 
 fn removed(number: u64, array: u64) -> Entry {
@@ -49,14 +53,21 @@ fn removals(rt: &impl Abort) -> [Entry; 5] {
     ]
 }
 
-#[test]
-fn arrays_put_back_keep_their_order(rt: HostRuntime) -> Result<(), Fail> {
-    let mut state = with_64_arrays(&rt, rt.alloc())?;
-    let mut log = UndoLog::with_room(rt.alloc(), 5)?;
-    there_and_back(&rt, &mut state, &mut log, &removals(&rt))?;
+fn check_order(rt: &impl Abort, state: &State) {
     for k in 0..64 {
         let id = state.array_at(k).map(|array| array.0);
         assert_eq!(rt; id, Some(k as u64 + 1));
     }
+}
+
+fn check_put_back(rt: &impl Abort, alloc: Global, state: &mut State) -> Result<(), AllocError> {
+    undo_all(rt, alloc, state, 5, &removals(rt))?;
+    check_order(rt, state);
     Ok(())
+}
+
+#[test]
+fn arrays_put_back_keep_their_order(rt: HostRuntime) -> Result<(), Fail> {
+    let mut state = with_64_arrays(&rt, rt.alloc())?;
+    Ok(check_put_back(&rt, rt.alloc(), &mut state)?)
 }

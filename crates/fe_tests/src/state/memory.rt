@@ -3,6 +3,13 @@ use super::*;
 // `rt try --test --fail-alloc N` takes the allocation N away from each test. The call that finds no
 // memory leaves all as it was, and does its work when it is made again.
 
+fn check_untouched(rt: &impl Abort, state: &State, log: &UndoLog) {
+    assert_eq!(rt; state.place(), 1);
+    assert_eq!(rt; log.len(), 0);
+    assert!(rt; state.array_at(0).is_none());
+    assert!(rt; state.kept(7, 1).is_none());
+}
+
 /// Finishes the creation of an array with a log, at the second try if not at the first.
 fn create_at_last(rt: &impl Abort, state: &mut State, log: &mut UndoLog) -> Result<(), AllocError> {
     let request = create(rt, b"cells", 2, Tag::Empty);
@@ -10,10 +17,7 @@ fn create_at_last(rt: &impl Abort, state: &mut State, log: &mut UndoLog) -> Resu
     assert!(rt; state.check(&entry).is_ok());
     assert!(rt; log.has_room());
     if state.apply(entry, log).is_err() {
-        assert_eq!(rt; state.place(), 1);
-        assert_eq!(rt; log.len(), 0);
-        assert!(rt; state.array_at(0).is_none());
-        assert!(rt; state.kept(7, 1).is_none());
+        check_untouched(rt, state, log);
         state.apply(entry, log)?;
     }
     Ok(())
@@ -34,19 +38,40 @@ fn log_at_last(alloc: Global) -> Result<UndoLog, AllocError> {
     }
 }
 
-#[test]
-fn a_state_where_memory_ends(rt: HostRuntime) -> Result<(), Fail> {
-    let mut state = match State::new(rt.alloc()) {
-        Ok(state) => state,
-        Err(_) => State::new(rt.alloc())?,
-    };
-    pass(&rt, &mut state, attached(7))?;
-    let mut log = log_at_last(rt.alloc())?;
+fn state_at_last(alloc: Global) -> Result<State, AllocError> {
+    match State::new(alloc) {
+        Ok(state) => Ok(state),
+        Err(_) => State::new(alloc),
+    }
+}
+
+fn create_cells(rt: &impl Abort, alloc: Global, state: &mut State) -> Result<(), AllocError> {
+    let mut log = log_at_last(alloc)?;
     log.clear();
-    create_at_last(&rt, &mut state, &mut log)?;
-    let copy = copy_at_last(&state)?;
-    check_same(&rt, &copy, &state);
-    assert_eq!(rt; copy.array_at(0), Some((1, name(&rt, b"cells"), 2)));
+    create_at_last(rt, state, &mut log)?;
     assert_eq!(rt; log.len(), 1);
     Ok(())
+}
+
+fn check_cells(rt: &impl Abort, state: &State) {
+    assert_eq!(rt; state.array_at(0), Some((1, name(rt, b"cells"), 2)));
+}
+
+fn check_copy(rt: &impl Abort, state: &State) -> Result<(), AllocError> {
+    let copy = copy_at_last(state)?;
+    check_same(rt, &copy, state);
+    check_cells(rt, &copy);
+    Ok(())
+}
+
+fn check_state(rt: &impl Abort, alloc: Global, state: &mut State) -> Result<(), AllocError> {
+    pass(rt, state, attached(7))?;
+    create_cells(rt, alloc, state)?;
+    check_copy(rt, state)
+}
+
+#[test]
+fn a_state_where_memory_ends(rt: HostRuntime) -> Result<(), Fail> {
+    let mut state = state_at_last(rt.alloc())?;
+    Ok(check_state(&rt, rt.alloc(), &mut state)?)
 }

@@ -3,6 +3,22 @@ ghost use Rattle.fe_state.specs.UndoLog.{IsLogOf};
 
 use super::*;
 
+/// Carries out an entry, which takes the state one place on.
+fn step_on(
+    rt: &impl Abort,
+    state: &mut State,
+    log: &mut UndoLog,
+    place: u64,
+    entry: Entry,
+) -> Result<(), AllocError>
+    requires { IsLogOf log.old state.old }
+    ensures { OnOk result (IsLogOf log.new state.new) }
+{
+    step(rt, state, log, entry)?;
+    assert_eq!(rt; Some(state.place()), place.checked_add(1));
+    Ok(())
+}
+
 /// Carries out the entries, and undoes them from the last to the first: each time the state before
 /// is back.
 pub fn there_and_back(
@@ -18,8 +34,7 @@ pub fn there_and_back(
         return Ok(());
     };
     let before = state.copy()?;
-    step(rt, state, log, *first)?;
-    assert_eq!(rt; Some(state.place()), before.place().checked_add(1));
+    step_on(rt, state, log, before.place(), *first)?;
     there_and_back(rt, state, log, rest)?;
     state.undo(log);
     check_same(rt, state, &before);
@@ -46,31 +61,56 @@ fn mixed_entries(rt: &impl Abort) -> [Entry; 12] {
     ]
 }
 
+/// Carries out the entries over a log with room for so many, and undoes them.
+pub fn undo_all(
+    rt: &impl Abort,
+    alloc: Global,
+    state: &mut State,
+    room: usize,
+    entries: &[Entry],
+) -> Result<(), AllocError> {
+    let mut log = UndoLog::with_room(alloc, room)?;
+    there_and_back(rt, state, &mut log, entries)?;
+    assert_eq!(rt; log.len(), 0);
+    Ok(())
+}
+
 #[test]
 fn mixed_entries_are_undone(rt: HostRuntime) -> Result<(), Fail> {
     let mut state = with_cells(&rt, rt.alloc())?;
-    let mut log = UndoLog::with_room(rt.alloc(), 12)?;
-    there_and_back(&rt, &mut state, &mut log, &mixed_entries(&rt))?;
-    assert_eq!(rt; log.len(), 0);
+    Ok(undo_all(&rt, rt.alloc(), &mut state, 12, &mixed_entries(&rt))?)
+}
+
+/// Fills the room of a log for two entries.
+fn fill_log(rt: &impl Abort, state: &mut State, log: &mut UndoLog) -> Result<(), AllocError>
+    requires { IsLogOf log.old state.old }
+    ensures { OnOk result (IsLogOf log.new state.new) }
+{
+    let asked = finished(3, find(rt, b"w"), Answer::NoArray);
+    step(rt, state, log, asked)?;
+    step(rt, state, log, Entry::Closed { session: 7 })?;
+    assert!(rt; !log.has_room());
+    Ok(())
+}
+
+fn rewind_two(rt: &impl Abort, alloc: Global, state: &mut State) -> Result<(), AllocError> {
+    let mut log = UndoLog::with_room(alloc, 2)?;
+    fill_log(rt, state, &mut log)?;
+    state.rewind(&mut log);
+    assert!(rt; log.has_room());
+    log.clear();
+    Ok(())
+}
+
+fn check_rewound(rt: &impl Abort, alloc: Global, state: &mut State) -> Result<(), AllocError> {
+    let before = state.copy()?;
+    rewind_two(rt, alloc, state)?;
+    check_same(rt, state, &before);
     Ok(())
 }
 
 #[test]
 fn a_log_is_rewound(rt: HostRuntime) -> Result<(), Fail> {
     let mut state = with_cells(&rt, rt.alloc())?;
-    let before = state.copy()?;
-    let mut log = UndoLog::with_room(rt.alloc(), 2)?;
-    step(
-        &rt,
-        &mut state,
-        &mut log,
-        finished(3, find(&rt, b"w"), Answer::NoArray),
-    )?;
-    step(&rt, &mut state, &mut log, Entry::Closed { session: 7 })?;
-    assert!(rt; !log.has_room());
-    state.rewind(&mut log);
-    check_same(&rt, &state, &before);
-    assert!(rt; log.has_room());
-    log.clear();
-    Ok(())
+    Ok(check_rewound(&rt, rt.alloc(), &mut state)?)
 }

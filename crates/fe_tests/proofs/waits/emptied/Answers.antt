@@ -3,15 +3,15 @@ use Rattle.std.specs.Ordering.{nat_cmp}
 use Rattle.std.specs.FinMap.{get, get-empty, len-empty}
 use Rattle.fe_waits.specs.Pair.{pair_cmp}
 use Rattle.fe_waits.proofs.MemberLemmas.{none_some}
-use Rattle.fe_tests.proofs.waits.an_array_goes.Goals as goal
+use Rattle.fe_tests.proofs.waits.emptied.Goals as goal
 
 pub add_array-requires-clause-new : goal.add_array-requires-clause-new
-add_array-requires-clause-new g c = rw c.in_ok-waits.ensures.arrays (get-empty nat_cmp 1)
+add_array-requires-clause-new c = rw c.in_ok-waits.ensures.arrays (get-empty nat_cmp 1)
 
 pub add_array-requires-clause-room : goal.add_array-requires-clause-room
-add_array-requires-clause-room g c = rw (c.in_ok-waits.ensures.arrays, len-empty nat_cmp ℕ) (omega arith)
+add_array-requires-clause-room c = rw (c.in_ok-waits.ensures.arrays, len-empty nat_cmp ℕ) (omega arith)
 
 pub drop_array-requires : goal.drop_array-requires
-drop_array-requires g c = record {
+drop_array-requires c = record {
   unused = λ key waiter e _. none_some (sym (ap (λ m. get m key) (c.add_array.ensures.members ∙ c.in_ok-waits.ensures.members) ∙ get-empty pair_cmp key) ∙ e);
 }

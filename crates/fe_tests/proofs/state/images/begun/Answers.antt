@@ -5,7 +5,7 @@ use Rattle.fe_words.specs.declared.word.Tag.TheVariants.{Empty}
 use Rattle.fe_state.specs.Name.{is_plain}
 use Rattle.fe_state.specs.Sessions.{Session}
 use Rattle.fe_state.proofs.Empty.{comes_first}
-use Rattle.fe_tests.proofs.state.images.an_image_is_loaded.Goals as goal
+use Rattle.fe_tests.proofs.state.images.begun.Goals as goal
 
 pub load_session-requires-clause-new : goal.load_session-requires-clause-new
 load_session-requires-clause-new g c = rw c.in_ok-state.ensures (get-empty nat_cmp 7)
