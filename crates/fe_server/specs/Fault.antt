@@ -8,6 +8,7 @@ abbrev pub status_of : Fault → ℕ
 status_of (fault.Line number) = 2
 status_of fault.Input = 2
 status_of fault.Memory = 3
+status_of fault.Device = 3
 status_of fault.Strange = 3
 
 -- a fault of what stands outside: a stream, or memory
@@ -15,6 +16,7 @@ abbrev pub IsOutside : Fault → Type 0
 IsOutside (fault.Line number) = ⊥
 IsOutside fault.Input = Unit {0}
 IsOutside fault.Memory = Unit {0}
+IsOutside fault.Device = ⊥
 IsOutside fault.Strange = ⊥
 
 -- a fault that a run may end with: a strange answer never comes
@@ -22,6 +24,7 @@ abbrev pub IsNamed : Fault → Type 0
 IsNamed (fault.Line number) = Unit {0}
 IsNamed fault.Input = Unit {0}
 IsNamed fault.Memory = Unit {0}
+IsNamed fault.Device = Unit {0}
 IsNamed fault.Strange = ⊥
 
 -- such a fault at the line of this number
@@ -29,4 +32,5 @@ abbrev pub NamesLine : ℕ → Fault → Type 0
 NamesLine number (fault.Line told) = told ≡ number
 NamesLine number fault.Input = Unit {0}
 NamesLine number fault.Memory = Unit {0}
+NamesLine number fault.Device = Unit {0}
 NamesLine number fault.Strange = ⊥

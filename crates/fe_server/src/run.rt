@@ -5,9 +5,9 @@ ghost use Rattle.fe_server.specs.Fault.{IsNamed, IsOutside, NamesLine};
 ghost use Rattle.fe_server.specs.Line.{parsed, LineFits};
 ghost use Rattle.fe_server.specs.Runs.{IsRun};
 
-use crate::desk::Desk;
 use crate::fault::Fault;
 use crate::line::{LONGEST, Line, parse};
+use crate::machine::Machine;
 use crate::stream::{stream_fault, write_text};
 use fe_state::Request;
 use fe_wire::{ClientMessage, ServerMessage};
@@ -20,7 +20,7 @@ const FULL: usize = 65536;
 /// Where a run stands.
 #[derive(Drop)]
 pub(crate) struct Run {
-    desk: Desk,
+    machine: Machine,
     is_holding: bool,
     /// How many lines came whole.
     lines: u64,
@@ -30,7 +30,6 @@ pub(crate) struct Run {
     text: String,
     /// The replies to one connection, between uses empty or left over.
     replies: Vec<ServerMessage>,
-    alloc: Global,
 }
 
 impl Run {
@@ -40,15 +39,14 @@ impl Run {
         ensures lines { IfOk result (λ run. run.lines ≡ 0) }
         ensures err { IfErr result (λ fault. fault ≡ Fault.Memory) }
     {
-        let desk = Desk::new(alloc)?;
+        let machine = Machine::new(alloc)?;
         Ok(Run {
-            desk,
+            machine,
             is_holding: false,
             lines: 0,
             begun: Vec::new(alloc),
             text: String::new(alloc),
             replies: Vec::new(alloc),
-            alloc,
         })
     }
 
@@ -169,28 +167,20 @@ impl Run {
         ensures err { IfErr result (λ fault. fault ≡ Fault.Memory) }
     {
         match line {
-            Line::Message { conn, message } => self.desk.receive(*conn, message)?,
-            Line::Gone { conn } => self.desk.drop_connection(*conn),
+            Line::Message { conn, message } => self.machine.receive(*conn, message)?,
+            Line::Gone { conn } => self.machine.drop_connection(*conn)?,
             Line::Hold => self.is_holding = true,
             Line::Flush => self.is_holding = false,
+            Line::Stop => {
+                self.machine.stop()?;
+                self.is_holding = false;
+            }
+            Line::Check => self.machine.checkpoint()?,
         }
         if !self.is_holding {
-            self.desk.commit()?;
+            self.machine.commit()?;
         }
-        self.print()
-    }
-
-    /// Prints what is written to each connection.
-    fn print(&mut self) -> Result<(), Fault>
-        requires { IsRun self.old }
-        ensures run { OnOk result (IsRun self.new) }
-        ensures lines { self.new.lines ≡ self.old.lines }
-        ensures err { IfErr result (λ fault. fault ≡ Fault.Memory) }
-    {
-        for at in 0..self.desk.ports.len() {
-            self.desk.ports[at].print(self.alloc, &mut self.text, &mut self.replies)?;
-        }
-        Ok(())
+        self.machine.print(&mut self.text, &mut self.replies)
     }
 }
 
