@@ -1,5 +1,8 @@
 -- The statuses that a program ends with.
 use Rattle.std.specs.Prelude.{◌≡◌, ℕ}
+use Rattle.fe_keeper.specs.declared.fault.Fault.TheVariants as store
+use Rattle.fe_desk.specs.declared.fault.DeskFault.{DeskFault}
+use Rattle.fe_desk.specs.declared.fault.DeskFault.TheVariants as desk
 use Rattle.fe_server.specs.declared.fault.Fault.{Fault}
 use Rattle.fe_server.specs.declared.fault.Fault.TheVariants as fault
 
@@ -34,3 +37,19 @@ NamesLine number fault.Input = Unit {0}
 NamesLine number fault.Memory = Unit {0}
 NamesLine number fault.Device = Unit {0}
 NamesLine number fault.Strange = ⊥
+
+-- a fault of the desk: of its store's device, or of memory
+abbrev pub IsOfDesk : Fault → Type 0
+IsOfDesk (fault.Line number) = ⊥
+IsOfDesk fault.Input = ⊥
+IsOfDesk fault.Memory = Unit {0}
+IsOfDesk fault.Device = Unit {0}
+IsOfDesk fault.Strange = ⊥
+
+-- what a fault of the desk ends a schedule with
+abbrev pub fault_of : DeskFault → Fault
+fault_of (desk.NoMemory fed) = fault.Memory
+fault_of desk.Unwritten = fault.Memory
+fault_of (desk.Store store.Device) = fault.Device
+fault_of (desk.Store store.Failed) = fault.Device
+fault_of (desk.Store other) = fault.Strange

@@ -9,6 +9,7 @@ mod printing;
 mod request;
 mod run;
 mod schedule;
+mod serving;
 mod stream;
 mod view;
 mod word;

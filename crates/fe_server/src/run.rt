@@ -1,7 +1,7 @@
 //! A run of a schedule: its lines as they come in pieces, and what they print.
 
 ghost use Rattle.std.specs.Prelude.{◌≡◌, ◌≢◌, ◌+◌, ◌++◌, [], ◌∷◌, None, IfOk, IfErr, IfNone, IfSome, OnOk};
-ghost use Rattle.fe_server.specs.Fault.{IsNamed, IsOutside, NamesLine};
+ghost use Rattle.fe_server.specs.Fault.{IsNamed, IsOfDesk, IsOutside, NamesLine};
 ghost use Rattle.fe_server.specs.Line.{parsed, LineFits};
 ghost use Rattle.fe_server.specs.Runs.{IsRun};
 
@@ -37,7 +37,7 @@ impl Run {
     pub fn new(alloc: Global) -> Result<Run, Fault>
         ensures run { IfOk result IsRun }
         ensures lines { IfOk result (λ run. run.lines ≡ 0) }
-        ensures err { IfErr result (λ fault. fault ≡ Fault.Memory) }
+        ensures err { IfErr result IsOfDesk }
     {
         let machine = Machine::new(alloc)?;
         Ok(Run {
@@ -164,7 +164,7 @@ impl Run {
         requires fits { LineFits line.now }
         ensures run { OnOk result (IsRun self.new) }
         ensures lines { self.new.lines ≡ self.old.lines }
-        ensures err { IfErr result (λ fault. fault ≡ Fault.Memory) }
+        ensures err { IfErr result IsOfDesk }
     {
         match line {
             Line::Message { conn, message } => self.machine.receive(*conn, message)?,
@@ -175,7 +175,7 @@ impl Run {
                 self.machine.stop()?;
                 self.is_holding = false;
             }
-            Line::Check => self.machine.checkpoint()?,
+            Line::Check => self.machine.check()?,
         }
         if !self.is_holding {
             self.machine.commit()?;

@@ -1,5 +1,8 @@
 //! What of a connection number's output is printed.
 
+ghost use Rattle.std.specs.Prelude.{◌≡◌, OnOk, IfErr};
+ghost use Rattle.fe_server.specs.Ready.{IsView, writings};
+
 use crate::fault::Fault;
 use crate::printing::print_frames;
 use fe_desk::Port;
@@ -24,7 +27,11 @@ impl View {
         ports: &[Port],
         text: &mut String,
         replies: &mut Vec<ServerMessage>,
-    ) -> Result<(), Fault> {
+    ) -> Result<(), Fault>
+        requires { IsView (writings ports.now) self.old }
+        ensures view { OnOk result (IsView (writings ports.now) self.new) }
+        ensures err { IfErr result (λ fault. fault ≡ Fault.Memory) }
+    {
         let written = ports[self.at].written.as_slice();
         if written.len() == self.printed {
             return Ok(());

@@ -1,0 +1,10 @@
+use Rattle.std.proofs.Common.{rules, refl}
+use Rattle.fe_desk.specs.declared.step.Step.TheVariants as step
+use Rattle.fe_server.proofs.Views.{then_ok}
+use Rattle.fe_server.proofs.machine.Machine.receive.Goals as goal
+
+pub returns-in-Bytes-clause-received : goal.returns-in-Bytes-clause-received
+returns-in-Bytes-clause-received c =
+    then_ok c.step-outcome.result
+    (λ last. record { mid = c.step.new.self.desk.standing; frame = step.Bytes c.args.conn c.put_message.new.out; connects = c.in_ok-step.ensures.stepped; is = (refl, ?); reads = last })
+    c.step-outcome.ensures.stepped
