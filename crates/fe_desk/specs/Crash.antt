@@ -11,7 +11,9 @@ use Rattle.fe_keeper.specs.declared.fault.Fault.{Fault}
 use Rattle.fe_keeper.specs.declared.fault.Fault.TheVariants as keeper
 use Rattle.fe_desk.specs.declared.fault.DeskFault.{DeskFault}
 use Rattle.fe_desk.specs.declared.fault.DeskFault.TheVariants as desk
+use Rattle.fe_desk.specs.declared.handed.Handed.{Handed}
 use Rattle.fe_desk.specs.Standing.{Standing}
+use Rattle.fe_desk.specs.Storing.{handing}
 
 -- a desk as its callers see it: where its run stands, its keeper, and how many of the groups are known to be stored
 pub record DeskState (D : Type 0) : Type 0 where
@@ -21,6 +23,10 @@ pub record DeskState (D : Type 0) : Type 0 where
 
 abbrev pub disk_of : {D : Type 0} → DeskState D → D
 disk_of d = d.keeper.store.disk
+
+-- a desk with this batch on its way to the store
+abbrev pub with_handed : {D : Type 0} → DeskState D → Handed → DeskState D
+with_handed d handed = record d { standing = handing d.standing handed }
 
 -- The groups are a history from the state that was opened, and those that are stored lead to the replica.
 pub record IsFrom {D : Type 0} (begun : ServerState) (d : DeskState D) : Type 0 where

@@ -18,7 +18,7 @@ use Rattle.fe_desk.specs.Crash.{DeskState, IsFrom, LeavesPrefix, disk_of}
 -- ---- how the fields give what callers see
 
 abbrev pub client_of : Port → Client
-client_of p = record { conn = p.conn; decoder = p.decoder; left = drop p.next p.left.items; reply = p.reply; written = p.written.items }
+client_of p = record { conn = p.conn; decoder = p.decoder; left = drop p.next p.left.items; reply = p.reply; written = p.written }
 
 abbrev pub standing_of : {D : Type 0} → Parts D → Standing
 standing_of p =

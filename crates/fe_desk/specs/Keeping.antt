@@ -1,8 +1,9 @@
 -- What stays of a front where mails are taken and connections go.
-use Rattle.std.specs.Prelude.{◌≡◌, ℕ, true, List, ◌++◌}
+use Rattle.std.specs.Prelude.{◌≡◌, ℕ, true, List, [], ◌++◌}
 use Rattle.fe_state.specs.History.{AreLegal}
 use Rattle.fe_state.specs.State.{after_all}
 use Rattle.fe_state.specs.declared.entry.Entry.{Entry}
+use Rattle.fe_mail.specs.Connections.{mails_on}
 use Rattle.fe_front.specs.Front.{FrontState, is_connected}
 use Rattle.fe_desk.specs.Mails.{emptied_box}
 use Rattle.fe_desk.specs.Standing.{Client, told, all_told, all_emptied}
@@ -14,6 +15,10 @@ pub record KeepsFront (f g : FrontState) : Type 0 where
   pub out : g.out ≡ f.out
   pub durable : g.durable ≡ f.durable
   pub none_comes : (conn : ℕ) → is_connected g conn ≡ true → is_connected f conn ≡ true
+
+-- no empty box gets a mail
+pub record KeepsEmpty (f g : FrontState) : Type 0 where
+  pub empty : (conn : ℕ) → mails_on f.connections conn ≡ [] → mails_on g.connections conn ≡ []
 
 -- entries were made: they are legal, lead to the state now, and are pending behind the others; no connection comes
 pub record Enters (f : FrontState) (es : List Entry) (g : FrontState) : Type 0 where

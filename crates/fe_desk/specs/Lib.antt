@@ -1,3 +1,4 @@
+pub mod Frames
 pub mod Mails
 pub mod Standing
 pub mod Keeping

@@ -1,7 +1,10 @@
--- Where the client of a connection number stands among the clients.
+-- Where the client of a connection number stands among the clients, and what comes first where it connects.
 use Rattle.std.specs.Prelude.{◌≡◌, ◌≢◌, ℕ, ◌<◌, List, length, Option, Some, slice_get}
 use Rattle.std.specs.Option.{option_map}
-use Rattle.fe_desk.specs.Standing.{Client}
+use Rattle.fe_wire.specs.Stream.{Decoding}
+use Rattle.fe_front.specs.Steps.{connected}
+use Rattle.fe_desk.specs.Standing.{Client, Standing}
+use Rattle.fe_desk.specs.Steps.{BeginsStream, clients_with}
 
 -- the number of the client at a place
 abbrev pub number_at : List Client → ℕ → Option ℕ
@@ -12,3 +15,9 @@ pub record IsFirstAt (clients : List Client) (conn at : ℕ) : Type 0 where
   pub within : at < length clients
   pub here : number_at clients at ≡ Some conn
   pub first : (i : ℕ) → i < at → number_at clients i ≢ Some conn
+
+-- a connection came, with a stream of its own; nothing else is different
+pub record Joins (s : Standing) (conn : ℕ) (t : Standing) : Type 0 where
+  pub decoder : Decoding
+  pub begins : BeginsStream decoder
+  pub after : t ≡ record s { front = connected s.front conn; clients = clients_with s.clients conn decoder }

@@ -27,8 +27,16 @@ pub record RunsFrom {D : Type 0} (honest : D → Type 0) (seen : D → List ℕ)
 
 -- what a step at fault left of the outputs: where the device failed, nothing of it is written
 abbrev pub IsSilent : DeskFault → Trace → Standing → Type 0
-IsSilent (Store keeper.Device) t last = written_of t ≡ outputs last
-IsSilent fault t last = Unit {0}
+IsSilent fault t last = fault ≡ Store keeper.Device → written_of t ≡ outputs last
+
+abbrev pub IsSilentAfter : DeskFault → Standing → Standing → Type 0
+IsSilentAfter fault t last = fault ≡ Store keeper.Device → outputs t ≡ outputs last
+
+-- The steps were taken; or those before the one at fault, but for what that one did.
+abbrev pub IsTaken : Standing → List Step → Standing → Option (ℕ × DeskFault) → Type 0
+IsTaken s steps t None = DeskRun s steps t
+IsTaken s steps t (Some (zero, fault)) = ⊥
+IsTaken s steps t (Some (suc n, fault)) = (last : Standing) × DeskRun s (take n steps) last × IsSilentAfter fault t last
 
 -- The trace is that of a run of all steps; or of those before the one at fault, but for what that one did.
 abbrev pub IsRunOf : {D : Type 0} → (D → Type 0) → (D → List ℕ) → D → List Step → Trace → Option (ℕ × DeskFault) → Type 0

@@ -70,24 +70,24 @@ pub record Reads (old new : Decoding) (piece : List ℕ) (more : List ClientMess
 abbrev pub after_frame : Bool → Standing → ℕ → Standing
 after_frame bad s conn = if bad then gone s conn else s
 
--- The messages that were left of the client are taken, then those that the piece completes.
-pub record TakesPiece (s : Standing) (c : Client) (piece : List ℕ) (t : Standing) : Type 0 where
-  pub mid : Standing
+-- The piece is read, and the messages that it completes are taken.
+pub record TakesPiece (s : Standing) (conn : ℕ) (before : Decoding) (piece : List ℕ) (t : Standing) : Type 0 where
   pub decoder : Decoding
   pub more : List ClientMessage
   pub last : Standing
-  pub leftovers : TakesAll (with_left s c.conn []) c.conn c.left mid
-  pub reads : Reads c.decoder decoder piece more
-  pub takes : TakesAll (with_decoder mid c.conn decoder) c.conn more last
-  pub after : t ≡ after_frame decoder.is_bad last c.conn
+  pub reads : Reads before decoder piece more
+  pub takes : TakesAll (with_decoder s conn decoder) conn more last
+  pub after : t ≡ after_frame decoder.is_bad last conn
 
--- a client is there, or messages of it are left
-abbrev pub has_work : FrontState → Client → Bool
-has_work f c = is_connected f c.conn || nat_lt 0 (length c.left)
+-- The messages that were left of a connection are taken, and then the piece, if it is still there.
+pub record TakesFrom (s : Standing) (conn : ℕ) (left : List ClientMessage) (before : Decoding) (piece : List ℕ) (t : Standing) : Type 0 where
+  pub mid : Standing
+  pub leftovers : TakesAll (with_left s conn []) conn left mid
+  pub reading : MatchBool (is_connected mid.front conn) (TakesPiece mid conn before piece t) (t ≡ mid)
 
 abbrev pub TakesBytes : Standing → Option Client → List ℕ → Standing → Type 0
 TakesBytes s None piece t = t ≡ s
-TakesBytes s (Some c) piece t = MatchBool (has_work s.front c) (TakesPiece s c piece t) (t ≡ s)
+TakesBytes s (Some c) piece t = TakesFrom s c.conn c.left c.decoder piece t
 
 -- ---- steps
 

@@ -17,6 +17,10 @@ handed_after before batch = option_map_or Cut batch before
 abbrev pub cut : Standing → Standing
 cut s = record s { front = front.cut s.front; handed = handed_after s.handed (front.next_batch s.front) }
 
+-- a standing with this batch on its way to the store
+abbrev pub handing : Standing → Handed → Standing
+handing s handed = record s { handed = handed }
+
 -- the batch that is cut and not yet stored becomes a group of the store
 abbrev pub stored_from : Handed → Standing → Standing
 stored_from Nothing s = s

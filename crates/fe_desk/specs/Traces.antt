@@ -10,7 +10,7 @@ groups_of t = map (λ g. g.items) t.groups.items
 
 -- the bytes written to each connection number
 abbrev pub written_of : Trace → List (ℕ × List ℕ)
-written_of t = map (λ p. (p.conn, p.written.items)) t.ports.items
+written_of t = map (λ p. (p.conn, p.written)) t.ports.items
 
 -- the trace is that of a run which stands here
 pub record IsTraceOf (t : Trace) (s : Standing) (synced : ℕ) : Type 0 where

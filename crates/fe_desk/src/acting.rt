@@ -39,11 +39,30 @@ impl<D: Disk> Parts<D> {
         if self.keeper.has_failed() {
             return Err(DeskFault::Store(Fault::Failed));
         }
-        if self.owes && self.empty().is_err() {
+        if self.settle().is_err() {
             return Err(DeskFault::NoMemory { fed: false });
         }
         self.act(step)?;
-        self.empty().map_err(|_| DeskFault::Unwritten)
+        if self.empty().is_err() {
+            return Err(DeskFault::Unwritten);
+        }
+        Ok(())
+    }
+
+    /// Writes what an earlier step left unwritten.
+    fn settle(&mut self) -> Result<(), AllocError>
+        requires desk { IsDesk D.honest D.may_leave (desk_of self.old) }
+        ensures desk { IsDesk D.honest D.may_leave (desk_of self.new) }
+        ensures settled { OnOk result (standing_of self.new ≡ settled (standing_of self.old)) }
+        ensures later { OnErr result (settled (standing_of self.new) ≡ settled (standing_of self.old)) }
+        ensures keeper { self.new.keeper ≡ self.old.keeper }
+        ensures synced { self.new.trace.synced ≡ self.old.trace.synced }
+        ensures groups { (standing_of self.new).groups ≡ (standing_of self.old).groups }
+    {
+        if self.owes {
+            return self.empty();
+        }
+        Ok(())
     }
 
     /// Empties every box. Where memory is short, the next step begins with it.

@@ -1,10 +1,10 @@
 //! Connections come and go.
 
-ghost use Rattle.std.specs.Prelude.{◌≡◌, false, map, IfSome, IfNone, None, OnOk, OnErr, IfOk, MatchBool};
+ghost use Rattle.std.specs.Prelude.{◌≡◌, false, nat_eq, [], map, position, IfSome, IfNone, None, OnOk, OnErr, MatchBool};
 ghost use Rattle.fe_front.specs.Front.{is_connected};
 ghost use Rattle.fe_desk.specs.Steps as steps;
-ghost use Rattle.fe_desk.specs.Steps.{find, Connects};
-ghost use Rattle.fe_desk.specs.Places.{IsFirstAt};
+ghost use Rattle.fe_desk.specs.Steps.{find, with_left, Connects};
+ghost use Rattle.fe_desk.specs.Places.{IsFirstAt, Joins};
 ghost use Rattle.fe_desk.specs.Desk.{client_of, desk_of, standing_of, IsDesk};
 
 use crate::parts::Parts;
@@ -18,7 +18,7 @@ impl<D: Disk> Parts<D> {
         ensures place { IfSome result (λ at. IsFirstAt (map client_of self.now.trace.ports.items) conn at) }
         ensures none { IfNone result (find conn (map client_of self.now.trace.ports.items) ≡ None) }
     {
-        self.trace.ports.iter().position(|port| port.conn == conn)
+        place_among(self.trace.ports.as_slice(), conn)
     }
 
     /// A connection comes, where its number is not connected.
@@ -33,16 +33,34 @@ impl<D: Disk> Parts<D> {
         if self.front.connected(conn) {
             return Ok(());
         }
-        match self.place_of(conn) {
-            Some(at) => self.connect_again(at, conn)?,
-            None => self.connect_first(conn)?,
-        }
+        self.join(conn)?;
         self.unmake(conn);
         Ok(())
     }
 
+    /// A number that is not connected is connected, for the first time or again.
+    fn join(&mut self, conn: u64) -> Result<(), AllocError>
+        requires unconnected { is_connected self.old.front conn ≡ false }
+        ensures joined { OnOk result (Joins (standing_of self.old) conn (standing_of self.new)) }
+        ensures err { OnErr result (standing_of self.new ≡ standing_of self.old) }
+        ensures keeper { self.new.keeper ≡ self.old.keeper }
+        ensures synced { self.new.trace.synced ≡ self.old.trace.synced }
+    {
+        match self.place_of(conn) {
+            Some(at) => self.connect_again(at, conn),
+            None => self.connect_first(conn),
+        }
+    }
+
     /// A number that was connected before is connected again.
-    fn connect_again(&mut self, at: usize, conn: u64) -> Result<(), AllocError> {
+    fn connect_again(&mut self, at: usize, conn: u64) -> Result<(), AllocError>
+        requires place { IsFirstAt (standing_of self.old).clients conn at }
+        requires unconnected { is_connected self.old.front conn ≡ false }
+        ensures joined { OnOk result (Joins (standing_of self.old) conn (standing_of self.new)) }
+        ensures err { OnErr result (standing_of self.new ≡ standing_of self.old) }
+        ensures keeper { self.new.keeper ≡ self.old.keeper }
+        ensures synced { self.new.trace.synced ≡ self.old.trace.synced }
+    {
         if self.front.connect(conn).is_err() {
             return Err(AllocError);
         }
@@ -51,7 +69,14 @@ impl<D: Disk> Parts<D> {
     }
 
     /// A number is connected for the first time.
-    fn connect_first(&mut self, conn: u64) -> Result<(), AllocError> {
+    fn connect_first(&mut self, conn: u64) -> Result<(), AllocError>
+        requires new { find conn (standing_of self.old).clients ≡ None }
+        requires unconnected { is_connected self.old.front conn ≡ false }
+        ensures joined { OnOk result (Joins (standing_of self.old) conn (standing_of self.new)) }
+        ensures err { OnErr result (standing_of self.new ≡ standing_of self.old) }
+        ensures keeper { self.new.keeper ≡ self.old.keeper }
+        ensures synced { self.new.trace.synced ≡ self.old.trace.synced }
+    {
         self.trace.ports.push(Port::new(self.alloc, conn))?;
         if self.front.connect(conn).is_err() {
             let _ = self.trace.ports.pop();
@@ -69,10 +94,19 @@ impl<D: Disk> Parts<D> {
         ensures synced { self.new.trace.synced ≡ self.old.trace.synced }
     {
         let _ = self.front.gone(conn);
+        self.forget(conn);
+        self.unmake(conn);
+    }
+
+    /// The messages of a connection number that are left are dropped.
+    fn forget(&mut self, conn: u64)
+        ensures left { standing_of self.new ≡ with_left (standing_of self.old) conn [] }
+        ensures keeper { self.new.keeper ≡ self.old.keeper }
+        ensures synced { self.new.trace.synced ≡ self.old.trace.synced }
+    {
         if let Some(at) = self.place_of(conn) {
             self.trace.ports[at].forget();
         }
-        self.unmake(conn);
     }
 
     /// No room is being made for a connection any more.
@@ -86,4 +120,11 @@ impl<D: Disk> Parts<D> {
             self.making = None;
         }
     }
+}
+
+/// Where the port of a connection number stands among ports, if there is one.
+fn place_among(ports: &[Port], conn: u64) -> Option<usize>
+    ensures { result ≡ position (λ p. nat_eq p.conn conn) ports.now }
+{
+    ports.iter().position(|port| port.conn == conn)
 }

@@ -52,7 +52,6 @@ impl<D: Disk> Desk<D> {
     /// A desk with no connection over a front and a keeper of one state.
     pub(crate) fn over(alloc: Global, front: Front, keeper: Keeper<D>) -> Desk<D>
         requires first { IsFirst keeper.state front }
-        requires works { keeper.store.has_failed ≡ false }
         requires stands { D.honest keeper.store.disk → EachStandsFor D.may_leave keeper.store.disk keeper.state }
         ensures first { IsFirstStanding keeper.state result.standing }
         ensures keeper { result.keeper ≡ keeper }
@@ -116,6 +115,8 @@ impl<D: Disk> Desk<D> {
     pub(crate) fn into_parts(self) -> (Trace, D)
         ensures trace { IsTraceOf result.0 self.standing self.synced }
         ensures disk { result.1 ≡ disk_of self }
+        ensures stands { D.honest (disk_of self) → (begun : ServerState) → IsFrom begun self → (image : List ℕ) → D.may_leave (disk_of self) image
+            → LeavesPrefix begun self.standing.groups self.synced image }
     {
         let Desk { parts } = self;
         let Parts { keeper, trace, .. } = parts;

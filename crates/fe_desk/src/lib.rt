@@ -21,6 +21,7 @@ mod storing;
 mod taking;
 mod telling;
 mod trace;
+mod written;
 
 pub use desk::Desk;
 pub use fault::DeskFault;
@@ -30,3 +31,4 @@ pub use port::Port;
 pub use running::{Ran, run};
 pub use step::Step;
 pub use trace::Trace;
+pub use written::Written;

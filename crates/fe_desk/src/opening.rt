@@ -57,7 +57,14 @@ pub fn format<D: Disk>(alloc: Global, disk: D) -> Result<Desk<D>, (DeskFault, D)
 }
 
 /// A desk over a keeper, with no connection.
-fn desk_over<D: Disk>(alloc: Global, keeper: Keeper<D>) -> Result<Desk<D>, (DeskFault, D)> {
+fn desk_over<D: Disk>(alloc: Global, keeper: Keeper<D>) -> Result<Desk<D>, (DeskFault, D)>
+    requires works { keeper.store.has_failed ≡ false }
+    ensures first { IfOk result (λ desk. IsFirstStanding keeper.state desk.standing) }
+    ensures keeper { IfOk result (λ desk. desk.keeper ≡ keeper) }
+    ensures synced { IfOk result (λ desk. desk.synced ≡ 0) }
+    ensures fault { IfErr result (λ e. e.0 ≡ NoMemory false) }
+    ensures disk { IfErr result (λ e. e.1 ≡ keeper.store.disk) }
+{
     let Ok(state) = keeper.state().copy() else {
         return Err((DeskFault::NoMemory { fed: false }, keeper.into_disk()));
     };

@@ -1,14 +1,16 @@
 //! The server's end of the connections of one number.
 
 ghost use Rattle.std.specs.Prelude.{◌≡◌, [], nat_lt, length, ◌++◌, None, Some, OnOk, OnErr, IfOk};
+ghost use Rattle.std.specs.Option.{option_map_or};
 ghost use Rattle.fe_wire.specs.Spelling.{reply_spelling};
 ghost use Rattle.fe_desk.specs.Mails.{emptied_box};
 ghost use Rattle.fe_desk.specs.Standing.{told};
 ghost use Rattle.fe_desk.specs.Steps.{BeginsStream, Reads, new_client};
 ghost use Rattle.fe_desk.specs.Desk.{client_of};
-ghost use Rattle.fe_desk.specs.Keeping.{KeepsFront, IsToldLater};
+ghost use Rattle.fe_desk.specs.Keeping.{KeepsFront, KeepsEmpty, IsToldLater};
 
 use crate::reply::Reply;
+use crate::written::Written;
 use fe_front::Front;
 use fe_wire::{ClientMessage, Decoder, Version};
 use std::alloc::{AllocError, Global};
@@ -19,7 +21,7 @@ use std::mem;
 pub struct Port {
     pub conn: u64,
     /// The frames of its mails, all of them in order. Where the number was connected again they go on behind the earlier.
-    pub written: Vec<u8>,
+    pub written: Written,
     pub(crate) decoder: Decoder,
     /// Messages that came whole. Those before `next` are taken.
     pub(crate) left: Vec<ClientMessage>,
@@ -36,7 +38,7 @@ impl Port {
     {
         Port {
             conn,
-            written: Vec::new(alloc),
+            written: Written::new(alloc),
             decoder: Decoder::with_version(Version::Two),
             left: Vec::new(alloc),
             next: 0,
@@ -90,22 +92,32 @@ impl Port {
         // What is not written is written later, to the same effect.
         ensures later { OnErr result (IsToldLater front.old (client_of self.old) front.new (client_of self.new)) }
         ensures front { KeepsFront front.old front.new }
+        ensures empty { KeepsEmpty front.old front.new }
     {
-        if let Some(reply) = mem::take(&mut self.reply) {
-            self.write(reply)?;
-        }
+        self.write_waiting()?;
         while let Some(mail) = front.take_mail(self.conn) {
             self.write(Reply::of(mail))?;
         }
         Ok(())
     }
 
+    /// Writes the reply that waits, if one does.
+    fn write_waiting(&mut self) -> Result<(), AllocError>
+        ensures written { OnOk result (client_of self.new ≡ record (client_of self.old) { reply = None; written = self.old.written ++ option_map_or reply_spelling self.old.reply [] }) }
+        ensures err { OnErr result (client_of self.new ≡ client_of self.old) }
+    {
+        match mem::take(&mut self.reply) {
+            Some(reply) => self.write(reply),
+            None => Ok(()),
+        }
+    }
+
     /// Writes a reply, or keeps it where there is no memory.
     fn write(&mut self, reply: Reply) -> Result<(), AllocError>
-        ensures written { OnOk result (client_of self.new ≡ record (client_of self.old) { written = self.old.written.items ++ reply_spelling reply }) }
+        ensures written { OnOk result (client_of self.new ≡ record (client_of self.old) { written = self.old.written ++ reply_spelling reply }) }
         ensures err { OnErr result (client_of self.new ≡ record (client_of self.old) { reply = Some reply }) }
     {
-        if reply.put(&mut self.written).is_err() {
+        if self.written.put(&reply).is_err() {
             self.reply = Some(reply);
             return Err(AllocError);
         }

@@ -1,5 +1,5 @@
 ghost use Rattle.std.specs.Prelude.{◌≡◌, ◌++◌, OnOk, OnErr};
-ghost use Rattle.fe_wire.specs.Spelling.{reply_spelling, HasRefusalCode};
+ghost use Rattle.fe_wire.specs.Spelling.{reply_spelling, ReplyFits};
 ghost use Rattle.fe_desk.specs.Mails.{reply_of};
 
 use fe_mail::Mail;
@@ -48,6 +48,7 @@ impl Reply {
     pub(crate) fn put(&self, out: &mut Vec<u8>) -> Result<(), AllocError>
         ensures ok { OnOk result (out.new.items ≡ out.old.items ++ reply_spelling self.now) }
         ensures err { OnErr result (out.new.items ≡ out.old.items) }
+        ensures fits { ReplyFits self.now }
     {
         put_reply(out, &self.message)
     }

@@ -1,10 +1,10 @@
-ghost use Rattle.std.specs.Prelude.{◌≡◌, None, List, ℕ};
+ghost use Rattle.std.specs.Prelude.{◌≡◌, None, List, ℕ, false};
 ghost use Rattle.fe_disk.specs.Disk.{LeavesOnly};
 ghost use Rattle.fe_state.specs.State.{ServerState};
 ghost use Rattle.fe_state.specs.History.{IsHistory};
 ghost use Rattle.fe_keeper.specs.Stands.{EachStandsFor};
-ghost use Rattle.fe_desk.specs.Crash.{LeavesPrefix};
-ghost use Rattle.fe_desk.specs.Runs.{IsRunOf, HasOpened};
+ghost use Rattle.fe_desk.specs.Crash.{Advances, IsFrom, LeavesPrefix, disk_of};
+ghost use Rattle.fe_desk.specs.Runs.{IsRunOf, IsTaken, HasOpened};
 ghost use Rattle.fe_desk.specs.Traces.{groups_of};
 
 use crate::desk::Desk;
@@ -13,6 +13,7 @@ use crate::opening::open;
 use crate::step::Step;
 use crate::trace::Trace;
 use fe_disk::Disk;
+use fe_keeper::images_stand_for_one;
 use std::alloc::Global;
 
 /// What came of a run: its trace, the disk, and the fault that ended it with the number of its step, counted from 1; 0 is the
@@ -46,13 +47,21 @@ pub fn run<D: Disk>(alloc: Global, disk: D, steps: &[Step]) -> Ran<D>
             };
         }
     };
+    images_stand_for_one();
     let fault = take_steps(&mut desk, steps);
     let (trace, disk) = desk.into_parts();
     Ran { trace, disk, fault }
 }
 
 /// Takes the steps as far as to a fault.
-fn take_steps<D: Disk>(desk: &mut Desk<D>, steps: &[Step]) -> Option<(u64, DeskFault)> {
+fn take_steps<D: Disk>(desk: &mut Desk<D>, steps: &[Step]) -> Option<(u64, DeskFault)>
+    requires settled { desk.old.standing.owes ≡ false }
+    requires works { desk.old.keeper.store.has_failed ≡ false }
+    requires stands { D.honest (disk_of desk.old) → (begun : ServerState) → IsFrom begun desk.old → (image : List ℕ) → D.may_leave (disk_of desk.old) image
+        → LeavesPrefix begun desk.old.standing.groups desk.old.synced image }
+    ensures taken { IsTaken desk.old.standing steps.now desk.new.standing result }
+    ensures advances { Advances D.honest D.moment D.left_since desk.old desk.new }
+{
     for k in 0..steps.len() {
         if let Err(fault) = desk.step(&steps[k]) {
             return Some((k as u64 + 1, fault));

@@ -1,13 +1,14 @@
 //! The way of a batch: it is cut, stored as a group, and posted.
 
-ghost use Rattle.std.specs.Prelude.{◌≡◌, false, Some, Ok, IsTrue, IfOk, IfErr, OnOk, OnErr, IsErrOf};
+ghost use Rattle.std.specs.Prelude.{◌≡◌, ◌⊎◌, false, Some, Ok, IsTrue, IfOk, IfErr, OnOk, OnErr, IsErrOf};
 ghost use Rattle.fe_state.specs.declared.batch.Batch.{Batch};
 ghost use Rattle.fe_front.specs.Front.{has_room};
 ghost use Rattle.fe_keeper.specs.declared.fault.Fault.TheVariants.{Device, NoMemory};
+ghost use Rattle.fe_desk.specs.declared.handed.Handed.TheVariants.{Cut};
 ghost use Rattle.fe_desk.specs.Standing.{Standing};
 ghost use Rattle.fe_desk.specs.Storing as way;
-ghost use Rattle.fe_desk.specs.Storing.{stored, posted, cleared, roomy};
-ghost use Rattle.fe_desk.specs.Crash.{Advances, IsFine, Tells};
+ghost use Rattle.fe_desk.specs.Storing.{handing, stored, posted, cleared, made, committed, begun_room, roomy};
+ghost use Rattle.fe_desk.specs.Crash.{Advances, IsFine, Tells, with_handed};
 ghost use Rattle.fe_desk.specs.Desk.{desk_of, standing_of, IsDesk};
 
 use crate::handed::Handed;
@@ -39,6 +40,7 @@ impl<D: Disk> Parts<D> {
         ensures desk { IsDesk D.honest D.may_leave (desk_of self.new) }
         ensures stored { OnOk result (standing_of self.new ≡ stored (standing_of self.old)) }
         ensures memory { IsErrOf result NoMemory → standing_of self.new ≡ standing_of self.old }
+        ensures owes { self.new.owes ≡ self.old.owes }
         ensures ports { self.new.trace.ports ≡ self.old.trace.ports }
         ensures advances { Advances D.honest D.moment D.left_since (desk_of self.old) (desk_of self.new) }
         ensures fine { OnOk result (IsFine D.failures (desk_of self.old) (desk_of self.new)) }
@@ -58,7 +60,19 @@ impl<D: Disk> Parts<D> {
     }
 
     /// Hands a batch to the store, as a group of the trace. Where there is no memory it leaves the trace again.
-    fn store_batch(&mut self, batch: Batch) -> (Handed, Result<(), Fault>) {
+    fn store_batch(&mut self, batch: Batch) -> (Handed, Result<(), Fault>)
+        requires desk { IsDesk D.honest D.may_leave (with_handed (desk_of self.old) (Cut batch)) }
+        requires works { self.old.keeper.store.has_failed ≡ false }
+        ensures desk { IsDesk D.honest D.may_leave (with_handed (desk_of self.new) result.0) }
+        ensures stored { OnOk result.1 (handing (standing_of self.new) result.0 ≡ stored (handing (standing_of self.old) (Cut batch))) }
+        ensures memory { IsErrOf result.1 NoMemory → handing (standing_of self.new) result.0 ≡ handing (standing_of self.old) (Cut batch) }
+        ensures owes { self.new.owes ≡ self.old.owes }
+        ensures ports { self.new.trace.ports ≡ self.old.trace.ports }
+        ensures advances { Advances D.honest D.moment D.left_since (with_handed (desk_of self.old) (Cut batch)) (with_handed (desk_of self.new) result.0) }
+        ensures fine { OnOk result.1 (IsFine D.failures (desk_of self.old) (desk_of self.new)) }
+        ensures fault { IfErr result.1 (Tells D.failures (desk_of self.old) (desk_of self.new)) }
+    {
+        let _ = self.front.state();
         let Ok(group) = copied(self.alloc, batch.entries.as_slice()) else {
             return (Handed::Cut(batch), Err(Fault::NoMemory));
         };
@@ -70,11 +84,13 @@ impl<D: Disk> Parts<D> {
                 self.trace.synced = self.trace.groups.len() as u64;
                 (Handed::Stored(batch), Ok(()))
             }
-            Err((Fault::NoMemory, batch)) => {
-                let _ = self.trace.groups.pop();
-                (Handed::Cut(batch), Err(Fault::NoMemory))
-            }
-            Err((fault, batch)) => (Handed::Cut(batch), Err(fault)),
+            Err((fault, batch)) => match fault {
+                Fault::NoMemory => {
+                    let _ = self.trace.groups.pop();
+                    (Handed::Cut(batch), Err(fault))
+                }
+                _ => (Handed::Cut(batch), Err(fault)),
+            },
         }
     }
 
@@ -102,6 +118,7 @@ impl<D: Disk> Parts<D> {
         ensures desk { IsDesk D.honest D.may_leave (desk_of self.new) }
         ensures cleared { OnOk result (standing_of self.new ≡ cleared (standing_of self.old)) }
         ensures memory { IsErrOf result NoMemory → standing_of self.new ≡ standing_of self.old }
+        ensures owes { self.new.owes ≡ self.old.owes }
         ensures ports { self.new.trace.ports ≡ self.old.trace.ports }
         ensures advances { Advances D.honest D.moment D.left_since (desk_of self.old) (desk_of self.new) }
         ensures fine { OnOk result (IsFine D.failures (desk_of self.old) (desk_of self.new)) }
@@ -126,13 +143,48 @@ impl<D: Disk> Parts<D> {
         ensures fine { OnOk result (IsFine D.failures (desk_of self.old) (desk_of self.new)) }
         ensures fault { IfErr result (Tells D.failures (desk_of self.old) (desk_of self.new)) }
     {
+        self.go_on(conn)?;
+        if self.front.room() {
+            return Ok(());
+        }
+        self.commit(conn)
+    }
+
+    /// Goes on with the room that was begun for a message of this connection, if it was.
+    fn go_on(&mut self, conn: u64) -> Result<(), Fault>
+        requires desk { IsDesk D.honest D.may_leave (desk_of self.old) }
+        requires works { self.old.keeper.store.has_failed ≡ false }
+        ensures desk { IsDesk D.honest D.may_leave (desk_of self.new) }
+        ensures begun { OnOk result (standing_of self.new ≡ begun_room (standing_of self.old) conn) }
+        ensures memory { IsErrOf result NoMemory → standing_of self.new ≡ standing_of self.old }
+        ensures owes { self.new.owes ≡ self.old.owes }
+        ensures ports { self.new.trace.ports ≡ self.old.trace.ports }
+        ensures advances { Advances D.honest D.moment D.left_since (desk_of self.old) (desk_of self.new) }
+        ensures fine { OnOk result (IsFine D.failures (desk_of self.old) (desk_of self.new)) }
+        ensures fault { IfErr result (Tells D.failures (desk_of self.old) (desk_of self.new)) }
+    {
         if self.making == Some(conn) {
             self.clear()?;
             self.making = None;
         }
-        if self.front.room() {
-            return Ok(());
-        }
+        Ok(())
+    }
+
+    /// Stores and posts what is out, and then what is pending. Where memory is short behind the cut, room is begun for
+    /// this connection.
+    fn commit(&mut self, conn: u64) -> Result<(), Fault>
+        requires desk { IsDesk D.honest D.may_leave (desk_of self.old) }
+        requires works { self.old.keeper.store.has_failed ≡ false }
+        ensures desk { IsDesk D.honest D.may_leave (desk_of self.new) }
+        ensures committed { OnOk result (standing_of self.new ≡ made (committed (cleared (standing_of self.old)))) }
+        ensures memory { IsErrOf result NoMemory
+            → (standing_of self.new ≡ standing_of self.old) ⊎ (begun_room (standing_of self.new) conn ≡ made (committed (cleared (standing_of self.old)))) }
+        ensures owes { self.new.owes ≡ self.old.owes }
+        ensures ports { self.new.trace.ports ≡ self.old.trace.ports }
+        ensures advances { Advances D.honest D.moment D.left_since (desk_of self.old) (desk_of self.new) }
+        ensures fine { OnOk result (IsFine D.failures (desk_of self.old) (desk_of self.new)) }
+        ensures fault { IfErr result (Tells D.failures (desk_of self.old) (desk_of self.new)) }
+    {
         self.clear()?;
         self.cut();
         self.making = Some(conn);

@@ -81,6 +81,9 @@ impl<D: Disk> Keeper<D> {
         // A stop at any moment leaves the replica before, or it with the whole batch.
         ensures any_moment { D.honest self.old.store.disk → self.old.store.has_failed ≡ false
             → LeavesOnly D.moment D.left_since self.old.store.disk self.new.store.disk (StandsForEither self.old.state (after_all self.old.state batch.entries)) }
+        // For want of memory nothing of the batch is stored.
+        ensures short { IfErr result (λ e. e.0 ≡ NoMemory → D.honest self.old.store.disk → self.old.store.has_failed ≡ false
+            → LeavesOnly D.moment D.left_since self.old.store.disk self.new.store.disk (λ image. StandsFor image self.old.state)) }
         ensures stands { D.honest self.new.store.disk → self.new.store.has_failed ≡ false → EachStandsFor D.may_leave self.new.store.disk self.new.state }
 
         ensures returned { IfOk result (λ back. back ≡ batch) }

@@ -40,6 +40,8 @@ pub fn open<D: Disk>(alloc: Global, disk: D) -> Result<Keeper<D>, (Fault, D)>
     ensures device { IfErr result (λ e. (e.0 ≡ Device) ↔ Rises (D.failures disk) (D.failures e.1)) }
     ensures faults { IfErr result (λ e. IsOpenFault e.0) }
     ensures still { IfOk result (λ keeper. D.failures keeper.store.disk ≡ D.failures disk) }
+    // Nor was it a call of a device whose count stands still at its top.
+    ensures calm { IfOk result (λ keeper. Rises (D.failures disk) (D.failures keeper.store.disk) → ⊥) }
     ensures honesty { D.honest (disk_after result) ↔ D.honest disk }
     ensures size { D.size (disk_after result) ≡ D.size disk }
 {
@@ -64,6 +66,7 @@ pub fn format<D: Disk>(alloc: Global, disk: D) -> Result<Keeper<D>, (Fault, D)>
     ensures formatted { D.honest disk → IfOk result (λ keeper. EachStandsFor D.may_leave keeper.store.disk first_state) }
     ensures state { IfOk result (λ keeper. keeper.state ≡ first_state) }
     ensures store { IfOk result (λ keeper. keeper.store ≡ first_store keeper.store.disk) }
+    ensures size { IfOk result (λ keeper. D.size disk ≡ device_bytes) }
     ensures unformatted { IfErr result (λ e. (e.0 ≡ Unformatted) ↔ (D.size disk ≢ device_bytes)) }
     ensures device { IfErr result (λ e. e.0 ≡ Device → Rises (D.failures disk) (D.failures e.1)) }
     ensures untouched { IfErr result (λ e. e.0 ≢ Device → e.1 ≡ disk) }

@@ -114,6 +114,8 @@ impl<D: Disk> Parts<D> {
         ensures kept { IsKept D.honest D.seen D.may_leave self.new }
         ensures any_moment { D.honest self.old.store.journal.disk → self.old.store.journal.has_failed ≡ false
             → LeavesOnly D.moment D.left_since self.old.store.journal.disk self.new.store.journal.disk (StandsForEither self.old.state (after_all self.old.state entries.now)) }
+        ensures short { IsErrOf result NoMemory → D.honest self.old.store.journal.disk → self.old.store.journal.has_failed ≡ false
+            → LeavesOnly D.moment D.left_since self.old.store.journal.disk self.new.store.journal.disk (λ image. StandsFor image self.old.state) }
         ensures continues { OnOk result (Continues self.old.state first entries.now) }
         ensures state { OnOk result (self.new.state ≡ after_all self.old.state entries.now) }
         ensures value { OnOk result (store_of self.new.store ≡ record (appended (made_room (store_of self.old.store) entries.now) entries.now) { disk = self.new.store.journal.disk }) }

@@ -23,13 +23,17 @@ fn is_refused(
     }
 }
 
+fn check_refusals(rt: &impl Abort, alloc: Global, keeper: &mut Keeper<MemoryDisk>) {
+    let closed = Entry::Closed { session: 7 };
+    assert!(rt; is_refused(rt, alloc, keeper, &[], 0));
+    assert!(rt; is_refused(rt, alloc, keeper, &[closed], 0));
+    assert!(rt; is_refused(rt, alloc, keeper, &[ATTACHED, CLOSED], 1));
+    assert!(rt; keeper.state().place() == 0);
+}
+
 #[test]
 fn mismatch(rt: HostRuntime) {
     let alloc = rt.alloc();
     let mut keeper = new_store(&rt, alloc);
-    let closed = Entry::Closed { session: 7 };
-    assert!(&rt; is_refused(&rt, alloc, &mut keeper, &[], 0));
-    assert!(&rt; is_refused(&rt, alloc, &mut keeper, &[closed], 0));
-    assert!(&rt; is_refused(&rt, alloc, &mut keeper, &[ATTACHED, CLOSED], 1));
-    assert!(&rt; keeper.state().place() == 0);
+    check_refusals(&rt, alloc, &mut keeper);
 }

@@ -1,6 +1,6 @@
 //! Checkpoints in slices, beside batches that go on.
 
-use crate::stores::{ATTACHED, append, attachings, created, new_store, opened, reads};
+use crate::stores::{ATTACHED, append, attachings, created, new_store, place_of, reads};
 use fe_disk::MemoryDisk;
 use fe_keeper::Keeper;
 use std::alloc::Global;
@@ -25,53 +25,73 @@ fn write_slices(rt: &impl Abort, alloc: Global, keeper: &mut Keeper<MemoryDisk>)
     assert!(rt; matches!(keeper.checkpoint_step(), Ok(false)));
 }
 
+// A checkpoint of ten slices is begun and finished, each once.
+fn write_checkpoint(rt: &impl Abort, alloc: Global, keeper: &mut Keeper<MemoryDisk>) {
+    assert!(rt; matches!(keeper.checkpoint_begin(), Ok(true)));
+    assert!(rt; matches!(keeper.checkpoint_begin(), Ok(false)));
+    write_slices(rt, alloc, keeper);
+    assert!(rt; matches!(keeper.checkpoint_finish(), Ok(true)));
+    assert!(rt; matches!(keeper.checkpoint_finish(), Ok(false)));
+    assert!(rt; keeper.used() == 245);
+}
+
+fn check_bytes(rt: &impl Abort, disk: &mut MemoryDisk) {
+    assert!(rt; reads(rt, disk, 2_101_256, &[0, 0, 0, 0, 0, 0, 0, 2]));
+    assert!(rt; reads(rt, disk, 2_101_264, &[0, 9, 0, 0xb1]));
+    assert!(rt; reads(rt, disk, 3_153_920, &[1, 0, 0, 0, 0xf0]));
+    assert!(rt; reads(rt, disk, 3_154_165, &[0]));
+}
+
 #[test]
 fn largest_checkpoint(rt: HostRuntime) {
     let alloc = rt.alloc();
     let mut keeper = full_store(&rt, alloc);
-    assert!(&rt; matches!(keeper.checkpoint_begin(), Ok(true)));
-    assert!(&rt; matches!(keeper.checkpoint_begin(), Ok(false)));
-    write_slices(&rt, alloc, &mut keeper);
-    assert!(&rt; matches!(keeper.checkpoint_finish(), Ok(true)));
-    assert!(&rt; matches!(keeper.checkpoint_finish(), Ok(false)));
-    assert!(&rt; keeper.used() == 245);
+    write_checkpoint(&rt, alloc, &mut keeper);
     let mut disk = keeper.into_disk();
-    assert!(&rt; reads(&rt, &mut disk, 2_101_256, &[0, 0, 0, 0, 0, 0, 0, 2]));
-    assert!(&rt; reads(&rt, &mut disk, 2_101_264, &[0, 9, 0, 0xb1]));
-    assert!(&rt; reads(&rt, &mut disk, 3_153_920, &[1, 0, 0, 0, 0xf0]));
-    assert!(&rt; reads(&rt, &mut disk, 3_154_165, &[0]));
-    assert!(&rt; opened(&rt, alloc, disk).state().place() == 5);
+    check_bytes(&rt, &mut disk);
+    assert!(&rt; place_of(&rt, alloc, disk) == 5);
 }
 
-// 4,000 entries take 320,005 bytes of the journal, so the fourth batch of them does not fit.
+// Appends 4,000 entries at the place. They take 320,005 bytes of the journal.
+fn append_many(rt: &impl Abort, alloc: Global, keeper: &mut Keeper<MemoryDisk>, first: u64) {
+    assert!(rt; keeper.append(attachings(rt, alloc, first, 4000)).is_ok());
+}
+
+// The fourth batch does not fit.
+fn append_four(rt: &impl Abort, alloc: Global, keeper: &mut Keeper<MemoryDisk>) {
+    for first in [0, 4000, 8000] {
+        append_many(rt, alloc, keeper, first);
+    }
+    assert!(rt; keeper.used() == 960_015);
+    append_many(rt, alloc, keeper, 12_000);
+    assert!(rt; keeper.used() == 320_005);
+}
+
 #[test]
 fn whole_checkpoint_for_a_batch(rt: HostRuntime) {
     let alloc = rt.alloc();
     let mut keeper = new_store(&rt, alloc);
-    for first in [0, 4000, 8000] {
-        assert!(&rt; keeper.append(attachings(&rt, alloc, first, 4000)).is_ok());
-    }
-    assert!(&rt; keeper.used() == 960_015);
-    assert!(&rt; keeper.append(attachings(&rt, alloc, 12_000, 4000)).is_ok());
-    assert!(&rt; keeper.used() == 320_005);
-    let disk = keeper.into_disk();
-    assert!(&rt; opened(&rt, alloc, disk).state().place() == 16_000);
+    append_four(&rt, alloc, &mut keeper);
+    assert!(&rt; place_of(&rt, alloc, keeper.into_disk()) == 16_000);
 }
 
 // A checkpoint is under way: it is finished for the batch that does not fit, which then fits behind the
 // entries that came since its beginning.
+fn append_beside(rt: &impl Abort, alloc: Global, keeper: &mut Keeper<MemoryDisk>) {
+    for first in [0, 4000] {
+        append_many(rt, alloc, keeper, first);
+    }
+    assert!(rt; matches!(keeper.checkpoint_begin(), Ok(true)));
+    append_many(rt, alloc, keeper, 8000);
+    append_many(rt, alloc, keeper, 12_000);
+    assert!(rt; keeper.used() == 640_010);
+    assert!(rt; matches!(keeper.checkpoint_finish(), Ok(false)));
+}
+
 #[test]
 fn finished_for_a_batch(rt: HostRuntime) {
     let alloc = rt.alloc();
     let mut keeper = new_store(&rt, alloc);
-    for first in [0, 4000] {
-        assert!(&rt; keeper.append(attachings(&rt, alloc, first, 4000)).is_ok());
-    }
-    assert!(&rt; matches!(keeper.checkpoint_begin(), Ok(true)));
-    assert!(&rt; keeper.append(attachings(&rt, alloc, 8000, 4000)).is_ok());
-    assert!(&rt; keeper.append(attachings(&rt, alloc, 12_000, 4000)).is_ok());
-    assert!(&rt; keeper.used() == 640_010);
-    assert!(&rt; matches!(keeper.checkpoint_finish(), Ok(false)));
-    let disk = keeper.into_disk();
-    assert!(&rt; opened(&rt, alloc, disk).state().place() == 16_000);
+    append_beside(&rt, alloc, &mut keeper);
+    assert!(&rt; place_of(&rt, alloc, keeper.into_disk()) == 16_000);
 }

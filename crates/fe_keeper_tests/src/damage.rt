@@ -69,34 +69,37 @@ const ROWS: [Row; 11] = [
     },
 ];
 
-fn changed(rt: &impl Abort, alloc: Global, change: &Change) -> MemoryDisk {
+// The bytes of the change are written on a disk of format 1.
+fn make(rt: &impl Abort, disk: &mut MemoryDisk, change: &Change) {
     match change {
-        Change::Bytes(at, bytes) => {
-            let mut disk = old_store(rt, alloc).into_disk();
-            write(rt, &mut disk, *at, bytes);
-            disk
-        }
+        Change::Bytes(at, bytes) => write(rt, disk, *at, bytes),
         Change::Gate(group, behind) => {
-            let mut disk = old_store(rt, alloc).into_disk();
-            write(rt, &mut disk, 1_052_672, group);
-            write(rt, &mut disk, 1_052_741, behind);
-            disk
+            write(rt, disk, 1_052_672, group);
+            write(rt, disk, 1_052_741, behind);
         }
         Change::Closed(record) => {
-            let mut disk = old_store(rt, alloc).into_disk();
-            write(rt, &mut disk, 1_052_672, &[1, 0, 0, 0, 128]);
-            write(rt, &mut disk, 1_052_677, ATTACHED_RECORD);
-            write(rt, &mut disk, 1_052_741, record);
-            write(rt, &mut disk, 1_052_805, &[0]);
-            disk
+            write(rt, disk, 1_052_672, &[1, 0, 0, 0, 128]);
+            write(rt, disk, 1_052_677, ATTACHED_RECORD);
+            write(rt, disk, 1_052_741, record);
+            write(rt, disk, 1_052_805, &[0]);
         }
     }
+}
+
+fn changed(rt: &impl Abort, alloc: Global, change: &Change) -> MemoryDisk {
+    let mut disk = old_store(rt, alloc).into_disk();
+    make(rt, &mut disk, change);
+    disk
+}
+
+fn check_row(rt: &impl Abort, alloc: Global, row: &Row) {
+    let disk = changed(rt, alloc, &row.change);
+    assert!(rt; refusal(alloc, disk) == Some(row.told));
 }
 
 #[test]
 fn damaged_stores(rt: HostRuntime) {
     for row in &ROWS {
-        let disk = changed(&rt, rt.alloc(), &row.change);
-        assert!(&rt; refusal(rt.alloc(), disk) == Some(row.told));
+        check_row(&rt, rt.alloc(), row);
     }
 }

@@ -1,7 +1,7 @@
 //! Gates that a stop left torn, in a store of format 1 with two groups of one record each.
 
 use crate::stores::{
-    ATTACHED_RECORD, CREATED_RECORD, append_bytes, old_store, opened, refusal, write,
+    ATTACHED_RECORD, CREATED_RECORD, append_bytes, old_store, opened, place_of, refusal, write,
 };
 use fe_disk::MemoryDisk;
 use fe_keeper::Fault;
@@ -24,24 +24,41 @@ fn two_groups(rt: &impl Abort, alloc: Global) -> MemoryDisk {
     journal.into_disk()
 }
 
+// Whether a store is opened at the place, and whether it has the array of the second group.
+fn has(rt: &impl Abort, alloc: Global, disk: MemoryDisk, place: u64, length: Option<u32>) -> bool {
+    let keeper = opened(rt, alloc, disk);
+    keeper.state().place() == place && keeper.state().length(1) == length
+}
+
+// The second gate is neither open nor closed.
+fn odd(rt: &impl Abort, alloc: Global) -> MemoryDisk {
+    let mut disk = two_groups(rt, alloc);
+    write(rt, &mut disk, 1_052_741, &[0x37]);
+    disk
+}
+
+// Another slot has an image of a later generation.
+fn other(rt: &impl Abort, alloc: Global) -> MemoryDisk {
+    let mut disk = two_groups(rt, alloc);
+    write(rt, &mut disk, 2_101_248, &HEADER);
+    write(rt, &mut disk, 2_105_344, &IMAGE);
+    write(rt, &mut disk, 2_105_343, &[1]);
+    disk
+}
+
+// The second group has no length.
+fn damaged(rt: &impl Abort, alloc: Global) -> MemoryDisk {
+    let mut disk = two_groups(rt, alloc);
+    write(rt, &mut disk, 1_052_742, &[0, 0, 0, 0]);
+    disk
+}
+
 #[test]
 fn torn_gates(rt: HostRuntime) {
     let alloc = rt.alloc();
-    let mut odd = two_groups(&rt, alloc);
-    write(&rt, &mut odd, 1_052_741, &[0x37]);
-    let keeper = opened(&rt, alloc, odd);
-    assert!(&rt; keeper.state().place() == 1 && keeper.state().length(1).is_none());
-
-    let keeper = opened(&rt, alloc, two_groups(&rt, alloc));
-    assert!(&rt; keeper.state().place() == 2 && keeper.state().length(1) == Some(2));
-
-    let mut other = two_groups(&rt, alloc);
-    write(&rt, &mut other, 2_101_248, &HEADER);
-    write(&rt, &mut other, 2_105_344, &IMAGE);
-    write(&rt, &mut other, 2_105_343, &[1]);
-    assert!(&rt; opened(&rt, alloc, other).state().place() == 5);
-
-    let mut damaged = two_groups(&rt, alloc);
-    write(&rt, &mut damaged, 1_052_742, &[0, 0, 0, 0]);
-    assert!(&rt; refusal(alloc, damaged) == Some(Fault::Damaged { offset: 1_052_741 }));
+    assert!(&rt; has(&rt, alloc, odd(&rt, alloc), 1, None));
+    assert!(&rt; has(&rt, alloc, two_groups(&rt, alloc), 2, Some(2)));
+    assert!(&rt; place_of(&rt, alloc, other(&rt, alloc)) == 5);
+    let told = refusal(alloc, damaged(&rt, alloc));
+    assert!(&rt; told == Some(Fault::Damaged { offset: 1_052_741 }));
 }

@@ -2,7 +2,7 @@
 
 use crate::stores::{
     ATTACHED_RECORD, CREATED_RECORD, append, append_bytes, attachings, created, old_store, opened,
-    reads, write,
+    place_of, reads, write,
 };
 use fe_disk::{Fuse, MemoryDisk, Torn};
 use fe_keeper::{Format, Keeper, open};
@@ -28,13 +28,18 @@ fn answers(keeper: &Keeper<MemoryDisk>) -> bool {
     }
 }
 
+// Whether a checkpoint is begun and finished.
+fn migrates(keeper: &mut Keeper<Fuse<MemoryDisk>>) -> bool {
+    let begun = matches!(keeper.checkpoint_begin(), Ok(true));
+    begun && matches!(keeper.checkpoint_finish(), Ok(true))
+}
+
 // The disk after so many device calls of an opening and a migration, and whether all of them were made.
 fn migrated(rt: &impl Abort, alloc: Global, calls: u64) -> (MemoryDisk, bool) {
     match open(alloc, Fuse::new(old(rt, alloc), calls)) {
         Ok(keeper) => {
             let mut keeper = keeper;
-            let begun = matches!(keeper.checkpoint_begin(), Ok(true));
-            let done = begun && matches!(keeper.checkpoint_finish(), Ok(true));
+            let done = migrates(&mut keeper);
             (keeper.into_disk().into_inner(), done)
         }
         Err((_, fuse)) => (fuse.into_inner(), false),
@@ -49,18 +54,30 @@ fn is_kept(rt: &impl Abort, alloc: Global, disk: &MemoryDisk) -> bool {
     })
 }
 
+// Whether a store is opened in the format with the answer as before.
+fn is_answered(rt: &impl Abort, alloc: Global, disk: MemoryDisk, format: Format) -> bool {
+    let keeper = opened(rt, alloc, disk);
+    answers(&keeper) && keeper.store_format() == format
+}
+
+fn check_stop(rt: &impl Abort, alloc: Global, calls: u64) {
+    let (disk, done) = migrated(rt, alloc, calls);
+    assert!(rt; !done && is_kept(rt, alloc, &disk));
+}
+
+fn check_migrated(rt: &impl Abort, alloc: Global) {
+    let (disk, done) = migrated(rt, alloc, 12);
+    assert!(rt; done && is_answered(rt, alloc, disk, Format::Two));
+}
+
 #[test]
 fn old_format_opens(rt: HostRuntime) {
     let alloc = rt.alloc();
-    let keeper = opened(&rt, alloc, old(&rt, alloc));
-    assert!(&rt; answers(&keeper) && keeper.store_format() == Format::One);
+    assert!(&rt; is_answered(&rt, alloc, old(&rt, alloc), Format::One));
     for calls in 0..12 {
-        let (disk, done) = migrated(&rt, alloc, calls);
-        assert!(&rt; !done && is_kept(&rt, alloc, &disk));
+        check_stop(&rt, alloc, calls);
     }
-    let (disk, done) = migrated(&rt, alloc, 12);
-    let keeper = opened(&rt, alloc, disk);
-    assert!(&rt; done && answers(&keeper) && keeper.store_format() == Format::Two);
+    check_migrated(&rt, alloc);
 }
 
 // The image of a state at place 1 with session 7, whose floor is 1.
@@ -77,34 +94,56 @@ fn with_session(rt: &impl Abort, alloc: Global) -> MemoryDisk {
     disk
 }
 
+// Appends so many entries.
+fn append_many(
+    rt: &impl Abort,
+    alloc: Global,
+    keeper: &mut Keeper<MemoryDisk>,
+    first: u64,
+    count: usize,
+) {
+    assert!(rt; keeper.append(attachings(rt, alloc, first, count)).is_ok());
+}
+
 // 13,108 entries since the migration began are one too many for a group of format 2, so the last batch has it
 // finished. Behind 12,000 records it does not fit with its 88,640 bytes, so a whole checkpoint is made.
+fn append_until_migrated(rt: &impl Abort, alloc: Global, keeper: &mut Keeper<MemoryDisk>) {
+    assert!(rt; matches!(keeper.checkpoint_begin(), Ok(true)));
+    for first in [1, 3001, 6001, 9001] {
+        append_many(rt, alloc, keeper, first, 3000);
+    }
+    assert!(rt; keeper.store_format() == Format::One);
+    append_many(rt, alloc, keeper, 12_001, 1108);
+    assert!(rt; keeper.store_format() == Format::Two && keeper.used() == 88_645);
+}
+
+fn check_bytes(rt: &impl Abort, disk: &mut MemoryDisk) {
+    assert!(rt; reads(rt, disk, 8, &[0, 0, 0, 0, 0, 0, 0, 3]));
+    assert!(rt; reads(rt, disk, 2_101_256, &[0, 0, 0, 0, 0, 0, 0, 2]));
+    assert!(rt; reads(rt, disk, 3_153_920, &[1, 0, 0x0e, 0xa6, 0]));
+}
+
 #[test]
 fn migration_by_append(rt: HostRuntime) {
     let alloc = rt.alloc();
     let mut keeper = opened(&rt, alloc, with_session(&rt, alloc));
-    assert!(&rt; matches!(keeper.checkpoint_begin(), Ok(true)));
-    for first in [1, 3001, 6001, 9001] {
-        assert!(&rt; keeper.append(attachings(&rt, alloc, first, 3000)).is_ok());
-    }
-    assert!(&rt; keeper.store_format() == Format::One);
-    assert!(&rt; keeper.append(attachings(&rt, alloc, 12_001, 1108)).is_ok());
-    assert!(&rt; keeper.store_format() == Format::Two && keeper.used() == 88_645);
+    append_until_migrated(&rt, alloc, &mut keeper);
     let mut disk = keeper.into_disk();
-    assert!(&rt; reads(&rt, &mut disk, 8, &[0, 0, 0, 0, 0, 0, 0, 3]));
-    assert!(&rt; reads(&rt, &mut disk, 2_101_256, &[0, 0, 0, 0, 0, 0, 0, 2]));
-    assert!(&rt; reads(&rt, &mut disk, 3_153_920, &[1, 0, 0x0e, 0xa6, 0]));
-    assert!(&rt; opened(&rt, alloc, disk).state().place() == 13_109);
+    check_bytes(&rt, &mut disk);
+    assert!(&rt; place_of(&rt, alloc, disk) == 13_109);
 }
 
 // A name that format 1 has no record for makes the checkpoint first.
+fn append_long_name(rt: &impl Abort, alloc: Global, keeper: &mut Keeper<MemoryDisk>) {
+    let entry = created(rt, b"seventeen_letters", 3, 2, 1);
+    append(rt, alloc, keeper, &[entry]);
+    assert!(rt; keeper.store_format() == Format::Two && keeper.used() == 85);
+}
+
 #[test]
 fn long_name_migrates(rt: HostRuntime) {
     let alloc = rt.alloc();
     let mut keeper = opened(&rt, alloc, old(&rt, alloc));
-    let entry = created(&rt, b"seventeen_letters", 3, 2, 1);
-    append(&rt, alloc, &mut keeper, &[entry]);
-    assert!(&rt; keeper.store_format() == Format::Two && keeper.used() == 85);
-    let disk = keeper.into_disk();
-    assert!(&rt; opened(&rt, alloc, disk).state().place() == 3);
+    append_long_name(&rt, alloc, &mut keeper);
+    assert!(&rt; place_of(&rt, alloc, keeper.into_disk()) == 3);
 }

@@ -94,6 +94,11 @@ pub fn opened(rt: &impl Abort, alloc: Global, disk: MemoryDisk) -> Keeper<Memory
     open(alloc, disk).ok().expect(rt, "opened")
 }
 
+/// The place of the state that a store is opened with.
+pub fn place_of(rt: &impl Abort, alloc: Global, disk: MemoryDisk) -> u64 {
+    opened(rt, alloc, disk).state().place()
+}
+
 /// Why a store is not opened, if it is not.
 pub fn refusal(alloc: Global, disk: MemoryDisk) -> Option<Fault> {
     match open(alloc, disk) {

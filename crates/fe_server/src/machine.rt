@@ -56,9 +56,9 @@ impl Machine {
         self.step(&Step::Connect { conn })?;
         let mut piece = mem::replace(&mut self.frame, Vec::new(self.alloc));
         piece.clear();
-        if put_message(&mut piece, message).is_err() {
+        let Ok(()) = put_message(&mut piece, message) else {
             return Err(Fault::Memory);
-        }
+        };
         let step = Step::Bytes { conn, piece };
         let outcome = self.step(&step);
         if let Step::Bytes { piece, .. } = step {

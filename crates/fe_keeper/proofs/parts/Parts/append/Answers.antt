@@ -7,7 +7,7 @@ use Rattle.fe_keeper.specs.declared.fault.Fault.TheVariants.{Mismatch}
 use Rattle.fe_state.specs.State.{ServerState}
 use Rattle.fe_state.specs.UndoLog.{UndoLog, rewound}
 use Rattle.fe_replica.specs.declared.taking.Refused.{Refused}
-use Rattle.fe_keeper.proofs.Taking.{mismatch_told, same_parts, at_rest, upholds_at, stays, then_stored}
+use Rattle.fe_keeper.proofs.Taking.{mismatch_told, same_parts, at_rest, upholds_at, run_at, stays, then_stored}
 use Rattle.fe_keeper.proofs.parts.Parts.append.Goals as goal
 
 pub returns-in_err-take-clause-mismatch : goal.returns-in_err-take-clause-mismatch
@@ -26,6 +26,14 @@ returns-in_err-make_room-clause-any_moment g c = λ honest works.
     let back : before ≡ old.state = c.in_ok-take.ensures.beginning in
     let upheld = upholds_at g.D.Disk.moment g.D.Disk.left_since g.D.Disk.seen g.D.Disk.may_leave old.store before old.state back (c.requires.kept.upheld honest works) in
     stays g.D.Disk.moment g.D.Disk.left_since g.D.Disk.seen g.D.Disk.may_leave old.store.journal.disk c.make_room.new.self.store.journal.disk before old.state c.args.entries.now back (c.make_room.ensures.any_moment honest upheld)
+
+pub returns-in_err-make_room-clause-short : goal.returns-in_err-make_room-clause-short
+returns-in_err-make_room-clause-short g c = λ memory honest works.
+    let old = c.args.self.now in
+    let before : ServerState = rewound c.take.new.log c.take.new.state in
+    let back : before ≡ old.state = c.in_ok-take.ensures.beginning in
+    let upheld = upholds_at g.D.Disk.moment g.D.Disk.left_since g.D.Disk.seen g.D.Disk.may_leave old.store before old.state back (c.requires.kept.upheld honest works) in
+    run_at g.D.Disk.moment g.D.Disk.left_since g.D.Disk.seen g.D.Disk.may_leave old.store.journal.disk c.make_room.new.self.store.journal.disk before old.state back (c.make_room.ensures.any_moment honest upheld)
 
 pub returns-in_err-put-clause-any_moment : goal.returns-in_err-put-clause-any_moment
 returns-in_err-put-clause-any_moment g c = λ honest works.

@@ -1,0 +1,189 @@
+-- What a connection that comes or goes leaves of a desk: the store's side, and what ties the front to it.
+use Rattle.std.proofs.Common.{◌≡◌, ℕ, Bool, true, false, inl, inr, List, [], ◌∷◌, ◌++◌, map, Option, None, is_some, slice_set, get_or, refl, sym, ap, subst, ◌∙◌}
+use Rattle.std.specs.Prelude.{if◌then◌else◌}
+use Rattle.fe_state.proofs.Maps.{get_beside, same_or_other}
+use Rattle.fe_state.specs.History.{AreLegal}
+use Rattle.fe_state.specs.State.{after_all}
+use Rattle.fe_state.specs.declared.entry.Entry.{Entry}
+use Rattle.fe_mail.specs.Connections.{first_connection}
+use Rattle.fe_mail.specs.declared.connection.Connection.{Connection}
+use Rattle.fe_wire.specs.Stream.{Decoding}
+use Rattle.fe_keeper.specs.Keeper.{KeeperState}
+use Rattle.fe_front.specs.Front.{FrontState, is_connected}
+use Rattle.fe_front.specs.Steps.{connected, dropped}
+use Rattle.fe_front.proofs.Keeping.{dropped-keeps}
+use Rattle.fe_desk.specs.declared.port.Port.{Port}
+use Rattle.fe_desk.specs.Standing.{Client, Standing}
+use Rattle.fe_desk.specs.Storing.{is_making}
+use Rattle.fe_desk.specs.Steps.{find, on_client, with_left, unmade, gone, new_client, clients_with, BeginsStream, Connects}
+use Rattle.fe_desk.specs.Places.{IsFirstAt, Joins}
+use Rattle.fe_desk.specs.Crash.{DeskState}
+use Rattle.fe_desk.specs.Desk.{IsDesk, IsHanded, cut_entries, client_of}
+use Rattle.fe_desk.proofs.Coming.{dropped-stays}
+use Rattle.fe_desk.proofs.Places.{numbers_changed, found_by_numbers, found_more, found_last, found_there, changed_nowhere, port_changed}
+
+-- ---- the front and the clients change, and not the store
+
+-- who is connected is known among the clients
+abbrev pub AreKnown : FrontState → List Client → Type 0
+AreKnown f clients = (conn : ℕ) → is_connected f conn ≡ true → is_some (find conn clients) ≡ true
+
+-- the state, what is pending and what is out stay
+pub record KeepsMade (f g : FrontState) : Type 0 where
+  pub state : g.service.state ≡ f.service.state
+  pub pending : g.service.pending ≡ f.service.pending
+  pub out : g.out ≡ f.out
+
+abbrev moved : Standing → FrontState → List Client → Option ℕ → Bool → Standing
+moved s f clients making owes = record s { front = f; clients = clients; making = making; owes = owes }
+
+abbrev desk_at : {D : Type 0} → Standing → KeeperState D → ℕ → DeskState D
+desk_at s k n = record { standing = s; keeper = k; synced = n }
+
+moved_desk : {D : Type 0} (honest : D → Type 0) (may_leave : D → List ℕ → Type 0) (s : Standing) (k : KeeperState D) (n : ℕ) (f : FrontState) (clients : List Client) (making : Option ℕ) (owes : Bool)
+    → IsDesk honest may_leave (desk_at s k n) → KeepsMade s.front f → AreKnown f clients → IsDesk honest may_leave (desk_at (moved s f clients making owes) k n)
+moved_desk honest may_leave s k n f clients making owes desk keeps known = record {
+  tied = record {
+    handed = subst (IsHanded s.handed) (sym keeps.out) desk.tied.handed;
+    legal = subst (λ (p : List Entry). AreLegal k.state (cut_entries s.handed ++ p)) (sym keeps.pending) desk.tied.legal;
+    state = keeps.state ∙ desk.tied.state ∙ ap (λ (p : List Entry). after_all k.state (cut_entries s.handed ++ p)) (sym keeps.pending);
+  };
+  known = known;
+  few = desk.few;
+  all = desk.all;
+  upheld = λ honest begun from image may. desk.upheld honest begun (record { history = from.history; replica = from.replica }) image may;
+}
+
+-- the same of a standing that is equal, and a keeper and a number that are
+pub keeps_desk : {D : Type 0} (honest : D → Type 0) (may_leave : D → List ℕ → Type 0) (s t : Standing) (k k' : KeeperState D) (n n' : ℕ) (f : FrontState) (clients : List Client) (making : Option ℕ) (owes : Bool)
+    → t ≡ moved s f clients making owes → k' ≡ k → n' ≡ n → IsDesk honest may_leave (desk_at s k n) → KeepsMade s.front f → AreKnown f clients → IsDesk honest may_leave (desk_at t k' n')
+keeps_desk {D} honest may_leave s t k k' n n' f clients making owes standing keeper synced desk keeps known =
+    subst (λ (x : Standing). IsDesk honest may_leave (desk_at x k' n')) (sym standing)
+    (subst (λ (x : KeeperState D). IsDesk honest may_leave (desk_at (moved s f clients making owes) x n')) (sym keeper)
+    (subst (λ (x : ℕ). IsDesk honest may_leave (desk_at (moved s f clients making owes) k x)) (sym synced)
+    (moved_desk honest may_leave s k n f clients making owes desk keeps known)))
+
+-- a desk that stands as one is one
+pub same_desk : {D : Type 0} (honest : D → Type 0) (may_leave : D → List ℕ → Type 0) (s t : Standing) (k k' : KeeperState D) (n n' : ℕ) → t ≡ s → k' ≡ k → n' ≡ n
+    → IsDesk honest may_leave (desk_at s k n) → IsDesk honest may_leave (desk_at t k' n')
+same_desk {D} honest may_leave s t k k' n n' standing keeper synced desk =
+    subst (λ (x : Standing). IsDesk honest may_leave (desk_at x k' n')) (sym standing)
+    (subst (λ (x : KeeperState D). IsDesk honest may_leave (desk_at s x n')) (sym keeper)
+    (subst (λ (x : ℕ). IsDesk honest may_leave (desk_at s k x)) (sym synced) desk))
+
+-- ---- room is made for nobody
+
+unmade_moved : (s : Standing) (conn : ℕ) (f : FrontState) (clients : List Client)
+    → unmade (moved s f clients s.making s.owes) conn ≡ moved s f clients (unmade s conn).making s.owes
+unmade_moved s conn f clients = by (is_making s conn)
+  where
+    by : (b : Bool) → (if b then moved s f clients None s.owes else moved s f clients s.making s.owes)
+        ≡ moved s f clients (if b then record s { making = None } else s).making s.owes
+    by true = refl
+    by false = refl
+
+unmade_apart : (s : Standing) (conn : ℕ) (f : FrontState) (clients : List Client)
+    → record (unmade s conn) { front = f; clients = clients } ≡ moved s f clients (unmade s conn).making s.owes
+unmade_apart s conn f clients = by (is_making s conn)
+  where
+    by : (b : Bool) → record (if b then record s { making = None } else s) { front = f; clients = clients }
+        ≡ moved s f clients (if b then record s { making = None } else s).making s.owes
+    by true = refl
+    by false = refl
+
+-- ---- a connection comes
+
+came_known : (clients : List Client) (conn : ℕ) (d : Decoding) (q : ℕ) → is_some (find q clients) ≡ true → is_some (find q (clients_with clients conn d)) ≡ true
+came_known clients conn d q is = by (is_some (find conn clients))
+  where
+    by : (b : Bool) → is_some (find q (if b then on_client conn (λ c. record c { decoder = d; left = [] }) clients else clients ++ new_client conn d ∷ [])) ≡ true
+    by true = found_by_numbers clients (on_client conn (λ c. record c { decoder = d; left = [] }) clients) q (numbers_changed clients conn (λ c. record c { decoder = d; left = [] }) (λ c. refl)) ∙ is
+    by false = found_more clients (new_client conn d) q is
+
+came_itself : (clients : List Client) (conn : ℕ) (d : Decoding) → is_some (find conn (clients_with clients conn d)) ≡ true
+came_itself clients conn d = by (is_some (find conn clients)) refl
+  where
+    by : (b : Bool) → is_some (find conn clients) ≡ b
+        → is_some (find conn (if b then on_client conn (λ c. record c { decoder = d; left = [] }) clients else clients ++ new_client conn d ∷ [])) ≡ true
+    by true is = found_by_numbers clients (on_client conn (λ c. record c { decoder = d; left = [] }) clients) conn (numbers_changed clients conn (λ c. record c { decoder = d; left = [] }) (λ c. refl)) ∙ is
+    by false is = found_last clients (new_client conn d)
+
+came_all : (f : FrontState) (clients : List Client) (conn : ℕ) (d : Decoding) → AreKnown f clients → AreKnown (connected f conn) (clients_with clients conn d)
+came_all f clients conn d known q there = elim (same_or_other q conn) [
+  | inl e ↦ ap (λ (x : ℕ). is_some (find x (clients_with clients conn d))) e ∙ came_itself clients conn d
+  | inr ne ↦ came_known clients conn d q (known q (sym (ap (λ (o : Option Connection). is_some o) (get_beside f.connections conn first_connection q ne)) ∙ there))
+]
+
+-- it came, and no room is being made for it then
+pub connects : (s mid t : Standing) (conn : ℕ) → Joins s conn mid → t ≡ unmade mid conn → Connects s conn t
+connects s mid t conn joins is = record {
+  decoder = joins.decoder;
+  begins = joins.begins;
+  after = is ∙ ap (λ (x : Standing). unmade x conn) joins.after ∙ unmade_moved s conn (connected s.front conn) (clients_with s.clients conn joins.decoder)
+      ∙ sym (unmade_apart s conn (connected s.front conn) (clients_with s.clients conn joins.decoder));
+}
+
+pub connects_desk : {D : Type 0} (honest : D → Type 0) (may_leave : D → List ℕ → Type 0) (s t : Standing) (k k' : KeeperState D) (n n' conn : ℕ)
+    → Connects s conn t → k' ≡ k → n' ≡ n → IsDesk honest may_leave (desk_at s k n) → IsDesk honest may_leave (desk_at t k' n')
+connects_desk honest may_leave s t k k' n n' conn connects keeper synced desk =
+    let f = connected s.front conn in
+    let clients = clients_with s.clients conn connects.decoder in
+    keeps_desk honest may_leave s t k k' n n' f clients (unmade s conn).making s.owes (connects.after ∙ unmade_apart s conn f clients) keeper synced desk
+    (record { state = refl; pending = refl; out = refl }) (came_all s.front s.clients conn connects.decoder desk.known)
+
+-- ---- a connection goes
+
+gone_moved : (s : Standing) (conn : ℕ) → gone s conn ≡ moved s (dropped s.front conn) (on_client conn (λ c. record c { left = [] }) s.clients) (unmade s conn).making s.owes
+gone_moved s conn = by (is_making s conn)
+  where
+    by : (b : Bool) → record (with_left (if b then record s { making = None } else s) conn []) { front = dropped s.front conn }
+        ≡ moved s (dropped s.front conn) (on_client conn (λ c. record c { left = [] }) s.clients) (if b then record s { making = None } else s).making s.owes
+    by true = refl
+    by false = refl
+
+-- the front lets it go, its messages are forgotten, and no room is being made for it
+pub goes : (s t : Standing) (f : FrontState) (conn : ℕ) → f ≡ dropped s.front conn → t ≡ unmade (with_left (record s { front = f }) conn []) conn → t ≡ gone s conn
+goes s t f conn front is =
+    let g = dropped s.front conn in
+    let clients = on_client conn (λ c. record c { left = [] }) s.clients in
+    is ∙ ap (λ (x : FrontState). unmade (with_left (record s { front = x }) conn []) conn) front ∙ unmade_moved s conn g clients ∙ sym (gone_moved s conn)
+
+pub gone_desk : {D : Type 0} (honest : D → Type 0) (may_leave : D → List ℕ → Type 0) (s t : Standing) (k k' : KeeperState D) (n n' conn : ℕ)
+    → t ≡ gone s conn → k' ≡ k → n' ≡ n → IsDesk honest may_leave (desk_at s k n) → IsDesk honest may_leave (desk_at t k' n')
+gone_desk honest may_leave s t k k' n n' conn is keeper synced desk =
+    let f = dropped s.front conn in
+    let clients = on_client conn (λ c. record c { left = [] }) s.clients in
+    let keeps = dropped-keeps s.front conn in
+    let stays = dropped-stays s.front conn in
+    let known : AreKnown f clients = λ q there. found_by_numbers s.clients clients q (numbers_changed s.clients conn (λ c. record c { left = [] }) (λ c. refl)) ∙ desk.known q (stays.none_comes q there) in
+    keeps_desk honest may_leave s t k k' n n' f clients (unmade s conn).making s.owes (is ∙ gone_moved s conn) keeper synced desk
+    (record { state = keeps.state; pending = stays.pending; out = keeps.out }) known
+
+-- ---- from the calls on ports
+
+-- the messages of a number's port are forgotten
+pub left_forgotten : (s : Standing) (ports : List Port) (conn at : ℕ) (p q : Port) → s.clients ≡ map client_of ports → IsFirstAt (map client_of ports) conn at → p ≡ get_or ports at p
+    → client_of q ≡ record (client_of p) { left = [] } → record s { clients = map client_of (slice_set ports at q) } ≡ with_left s conn []
+left_forgotten s ports conn at p q clients first is to =
+    let change : Client → Client = λ c. record c { left = [] } in
+    ap (λ (cs : List Client). record s { clients = cs }) (port_changed ports conn at p q change first is to ∙ ap (λ (cs : List Client). on_client conn change cs) (sym clients))
+
+pub nothing_forgotten : (s : Standing) (conn : ℕ) → find conn s.clients ≡ None → s ≡ with_left s conn []
+nothing_forgotten s conn none = ap (λ (cs : List Client). record s { clients = cs }) (sym (changed_nowhere s.clients conn (λ c. record c { left = [] }) none))
+
+-- a number's port begins anew
+pub joins_again : (s : Standing) (f : FrontState) (ports : List Port) (conn at : ℕ) (p q : Port) → s.clients ≡ map client_of ports → IsFirstAt (map client_of ports) conn at → p ≡ get_or ports at p
+    → client_of q ≡ record (client_of p) { decoder = q.decoder; left = [] } → BeginsStream q.decoder → f ≡ connected s.front conn
+    → Joins s conn (record s { front = f; clients = map client_of (slice_set ports at q) })
+joins_again s f ports conn at p q clients first is to begins front =
+    let change : Client → Client = λ c. record c { decoder = q.decoder; left = [] } in
+    let known : is_some (find conn (map client_of ports)) ≡ true = found_there (map client_of ports) conn at first in
+    let those : map client_of (slice_set ports at q) ≡ clients_with (map client_of ports) conn q.decoder =
+    port_changed ports conn at p q change first is to
+    ∙ ap (λ (b : Bool). if b then on_client conn change (map client_of ports) else map client_of ports ++ new_client conn q.decoder ∷ []) (sym known) in
+    record {
+      decoder = q.decoder;
+      begins = begins;
+      after = ap (λ (x : FrontState). record s { front = x; clients = map client_of (slice_set ports at q) }) front
+          ∙ ap (λ (cs : List Client). record s { front = connected s.front conn; clients = cs }) (those ∙ ap (λ (cs : List Client). clients_with cs conn q.decoder) (sym clients));
+    }

@@ -1,0 +1,379 @@
+-- Mails go out of their boxes and are written as replies; and what is empty stays empty.
+use Rattle.std.proofs.Common.{◌≡◌, ℕ, zero, suc, ◌+◌, ◌<◌, ◌≤◌, Bool, true, false, true≢false, List, [], ◌∷◌, ◌++◌, Option, Some, None, IsSome, length, refl, sym, ap, ◌∙◌, subst, arith, rules, append_assoc, append-nil, nat_lt, nat_eq, take, drop, map, get_or, slice_set, take_all, inl, inr, Result, Ok, Err, OnErr, if◌then◌else◌}
+use Rattle.std.specs.Prelude.{slice_get, is_some}
+use Rattle.std.specs.Option.{option_map_or}
+use Rattle.std.specs.Ordering.{nat_cmp}
+use Rattle.std.specs.FinMap.{FinMap, get}
+use Rattle.std.proofs.lemmas.Option.{same_Some}
+use Rattle.std.proofs.lemmas.Bool.Decides.{nat_tests}
+use Rattle.std.proofs.lemmas.List.{map-append, take-append-drop, drop_more, drop_all, drop-set-lt, take_more_set}
+use Rattle.fe_state.proofs.Maps.{same_or_other}
+use Rattle.fe_wire.specs.Spelling.{reply_spelling}
+use Rattle.fe_wire.specs.declared.server_message.ServerMessage.{ServerMessage}
+use Rattle.fe_mail.specs.Books.{mail_taken}
+use Rattle.fe_mail.specs.Connections.{mails_on, with_mails}
+use Rattle.fe_mail.specs.declared.connection.Connection.{Connection}
+use Rattle.fe_mail.specs.declared.mail.Mail.{Mail}
+use Rattle.fe_mail.proofs.Lookups.{mails_on-with_mails, mails_on-with_mails-beside, is_some-with_mails}
+use Rattle.fe_front.specs.Front.{FrontState, is_connected}
+use Rattle.fe_front.specs.Steps.{taken}
+use Rattle.fe_desk.specs.declared.port.Port.{Port}
+use Rattle.fe_desk.specs.Desk.{client_of}
+use Rattle.fe_desk.specs.Mails.{reply_of, spelled, taken_times, emptied_box}
+use Rattle.fe_desk.specs.Standing.{Client, unwritten, told, all_told, all_emptied}
+use Rattle.fe_desk.specs.Steps.{find}
+use Rattle.fe_desk.specs.Keeping.{KeepsFront, KeepsEmpty, IsToldLater, AreToldLater}
+
+-- ---- what stays, over calls one after another
+
+pub itself : (f : FrontState) → KeepsFront f f
+itself f = record { state = refl; pending = refl; out = refl; durable = refl; none_comes = λ conn there. there }
+
+pub both : (f g h : FrontState) → KeepsFront f g → KeepsFront g h → KeepsFront f h
+both f g h a b = record {
+  state = b.state ∙ a.state;
+  pending = b.pending ∙ a.pending;
+  out = b.out ∙ a.out;
+  durable = b.durable ∙ a.durable;
+  none_comes = λ conn there. a.none_comes conn (b.none_comes conn there);
+}
+
+pub empty_itself : (f : FrontState) → KeepsEmpty f f
+empty_itself f = record { empty = λ conn box. box }
+
+pub empty_both : (f g h : FrontState) → KeepsEmpty f g → KeepsEmpty g h → KeepsEmpty f h
+empty_both f g h a b = record { empty = λ conn box. b.empty conn (a.empty conn box) }
+
+-- ---- one mail is taken
+
+-- a box with a mail is that of a connection that is there
+there_of : (m : FinMap nat_cmp Connection) (conn : ℕ) (x : Mail) (xs : List Mail) → mails_on m conn ≡ x ∷ xs → IsSome (get m conn)
+there_of m conn x xs is = by (get m conn) is
+  where
+    by : (o : Option Connection) → option_map_or (λ (c : Connection). c.mails) o [] ≡ x ∷ xs → IsSome o
+    by None e = absurd (omega (arith, ap length e))
+    by (Some c) e = refl
+
+-- a connection that is not there has an empty box
+pub no_box : (f : FrontState) (conn : ℕ) → is_connected f conn ≡ false → mails_on f.connections conn ≡ []
+no_box f conn is = by (get f.connections conn) is
+  where
+    by : (o : Option Connection) → is_some o ≡ false → option_map_or (λ (c : Connection). c.mails) o [] ≡ []
+    by None e = refl
+    by (Some c) e = absurd (true≢false e)
+
+pub none_in_no_box : (f : FrontState) (conn : ℕ) → get f.connections conn ≡ None → mails_on f.connections conn ≡ []
+none_in_no_box f conn is = ap (λ (o : Option Connection). option_map_or (λ (c : Connection). c.mails) o []) is
+
+some_lt : (n : ℕ) → nat_lt 0 (suc n) ≡ true
+some_lt n = search (rules, nat_tests)
+
+-- the front where the first mail of a box leaves it
+abbrev shorter : FrontState → ℕ → FrontState
+shorter f conn = record f { connections = with_mails f.connections conn (drop 1 (mails_on f.connections conn)); books = mail_taken f.books }
+
+taken_is : (f : FrontState) (conn : ℕ) (m : Mail) (ms : List Mail) → mails_on f.connections conn ≡ m ∷ ms → taken f conn ≡ shorter f conn
+taken_is f conn m ms box =
+    ap (λ (b : Bool). if b then shorter f conn else f) (ap (λ (xs : List Mail). nat_lt 0 (length xs)) box ∙ some_lt (length ms))
+
+-- taking from an empty box changes nothing
+pub nothing_taken : (f : FrontState) (conn : ℕ) → mails_on f.connections conn ≡ [] → taken f conn ≡ f
+nothing_taken f conn box = ap (λ (xs : List Mail). if nat_lt 0 (length xs) then shorter f conn else f) box
+
+-- the mails behind the first are left
+left_in : (f : FrontState) (conn : ℕ) (m : Mail) (ms : List Mail) → mails_on f.connections conn ≡ m ∷ ms → mails_on (taken f conn).connections conn ≡ ms
+left_in f conn m ms box =
+    ap (λ (g : FrontState). mails_on g.connections conn) (taken_is f conn m ms box)
+    ∙ mails_on-with_mails f.connections conn (drop 1 (mails_on f.connections conn)) (there_of f.connections conn m ms box)
+    ∙ ap (λ (xs : List Mail). drop 1 xs) box
+
+pub taken-keeps : (f : FrontState) (conn : ℕ) → KeepsFront f (taken f conn)
+taken-keeps f conn = by (nat_lt 0 (length (mails_on f.connections conn)))
+  where
+    by : (b : Bool) → KeepsFront f (if b then shorter f conn else f)
+    by false = itself f
+    by true = record {
+      state = refl;
+      pending = refl;
+      out = refl;
+      durable = refl;
+      none_comes = λ q there. sym (is_some-with_mails f.connections conn (drop 1 (mails_on f.connections conn)) q) ∙ there;
+    }
+
+-- an empty box stays empty where a mail is taken
+pub taken-empty : (f : FrontState) (conn : ℕ) → KeepsEmpty f (taken f conn)
+taken-empty f conn = by (mails_on f.connections conn) refl
+  where
+    by : (xs : List Mail) → mails_on f.connections conn ≡ xs → KeepsEmpty f (taken f conn)
+    by [] box = subst (λ (g : FrontState). KeepsEmpty f g) (sym (nothing_taken f conn box)) (empty_itself f)
+    by (m ∷ ms) box = record {
+      empty = λ q none. elim (same_or_other q conn) [
+        | inl e ↦ absurd (omega (arith, ap length (sym box ∙ ap (λ (n : ℕ). mails_on f.connections n) (sym e) ∙ none)))
+        | inr ne ↦ ap (λ (g : FrontState). mails_on g.connections q) (taken_is f conn m ms box) ∙ mails_on-with_mails-beside f.connections conn (drop 1 (mails_on f.connections conn)) q ne ∙ none
+      ];
+    }
+
+-- ---- all mails of a connection are taken
+
+times-keep : (n : ℕ) (f : FrontState) (conn : ℕ) → KeepsFront f (taken_times n f conn)
+times-keep zero f conn = itself f
+times-keep (suc n) f conn = both f (taken f conn) (taken_times n (taken f conn) conn) (taken-keeps f conn) (times-keep n (taken f conn) conn)
+
+times-empty : (n : ℕ) (f : FrontState) (conn : ℕ) → KeepsEmpty f (taken_times n f conn)
+times-empty zero f conn = empty_itself f
+times-empty (suc n) f conn = empty_both f (taken f conn) (taken_times n (taken f conn) conn) (taken-empty f conn) (times-empty n (taken f conn) conn)
+
+pub emptied_box-keeps : (f : FrontState) (conn : ℕ) → KeepsFront f (emptied_box f conn)
+emptied_box-keeps f conn = times-keep (length (mails_on f.connections conn)) f conn
+
+pub emptied_box-empty : (f : FrontState) (conn : ℕ) → KeepsEmpty f (emptied_box f conn)
+emptied_box-empty f conn = times-empty (length (mails_on f.connections conn)) f conn
+
+none_left : (xs : List Mail) (f : FrontState) (conn : ℕ) → mails_on f.connections conn ≡ xs → mails_on (taken_times (length xs) f conn).connections conn ≡ []
+none_left [] f conn is = is
+none_left (x ∷ xs) f conn is = none_left xs (taken f conn) conn (left_in f conn x xs is)
+
+pub box_emptied : (f : FrontState) (conn : ℕ) → mails_on (emptied_box f conn).connections conn ≡ []
+box_emptied f conn = none_left (mails_on f.connections conn) f conn refl
+
+-- an empty box is emptied by taking nothing
+pub nothing_emptied : (f : FrontState) (conn : ℕ) → mails_on f.connections conn ≡ [] → emptied_box f conn ≡ f
+nothing_emptied f conn box = ap (λ (xs : List Mail). taken_times (length xs) f conn) box
+
+-- ---- all boxes are emptied
+
+pub all_emptied-keeps : (f : FrontState) (cs : List Client) → KeepsFront f (all_emptied f cs)
+all_emptied-keeps f [] = itself f
+all_emptied-keeps f (c ∷ cs) = both f (emptied_box f c.conn) (all_emptied (emptied_box f c.conn) cs) (emptied_box-keeps f c.conn) (all_emptied-keeps (emptied_box f c.conn) cs)
+
+pub all_emptied-empty : (f : FrontState) (cs : List Client) → KeepsEmpty f (all_emptied f cs)
+all_emptied-empty f [] = empty_itself f
+all_emptied-empty f (c ∷ cs) = empty_both f (emptied_box f c.conn) (all_emptied (emptied_box f c.conn) cs) (emptied_box-empty f c.conn) (all_emptied-empty (emptied_box f c.conn) cs)
+
+same_number : (a b : ℕ) → nat_eq a b ≡ true → a ≡ b
+same_number a b is = search (rules, nat_tests)
+
+-- the box of a connection that has a client is empty then
+pub boxes_empty : (f : FrontState) (cs : List Client) (conn : ℕ) → is_some (find conn cs) ≡ true → mails_on (all_emptied f cs).connections conn ≡ []
+boxes_empty f [] conn is = absurd (true≢false (sym is))
+boxes_empty f (c ∷ cs) conn is = by (nat_eq c.conn conn) refl is (boxes_empty (emptied_box f c.conn) cs conn)
+  where
+    by : (b : Bool) → nat_eq c.conn conn ≡ b → is_some (if b then Some c else find conn cs) ≡ true → (is_some (find conn cs) ≡ true → mails_on (all_emptied (emptied_box f c.conn) cs).connections conn ≡ [])
+        → mails_on (all_emptied (emptied_box f c.conn) cs).connections conn ≡ []
+    by true same there rest =
+        (all_emptied-empty (emptied_box f c.conn) cs).empty conn (subst (λ (n : ℕ). mails_on (emptied_box f c.conn).connections n ≡ []) (same_number c.conn conn same) (box_emptied f c.conn))
+    by false same there rest = rest there
+
+-- ---- a client is written its mails, at once or some of them later
+
+-- nothing is to be written to a client
+pub record IsQuiet (f : FrontState) (c : Client) : Type 0 where
+  pub reply : c.reply ≡ None
+  pub box : mails_on f.connections c.conn ≡ []
+
+pub quiet_told : (f : FrontState) (c : Client) → IsQuiet f c → told f c ≡ c
+quiet_told f c quiet =
+    let nothing : unwritten f c ≡ [] =
+    ap (λ (o : Option ServerMessage). option_map_or reply_spelling o [] ++ spelled (mails_on f.connections c.conn)) quiet.reply ∙ ap spelled quiet.box in
+    ap (λ (t : List ℕ). record c { reply = None; written = c.written ++ t }) nothing
+    ∙ ap (λ (t : List ℕ). record c { reply = None; written = t }) (append-nil c.written)
+    ∙ ap (λ (o : Option ServerMessage). record c { reply = o }) (sym quiet.reply)
+
+pub later_both : (f g h : FrontState) (c d e : Client) → IsToldLater f c g d → IsToldLater g d h e → IsToldLater f c h e
+later_both f g h c d e a b = record { conn = b.conn ∙ a.conn; front = b.front ∙ a.front; client = b.client ∙ a.client }
+
+-- what the first mail of a box is, and what its taking leaves
+record TakesMail (f : FrontState) (conn : ℕ) (m : Mail) (g : FrontState) : Type 0 where
+  front : emptied_box g conn ≡ emptied_box f conn
+  bytes : spelled (mails_on f.connections conn) ≡ reply_spelling (reply_of m) ++ spelled (mails_on g.connections conn)
+  fewer : length (mails_on g.connections conn) < length (mails_on f.connections conn)
+
+takes_known : (f : FrontState) (conn : ℕ) (m : Mail) (ms : List Mail) → mails_on f.connections conn ≡ m ∷ ms → TakesMail f conn m (taken f conn)
+takes_known f conn m ms box =
+    let left : mails_on (taken f conn).connections conn ≡ ms = left_in f conn m ms box in
+    record {
+      front = ap (λ (xs : List Mail). taken_times (length xs) (taken f conn) conn) left ∙ sym (ap (λ (xs : List Mail). taken_times (length xs) f conn) box);
+      bytes = ap spelled box ∙ ap (λ (xs : List Mail). reply_spelling (reply_of m) ++ spelled xs) (sym left);
+      fewer = omega (arith, ap length left, ap length box);
+    }
+
+box_of : (ms : List Mail) (m : Mail) → Some m ≡ slice_get ms 0 → ms ≡ m ∷ drop 1 ms
+box_of [] m first = absurd (true≢false (ap (λ (o : Option Mail). is_some o) first))
+box_of (x ∷ ms) m first = ap (λ (y : Mail). y ∷ ms) (sym (same_Some _ _ first))
+
+takes_mail : (f : FrontState) (conn : ℕ) (m : Mail) → Some m ≡ slice_get (mails_on f.connections conn) 0 → TakesMail f conn m (taken f conn)
+takes_mail f conn m first = takes_known f conn m (drop 1 (mails_on f.connections conn)) (box_of (mails_on f.connections conn) m first)
+
+pub fewer_left : (f : FrontState) (conn : ℕ) (m : Mail) → Some m ≡ slice_get (mails_on f.connections conn) 0 → length (mails_on (taken f conn).connections conn) < length (mails_on f.connections conn)
+fewer_left f conn m first = (takes_mail f conn m first).fewer
+
+-- a mail is taken, and written
+pub mail_written : (f : FrontState) (c : Client) (m : Mail) → c.reply ≡ None → Some m ≡ slice_get (mails_on f.connections c.conn) 0
+    → IsToldLater f c (taken f c.conn) (record c { written = c.written ++ reply_spelling (reply_of m) })
+mail_written f c m none first =
+    let t = takes_mail f c.conn m first in
+    let g : FrontState = taken f c.conn in
+    let frame : List ℕ = reply_spelling (reply_of m) in
+    let rest : List ℕ = spelled (mails_on g.connections c.conn) in
+    let same : (c.written ++ frame) ++ (option_map_or reply_spelling c.reply [] ++ rest) ≡ c.written ++ unwritten f c =
+    ap (λ (o : Option ServerMessage). (c.written ++ frame) ++ (option_map_or reply_spelling o [] ++ rest)) none
+    ∙ append_assoc c.written frame rest
+    ∙ ap (λ (t : List ℕ). c.written ++ t) (sym t.bytes)
+    ∙ ap (λ (o : Option ServerMessage). c.written ++ (option_map_or reply_spelling o [] ++ spelled (mails_on f.connections c.conn))) (sym none) in
+    record { conn = refl; front = t.front; client = ap (λ (t : List ℕ). record c { reply = None; written = t }) same }
+
+-- a mail is taken, and its reply waits
+pub mail_waits : (f : FrontState) (c : Client) (m : Mail) → c.reply ≡ None → Some m ≡ slice_get (mails_on f.connections c.conn) 0
+    → IsToldLater f c (taken f c.conn) (record c { reply = Some (reply_of m) })
+mail_waits f c m none first =
+    let t = takes_mail f c.conn m first in
+    let same : reply_spelling (reply_of m) ++ spelled (mails_on (taken f c.conn).connections c.conn) ≡ unwritten f c =
+    sym t.bytes ∙ ap (λ (o : Option ServerMessage). option_map_or reply_spelling o [] ++ spelled (mails_on f.connections c.conn)) (sym none) in
+    record { conn = refl; front = t.front; client = ap (λ (t : List ℕ). record c { reply = None; written = c.written ++ t }) same }
+
+-- the next mail is taken, and written
+pub next_written : (f : FrontState) (c : Client) (h : FrontState) (e : Client) (g : FrontState) (d : Client) (m : Mail) (r : ServerMessage) → IsToldLater f c h e → e.reply ≡ None
+    → Some m ≡ slice_get (mails_on h.connections e.conn) 0 → g ≡ taken h e.conn → r ≡ reply_of m → d ≡ record e { written = e.written ++ reply_spelling r } → IsToldLater f c g d
+next_written f c h e g d m r later none first front reply client =
+    let d' : Client = record e { written = e.written ++ reply_spelling (reply_of m) } in
+    let same : d ≡ d' = client ∙ ap (λ (x : ServerMessage). record e { written = e.written ++ reply_spelling x }) reply in
+    let step : IsToldLater f c (taken h e.conn) d' = later_both f h (taken h e.conn) c e d' later (mail_written h e m none first) in
+    subst (λ (x : Client). IsToldLater f c g x) (sym same) (subst (λ (x : FrontState). IsToldLater f c x d') (sym front) step)
+
+-- the next mail is taken, and its reply waits
+pub next_waits : (f : FrontState) (c : Client) (h : FrontState) (e : Client) (g : FrontState) (d : Client) (m : Mail) (r : ServerMessage) → IsToldLater f c h e → e.reply ≡ None
+    → Some m ≡ slice_get (mails_on h.connections e.conn) 0 → g ≡ taken h e.conn → r ≡ reply_of m → d ≡ record e { reply = Some r } → IsToldLater f c g d
+next_waits f c h e g d m r later none first front reply client =
+    let d' : Client = record e { reply = Some (reply_of m) } in
+    let same : d ≡ d' = client ∙ ap (λ (x : ServerMessage). record e { reply = Some x }) reply in
+    let step : IsToldLater f c (taken h e.conn) d' = later_both f h (taken h e.conn) c e d' later (mail_waits h e m none first) in
+    subst (λ (x : Client). IsToldLater f c g x) (sym same) (subst (λ (x : FrontState). IsToldLater f c x d') (sym front) step)
+
+-- what stays where the next mail is taken
+pub next_keeps : (f h g : FrontState) (conn : ℕ) → KeepsFront f h → g ≡ taken h conn → KeepsFront f g
+next_keeps f h g conn keeps front = subst (λ (x : FrontState). KeepsFront f x) (sym front) (both f h (taken h conn) keeps (taken-keeps h conn))
+
+pub next_empty : (f h g : FrontState) (conn : ℕ) → KeepsEmpty f h → g ≡ taken h conn → KeepsEmpty f g
+next_empty f h g conn keeps front = subst (λ (x : FrontState). KeepsEmpty f x) (sym front) (empty_both f h (taken h conn) keeps (taken-empty h conn))
+
+-- and a mail less is left
+pub fewer_after : (h g : FrontState) (conn next : ℕ) (m : Mail) → Some m ≡ slice_get (mails_on h.connections conn) 0 → g ≡ taken h conn → next ≡ conn → length (mails_on g.connections next) < length (mails_on h.connections conn)
+fewer_after h g conn next m first front same =
+    subst (λ (n : ℕ). length (mails_on g.connections n) < length (mails_on h.connections conn)) (sym same)
+    (subst (λ (x : FrontState). length (mails_on x.connections conn) < length (mails_on h.connections conn)) (sym front) (fewer_left h conn m first))
+
+-- what holds in any case holds where a result is `Err`
+pub on_any_err : {A E P : Type 0} (r : Result A E) → P → OnErr r P
+on_any_err (Ok x) p = tt
+on_any_err (Err e) p = p
+
+-- ---- client by client
+
+-- nothing is to be written to any of these
+abbrev pub AreQuiet : FrontState → List Client → Type 0
+AreQuiet f [] = Unit {0}
+AreQuiet f (c ∷ cs) = IsQuiet f c × AreQuiet f cs
+
+still_quiet : (f g : FrontState) (cs : List Client) → KeepsEmpty f g → AreQuiet f cs → AreQuiet g cs
+still_quiet f g [] keeps quiet = tt
+still_quiet f g (c ∷ cs) keeps quiet = (record { reply = quiet.0.reply; box = keeps.empty c.conn quiet.0.box }, still_quiet f g cs keeps quiet.1)
+
+quiet_append : (f : FrontState) (cs : List Client) (d : Client) → AreQuiet f cs → IsQuiet f d → AreQuiet f (cs ++ d ∷ [])
+quiet_append f [] d quiet one = (one, tt)
+quiet_append f (c ∷ cs) d quiet one = (quiet.0, quiet_append f cs d quiet.1 one)
+
+-- those are passed over
+quiet_all_emptied : (f : FrontState) (cs ds : List Client) → AreQuiet f cs → all_emptied f (cs ++ ds) ≡ all_emptied f ds
+quiet_all_emptied f [] ds quiet = refl
+quiet_all_emptied f (c ∷ cs) ds quiet = ap (λ (g : FrontState). all_emptied g (cs ++ ds)) (nothing_emptied f c.conn quiet.0.box) ∙ quiet_all_emptied f cs ds quiet.1
+
+quiet_all_told : (f : FrontState) (cs ds : List Client) → AreQuiet f cs → all_told f (cs ++ ds) ≡ cs ++ all_told f ds
+quiet_all_told f [] ds quiet = refl
+quiet_all_told f (c ∷ cs) ds quiet =
+    ap (λ (d : Client). d ∷ all_told (emptied_box f c.conn) (cs ++ ds)) (quiet_told f c quiet.0)
+    ∙ ap (λ (g : FrontState). c ∷ all_told g (cs ++ ds)) (nothing_emptied f c.conn quiet.0.box)
+    ∙ ap (λ (es : List Client). c ∷ es) (quiet_all_told f cs ds quiet.1)
+
+-- Some clients are done with, and the others are as they were: it comes to what it came to at the beginning.
+pub record IsToldSoFar (begun : FrontState) (first : List Client) (f : FrontState) (done left : List Client) : Type 0 where
+  pub front : all_emptied f left ≡ all_emptied begun first
+  pub clients : done ++ all_told f left ≡ all_told begun first
+  pub quiet : AreQuiet f done
+
+-- a client more
+pub one_told : (begun : FrontState) (first : List Client) (f : FrontState) (done : List Client) (c : Client) (left : List Client) (g : FrontState) (d : Client)
+    → IsToldSoFar begun first f done (c ∷ left) → g ≡ emptied_box f c.conn → d ≡ told f c → IsToldSoFar begun first g (done ++ d ∷ []) left
+one_told begun first f done c left g d far front client =
+    let h : FrontState = emptied_box f c.conn in
+    let e : Client = told f c in
+    let here : IsToldSoFar begun first h (done ++ e ∷ []) left = record {
+      front = far.front;
+      clients = append_assoc done (e ∷ []) (all_told h left) ∙ far.clients;
+      quiet = quiet_append h done e (still_quiet f h done (emptied_box-empty f c.conn) far.quiet) (record { reply = refl; box = box_emptied f c.conn });
+    } in
+    subst (λ (x : Client). IsToldSoFar begun first g (done ++ x ∷ []) left) (sym client) (subst (λ (x : FrontState). IsToldSoFar begun first x (done ++ e ∷ []) left) (sym front) here)
+
+-- a client more, of whose mails some are left
+pub rest_later : (begun : FrontState) (first : List Client) (f : FrontState) (done : List Client) (c : Client) (left : List Client) (g : FrontState) (d : Client)
+    → IsToldSoFar begun first f done (c ∷ left) → IsToldLater f c g d → KeepsEmpty f g → AreToldLater begun first g (done ++ d ∷ left)
+rest_later begun first f done c left g d far later keeps =
+    let quiet : AreQuiet g done = still_quiet f g done keeps far.quiet in
+    record {
+      front = quiet_all_emptied g done (d ∷ left) quiet ∙ ap (λ (x : FrontState). all_emptied x left) later.front ∙ far.front;
+      clients =
+          quiet_all_told g done (d ∷ left) quiet
+          ∙ ap (λ (x : Client). done ++ x ∷ all_told (emptied_box g d.conn) left) later.client
+          ∙ ap (λ (x : FrontState). done ++ told f c ∷ all_told x left) later.front
+          ∙ far.clients;
+    }
+
+-- ---- port by port
+
+-- a port in the place of another
+replaced : {B : Type 0} (f : Port → B) (ports : List Port) (at : ℕ) (q : Port) → at < length ports → map f (slice_set ports at q) ≡ map f (take at ports) ++ f q ∷ map f (drop (at + 1) ports)
+replaced f ports at q lt =
+    let behind : drop (at + 1) (slice_set ports at q) ≡ drop (at + 1) ports = drop-set-lt (at + 1) ports at q (omega arith) in
+    let before : take (at + 1) (slice_set ports at q) ≡ take at ports ++ q ∷ [] = take_more_set ports at q lt in
+    let whole : slice_set ports at q ≡ take at ports ++ q ∷ drop (at + 1) ports =
+    sym (take-append-drop (at + 1) (slice_set ports at q)) ∙ ap (λ (ps : List Port). ps ++ drop (at + 1) (slice_set ports at q)) before
+    ∙ ap (λ (ps : List Port). (take at ports ++ q ∷ []) ++ ps) behind ∙ append_assoc (take at ports) (q ∷ []) (drop (at + 1) ports) in
+    ap (λ (ps : List Port). map f ps) whole ∙ map-append f (take at ports) (q ∷ drop (at + 1) ports)
+
+-- the port at the place is the first of those from there on
+from_here : {B : Type 0} (f : Port → B) (ports : List Port) (at : ℕ) (p : Port) → at < length ports → p ≡ get_or ports at p → map f (drop at ports) ≡ f p ∷ map f (drop (at + 1) ports)
+from_here f ports at p lt is = ap (λ (ps : List Port). map f ps) (drop_more ports at p lt ∙ ap (λ (x : Port). x ∷ drop (at + 1) ports) (sym is))
+
+-- what a port and the one in its place have alike, all ports have as before
+pub all_alike : {B : Type 0} (f : Port → B) (ports : List Port) (at : ℕ) (p q : Port) → at < length ports → p ≡ get_or ports at p → f q ≡ f p → map f (slice_set ports at q) ≡ map f ports
+all_alike {B} f ports at p q lt is same =
+    replaced f ports at q lt
+    ∙ ap (λ (x : B). map f (take at ports) ++ x ∷ map f (drop (at + 1) ports)) same
+    ∙ ap (λ (xs : List B). map f (take at ports) ++ xs) (sym (from_here f ports at p lt is))
+    ∙ sym (map-append f (take at ports) (drop at ports))
+    ∙ ap (λ (ps : List Port). map f ps) (take-append-drop at ports)
+
+abbrev pub IsToldTo : FrontState → List Client → FrontState → List Port → ℕ → Type 0
+IsToldTo begun first f ports at = IsToldSoFar begun first f (map client_of (take at ports)) (map client_of (drop at ports))
+
+-- a port more
+pub port_told : (begun : FrontState) (first : List Client) (f g : FrontState) (ports : List Port) (at : ℕ) (p q : Port) → at < length ports → p ≡ get_or ports at p → IsToldTo begun first f ports at
+    → g ≡ emptied_box f p.conn → client_of q ≡ told f (client_of p) → IsToldTo begun first g (slice_set ports at q) (at + 1)
+port_told begun first f g ports at p q lt is far front client =
+    let behind : drop (at + 1) (slice_set ports at q) ≡ drop (at + 1) ports = drop-set-lt (at + 1) ports at q (omega arith) in
+    let before : map client_of (take (at + 1) (slice_set ports at q)) ≡ map client_of (take at ports) ++ client_of q ∷ [] =
+    ap (λ (ps : List Port). map client_of ps) (take_more_set ports at q lt) ∙ map-append client_of (take at ports) (q ∷ []) in
+    let here : IsToldSoFar begun first f (map client_of (take at ports)) (client_of p ∷ map client_of (drop (at + 1) ports)) =
+    subst (λ (cs : List Client). IsToldSoFar begun first f (map client_of (take at ports)) cs) (from_here client_of ports at p lt is) far in
+    let next : IsToldSoFar begun first g (map client_of (take at ports) ++ client_of q ∷ []) (map client_of (drop (at + 1) ports)) =
+    one_told begun first f (map client_of (take at ports)) (client_of p) (map client_of (drop (at + 1) ports)) g (client_of q) here front client in
+    subst (λ (ps : List Port). IsToldSoFar begun first g (map client_of (take (at + 1) (slice_set ports at q))) (map client_of ps)) (sym behind)
+    (subst (λ (cs : List Client). IsToldSoFar begun first g cs (map client_of (drop (at + 1) ports))) (sym before) next)
+
+-- a port of whose mails some are left
+pub port_later : (begun : FrontState) (first : List Client) (f g : FrontState) (ports : List Port) (at : ℕ) (p q : Port) → at < length ports → p ≡ get_or ports at p → IsToldTo begun first f ports at
+    → IsToldLater f (client_of p) g (client_of q) → KeepsEmpty f g → AreToldLater begun first g (map client_of (slice_set ports at q))
+port_later begun first f g ports at p q lt is far later keeps =
+    let here : IsToldSoFar begun first f (map client_of (take at ports)) (client_of p ∷ map client_of (drop (at + 1) ports)) =
+    subst (λ (cs : List Client). IsToldSoFar begun first f (map client_of (take at ports)) cs) (from_here client_of ports at p lt is) far in
+    subst (λ (cs : List Client). AreToldLater begun first g cs) (sym (replaced client_of ports at q lt))
+    (rest_later begun first f (map client_of (take at ports)) (client_of p) (map client_of (drop (at + 1) ports)) g (client_of q) here later keeps)

@@ -1,0 +1,277 @@
+-- The messages that are left of a connection are taken one after the other.
+use Rattle.std.proofs.Common.{Vec, Global, ◌≡◌, ℕ, ◌<◌, Bool, true, false, true≢false, Result, Ok, Err, List, [], ◌∷◌, ◌++◌, length, map, Option, Some, None, refl, sym, ap, ◌∙◌, subst, append_assoc, get_or, arith}
+use Rattle.std.specs.Prelude.{is_some, slice_get, slice_set, nat_lt, IsErrOf}
+use Rattle.std.proofs.lemmas.Bool.Decides.{nat_tests}
+use Rattle.std.specs.Option.{option_map, option_map_or}
+use Rattle.std.proofs.lemmas.List.{length-map, map-set}
+use Rattle.std.proofs.lemmas.Option.{slice_get-map, slice_get_read}
+use Rattle.fe_keeper.specs.Keeper.{KeeperState}
+use Rattle.fe_disk.specs.Disk.{Rises}
+use Rattle.fe_state.specs.State.{ServerState, after, after_all}
+use Rattle.fe_state.specs.History.{AreLegal}
+use Rattle.fe_state.specs.declared.entry.Entry.{Entry}
+use Rattle.fe_wire.specs.declared.client_message.ClientMessage.{ClientMessage}
+use Rattle.fe_keeper.specs.declared.fault.Fault.{Fault}
+use Rattle.fe_keeper.specs.declared.fault.Fault.TheVariants as keeper
+use Rattle.fe_front.specs.Front.{FrontState, is_connected}
+use Rattle.fe_desk.specs.Standing.{Client, Standing}
+use Rattle.fe_desk.specs.Storing.{roomy}
+use Rattle.fe_desk.specs.Taking.{Takes, TakesOne, TakesAll}
+use Rattle.fe_desk.specs.Steps.{find, on_client, with_left}
+use Rattle.fe_desk.specs.Keeping.{Enters}
+use Rattle.fe_desk.specs.Messages.{left_of, TakesNext, told_as}
+use Rattle.fe_desk.specs.Places.{IsFirstAt}
+use Rattle.fe_desk.specs.Crash.{DeskState, Advances, IsFine, HasFailed, Tells, TellsStep, disk_of}
+use Rattle.fe_desk.specs.declared.port.Port.{Port}
+use Rattle.fe_desk.specs.Desk.{IsTied, IsDesk, IsHanded, unstored, cut_entries, client_of}
+use Rattle.fe_desk.proofs.Places.{numbers, numbers_changed, first_by_numbers, found_by_numbers, found_first, changed_first}
+use Rattle.fe_desk.proofs.Reading.{on_client-twice, find-on_client, found-on_client, relieved, none_left, left_among, with_clients, roomy-clients, roomy-keeps, takes_one_of, on_client-stays}
+use Rattle.fe_desk.proofs.Advancing.{HasStore, advances_then, advances_both, desk_as, fine_both, fine_as, advances_itself}
+
+-- ---- entries behind entries
+
+legal-append : (s : ServerState) (xs ys : List Entry) → AreLegal s xs → AreLegal (after_all s xs) ys → AreLegal s (xs ++ ys)
+legal-append s [] ys h k = k
+legal-append s (x ∷ xs) ys h k = (h.0, legal-append (after s x) xs ys h.1 k)
+
+after-append : (s : ServerState) (xs ys : List Entry) → after_all s (xs ++ ys) ≡ after_all (after_all s xs) ys
+after-append s [] ys = refl
+after-append s (x ∷ xs) ys = after-append (after s x) xs ys
+
+-- ---- the store side of a desk whose front entries entered
+
+tied_enters : (s t : Standing) (replica : ServerState) (es : List Entry) → t.handed ≡ s.handed → Enters s.front es t.front → IsTied s replica → IsTied t replica
+tied_enters s t replica es handed enters tied =
+    let more : unstored t ≡ unstored s ++ es =
+    ap (λ h. cut_entries h ++ t.front.service.pending) handed ∙ ap (λ (xs : List Entry). cut_entries s.handed ++ xs) enters.pending
+    ∙ sym (append_assoc (cut_entries s.handed) s.front.service.pending es) in
+    record {
+      handed = subst (λ h. IsHanded h t.front.out) (sym handed) (subst (λ o. IsHanded s.handed o) (sym enters.out) tied.handed);
+      legal =
+          subst (AreLegal replica) (sym more)
+          (legal-append replica (unstored s) es tied.legal (subst (λ (x : ServerState). AreLegal x es) tied.state enters.legal));
+      state =
+          enters.state ∙ ap (λ (x : ServerState). after_all x es) tied.state ∙ sym (after-append replica (unstored s) es)
+          ∙ ap (after_all replica) (sym more);
+    }
+
+-- a desk where entries entered and a client changed
+pub desk_enters : {D : Type 0} (honest : D → Type 0) (may_leave : D → List ℕ → Type 0) (old new : DeskState D) (es : List Entry) (conn : ℕ) (change : Client → Client)
+    → HasStore old new → new.standing.handed ≡ old.standing.handed → Enters old.standing.front es new.standing.front → new.standing.clients ≡ on_client conn change old.standing.clients
+    → ((c : Client) → (change c).conn ≡ c.conn) → IsDesk honest may_leave old → IsDesk honest may_leave new
+desk_enters {D} honest may_leave old new es conn change same handed enters clients keeps desk =
+    let tied : IsTied new.standing new.keeper.state =
+    subst (λ (k : KeeperState D). IsTied new.standing k.state) (sym same.keeper) (tied_enters old.standing new.standing old.keeper.state es handed enters desk.tied) in
+    desk_as honest may_leave old new desk same tied
+    (λ k on. ap (λ (cs : List Client). is_some (find k cs)) clients ∙ found-on_client conn change old.standing.clients k keeps ∙ desk.known k (enters.none_comes k on))
+
+-- ---- the port of a client
+
+pub client_here : (ports : List Port) (conn at : ℕ) (p : Port) → IsFirstAt (map client_of ports) conn at → p ≡ get_or ports at p → slice_get (map client_of ports) at ≡ Some (client_of p)
+client_here ports conn at p place is =
+    let within : at < length ports = omega (arith, place.within, length-map ports client_of) in
+    slice_get-map client_of ports at ∙ ap (option_map client_of) (slice_get_read ports (length ports) at p refl within is)
+
+pub port_changed : (ports : List Port) (conn at : ℕ) (p q : Port) (change : Client → Client) → IsFirstAt (map client_of ports) conn at → p ≡ get_or ports at p → client_of q ≡ change (client_of p)
+    → map client_of (slice_set ports at q) ≡ on_client conn change (map client_of ports)
+port_changed ports conn at p q change place is changed =
+    map-set client_of ports at q ∙ ap (λ (c : Client). slice_set (map client_of ports) at c) changed
+    ∙ sym (changed_first (map client_of ports) conn at (client_of p) change place (client_here ports conn at p place is))
+
+pub left_here : (ports : List Port) (conn at : ℕ) (p : Port) → IsFirstAt (map client_of ports) conn at → p ≡ get_or ports at p → left_among (find conn (map client_of ports)) ≡ (client_of p).left
+left_here ports conn at p place is = ap left_among (found_first (map client_of ports) conn at (client_of p) place (client_here ports conn at p place is))
+
+some_of : (ms : List ClientMessage) (b : Bool) → b ≡ nat_lt 0 (length ms) → b ≡ true → 0 < length ms
+some_of ms b is on = grind (arith, nat_tests)
+
+none_of : (ms : List ClientMessage) (b : Bool) → b ≡ nat_lt 0 (length ms) → b ≡ false → ms ≡ []
+none_of [] b is off = refl
+none_of (m ∷ ms) b is off = absurd (grind (arith, nat_tests))
+
+-- whether messages are left of a port
+pub some_left : (ports : List Port) (conn at : ℕ) (p : Port) (b : Bool) → IsFirstAt (map client_of ports) conn at → p ≡ get_or ports at p → b ≡ nat_lt 0 (length (client_of p).left) → b ≡ true
+    → 0 < length (left_among (find conn (map client_of ports)))
+some_left ports conn at p b place is has on =
+    subst (λ (ms : List ClientMessage). 0 < length ms) (sym (left_here ports conn at p place is)) (some_of (client_of p).left b has on)
+
+pub none_left_here : (ports : List Port) (conn at : ℕ) (p : Port) (b : Bool) → IsFirstAt (map client_of ports) conn at → p ≡ get_or ports at p → b ≡ nat_lt 0 (length (client_of p).left) → b ≡ false
+    → left_among (find conn (map client_of ports)) ≡ []
+none_left_here ports conn at p b place is has off = left_here ports conn at p place is ∙ none_of (client_of p).left b has off
+
+pub same_clients : (a b : Vec Port Global) → b ≡ a → map client_of b.items ≡ map client_of a.items
+same_clients a b same = ap (λ (v : Vec Port Global). map client_of v.items) same
+
+-- the first message left of a port was taken
+pub port_next : (s : Standing) (ports : List Port) (conn at : ℕ) (p q : Port) (m : ClientMessage) (es : List Entry) (g : FrontState) → s.clients ≡ map client_of ports
+    → IsFirstAt (map client_of ports) conn at → p ≡ get_or ports at p → (client_of p).left ≡ m ∷ (client_of q).left → client_of q ≡ relieved (client_of q).left (client_of p)
+    → Takes s.front conn m es g → TakesNext s conn (record s { front = g; clients = map client_of (slice_set ports at q) })
+port_next s ports conn at p q m es g clients place is first client takes =
+    record {
+      message = m;
+      left = (client_of q).left;
+      entries = es;
+      front = g;
+      first = ap (λ (cs : List Client). left_among (find conn cs)) clients ∙ left_here ports conn at p place is ∙ first;
+      takes = takes;
+      after =
+          ap (λ (cs : List Client). record s { front = g; clients = cs })
+          (port_changed ports conn at p q (relieved (client_of q).left) place is client ∙ ap (on_client conn (relieved (client_of q).left)) (sym clients));
+    }
+
+-- ---- one message
+
+-- a message that is left was taken where room was made
+pub next_one : (s r t : Standing) (conn : ℕ) → r ≡ roomy s conn → (next : TakesNext r conn t)
+    → TakesOne (with_left s conn []) conn next.message (with_left t conn [])
+next_one s r t conn room next =
+    let cs = on_client conn (relieved []) s.clients in
+    let roomy_is : roomy (with_left s conn []) conn ≡ with_clients r cs = roomy-clients s conn cs ∙ ap (λ (u : Standing). with_clients u cs) (sym room) in
+    let clients : on_client conn (relieved []) (on_client conn (relieved next.left) r.clients) ≡ cs =
+    on_client-twice conn (relieved next.left) (relieved []) r.clients (λ c. refl)
+    ∙ ap (on_client conn (relieved [])) (ap (λ (u : Standing). u.clients) room ∙ roomy-keeps s conn) in
+    record {
+      entries = next.entries;
+      front = next.front;
+      takes = subst (λ (u : Standing). Takes u.front conn next.message next.entries next.front) (sym roomy_is) next.takes;
+      after =
+          ap (λ (u : Standing). with_left u conn []) next.after
+          ∙ ap (λ (ds : List Client). record r { clients = ds; front = next.front }) clients
+          ∙ ap (λ (u : Standing). record u { front = next.front }) (sym roomy_is);
+    }
+
+-- ---- as far as messages were taken
+
+-- Messages of a connection that were left were taken as far as to a standing: those that are left there are taken on.
+pub record IsTaken (conn : ℕ) (s t : Standing) : Type 0 where
+  pub again : (v : Standing) → TakesAll (with_left t conn []) conn (left_of t conn) v → TakesAll (with_left s conn []) conn (left_of s conn) v
+  pub clients : t.clients ≡ on_client conn (relieved (left_of t conn)) s.clients
+  pub owes : t.owes ≡ s.owes
+
+left-relieved : (conn : ℕ) (left : List ClientMessage) (cs : List Client) → is_some (find conn cs) ≡ true → left_among (find conn (on_client conn (relieved left) cs)) ≡ left
+left-relieved conn left cs here = ap left_among (find-on_client conn (relieved left) cs (λ c. refl)) ∙ by (find conn cs) here
+  where
+    by : (found : Option Client) → is_some found ≡ true → left_among (option_map (relieved left) found) ≡ left
+    by None e = absurd (true≢false (sym e))
+    by (Some c) e = refl
+
+pub taken_none : (conn : ℕ) (s : Standing) → IsTaken conn s s
+taken_none conn s = record {
+  again = λ v h. h;
+  clients = sym (on_client-stays conn (relieved (left_of s conn)) s.clients (λ c here. ap (λ (left : List ClientMessage). relieved left c) (ap left_among here)));
+  owes = refl;
+}
+
+-- one message more
+pub taken_next : (conn : ℕ) (s a r t : Standing) → is_some (find conn s.clients) ≡ true → r ≡ roomy a conn → r.owes ≡ a.owes → IsTaken conn s a → TakesNext r conn t → IsTaken conn s t
+taken_next conn s a r t here room owes taken next =
+    let room_clients : r.clients ≡ a.clients = ap (λ (u : Standing). u.clients) room ∙ roomy-keeps a conn in
+    let before : left_of a conn ≡ next.message ∷ next.left = ap (λ (cs : List Client). left_among (find conn cs)) (sym room_clients) ∙ next.first in
+    let clients : t.clients ≡ on_client conn (relieved next.left) s.clients =
+    ap (λ (u : Standing). u.clients) next.after ∙ ap (on_client conn (relieved next.left)) (room_clients ∙ taken.clients)
+    ∙ on_client-twice conn (relieved (left_of a conn)) (relieved next.left) s.clients (λ c. refl) in
+    let left : left_of t conn ≡ next.left = ap (λ (cs : List Client). left_among (find conn cs)) clients ∙ left-relieved conn next.left s.clients here in
+    record {
+      again = λ v h.
+          taken.again v
+          (subst (λ (ms : List ClientMessage). TakesAll (with_left a conn []) conn ms v) (sym before)
+          (with_left t conn [], next_one a r t conn room next, subst (λ (ms : List ClientMessage). TakesAll (with_left t conn []) conn ms v) left h));
+      clients = clients ∙ ap (λ (ms : List ClientMessage). on_client conn (relieved ms) s.clients) (sym left);
+      owes = ap (λ (u : Standing). u.owes) next.after ∙ owes ∙ taken.owes;
+    }
+
+-- and one is left less
+pub fewer_left : (a r t : Standing) (conn : ℕ) → r.clients ≡ a.clients → is_some (find conn a.clients) ≡ true → TakesNext r conn t → length (left_of t conn) < length (left_of a conn)
+fewer_left a r t conn clients here next =
+    let before : left_of a conn ≡ next.message ∷ next.left = ap (λ (cs : List Client). left_among (find conn cs)) (sym clients) ∙ next.first in
+    let now : left_of t conn ≡ next.left =
+    ap (λ (u : Standing). left_of u conn) next.after ∙ left-relieved conn next.left r.clients (ap (λ (cs : List Client). is_some (find conn cs)) clients ∙ here) in
+    omega (arith, ap length before, ap length now)
+
+again_by : (conn : ℕ) (a u : Standing) (ms : List ClientMessage) (v : Standing) → 0 < length ms → roomy (with_left a conn []) conn ≡ roomy (with_left u conn []) conn
+    → TakesAll (with_left u conn []) conn ms v → TakesAll (with_left a conn []) conn ms v
+again_by conn a u [] v some same h = absurd (omega arith)
+again_by conn a u (m ∷ ms) v some same h = (h.0, takes_one_of (with_left u conn []) (with_left a conn []) conn m h.0 same h.1, h.2)
+
+-- room was not made, and comes to the same later
+pub taken_still : (conn : ℕ) (s a u : Standing) → 0 < length (left_of a conn) → roomy u conn ≡ roomy a conn → u.clients ≡ a.clients → IsTaken conn s a
+    → (v : Standing) → TakesAll (with_left u conn []) conn (left_of u conn) v → TakesAll (with_left s conn []) conn (left_of s conn) v
+taken_still conn s a u some same clients taken v h =
+    let cs = on_client conn (relieved []) in
+    let left : left_of u conn ≡ left_of a conn = ap (λ (ds : List Client). left_among (find conn ds)) clients in
+    let room : roomy (with_left a conn []) conn ≡ roomy (with_left u conn []) conn =
+    roomy-clients a conn (cs a.clients) ∙ ap (λ (x : Standing). with_clients x (cs a.clients)) (sym same)
+    ∙ ap (λ (ds : List Client). with_clients (roomy u conn) (cs ds)) (sym clients) ∙ sym (roomy-clients u conn (cs u.clients)) in
+    taken.again v (again_by conn a u (left_of a conn) v some room (subst (λ (ms : List ClientMessage). TakesAll (with_left u conn []) conn ms v) left h))
+
+-- no message is left
+pub taken_all : (conn : ℕ) (s t : Standing) → left_of t conn ≡ [] → IsTaken conn s t → TakesAll (with_left s conn []) conn (left_of s conn) t
+taken_all conn s t none taken =
+    taken.again t (subst (λ (ms : List ClientMessage). TakesAll (with_left t conn []) conn ms t) (sym none) (sym (none_left t conn none)))
+
+pub clients_then : (conn : ℕ) (s a u : Standing) → u.clients ≡ a.clients → IsTaken conn s a → u.clients ≡ (with_left s conn (left_of u conn)).clients
+clients_then conn s a u clients taken =
+    clients ∙ taken.clients ∙ ap (λ (cs : List Client). on_client conn (relieved (left_among (find conn cs))) s.clients) (sym clients)
+
+-- ---- what is told of the disk
+
+pub tells_after : {D : Type 0} (failures : D → ℕ) (a b c : DeskState D) (fault : Fault) → IsFine failures a b → Tells failures b c fault → Tells failures a c fault
+tells_after failures a b c keeper.Device fine tells = record { failed = tells.failed; rises = subst (λ (n : ℕ). Rises n (failures (disk_of c))) fine.still tells.rises }
+tells_after failures a b c keeper.Failed fine tells = tells
+tells_after failures a b c keeper.NoMemory fine tells = record { works = tells.works; still = tells.still ∙ fine.still }
+tells_after failures a b c (keeper.Mismatch place) fine tells = tells
+tells_after failures a b c (keeper.Damaged offset) fine tells = tells
+tells_after failures a b c keeper.Unformatted fine tells = tells
+
+-- what `?` tells is what the call told
+pub told_on : {T U : Type 0} (r : Result T Fault) (q : Result U Fault) (told fault other : Fault) → r ≡ Err told → told ≡ fault → q ≡ Err fault → IsErrOf r other → IsErrOf q other
+told_on r q told fault other is same was asked = let there : fault ≡ other = cc in cc
+
+-- ---- the loop
+
+-- messages of the connection whose client stands there were taken as far as to a desk
+pub record Going {D : Type 0} (honest : D → Type 0) (may_leave : D → List ℕ → Type 0) (moment : D → ℕ) (left_since : D → ℕ → List ℕ → Type 0) (failures : D → ℕ) (conn at : ℕ) (old new : DeskState D) : Type 0 where
+  pub desk : IsDesk honest may_leave new
+  pub place : IsFirstAt new.standing.clients conn at
+  pub taken : IsTaken conn old.standing new.standing
+  pub advances : Advances honest moment left_since old new
+  pub fine : IsFine failures old new
+
+pub place_as : (clients others : List Client) (conn at : ℕ) → others ≡ clients → IsFirstAt clients conn at → IsFirstAt others conn at
+place_as clients others conn at same place = subst (λ (cs : List Client). IsFirstAt cs conn at) (sym same) place
+
+-- what making room did to a desk
+pub record IsRoomy {D : Type 0} (honest : D → Type 0) (moment : D → ℕ) (left_since : D → ℕ → List ℕ → Type 0) (failures : D → ℕ) (conn : ℕ) (old new : DeskState D) : Type 0 where
+  pub made : new.standing ≡ roomy old.standing conn
+  pub owes : new.standing.owes ≡ old.standing.owes
+  pub advances : Advances honest moment left_since old new
+  pub fine : IsFine failures old new
+
+module _ {D : Type 0} (honest : D → Type 0) (may_leave : D → List ℕ → Type 0) (moment : D → ℕ) (left_since : D → ℕ → List ℕ → Type 0) (failures : D → ℕ) where
+  pub going_first : ((disk : D) (image : List ℕ) → honest disk → left_since disk (moment disk) image → may_leave disk image) → (conn at : ℕ) (d : DeskState D)
+      → IsDesk honest may_leave d → d.keeper.store.has_failed ≡ false → IsFirstAt d.standing.clients conn at → Going honest may_leave moment left_since failures conn at d d
+  going_first only_now conn at d desk works place =
+      record {
+        desk = desk;
+        place = place;
+        taken = taken_none conn d.standing;
+        advances = advances_itself honest may_leave moment left_since only_now d desk;
+        fine = record { works = works; still = refl };
+      }
+
+  pub going_on : (conn at : ℕ) (old a r t : DeskState D) → is_some (find conn old.standing.clients) ≡ true → Going honest may_leave moment left_since failures conn at old a
+      → IsRoomy honest moment left_since failures conn a r → TakesNext r.standing conn t.standing → HasStore r t → IsDesk honest may_leave t → Going honest may_leave moment left_since failures conn at old t
+  going_on conn at old a r t here going room next same desk =
+      let clients : r.standing.clients ≡ a.standing.clients = ap (λ (u : Standing). u.clients) room.made ∙ roomy-keeps a.standing conn in
+      let changed : numbers t.standing.clients ≡ numbers a.standing.clients =
+      ap (λ (u : Standing). numbers u.clients) next.after ∙ numbers_changed r.standing.clients conn (relieved next.left) (λ c. refl) ∙ ap numbers clients in
+      record {
+        desk = desk;
+        place = first_by_numbers a.standing.clients t.standing.clients conn at changed going.place;
+        taken = taken_next conn old.standing a.standing r.standing t.standing here room.made room.owes going.taken next;
+        advances = advances_then honest may_leave moment left_since old r t (advances_both honest may_leave moment left_since old a r going.fine.works going.advances room.advances) same;
+        fine = fine_both failures old r t (fine_both failures old a r going.fine room.fine) (fine_as failures r t room.fine.works same);
+      }
+
+  pub going_stops : (conn at : ℕ) (old a u : DeskState D) → Going honest may_leave moment left_since failures conn at old a
+      → Advances honest moment left_since a u → Advances honest moment left_since old u
+  going_stops conn at old a u going advances = advances_both honest may_leave moment left_since old a u going.fine.works going.advances advances

@@ -1,0 +1,16 @@
+pub mod Advancing
+pub mod Coming
+pub mod Connecting
+pub mod Emptying
+pub mod Entering
+pub mod Lives
+pub mod Openings
+pub mod Places
+pub mod Replies
+pub mod Groups
+pub mod Runnings
+pub mod StepParts
+pub mod Leftovers
+pub mod Reading
+pub mod Pieces
+pub mod Making

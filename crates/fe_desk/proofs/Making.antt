@@ -1,0 +1,100 @@
+-- Room is made, and a checkpoint goes on: what that leaves of a desk.
+use Rattle.std.proofs.Common.{◌≡◌, ◌⊎◌, inl, inr, ℕ, ◌≤◌, Bool, true, false, List, [], length, Some, None, is_some, refl, sym, ap, subst, ◌∙◌, arith, if◌then◌else◌}
+use Rattle.std.specs.Prelude.{◌↔◌, ◌||◌, nat_eq, nat_le, Result, Ok, Err, OnOk}
+use Rattle.std.proofs.lemmas.Bool.Decides.{nat_tests}
+use Rattle.fe_disk.specs.Disk.{LeavesOnly}
+use Rattle.fe_state.specs.State.{ServerState}
+use Rattle.fe_state.specs.declared.entry.Entry.{Entry}
+use Rattle.fe_front.specs.Front.{FrontState, has_room}
+use Rattle.fe_front.specs.Steps as front
+use Rattle.fe_keeper.specs.Keeper.{KeeperState}
+use Rattle.fe_keeper.specs.Stands.{StandsFor}
+use Rattle.fe_desk.specs.declared.handed.Handed.{Handed}
+use Rattle.fe_desk.specs.declared.handed.Handed.TheVariants.{Nothing, Cut, Stored}
+use Rattle.fe_desk.specs.Standing.{Standing}
+use Rattle.fe_desk.specs.Storing.{cut, cleared, committed, made, is_making, with_room, begun_room, roomy}
+use Rattle.fe_desk.specs.Crash.{DeskState, Advances, disk_of}
+use Rattle.fe_desk.specs.Desk.{IsDesk, IsTied, IsHanded}
+use Rattle.fe_desk.proofs.Coming.{posted-stays}
+use Rattle.fe_desk.proofs.Groups.{advances_kept, desk_kept}
+
+pub on_ok : {T E P Q : Type 0} (r : Result T E) → (P → Q) → OnOk r P → OnOk r Q
+on_ok (Ok x) f p = f p
+on_ok (Err e) f p = tt
+
+-- ---- room
+
+-- what is out is posted, and then none is
+cleared_out : (s : Standing) → IsHanded s.handed s.front.out → (cleared s).front.out ≡ None
+cleared_out s handed = by s.handed handed
+  where
+    by : (h : Handed) → IsHanded h s.front.out → (cleared (record s { handed = h })).front.out ≡ None
+    by Nothing out = out
+    by (Cut batch) out = refl
+    by (Stored batch) out = refl
+
+-- what is pending stays so
+cleared_pending : (s : Standing) → (cleared s).front.service.pending ≡ s.front.service.pending
+cleared_pending s = by s.handed
+  where
+    by : (h : Handed) → (cleared (record s { handed = h })).front.service.pending ≡ s.front.service.pending
+    by Nothing = refl
+    by (Cut batch) = (posted-stays s.front batch).pending
+    by (Stored batch) = (posted-stays s.front batch).pending
+
+-- where no batch is out, a cut leaves nothing pending
+cut_pending : (f : FrontState) → f.out ≡ None → length (front.cut f).service.pending ≡ 0
+cut_pending f none = by (front.has_no_cut f) refl
+  where
+    zero_by : (n : ℕ) → nat_eq n 0 ≡ true → n ≡ 0
+    zero_by n e = grind (arith, nat_tests)
+
+    by : (b : Bool) → front.has_no_cut f ≡ b
+        → length (if b then f else record f { service = record f.service { pending = [] }; out = Some (record { first = f.durable; length = length f.service.pending }) }).service.pending ≡ 0
+    by false is = refl
+    by true is = zero_by (length f.service.pending) (ap (λ o. is_some o || nat_eq (length f.service.pending) 0) (sym none) ∙ is)
+
+-- there is room where what is out was posted, and then what was pending
+pub committed_room : (s : Standing) → IsHanded s.handed s.front.out → has_room (committed (cleared s)).front ≡ true
+committed_room s handed =
+    let mid : Standing = cleared s in
+    let none : length (committed mid).front.service.pending ≡ 0 = ap (λ (es : List Entry). length es) (cleared_pending (cut mid)) ∙ cut_pending mid.front (cleared_out s handed) in
+    ap (λ (n : ℕ). nat_le n 2048) none
+
+begun_by : (s : Standing) (conn : ℕ) (b : Bool) → is_making s conn ≡ b → begun_room s conn ≡ (if b then made (cleared s) else s)
+begun_by s conn b is = ap (λ (c : Bool). if c then made (cleared s) else s) is
+
+-- room that was begun is gone on with once
+begun_twice : (s : Standing) (conn : ℕ) → begun_room (begun_room s conn) conn ≡ begun_room s conn
+begun_twice s conn = by (is_making s conn) refl
+  where
+    by : (b : Bool) → is_making s conn ≡ b → begun_room (begun_room s conn) conn ≡ begun_room s conn
+    by true is = let done = begun_by s conn true is in ap (λ (t : Standing). begun_room t conn) done ∙ sym done
+    by false is = ap (λ (t : Standing). begun_room t conn) (begun_by s conn false is)
+
+room_by : (s : Standing) (b : Bool) → has_room s.front ≡ b → with_room s ≡ (if b then s else made (committed (cleared s)))
+room_by s b is = ap (λ (c : Bool). if c then s else made (committed (cleared s))) is
+
+-- for want of memory nothing was done, or what was done is gone on with
+pub roomy_later : (s mid t : Standing) (conn : ℕ) → mid ≡ begun_room s conn → IsHanded mid.handed mid.front.out → has_room mid.front ≡ false
+    → (t ≡ mid) ⊎ (begun_room t conn ≡ made (committed (cleared mid))) → roomy t conn ≡ roomy s conn
+roomy_later s mid t conn begun handed none (inl is) = ap (λ (u : Standing). roomy u conn) (is ∙ begun) ∙ ap with_room (begun_twice s conn)
+roomy_later s mid t conn begun handed none (inr is) =
+    let last : Standing = made (committed (cleared mid)) in
+    ap with_room is ∙ room_by last true (committed_room mid handed) ∙ sym (room_by mid false none) ∙ ap with_room begun
+
+-- ---- a call of the keeper that keeps the replica
+
+module _ {D : Type 0} (honest : D → Type 0) (may_leave : D → List ℕ → Type 0) (moment : D → ℕ) (left_since : D → ℕ → List ℕ → Type 0) (d : DeskState D) (k : KeeperState D) where
+  pub desk_checked : ((disk : D) (t : ℕ) (image : List ℕ) → honest disk → t ≤ moment disk → may_leave disk image → left_since disk t image) → IsDesk honest may_leave d
+      → d.keeper.store.has_failed ≡ false → k.state ≡ d.keeper.state
+      → (honest (disk_of d) → d.keeper.store.has_failed ≡ false → LeavesOnly moment left_since (disk_of d) k.store.disk (λ image. StandsFor image d.keeper.state))
+      → (honest k.store.disk ↔ honest (disk_of d)) → IsDesk honest may_leave (record d { keeper = k })
+  desk_checked counts_now desk works state run honesty =
+      desk_kept honest may_leave moment left_since counts_now d (record d { keeper = k }) desk works refl refl state run honesty
+      (subst (λ (s : ServerState). IsTied d.standing s) (sym state) desk.tied) desk.known
+
+  pub advances_checked : IsDesk honest may_leave d → k.state ≡ d.keeper.state
+      → (honest (disk_of d) → d.keeper.store.has_failed ≡ false → LeavesOnly moment left_since (disk_of d) k.store.disk (λ image. StandsFor image d.keeper.state))
+      → (honest k.store.disk ↔ honest (disk_of d)) → Advances honest moment left_since d (record d { keeper = k })
+  advances_checked desk state run honesty = advances_kept honest may_leave moment left_since d (record d { keeper = k }) refl refl state desk.few run honesty

@@ -1,0 +1,176 @@
+-- What emptying the boxes keeps of a desk, and how the parts of a step come together.
+use Rattle.std.proofs.Common.{◌≡◌, ℕ, Vec, Global, Bool, true, false, true≢false, List, [], ◌∷◌, refl, sym, ap, subst, ◌∙◌}
+use Rattle.std.specs.Prelude.{nat_eq, is_some, is_err, map, Some, None, Result, Ok, Err, OnOk, OnErr, MatchBool, if◌then◌else◌}
+use Rattle.std.specs.declared.alloc.AllocError.{AllocError}
+use Rattle.fe_mail.specs.Connections.{mails_on}
+use Rattle.fe_front.specs.Front.{FrontState, is_connected}
+use Rattle.fe_keeper.specs.Keeper.{KeeperState}
+use Rattle.fe_desk.specs.declared.parts.Parts.{Parts}
+use Rattle.fe_desk.specs.declared.port.Port.{Port}
+use Rattle.fe_desk.specs.declared.step.Step.{Step}
+use Rattle.fe_desk.specs.declared.step.Step.TheVariants as step
+use Rattle.fe_desk.specs.Standing.{Client, Standing, emptied, settled, all_told, all_emptied}
+use Rattle.fe_desk.specs.Steps.{find, Acts, DeskStep, IsAgain, Connects, TakesBytes, unmade, gone}
+use Rattle.fe_desk.specs.Storing.{is_making}
+use Rattle.fe_desk.specs.Keeping.{AreToldLater, KeepsFront}
+use Rattle.fe_desk.specs.Desk.{IsDesk, IsTied, client_of, desk_of, standing_of}
+use Rattle.fe_desk.proofs.Advancing.{HasStore, desk_as, tied_as}
+use Rattle.fe_desk.proofs.Emptying.{boxes_empty, no_box}
+
+-- ---- clients by their numbers
+
+pub found_as : (conn : ℕ) (cs ds : List Client) → map (λ (c : Client). c.conn) ds ≡ map (λ (c : Client). c.conn) cs → is_some (find conn ds) ≡ is_some (find conn cs)
+found_as conn [] [] same = refl
+found_as conn [] (d ∷ ds) same = cc
+found_as conn (c ∷ cs) [] same = cc
+found_as conn (c ∷ cs) (d ∷ ds) same =
+    let head : d.conn ≡ c.conn = cc in
+    let rest : map (λ (c : Client). c.conn) ds ≡ map (λ (c : Client). c.conn) cs = cc in
+    subst (λ (n : ℕ). is_some (if nat_eq n conn then Some d else find conn ds) ≡ is_some (find conn (c ∷ cs))) (sym head) (by (nat_eq c.conn conn) (found_as conn cs ds rest))
+  where
+    by : (b : Bool) → is_some (find conn ds) ≡ is_some (find conn cs) → is_some (if b then Some d else find conn ds) ≡ is_some (if b then Some c else find conn cs)
+    by true e = refl
+    by false e = e
+
+-- the numbers of ports are those of their clients
+pub numbers_as : (ps qs : List Port) → map (λ (p : Port). p.conn) qs ≡ map (λ (p : Port). p.conn) ps
+    → map (λ (c : Client). c.conn) (map client_of qs) ≡ map (λ (c : Client). c.conn) (map client_of ps)
+numbers_as ps qs same = numbers qs ∙ same ∙ sym (numbers ps)
+  where
+    numbers : (ps : List Port) → map (λ (c : Client). c.conn) (map client_of ps) ≡ map (λ (p : Port). p.conn) ps
+    numbers [] = refl
+    numbers (p ∷ ps) = ap (λ (ns : List ℕ). p.conn ∷ ns) (numbers ps)
+
+-- ---- mails that are owed
+
+-- a desk that owes nothing is settled
+pub settled_at : (s : Standing) → s.owes ≡ false → settled s ≡ s
+settled_at s none = ap (λ (b : Bool). if b then emptied s else s) none
+
+pub settled_owing : (s : Standing) → s.owes ≡ true → settled s ≡ emptied s
+settled_owing s owing = ap (λ (b : Bool). if b then emptied s else s) owing
+
+-- what is settled owes nothing
+pub owes_settled : (s : Standing) → (settled s).owes ≡ false
+owes_settled s = by s.owes refl
+  where
+    by : (b : Bool) → s.owes ≡ b → (if b then emptied s else s).owes ≡ false
+    by true is = refl
+    by false is = is
+
+-- settled later comes to the same
+pub emptied_later : (s t : Standing) → AreToldLater s.front s.clients t.front t.clients → t.handed ≡ s.handed → t.making ≡ s.making → t.groups ≡ s.groups → emptied t ≡ emptied s
+emptied_later s t later handed making groups =
+    let front = later.front in
+    let clients = later.clients in
+    cc
+
+-- ---- the boxes are emptied
+
+abbrev clients_in : {D : Type 0} → Parts D → List Client
+clients_in p = map client_of p.trace.ports.items
+
+module _ {D : Type 0} (p q : Parts D) where
+  -- a desk is one still
+  pub emptied_desk : (honest : D → Type 0) (may_leave : D → List ℕ → Type 0) → IsDesk honest may_leave (desk_of p) → HasStore (desk_of p) (desk_of q) → q.handed ≡ p.handed → KeepsFront p.front q.front
+      → map (λ (port : Port). port.conn) q.trace.ports.items ≡ map (λ (port : Port). port.conn) p.trace.ports.items → IsDesk honest may_leave (desk_of q)
+  emptied_desk honest may_leave desk same handed kept numbers =
+      desk_as honest may_leave (desk_of p) (desk_of q) desk same
+      (subst (λ (k : KeeperState D). IsTied (standing_of q) k.state) (sym same.keeper)
+      (tied_as (standing_of p) (standing_of q) p.keeper.state handed kept.out kept.pending kept.state desk.tied))
+      (λ conn there.
+      found_as conn (clients_in p) (clients_in q) (numbers_as p.trace.ports.items q.trace.ports.items numbers) ∙ desk.known conn (kept.none_comes conn there))
+
+  pub all_written : (r : Result (Unit {0}) AllocError) → OnOk r (clients_in q ≡ all_told p.front (clients_in p)) → OnOk r (q.front ≡ all_emptied p.front (clients_in p))
+      → q.owes ≡ is_err r → q.handed ≡ p.handed → q.making ≡ p.making → q.trace.groups ≡ p.trace.groups → OnOk r (standing_of q ≡ emptied (standing_of p))
+  all_written (Ok x) told front owes handed making groups = cc
+  all_written (Err e) told front owes handed making groups = tt
+
+  pub some_written : (r : Result (Unit {0}) AllocError) → OnErr r (AreToldLater p.front (clients_in p) q.front (clients_in q))
+      → q.owes ≡ is_err r → q.handed ≡ p.handed → q.making ≡ p.making → q.trace.groups ≡ p.trace.groups
+      → OnErr r ((emptied (standing_of q) ≡ emptied (standing_of p)) × (q.owes ≡ true))
+  some_written (Ok x) later owes handed making groups = tt
+  some_written (Err e) later owes handed making groups =
+      (emptied_later (standing_of p) (standing_of q) later handed making (ap (λ gs. map (λ g. g.items) gs.items) groups), owes)
+
+  -- no box has a mail: those of connections were emptied, and there is no other
+  pub none_boxed : (r : Result (Unit {0}) AllocError) → ((conn : ℕ) → is_connected p.front conn ≡ true → is_some (find conn (clients_in p)) ≡ true) → KeepsFront p.front q.front
+      → OnOk r (q.front ≡ all_emptied p.front (clients_in p)) → OnOk r ((conn : ℕ) → mails_on q.front.connections conn ≡ [])
+  none_boxed (Ok x) known kept front = λ conn. by conn (is_connected q.front conn) refl
+    where
+      by : (conn : ℕ) (b : Bool) → is_connected q.front conn ≡ b → mails_on q.front.connections conn ≡ []
+      by conn true there =
+          ap (λ (f : FrontState). mails_on f.connections conn) front ∙ boxes_empty p.front (clients_in p) conn (known conn (kept.none_comes conn there))
+      by conn false there = no_box q.front conn there
+  none_boxed (Err e) known kept front = tt
+
+-- ---- what a call answered
+
+pub when_ok : {T E P : Type 0} (r : Result T E) → is_err r ≡ false → OnOk r P → P
+when_ok (Ok x) none p = p
+when_ok (Err e) none p = absurd (true≢false none)
+
+pub when_err : {T E P : Type 0} (r : Result T E) → is_err r ≡ true → OnErr r P → P
+when_err (Ok x) some p = absurd (true≢false (sym some))
+when_err (Err e) some p = p
+
+-- a step whose bytes were not taken is given again as it was
+pub given_again : (fed : Bool) (before next : Step) → fed ≡ false → IsAgain fed before next → next ≡ before
+given_again false before next none again = again
+given_again true before next none again = absurd (true≢false none)
+
+-- ---- a step from its parts
+
+pub stepped : (s mid last t : Standing) (step : Step) → mid ≡ settled s → Acts mid step last → t ≡ emptied last → DeskStep s step t
+stepped s mid last t step is acts after = record { last = last; acts = subst (λ (m : Standing). Acts m step last) is acts; after = after }
+
+-- mails that were owed are still owed
+pub stepped_settling : (s u t : Standing) (step : Step) → settled u ≡ settled s → DeskStep u step t → DeskStep s step t
+stepped_settling s u t step same d = record { last = d.last; acts = subst (λ (m : Standing). Acts m step d.last) same d.acts; after = d.after }
+
+-- what was done of a step stands, and the rest is done from there
+pub stepped_again : (s mid u t : Standing) (step next : Step) → mid ≡ settled s → u.owes ≡ false → ((last : Standing) → Acts u next last → Acts mid step last) → DeskStep u next t → DeskStep s step t
+stepped_again s mid u t step next is none again d =
+    stepped s mid d.last t step is (again d.last (subst (λ (m : Standing). Acts m next d.last) (settled_at u none) d.acts)) d.after
+
+-- a step whose mails are owed took effect but for them
+pub stepped_owing : (s mid last u : Standing) (step : Step) → mid ≡ settled s → Acts mid step last → emptied u ≡ emptied last → u.owes ≡ true → DeskStep s step (settled u)
+stepped_owing s mid last u step is acts later owing = stepped s mid last (settled u) step is acts (settled_owing u owing ∙ later)
+
+-- ---- connections do nothing to the groups
+
+unmade_groups : (s : Standing) (conn : ℕ) → (unmade s conn).groups ≡ s.groups
+unmade_groups s conn = by (is_making s conn)
+  where
+    by : (b : Bool) → (if b then record s { making = None } else s).groups ≡ s.groups
+    by true = refl
+    by false = refl
+
+pub gone_groups : (s t : Standing) (conn : ℕ) → t ≡ gone s conn → t.groups ≡ s.groups
+gone_groups s t conn is = ap (λ (x : Standing). x.groups) is ∙ unmade_groups s conn
+
+pub connected_groups : (r : Result (Unit {0}) AllocError) (s t : Standing) (conn : ℕ) → OnOk r (MatchBool (is_connected s.front conn) (t ≡ s) (Connects s conn t)) → OnErr r (t ≡ s) → t.groups ≡ s.groups
+connected_groups (Ok x) s t conn came none = by (is_connected s.front conn) came
+  where
+    by : (b : Bool) → MatchBool b (t ≡ s) (Connects s conn t) → t.groups ≡ s.groups
+    by true same = ap (λ (x : Standing). x.groups) same
+    by false comes = ap (λ (x : Standing). x.groups) comes.after ∙ unmade_groups s conn
+connected_groups (Err e) s t conn came none = ap (λ (x : Standing). x.groups) none
+
+-- ---- bytes that are given again
+
+-- as they were; or, where the piece was taken, with an empty piece
+pub bytes_again : (s u t : Standing) (conn : ℕ) (piece : Vec ℕ Global) (slice : List ℕ) (fed : Bool) (before next : Step)
+    → before ≡ step.Bytes conn piece → slice ≡ piece.items → IsAgain fed before next
+    → (TakesBytes u (find conn u.clients) (if fed then [] else slice) t → TakesBytes s (find conn s.clients) slice t) → Acts u next t → Acts s before t
+bytes_again s u t conn piece slice fed before next is same again go acts =
+    subst (λ (x : Step). Acts s x t) (sym is) (subst (λ (xs : List ℕ). TakesBytes s (find conn s.clients) xs t) same (go (by fed again)))
+  where
+    empty : (x : Step) → IsAgain true (step.Bytes conn piece) x → Acts u x t → TakesBytes u (find conn u.clients) [] t
+    empty (step.Bytes c p) a acted =
+        subst (λ (xs : List ℕ). TakesBytes u (find conn u.clients) xs t) a.1 (subst (λ (n : ℕ). TakesBytes u (find n u.clients) p.items t) a.0 acted)
+    empty other a acted = absurd a
+
+    by : (b : Bool) → IsAgain b before next → TakesBytes u (find conn u.clients) (if b then [] else slice) t
+    by false a = subst (λ (xs : List ℕ). TakesBytes u (find conn u.clients) xs t) (sym same) (subst (λ (x : Step). Acts u x t) (a ∙ is) acts)
+    by true a = empty next (subst (λ (x : Step). IsAgain true x next) is a) acts

@@ -1,0 +1,9 @@
+use Rattle.std.proofs.Common.{subst}
+use Rattle.fe_desk.specs.Crash.{DeskState}
+use Rattle.fe_desk.specs.Traces.{IsTraceOf}
+use Rattle.fe_desk.proofs.Openings.{is_trace}
+use Rattle.fe_desk.proofs.desk.Desk.trace.Goals as goal
+
+pub returns : goal.returns
+returns g c =
+    subst (λ (d : DeskState g.row.D.Denot). IsTraceOf c.self.inside.parts.trace d.standing d.synced) c.self.view_is (is_trace c.self.inside.parts)

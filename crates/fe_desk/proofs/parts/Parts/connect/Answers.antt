@@ -1,0 +1,13 @@
+use Rattle.std.proofs.Common.{◌∙◌, ap}
+use Rattle.fe_desk.specs.Desk.{standing_of}
+use Rattle.fe_desk.specs.declared.trace.Trace.{Trace}
+use Rattle.fe_desk.proofs.Connecting.{connects, connects_desk}
+use Rattle.fe_desk.proofs.parts.Parts.connect.Goals as goal
+
+pub returns-clause-desk : goal.returns-clause-desk
+returns-clause-desk g c =
+    let old = c.args.self.now in
+    let new = c.unmake.new.self in
+    let came = connects (standing_of old) (standing_of c.join.new.self) (standing_of new) c.args.conn c.in_ok-join.ensures.joined c.unmake.ensures.unmade in
+    connects_desk g.D.Disk.honest g.D.Disk.may_leave (standing_of old) (standing_of new) old.keeper new.keeper old.trace.synced new.trace.synced c.args.conn came
+    (c.unmake.ensures.keeper ∙ c.join.ensures.keeper) (ap (λ (t : Trace). t.synced) c.unmake.ensures.trace ∙ c.join.ensures.synced) c.requires.desk

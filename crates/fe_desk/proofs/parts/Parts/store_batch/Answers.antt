@@ -1,0 +1,108 @@
+use Rattle.std.proofs.Common.{◌≡◌, inl, inr, false, ◌∷◌, [], ◌++◌, length, refl, sym, ap, subst, ◌∙◌, arith}
+use Rattle.std.specs.Prelude.{map}
+use Rattle.std.proofs.lemmas.List.{length-map}
+use Rattle.fe_state.specs.State.{after_all}
+use Rattle.fe_state.specs.declared.batch.Batch.{Batch}
+use Rattle.fe_keeper.specs.Keeper.{StoreState}
+use Rattle.fe_keeper.specs.declared.fault.Fault.{Fault}
+use Rattle.fe_keeper.specs.declared.fault.Fault.TheVariants.{Device}
+use Rattle.fe_desk.specs.declared.handed.Handed.TheVariants.{Cut}
+use Rattle.fe_desk.specs.Storing.{handing}
+use Rattle.fe_desk.specs.Crash.{Tells, with_handed}
+use Rattle.fe_desk.specs.Desk.{desk_of, standing_of, IsTied}
+use Rattle.fe_desk.proofs.Advancing.{advances_itself, advances_as}
+use Rattle.fe_desk.proofs.Groups.{legal_both, tied_stored, tied_cut, pushed, unpushed, popped, appends_working, advances_group, begins_there, no_mismatch, only_device, desk_stored, desk_torn, desk_kept, advances_kept}
+use Rattle.fe_desk.proofs.parts.Parts.store_batch.Goals as goal
+
+pub returns-in_default-clause-advances : goal.returns-in_default-clause-advances
+returns-in_default-clause-advances g c =
+    advances_itself g.D.Disk.honest g.D.Disk.may_leave g.D.Disk.moment g.D.Disk.left_since g.met.D.Disk.only_now (with_handed (desk_of c.args.self.now) (Cut c.args.batch)) c.requires.desk
+
+pub returns-then-is_err-clause-advances : goal.returns-then-is_err-clause-advances
+returns-then-is_err-clause-advances g c =
+    let old = c.args.self.now in
+    advances_as g.D.Disk.honest g.D.Disk.may_leave g.D.Disk.moment g.D.Disk.left_since g.met.D.Disk.only_now (with_handed (desk_of old) (Cut c.args.batch)) _ c.requires.desk
+    (record { keeper = refl; groups = unpushed (λ g. g.items) old.trace.groups.items c.push.new.self.items _ c.push.result c.is_err.result c.push.ensures.items c.is_err.ensures.value c.if-is_err.true; synced = refl })
+
+pub returns-in-Ok-append-clause-desk : goal.returns-in-Ok-append-clause-desk
+returns-in-Ok-append-clause-desk g c =
+    let old = c.args.self.now in
+    let batch = c.args.batch in
+    let new = c.append.new.self in
+    let back : c.in-Ok-append.batch ≡ batch = c.in-Ok-append.ensures.returned in
+    let replica : new.state ≡ after_all old.keeper.state batch.entries = c.in-Ok-append.ensures.state in
+    let next : new.state ≡ after_all old.keeper.state c.in-Ok-append.batch.entries = replica ∙ ap (λ (b : Batch). after_all old.keeper.state b.entries) (sym back) in
+    let tied = subst (λ (b : Batch). IsTied (handing (standing_of old) (Cut b)) old.keeper.state) (sym back) c.requires.desk.tied in
+    let works : new.store.has_failed ≡ false =
+    ap (λ (s : StoreState g.row.D.Denot). s.has_failed) c.in-Ok-append.ensures.store ∙ appends_working old.keeper.store batch.entries ∙ c.requires.works in
+    desk_stored g.D.Disk.honest g.D.Disk.may_leave g.D.Disk.moment g.D.Disk.left_since _
+    (tied_stored (standing_of old) (map (λ g. g.items) c.push.new.self.items) old.keeper.state new.state c.in-Ok-append.batch next tied)
+    c.requires.desk.known (c.len.ensures ∙ omega (arith, c.push.new.self.ok.0, length-map c.push.new.self.items (λ g. g.items))) (λ honest. c.append.ensures.stands honest works)
+
+pub returns-in-Ok-append-clause-advances : goal.returns-in-Ok-append-clause-advances
+returns-in-Ok-append-clause-advances g c =
+    let old = c.args.self.now in
+    let batch = c.args.batch in
+    let replica : c.append.new.self.state ≡ after_all old.keeper.state batch.entries = c.in-Ok-append.ensures.state in
+    let stored : c.len.result ≡ length (map (λ g. g.items) c.push.new.self.items) =
+    c.len.ensures ∙ omega (arith, c.push.new.self.ok.0, length-map c.push.new.self.items (λ g. g.items)) in
+    advances_group g.D.Disk.honest g.D.Disk.may_leave g.D.Disk.moment g.D.Disk.left_since (with_handed (desk_of old) (Cut batch)) _ batch.entries
+    (pushed (λ g. g.items) old.trace.groups.items c.push.new.self.items c.in-Ok.group batch.entries c.push.result c.is_err.result c.push.ensures.items c.is_err.ensures.value c.if-is_err.false
+    (c.in-Ok.ensures ∙ c.as_slice.ensures.entries))
+    (c.requires.desk.all c.requires.works) c.requires.desk.tied.handed.1 (legal_both old.keeper.state batch.entries old.front.service.pending c.requires.desk.tied.legal).0
+    (inr (stored, replica)) c.append.ensures.any_moment c.append.ensures.honesty
+
+pub returns-in-NoMemory-clause-desk : goal.returns-in-NoMemory-clause-desk
+returns-in-NoMemory-clause-desk g c =
+    let old = c.args.self.now in
+    let batch = c.args.batch in
+    let new = c.append.new.self in
+    let back : c.in-Err.batch ≡ batch = c.in-Err.ensures.given_back in
+    let replica : new.state ≡ old.keeper.state = c.in-Err.ensures.err in
+    desk_kept g.D.Disk.honest g.D.Disk.may_leave g.D.Disk.moment g.D.Disk.left_since g.met.D.Disk.counts_now (with_handed (desk_of old) (Cut batch)) _ c.requires.desk c.requires.works
+    (popped (λ g. g.items) old.trace.groups.items c.push.new.self.items c.pop.new.self.items _ _ c.push.result c.is_err.result c.push.ensures.items c.is_err.ensures.value c.if-is_err.false
+    c.push.new.self.ok.0 c.pop.ensures.rest)
+    refl replica (c.in-Err.ensures.short c.in-NoMemory.is) c.append.ensures.honesty
+    (tied_cut (standing_of old) (map (λ g. g.items) c.pop.new.self.items) old.keeper.state new.state batch c.in-Err.batch back replica c.requires.desk.tied) c.requires.desk.known
+
+pub returns-in-NoMemory-clause-advances : goal.returns-in-NoMemory-clause-advances
+returns-in-NoMemory-clause-advances g c =
+    let old = c.args.self.now in
+    advances_kept g.D.Disk.honest g.D.Disk.may_leave g.D.Disk.moment g.D.Disk.left_since (with_handed (desk_of old) (Cut c.args.batch)) _
+    (popped (λ g. g.items) old.trace.groups.items c.push.new.self.items c.pop.new.self.items _ _ c.push.result c.is_err.result c.push.ensures.items c.is_err.ensures.value c.if-is_err.false
+    c.push.new.self.ok.0 c.pop.ensures.rest)
+    refl c.in-Err.ensures.err c.requires.desk.few (c.in-Err.ensures.short c.in-NoMemory.is) c.append.ensures.honesty
+
+pub returns-in_default-fault : goal.returns-in_default-fault
+returns-in_default-fault g c =
+    let old = c.args.self.now in
+    let batch = c.args.batch in
+    let new = c.append.new.self in
+    let tied = c.requires.desk.tied in
+    let all = c.requires.desk.all c.requires.works in
+    let back : c.in-Err.batch ≡ batch = c.in-Err.ensures.given_back in
+    let replica : new.state ≡ old.keeper.state = c.in-Err.ensures.err in
+    let groups : map (λ g. g.items) c.push.new.self.items ≡ map (λ g. g.items) old.trace.groups.items ++ batch.entries ∷ [] =
+    pushed (λ g. g.items) old.trace.groups.items c.push.new.self.items c.in-Ok.group batch.entries c.push.result c.is_err.result c.push.ensures.items c.is_err.ensures.value c.if-is_err.false
+    (c.in-Ok.ensures ∙ c.as_slice.ensures.entries) in
+    let legal = (legal_both old.keeper.state batch.entries old.front.service.pending tied.legal).0 in
+    let begins : batch.first ≡ old.keeper.state.place = begins_there old.front old.keeper.state batch c.state.ensures.front.tied tied.handed.0 tied.state in
+    let device : c.in-Err.fault ≡ Device =
+    only_device c.in-Err.fault c.in-Err.ensures.faults (λ is. absurd (cc (c.in-Err.ensures.failed.0 is, c.requires.works))) (λ is. c.in_default-fault.not-NoMemory is)
+    (λ place is. no_mismatch old.keeper.state batch.first batch.entries place begins tied.handed.1 legal (c.in-Err.ensures.mismatch place is)) in
+    let told = c.in-Err.ensures.device device in
+    record {
+      desk =
+          desk_torn g.D.Disk.honest g.D.Disk.may_leave g.D.Disk.moment g.D.Disk.left_since g.met.D.Disk.counts_now (with_handed (desk_of old) (Cut batch)) _ batch.entries c.requires.works
+          groups all refl replica told.1 c.append.ensures.any_moment c.append.ensures.honesty
+          (tied_cut (standing_of old) (map (λ g. g.items) c.push.new.self.items) old.keeper.state new.state batch c.in-Err.batch back replica tied) c.requires.desk.known;
+      stored = tt;
+      memory = λ is. absurd (c.in_default-fault.not-NoMemory (cc is));
+      owes = refl;
+      ports = refl;
+      advances =
+          advances_group g.D.Disk.honest g.D.Disk.may_leave g.D.Disk.moment g.D.Disk.left_since (with_handed (desk_of old) (Cut batch)) _ batch.entries groups all tied.handed.1 legal
+          (inl (refl, replica)) c.append.ensures.any_moment c.append.ensures.honesty;
+      fine = tt;
+      fault = subst (λ (fault : Fault). Tells g.D.Disk.failures (desk_of old) (desk_of (record old { keeper = new; trace = record old.trace { groups = c.push.new.self } })) fault) (sym device) (record { failed = told.1; rises = told.0 });
+    }

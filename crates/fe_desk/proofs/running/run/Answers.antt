@@ -1,0 +1,60 @@
+use Rattle.std.proofs.Common.{◌≡◌, ℕ, List, refl, sym, subst, ◌≤◌, length, arith}
+use Rattle.fe_disk.specs.Disk.{LeavesOnly}
+use Rattle.fe_disk.proofs.Moments.{weaker}
+use Rattle.fe_state.specs.State.{ServerState}
+use Rattle.fe_state.specs.History.{IsHistory}
+use Rattle.fe_state.specs.declared.entry.Entry.{Entry}
+use Rattle.fe_desk.specs.Crash.{IsFrom, LeavesPrefix, disk_of}
+use Rattle.fe_desk.specs.Traces.{groups_of}
+use Rattle.fe_desk.proofs.Openings.{first_from, stands_at}
+use Rattle.fe_desk.proofs.Runnings.{stands_begun, run_moments, run_of}
+use Rattle.fe_desk.proofs.running.run.Goals as goal
+
+pub returns-in-Err-clause-any_moment : goal.returns-in-Err-clause-any_moment
+returns-in-Err-clause-any_moment g c = λ honest s each.
+    let groups = groups_of c.new.result in
+    weaker g.D.Disk.moment g.D.Disk.left_since c.args.disk c.in-Err.disk (g.D.Disk.may_leave c.args.disk) (LeavesPrefix s groups 0)
+    (λ image may. stands_begun s groups image (each image may)) (c.in-Err.ensures.reads honest).run
+
+pub take_steps-fault-requires-clause-stands : goal.take_steps-fault-requires-clause-stands
+take_steps-fault-requires-clause-stands g c = λ honest begun from image may.
+    let d = c.in-Ok.desk in
+    let few : d.synced ≤ length d.standing.groups = omega (arith, c.in-Ok.ensures.first.1) in
+    stands_at begun d image from few (c.in-Ok.ensures.stands (c.in-Ok.ensures.honesty.0 honest) image may)
+
+pub returns-clause-ran : goal.returns-clause-ran
+returns-clause-ran g c =
+    let first = c.in-Ok.desk in
+    let last = c.take_steps-fault.new.desk in
+    run_of g.D.Disk.honest g.D.Disk.seen c.args.disk c.args.steps.now first.keeper.state first.standing last.standing c.into_parts-trace.result.0 last.synced c.take_steps-fault.result c.in-Ok.ensures.opened c.in-Ok.ensures.first.0 c.into_parts-trace.ensures.trace c.take_steps-fault.ensures.taken
+
+pub returns-clause-history : goal.returns-clause-history
+returns-clause-history g c = λ honest s each.
+    let first = c.in-Ok.desk in
+    let seen = g.D.Disk.seen c.args.disk in
+    let same : first.keeper.state ≡ s = c.images_stand_for_one.ensures seen first.keeper.state s (c.in-Ok.ensures.opened honest) (each seen (g.met.D.Disk.seen_may_stay c.args.disk honest)) in
+    let from : IsFrom s first = first_from s first same c.in-Ok.ensures.first.0.groups c.in-Ok.ensures.first.1 in
+    subst (λ (gs : List (List Entry)). IsHistory s gs) (sym c.into_parts-trace.ensures.trace.groups) (c.take_steps-fault.ensures.advances.from s from).history
+
+pub returns-clause-any_moment : goal.returns-clause-any_moment
+returns-clause-any_moment g c = λ honest s each.
+    let first = c.in-Ok.desk in
+    let last = c.take_steps-fault.new.desk in
+    let seen = g.D.Disk.seen c.args.disk in
+    let same : first.keeper.state ≡ s = c.images_stand_for_one.ensures seen first.keeper.state s (c.in-Ok.ensures.opened honest) (each seen (g.met.D.Disk.seen_may_stay c.args.disk honest)) in
+    let from : IsFrom s first = first_from s first same c.in-Ok.ensures.first.0.groups c.in-Ok.ensures.first.1 in
+    subst (λ d. LeavesOnly g.D.Disk.moment g.D.Disk.left_since c.args.disk d (LeavesPrefix s (groups_of c.into_parts-trace.result.0) 0)) (sym c.into_parts-trace.ensures.disk)
+    (subst (λ (gs : List (List Entry)). LeavesOnly g.D.Disk.moment g.D.Disk.left_since c.args.disk (disk_of last) (LeavesPrefix s gs 0)) (sym c.into_parts-trace.ensures.trace.groups)
+    (run_moments g.D.Disk.honest g.D.Disk.may_leave g.D.Disk.moment g.D.Disk.left_since c.args.disk first last s each (c.in-Ok.ensures.reads honest).run (c.in-Ok.ensures.honesty.1 honest) c.in-Ok.ensures.works from c.take_steps-fault.ensures.advances))
+
+pub returns-clause-stands : goal.returns-clause-stands
+returns-clause-stands g c = λ honest s each opened image may.
+    let first = c.in-Ok.desk in
+    let last = c.take_steps-fault.new.desk in
+    let seen = g.D.Disk.seen c.args.disk in
+    let same : first.keeper.state ≡ s = c.images_stand_for_one.ensures seen first.keeper.state s (c.in-Ok.ensures.opened honest) (each seen (g.met.D.Disk.seen_may_stay c.args.disk honest)) in
+    let from : IsFrom s first = first_from s first same c.in-Ok.ensures.first.0.groups c.in-Ok.ensures.first.1 in
+    let run = c.take_steps-fault.ensures.advances in
+    subst (λ (n : ℕ). LeavesPrefix s (groups_of c.into_parts-trace.result.0) n image) (sym c.into_parts-trace.ensures.trace.synced_is)
+    (subst (λ (gs : List (List Entry)). LeavesPrefix s gs last.synced image) (sym c.into_parts-trace.ensures.trace.groups)
+    (c.into_parts-trace.ensures.stands (run.honesty.1 (c.in-Ok.ensures.honesty.1 honest)) s (run.from s from) image (subst (λ d. g.D.Disk.may_leave d image) c.into_parts-trace.ensures.disk may)))

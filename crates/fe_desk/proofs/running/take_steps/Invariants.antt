@@ -1,0 +1,13 @@
+use Rattle.std.proofs.Common.{◌≡◌, false, take}
+use Rattle.fe_desk.specs.Steps.{DeskRun}
+use Rattle.fe_desk.specs.Crash.{Advances}
+use Rattle.fe_desk.proofs.running.take_steps.Given as goal
+
+abbrev pub invariant-loop-k : goal.invariant-loop-k
+invariant-loop-k g l =
+    record {
+      run : DeskRun l.initial.desk.standing (take l.k l.steps) l.desk.standing;
+      owes : l.desk.standing.owes ≡ false;
+      works : l.desk.keeper.store.has_failed ≡ false;
+      advances : Advances g.D.Disk.honest g.D.Disk.moment g.D.Disk.left_since l.initial.desk l.desk;
+    }

@@ -1,0 +1,26 @@
+use Rattle.std.proofs.Common.{◌<◌, ◌∙◌, ap, map, length, rules}
+use Rattle.fe_desk.specs.Standing.{Client}
+use Rattle.fe_desk.specs.Desk.{client_of}
+use Rattle.fe_desk.specs.declared.port.Port.{Port}
+use Rattle.fe_desk.proofs.Emptying.{both, all_alike, port_told, port_later, on_any_err}
+use Rattle.fe_desk.proofs.telling.empty_boxes.Goals as goal
+
+pub loop-at-preserved : goal.loop-at-preserved
+loop-at-preserved c =
+    let within : c.loop-at.at < length c.loop-at.ports.items = search rules in
+    record {
+      told = port_told c.args.front.now (map client_of c.args.ports.now.items) c.loop-at.front c.take_mails.new.front c.loop-at.ports.items c.loop-at.at c.index_mut.result.now c.take_mails.new.self within c.index_mut.ensures.value c.loop-at.invariant.told c.in_ok-take_mails.ensures.emptied c.in_ok-take_mails.ensures.told;
+      numbers = all_alike (λ (p : Port). p.conn) c.loop-at.ports.items c.loop-at.at c.index_mut.result.now c.take_mails.new.self within c.index_mut.ensures.value (ap (λ (x : Client). x.conn) c.in_ok-take_mails.ensures.told) ∙ c.loop-at.invariant.numbers;
+      len = c.loop-at.invariant.len;
+      keeps = both c.args.front.now c.loop-at.front c.take_mails.new.front c.loop-at.invariant.keeps c.take_mails.ensures.front;
+    }
+
+pub returns-in_err-take_mails-clause-later : goal.returns-in_err-take_mails-clause-later
+returns-in_err-take_mails-clause-later c =
+    let within : c.loop-at.at < length c.loop-at.ports.items = search rules in
+    on_any_err c.from_residual.result (port_later c.args.front.now (map client_of c.args.ports.now.items) c.loop-at.front c.take_mails.new.front c.loop-at.ports.items c.loop-at.at c.index_mut.result.now c.take_mails.new.self within c.index_mut.ensures.value c.loop-at.invariant.told c.in_err-take_mails.ensures.later c.take_mails.ensures.empty)
+
+pub returns-in_err-take_mails-clause-numbers : goal.returns-in_err-take_mails-clause-numbers
+returns-in_err-take_mails-clause-numbers c =
+    let within : c.loop-at.at < length c.loop-at.ports.items = search rules in
+    all_alike (λ (p : Port). p.conn) c.loop-at.ports.items c.loop-at.at c.index_mut.result.now c.take_mails.new.self within c.index_mut.ensures.value c.in_err-take_mails.ensures.later.conn ∙ c.loop-at.invariant.numbers

@@ -1,0 +1,51 @@
+ghost use Rattle.std.specs.Prelude.{◌≡◌, ◌++◌, [], OnOk, OnErr};
+ghost use Rattle.fe_wire.specs.Spelling.{reply_spelling};
+ghost use Rattle.fe_desk.specs.Frames.{AreReplies};
+
+use crate::reply::Reply;
+use std::alloc::{AllocError, Global};
+use std::marker::Model;
+
+/// What is written to a connection number: whole frames of replies.
+#[derive(Drop)]
+pub struct Written {
+    bytes: Vec<u8>,
+}
+
+impl Model for Written {
+    ghost use Rattle.std.specs.Prelude.{List, ℕ};
+    ghost use Rattle.fe_desk.specs.Frames.{AreReplies};
+
+    ghost Value = { List ℕ };
+
+    ghost view = { λ w. w.bytes.items };
+
+    ghost invariant = { λ w. AreReplies w.bytes.items };
+}
+
+impl Written {
+    /// Nothing is written.
+    pub(crate) fn new(alloc: Global) -> Written
+        ensures { result ≡ [] }
+    {
+        Written {
+            bytes: Vec::new(alloc),
+        }
+    }
+
+    /// Writes the frame of a reply. Where there is no memory for it, nothing is written.
+    pub(crate) fn put(&mut self, reply: &Reply) -> Result<(), AllocError>
+        ensures ok { OnOk result (self.new ≡ self.old ++ reply_spelling reply.now) }
+        ensures err { OnErr result (self.new ≡ self.old) }
+    {
+        reply.put(&mut self.bytes)
+    }
+
+    /// The bytes.
+    pub fn as_slice(&self) -> &[u8]
+        ensures bytes { result.now ≡ self.now }
+        ensures frames { AreReplies result.now }
+    {
+        self.bytes.as_slice()
+    }
+}
