@@ -45,7 +45,7 @@ struct Kept {
     all: u64,
 }
 
-fn kept<D: Disk>(desk: &Desk<D>) -> Kept {
+fn what_is_kept<D: Disk>(desk: &Desk<D>) -> Kept {
     let trace = desk.trace();
     let mut kept = Kept { synced: 0, all: 0 };
     for k in 0..trace.groups.len() {
@@ -70,7 +70,7 @@ fn stopped(
         Ok(desk) => {
             let mut desk = desk;
             let done = play(rt, alloc, &mut desk).is_ok();
-            let kept = kept(&desk);
+            let kept = what_is_kept(&desk);
             (desk.into_disk().into_inner(), kept, done)
         }
         Err((_, fuse)) => (fuse.into_inner(), Kept { synced: 0, all: 0 }, false),

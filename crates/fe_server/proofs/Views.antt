@@ -105,3 +105,8 @@ then_ok (Err e) f p = tt
 pub ok_both : {A E : Type 0} (r : Result A E) (P Q : Type 0) → OnOk r P → OnOk r Q → OnOk r (P × Q)
 ok_both (Ok x) P Q p q = (p, q)
 ok_both (Err e) P Q p q = tt
+
+-- what holds in any case holds where a result is `Ok`
+pub always : {A E : Type 0} (r : Result A E) {P : Type 0} → P → OnOk r P
+always (Ok x) p = p
+always (Err e) p = tt

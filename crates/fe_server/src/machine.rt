@@ -183,13 +183,13 @@ fn add_view(views: &mut Vec<View>, ports: &[Port], at: usize) -> Result<(), Faul
 /// Prints of each port what was written to it since the last time.
 fn print_all(
     alloc: Global,
-    views: &mut [View],
+    views: &mut Vec<View>,
     ports: &[Port],
     text: &mut String,
     replies: &mut Vec<ServerMessage>,
 ) -> Result<(), Fault>
-    requires { All (IsView (writings ports.now)) views.old }
-    ensures views { OnOk result (All (IsView (writings ports.now)) views.new) }
+    requires { All (IsView (writings ports.now)) views.old.items }
+    ensures views { OnOk result (All (IsView (writings ports.now)) views.new.items) }
     ensures err { IfErr result (λ fault. fault ≡ Fault.Memory) }
 {
     for k in 0..views.len() {

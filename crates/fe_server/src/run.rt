@@ -3,7 +3,7 @@
 ghost use Rattle.std.specs.Prelude.{◌≡◌, ◌≢◌, ◌+◌, ◌++◌, [], ◌∷◌, None, IfOk, IfErr, IfNone, IfSome, OnOk};
 ghost use Rattle.fe_server.specs.Fault.{IsNamed, IsOfDesk, IsOutside, NamesLine};
 ghost use Rattle.fe_server.specs.Line.{parsed, LineFits};
-ghost use Rattle.fe_server.specs.Runs.{IsRun};
+ghost use Rattle.fe_server.specs.Runs.{IsRun, ActsOn, Commits, RunsLine, holds_after};
 
 use crate::fault::Fault;
 use crate::line::{LONGEST, Line, parse};
@@ -164,6 +164,22 @@ impl Run {
         requires fits { LineFits line.now }
         ensures run { OnOk result (IsRun self.new) }
         ensures lines { self.new.lines ≡ self.old.lines }
+        ensures runs { OnOk result (RunsLine self.old line.now self.new) }
+        ensures err { IfErr result IsOfDesk }
+    {
+        self.act(line)?;
+        self.commit()?;
+        self.machine.print(&mut self.text, &mut self.replies)
+    }
+
+    /// Does what the line says.
+    fn act(&mut self, line: &Line) -> Result<(), Fault>
+        requires run { IsRun self.old }
+        requires fits { LineFits line.now }
+        ensures run { OnOk result (IsRun self.new) }
+        ensures lines { self.new.lines ≡ self.old.lines }
+        ensures acts { OnOk result (ActsOn self.old.machine.desk line.now self.new.machine.desk) }
+        ensures holding { OnOk result (self.new.is_holding ≡ holds_after line.now self.old.is_holding) }
         ensures err { IfErr result IsOfDesk }
     {
         match line {
@@ -177,10 +193,22 @@ impl Run {
             }
             Line::Check => self.machine.check()?,
         }
-        if !self.is_holding {
-            self.machine.commit()?;
+        Ok(())
+    }
+
+    /// What is pending is stored and posted, but on hold.
+    fn commit(&mut self) -> Result<(), Fault>
+        requires { IsRun self.old }
+        ensures run { OnOk result (IsRun self.new) }
+        ensures lines { self.new.lines ≡ self.old.lines }
+        ensures holding { self.new.is_holding ≡ self.old.is_holding }
+        ensures committed { OnOk result (Commits self.old.is_holding self.old.machine.desk self.new.machine.desk) }
+        ensures err { IfErr result IsOfDesk }
+    {
+        if self.is_holding {
+            return Ok(());
         }
-        self.machine.print(&mut self.text, &mut self.replies)
+        self.machine.commit()
     }
 }
 
