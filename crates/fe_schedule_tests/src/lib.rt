@@ -8,4 +8,6 @@ mod rows;
 #[cfg(test)]
 mod running;
 #[cfg(test)]
+mod stops;
+#[cfg(test)]
 mod streams;

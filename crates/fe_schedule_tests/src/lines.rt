@@ -5,7 +5,7 @@ use std::process::Abort;
 use std::test::Fail;
 
 /// Lines outside the syntax.
-const STRAY: [&[u8]; 50] = [
+const STRAY: [&[u8]; 51] = [
     b"c1 attach 7\r",
     b"c1\tattach 7",
     b"c1 attach\t7",
@@ -54,7 +54,8 @@ const STRAY: [&[u8]; 50] = [
     b"c1 report ",
     b"hold ",
     b"c1 hold",
-    b"check",
+    b"check ",
+    b"c1 stop",
     b"c1 1 \xff 1 0",
 ];
 

@@ -1,6 +1,7 @@
 pub mod Numbers
 pub mod FrameLemmas
-pub mod DecoderLemmas
-pub mod FrontLemmas
-pub mod PortLemmas
+pub mod Growth
+pub mod Behind
+pub mod Views
+pub mod Readiness
 pub mod Written

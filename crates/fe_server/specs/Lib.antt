@@ -5,5 +5,5 @@ pub mod Line
 pub mod Frames
 pub mod Printed
 pub mod RefusalNames
-pub mod Desk
+pub mod Ready
 pub mod Runs

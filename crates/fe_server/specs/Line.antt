@@ -8,7 +8,7 @@ use Rattle.fe_wire.specs.declared.client_message.ClientMessage.TheVariants as me
 use Rattle.fe_server.specs.Words.{◌>>=◌, words_at, number_of}
 use Rattle.fe_server.specs.Requests.{request_in}
 use Rattle.fe_server.specs.declared.line.Line.{Line}
-use Rattle.fe_server.specs.declared.line.Line.TheVariants.{Message, Gone, Hold, Flush}
+use Rattle.fe_server.specs.declared.line.Line.TheVariants.{Message, Gone, Hold, Flush, Stop, Check}
 
 -- the number of a connection, 1 to 999
 abbrev pub in_range : ℕ → Option ℕ
@@ -20,7 +20,12 @@ conn_of [] = None
 conn_of (letter ∷ digits) = if letter == 99 then (number_of digits >>= in_range) else None
 
 unfoldable pub control_in : List ℕ → Option Line
-control_in word = if bytes_eq word (codes "hold") then Some Hold else if bytes_eq word (codes "flush") then Some Flush else None
+control_in word =
+    if bytes_eq word (codes "hold") then Some Hold
+    else if bytes_eq word (codes "flush") then Some Flush
+    else if bytes_eq word (codes "stop") then Some Stop
+    else if bytes_eq word (codes "check") then Some Check
+    else None
 
 -- one word behind the name of a connection
 unfoldable pub plain_in : ℕ → List ℕ → Option Line
@@ -79,3 +84,5 @@ LineFits (Message conn told) = Fits told
 LineFits (Gone conn) = Unit {0}
 LineFits Hold = Unit {0}
 LineFits Flush = Unit {0}
+LineFits Stop = Unit {0}
+LineFits Check = Unit {0}

@@ -15,6 +15,9 @@ pub enum Fault {
     /// There is no memory.
     #[error("femem: memory")]
     Memory,
+    /// The device of the store failed.
+    #[error("femem: store device")]
+    Device,
     /// A layer below answered what a right one never answers.
     #[error("femem: strange")]
     Strange,
@@ -29,6 +32,7 @@ impl Fault {
             Fault::Line(_) => 2,
             Fault::Input => 2,
             Fault::Memory => 3,
+            Fault::Device => 3,
             Fault::Strange => 3,
         }
     }

@@ -1,16 +1,17 @@
-//! Runs schedules: each line goes as a frame to a front in memory, and the frames of its replies are printed.
+//! Runs schedules: each line goes as a frame to a desk over a store in memory, and the frames of its replies are printed.
 #![tactic(auto)]
 
-mod desk;
 mod fault;
 mod laws;
 mod line;
-mod port;
+mod machine;
 mod printing;
 mod request;
 mod run;
 mod schedule;
+mod serving;
 mod stream;
+mod view;
 mod word;
 
 pub use fault::Fault;

@@ -21,10 +21,14 @@ pub enum Line {
     Message { conn: u64, message: ClientMessage },
     /// A connection goes.
     Gone { conn: u64 },
-    /// Nothing is cut and posted from here on.
+    /// Nothing is stored and posted from here on.
     Hold,
-    /// What is pending is cut and posted, and a hold ends.
+    /// What is pending is stored and posted, and a hold ends.
     Flush,
+    /// The server stops and is opened again, and a hold ends.
+    Stop,
+    /// A whole checkpoint is made.
+    Check,
 }
 
 /// The number of the connection of that name, `c1` to `c999`.
@@ -42,7 +46,7 @@ fn conn_of(word: &[u8]) -> Option<u64>
     Some(conn)
 }
 
-/// `hold` or `flush`.
+/// `hold`, `flush`, `stop` or `check`.
 #[tactic(auto, unfolding(crate::specs::Line::control_in))]
 fn control_in(word: &[u8]) -> Option<Line>
     ensures { result ≡ control_in word.now }
@@ -51,6 +55,10 @@ fn control_in(word: &[u8]) -> Option<Line>
         Some(Line::Hold)
     } else if says(word, "flush") {
         Some(Line::Flush)
+    } else if says(word, "stop") {
+        Some(Line::Stop)
+    } else if says(word, "check") {
+        Some(Line::Check)
     } else {
         None
     }

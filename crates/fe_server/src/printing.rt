@@ -5,7 +5,7 @@ ghost use Rattle.std.specs.Option.{option_map};
 ghost use Rattle.std.specs.List.{flat_map, AllByRecursion};
 ghost use Rattle.fe_wire.specs.Spelling.{reply_spelling, ReplyFits};
 ghost use Rattle.fe_wire.specs.declared.server_message.ServerMessage.{ServerMessage as Reply};
-ghost use Rattle.fe_server.specs.Desk.{AreReplies};
+ghost use Rattle.fe_desk.specs.Frames.{AreReplies};
 ghost use Rattle.fe_server.specs.Frames.{frame_at};
 ghost use Rattle.fe_server.specs.Printed.{answer_text, refusal_text, Prints};
 

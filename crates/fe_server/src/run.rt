@@ -1,13 +1,13 @@
 //! A run of a schedule: its lines as they come in pieces, and what they print.
 
 ghost use Rattle.std.specs.Prelude.{◌≡◌, ◌≢◌, ◌+◌, ◌++◌, [], ◌∷◌, None, IfOk, IfErr, IfNone, IfSome, OnOk};
-ghost use Rattle.fe_server.specs.Fault.{IsNamed, IsOutside, NamesLine};
+ghost use Rattle.fe_server.specs.Fault.{IsNamed, IsOfDesk, IsOutside, NamesLine};
 ghost use Rattle.fe_server.specs.Line.{parsed, LineFits};
-ghost use Rattle.fe_server.specs.Runs.{IsRun};
+ghost use Rattle.fe_server.specs.Runs.{IsRun, ActsOn, Commits, RunsLine, holds_after};
 
-use crate::desk::Desk;
 use crate::fault::Fault;
 use crate::line::{LONGEST, Line, parse};
+use crate::machine::Machine;
 use crate::stream::{stream_fault, write_text};
 use fe_state::Request;
 use fe_wire::{ClientMessage, ServerMessage};
@@ -20,7 +20,7 @@ const FULL: usize = 65536;
 /// Where a run stands.
 #[derive(Drop)]
 pub(crate) struct Run {
-    desk: Desk,
+    machine: Machine,
     is_holding: bool,
     /// How many lines came whole.
     lines: u64,
@@ -30,7 +30,6 @@ pub(crate) struct Run {
     text: String,
     /// The replies to one connection, between uses empty or left over.
     replies: Vec<ServerMessage>,
-    alloc: Global,
 }
 
 impl Run {
@@ -38,17 +37,16 @@ impl Run {
     pub fn new(alloc: Global) -> Result<Run, Fault>
         ensures run { IfOk result IsRun }
         ensures lines { IfOk result (λ run. run.lines ≡ 0) }
-        ensures err { IfErr result (λ fault. fault ≡ Fault.Memory) }
+        ensures err { IfErr result IsOfDesk }
     {
-        let desk = Desk::new(alloc)?;
+        let machine = Machine::new(alloc)?;
         Ok(Run {
-            desk,
+            machine,
             is_holding: false,
             lines: 0,
             begun: Vec::new(alloc),
             text: String::new(alloc),
             replies: Vec::new(alloc),
-            alloc,
         })
     }
 
@@ -166,31 +164,51 @@ impl Run {
         requires fits { LineFits line.now }
         ensures run { OnOk result (IsRun self.new) }
         ensures lines { self.new.lines ≡ self.old.lines }
-        ensures err { IfErr result (λ fault. fault ≡ Fault.Memory) }
+        ensures runs { OnOk result (RunsLine self.old line.now self.new) }
+        ensures err { IfErr result IsOfDesk }
     {
-        match line {
-            Line::Message { conn, message } => self.desk.receive(*conn, message)?,
-            Line::Gone { conn } => self.desk.drop_connection(*conn),
-            Line::Hold => self.is_holding = true,
-            Line::Flush => self.is_holding = false,
-        }
-        if !self.is_holding {
-            self.desk.commit()?;
-        }
-        self.print()
+        self.act(line)?;
+        self.commit()?;
+        self.machine.print(&mut self.text, &mut self.replies)
     }
 
-    /// Prints what is written to each connection.
-    fn print(&mut self) -> Result<(), Fault>
+    /// Does what the line says.
+    fn act(&mut self, line: &Line) -> Result<(), Fault>
+        requires run { IsRun self.old }
+        requires fits { LineFits line.now }
+        ensures run { OnOk result (IsRun self.new) }
+        ensures lines { self.new.lines ≡ self.old.lines }
+        ensures acts { OnOk result (ActsOn self.old.machine.desk line.now self.new.machine.desk) }
+        ensures holding { OnOk result (self.new.is_holding ≡ holds_after line.now self.old.is_holding) }
+        ensures err { IfErr result IsOfDesk }
+    {
+        match line {
+            Line::Message { conn, message } => self.machine.receive(*conn, message)?,
+            Line::Gone { conn } => self.machine.drop_connection(*conn)?,
+            Line::Hold => self.is_holding = true,
+            Line::Flush => self.is_holding = false,
+            Line::Stop => {
+                self.machine.stop()?;
+                self.is_holding = false;
+            }
+            Line::Check => self.machine.check()?,
+        }
+        Ok(())
+    }
+
+    /// What is pending is stored and posted, but on hold.
+    fn commit(&mut self) -> Result<(), Fault>
         requires { IsRun self.old }
         ensures run { OnOk result (IsRun self.new) }
         ensures lines { self.new.lines ≡ self.old.lines }
-        ensures err { IfErr result (λ fault. fault ≡ Fault.Memory) }
+        ensures holding { self.new.is_holding ≡ self.old.is_holding }
+        ensures committed { OnOk result (Commits self.old.is_holding self.old.machine.desk self.new.machine.desk) }
+        ensures err { IfErr result IsOfDesk }
     {
-        for at in 0..self.desk.ports.len() {
-            self.desk.ports[at].print(self.alloc, &mut self.text, &mut self.replies)?;
+        if self.is_holding {
+            return Ok(());
         }
-        Ok(())
+        self.machine.commit()
     }
 }
 

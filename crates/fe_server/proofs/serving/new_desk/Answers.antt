@@ -1,0 +1,9 @@
+use Rattle.fe_state.specs.State.{first_state}
+use Rattle.fe_server.proofs.Readiness.{ready_first}
+use Rattle.fe_server.proofs.serving.new_desk.Goals as goal
+
+pub returns-in-Ok-format-clause-ready : goal.returns-in-Ok-format-clause-ready
+returns-in-Ok-format-clause-ready c =
+    let d = c.in-Ok-format.ensures in
+    let honest = c.in-Ok.ensures.honest in
+    ready_first c.in-Ok-format.desk first_state (d.honesty.1 honest) d.works d.first.0 d.first.1 d.first.2 (d.formatted honest)

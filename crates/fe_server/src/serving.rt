@@ -1,0 +1,77 @@
+//! What lines have a desk over a store in memory do.
+
+ghost use Rattle.std.specs.Prelude.{◌≡◌, IfOk, IfErr, OnOk};
+ghost use Rattle.fe_state.specs.State.{first_state};
+ghost use Rattle.fe_desk.specs.Crash.{disk_of};
+ghost use Rattle.fe_desk.specs.Standing.{IsFirstStanding};
+ghost use Rattle.fe_desk.specs.Steps.{DeskStep};
+ghost use Rattle.fe_server.specs.Fault.{IsOfDesk, fault_of};
+ghost use Rattle.fe_server.specs.Ready.{IsReady, StandsSynced};
+
+use crate::fault::Fault;
+use fe_desk::{Desk, DeskFault, Step, format, open};
+use fe_disk::{MemoryDisk, Torn};
+use fe_keeper::{Fault as StoreFault, images_stand_for_one};
+use std::alloc::Global;
+
+/// How many bytes a store has (`docs/formats.md`, "Device").
+const STORE: usize = 4_202_496;
+
+/// A desk over a new store, with no connection.
+pub(crate) fn new_desk(alloc: Global) -> Result<Desk<MemoryDisk>, Fault>
+    ensures ready { IfOk result IsReady }
+    ensures first { IfOk result (λ desk. IsFirstStanding first_state desk.standing) }
+    ensures err { IfErr result IsOfDesk }
+{
+    let Ok(disk) = MemoryDisk::new(alloc, STORE) else {
+        return Err(Fault::Memory);
+    };
+    match format(alloc, disk) {
+        Ok(desk) => Ok(desk),
+        Err((fault, _)) => Err(fault_of(fault)),
+    }
+}
+
+/// Takes a step.
+pub(crate) fn take(desk: &mut Desk<MemoryDisk>, step: &Step) -> Result<(), Fault>
+    requires { IsReady desk.old }
+    ensures ready { OnOk result (IsReady desk.new) }
+    ensures stepped { OnOk result (DeskStep desk.old.standing step.now desk.new.standing) }
+    ensures err { IfErr result IsOfDesk }
+{
+    match desk.step(step) {
+        Ok(()) => Ok(()),
+        Err(fault) => Err(fault_of(fault)),
+    }
+}
+
+/// The desk after a stop that loses what was not synced. No connection is there, and nothing waits.
+pub(crate) fn stopped(alloc: Global, desk: Desk<MemoryDisk>) -> Result<Desk<MemoryDisk>, Fault>
+    requires { IsReady desk }
+    ensures ready { IfOk result IsReady }
+    // It has what the store held at its last sync, which is all that was stored.
+    ensures synced { IfOk result (λ again. StandsSynced (disk_of desk) again.keeper.state) }
+    ensures kept { IfOk result (λ again. again.keeper.state ≡ desk.keeper.state) }
+    ensures first { IfOk result (λ again. IsFirstStanding desk.keeper.state again.standing) }
+    ensures err { IfErr result IsOfDesk }
+{
+    images_stand_for_one();
+    let Ok(left) = desk.into_disk().stopped(Torn::Lost) else {
+        return Err(Fault::Memory);
+    };
+    match open(alloc, left) {
+        Ok(again) => Ok(again),
+        Err((fault, _)) => Err(fault_of(fault)),
+    }
+}
+
+/// What a fault of the desk ends a schedule with.
+fn fault_of(fault: DeskFault) -> Fault
+    ensures { result ≡ fault_of fault }
+{
+    match fault {
+        DeskFault::NoMemory { .. } | DeskFault::Unwritten => Fault::Memory,
+        DeskFault::Store(StoreFault::Device | StoreFault::Failed) => Fault::Device,
+        DeskFault::Store(_) => Fault::Strange,
+    }
+}
