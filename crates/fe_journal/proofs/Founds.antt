@@ -172,6 +172,25 @@ module _ (c : Contents) (image : List ℕ) (holds : Holds c image) where
   -- contents are refused only for the device or for memory
   pub refused_only : (fault : StoreFault) → Tells fault image → (fault ≡ Device) ⊎ (fault ≡ NoMemory)
   refused_only Unformatted told = absurd (formatted told)
-  refused_only (Damaged offset) told = absurd (undamaged offset told)
+  refused_only (Damaged offset) told = absurd (undamaged offset told.1)
   refused_only Device told = inl refl
   refused_only NoMemory told = inr refl
+
+-- ---- what is told of a store that is unformatted
+
+none_counts : (image : List ℕ) (slot : ℕ) (format : Format) → length image ≡ device_bytes → Counts image slot format → IsUnformatted image → ⊥
+none_counts image slot format whole counts (inl odd) = odd whole
+none_counts image slot format whole counts (inr none) = none slot format counts.is_slot counts.valid
+
+-- it is not damaged
+pub unformatted_undamaged : (image : List ℕ) (offset : ℕ) → length image ≡ device_bytes → IsDamagedAt image offset → IsUnformatted image → ⊥
+unformatted_undamaged image offset whole (NoGeneration slot format counts none at) odd = none_counts image slot format whole counts odd
+unformatted_undamaged image offset whole (OddImage slot format counts numbered wrong at) odd = none_counts image slot format whole counts odd
+unformatted_undamaged image offset whole (OddGroup slot format groups counts numbered fits stand is_open wrong at) odd = none_counts image slot format whole counts odd
+
+-- but unformatted, where the device does not fail
+pub unformatted_only : (image : List ℕ) (fault : StoreFault) → Tells fault image → IsUnformatted image → (fault ≡ Unformatted) ⊎ (fault ≡ Device)
+unformatted_only image Unformatted told odd = inl refl
+unformatted_only image (Damaged offset) told odd = absurd (unformatted_undamaged image offset told.0 told.1 odd)
+unformatted_only image Device told odd = inr refl
+unformatted_only image NoMemory told odd = absurd (told odd)

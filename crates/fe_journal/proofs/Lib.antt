@@ -10,5 +10,5 @@ mod Slots
 mod Begins
 mod Openings
 mod Readings
-mod Founds
+pub mod Founds
 pub mod Contents

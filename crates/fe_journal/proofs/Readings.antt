@@ -7,7 +7,7 @@ use Rattle.fe_journal.specs.Layout.{header_of, area_of, area_bytes, device_bytes
 use Rattle.fe_format.specs.Layout.{IsImageLength}
 use Rattle.fe_journal.specs.Groups.{Fits, end_of}
 use Rattle.fe_journal.specs.Contents.{IsValidAs, generation_at}
-use Rattle.fe_journal.specs.Damage.{Tells, NoGeneration, OddImage, OddGroup}
+use Rattle.fe_journal.specs.Damage.{Tells, IsUnformatted, NoGeneration, OddImage, OddGroup}
 use Rattle.fe_journal.specs.Reading.{IsHeader, IsHeaderAt, IsCounting, IsOddAt, HeaderFault, GroupFault}
 use Rattle.fe_journal.specs.Steps.{OnlyReads}
 use Rattle.fe_journal.specs.Store.{CountsAs}
@@ -95,13 +95,13 @@ module _ (image : List ℕ) where
       (second_counts first header one (subst (λ (o : Option Header). IsHeader image (header_of 1) o) is.1 two) is.2)
 
   -- what is told of a slot that counts
-  pub header_tells : (slot : ℕ) (header : Header) (fault : StoreFault) → CountsAs image (Some (slot, header)) → HeaderFault slot header fault → Tells fault image
-  header_tells slot header (Damaged offset) counts (inl none) = NoGeneration slot header.format counts.0 (counts.1 ∙ none.0) none.1
-  header_tells slot header (Damaged offset) counts (inr odd) =
-      OddImage slot header.format counts.0 (let g = counts.1 in let n = odd.0 in omega (arith, g, n)) (λ fits. odd.1 (subst (λ (n : ℕ). IsImageLength header.format n) counts.2 fits)) odd.2
-  header_tells slot header Unformatted counts fault = absurd fault
-  header_tells slot header Device counts fault = absurd fault
-  header_tells slot header NoMemory counts fault = absurd fault
+  pub header_tells : (slot : ℕ) (header : Header) (fault : StoreFault) → length image ≡ device_bytes → CountsAs image (Some (slot, header)) → HeaderFault slot header fault → Tells fault image
+  header_tells slot header (Damaged offset) whole counts (inl none) = (whole, NoGeneration slot header.format counts.0 (counts.1 ∙ none.0) none.1)
+  header_tells slot header (Damaged offset) whole counts (inr odd) =
+      (whole, OddImage slot header.format counts.0 (let g = counts.1 in let n = odd.0 in omega (arith, g, n)) (λ fits. odd.1 (subst (λ (n : ℕ). IsImageLength header.format n) counts.2 fits)) odd.2)
+  header_tells slot header Unformatted whole counts fault = absurd fault
+  header_tells slot header Device whole counts fault = absurd fault
+  header_tells slot header NoMemory whole counts fault = absurd fault
 
   -- an odd group in the bytes that were read of the area
   pub group_tells : (slot : ℕ) (header : Header) (area : List ℕ) (fault : StoreFault) → length image ≡ device_bytes → slot < 2 → area ≡ bytes_at image (area_of slot) area_bytes → 1 ≤ header.generation → IsImageLength header.format header.image_length
@@ -111,23 +111,30 @@ module _ (image : List ℕ) where
       let within : at < 1048576 = odd.1 in
       let is : IsOddAt header.format area at = odd.2 in
       let at_is : at ≡ end_of is.groups = is.at_is in
-      let s : SameBytes area 0 image (area_of slot) 1048576 = same_back (known_same image (area_of slot) 1048576 area (omega (arith, whole, is_slot)) (sym read)) in
-      OddGroup slot header.format is.groups counts.0 (let g = counts.1 in omega (arith, g, numbered)) (subst (λ (n : ℕ). IsImageLength header.format n) (sym counts.2) fits)
-      (stand_same header.format area image 0 (area_of slot) 0 is.groups (same_part s 0 (0 + end_of is.groups) 0 (area_of slot) (omega (arith, at_is, within)) refl (omega arith)) is.stand)
-      (sym (same_byte s at at (area_of slot + end_of is.groups) within (omega arith) (omega (arith, at_is))) ∙ is.is_open)
-      (λ there.
-      let room : end_of is.groups + 6 ≤ 1048576 = let w = there.within in omega (arith, w) in
-      let same : number_at area (at + 1) 4 ≡ number_at image (area_of slot + end_of is.groups + 1) 4 = same_number_at (same_part s (at + 1) 4 (at + 1) (area_of slot + end_of is.groups + 1) (omega (arith, at_is, room)) (omega arith) (omega (arith, at_is))) in
-      is.odd (subst (λ (k : ℕ). Fits header.format k (number_at area (at + 1) 4)) (sym at_is) (subst (λ (n : ℕ). Fits header.format (end_of is.groups) n) (sym same) there)))
-      (omega (arith, odd.3, at_is))
+      let s : SameBytes area 0 image (area_of slot) 1048576 = same_back (known_same image (area_of slot) 1048576 area (omega (arith, whole, is_slot)) (sym read)) in (
+        whole,
+        OddGroup slot header.format is.groups counts.0 (let g = counts.1 in omega (arith, g, numbered)) (subst (λ (n : ℕ). IsImageLength header.format n) (sym counts.2) fits)
+            (stand_same header.format area image 0 (area_of slot) 0 is.groups (same_part s 0 (0 + end_of is.groups) 0 (area_of slot) (omega (arith, at_is, within)) refl (omega arith)) is.stand)
+            (sym (same_byte s at at (area_of slot + end_of is.groups) within (omega arith) (omega (arith, at_is))) ∙ is.is_open)
+            (λ there.
+            let room : end_of is.groups + 6 ≤ 1048576 = let w = there.within in omega (arith, w) in
+            let same : number_at area (at + 1) 4 ≡ number_at image (area_of slot + end_of is.groups + 1) 4 = same_number_at (same_part s (at + 1) 4 (at + 1) (area_of slot + end_of is.groups + 1) (omega (arith, at_is, room)) (omega arith) (omega (arith, at_is))) in
+            is.odd (subst (λ (k : ℕ). Fits header.format k (number_at area (at + 1) 4)) (sym at_is) (subst (λ (n : ℕ). Fits header.format (end_of is.groups) n) (sym same) there)))
+            (omega (arith, odd.3, at_is)),
+      )
   group_tells slot header area Unformatted whole is_slot read numbered fits counts fault = absurd fault
   group_tells slot header area Device whole is_slot read numbered fits counts fault = absurd fault
   group_tells slot header area NoMemory whole is_slot read numbered fits counts fault = absurd fault
 
-  -- of the device and of memory nothing is told
-  pub nothing_told : (fault : StoreFault) → (fault ≡ Device) ⊎ (fault ≡ NoMemory) → Tells fault image
-  nothing_told fault (inl is) = subst (λ (f : StoreFault). Tells f image) (sym is) tt
-  nothing_told fault (inr is) = subst (λ (f : StoreFault). Tells f image) (sym is) tt
+  -- a store with a slot that counts is not unformatted
+  pub formatted_by : (slot : ℕ) (header : Header) → length image ≡ device_bytes → CountsAs image (Some (slot, header)) → IsUnformatted image → ⊥
+  formatted_by slot header whole counts (inl odd) = odd whole
+  formatted_by slot header whole counts (inr none) = none slot header.format counts.0.is_slot counts.0.valid
+
+  -- of the device nothing is told, and of memory no more
+  pub nothing_told : (fault : StoreFault) → (IsUnformatted image → ⊥) → (fault ≡ Device) ⊎ (fault ≡ NoMemory) → Tells fault image
+  nothing_told fault formatted (inl is) = subst (λ (f : StoreFault). Tells f image) (sym is) tt
+  nothing_told fault formatted (inr is) = subst (λ (f : StoreFault). Tells f image) (sym is) formatted
 
 -- a fault that is handed on
 pub same_fault : {T : Type 0} (r : Result T StoreFault) (given fault : StoreFault) → r ≡ Err given → given ≡ fault → r ≡ Err Device → fault ≡ Device

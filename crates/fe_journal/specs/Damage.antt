@@ -24,9 +24,10 @@ pub data IsDamagedAt (image : List ℕ) (offset : ℕ) : Type 0 where
       → StandFrom format image (area_of slot) 0 groups → IsOpen image (area_of slot + end_of groups) → (Fits format (end_of groups) (number_at image (area_of slot + end_of groups + 1) 4) → ⊥)
       → offset ≡ area_of slot + end_of groups → IsDamagedAt image offset
 
--- what a fault of opening says of the image that the disk reads; want of memory and faults of the device say nothing
+-- What a fault of opening says of the image that the disk reads: it is unformatted; it has a store's size, and is damaged
+-- first at this offset; memory was wanted, and it is not unformatted. A fault of the device says nothing.
 abbrev pub Tells : StoreFault → List ℕ → Type 0
 Tells Unformatted image = IsUnformatted image
-Tells (Damaged offset) image = IsDamagedAt image offset
+Tells (Damaged offset) image = (length image ≡ device_bytes) × IsDamagedAt image offset
 Tells Device image = Unit {0}
-Tells NoMemory image = Unit {0}
+Tells NoMemory image = IsUnformatted image → ⊥

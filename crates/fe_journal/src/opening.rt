@@ -1,13 +1,13 @@
-ghost use Rattle.std.specs.Prelude.{◌≡◌, ◌⊎◌, ◌↔◌, IfOk, IfErr, OnOk};
+ghost use Rattle.std.specs.Prelude.{◌≡◌, ◌⊎◌, ◌↔◌, IfOk, IfErr, OnOk, IsErrAnd};
 ghost use Rattle.fe_disk.specs.Disk.{LeavesJust, Rises};
 ghost use Rattle.fe_journal.specs.Contents.{Contents, Holds};
-ghost use Rattle.fe_journal.specs.Damage.{Tells};
+ghost use Rattle.fe_journal.specs.Damage.{Tells, IsUnformatted};
 ghost use Rattle.fe_journal.specs.Layout.{device_bytes};
 ghost use Rattle.fe_journal.specs.Journal.{IsReady};
 ghost use Rattle.fe_journal.specs.Steps.{OnlyReads};
 ghost use Rattle.fe_journal.specs.Store.{IsStore, IsWhole};
 ghost use Rattle.fe_journal.specs.Found.{IsFound, AreListed, disk_after};
-ghost use Rattle.fe_journal.specs.declared.fault.StoreFault.TheVariants.{Device, NoMemory};
+ghost use Rattle.fe_journal.specs.declared.fault.StoreFault.TheVariants.{Unformatted, Device, NoMemory};
 
 use crate::layout::area_of;
 use crate::store::{Store, read_store};
@@ -32,6 +32,9 @@ pub struct Found<D: Disk> {
 pub fn find<D: Disk>(alloc: Global, disk: D) -> Result<Found<D>, (StoreFault, D)>
     ensures found { D.honest disk → IfOk result (IsFound D.seen D.may_leave (D.seen disk)) }
     ensures refused { D.honest disk → IfErr result (λ e. Tells e.0 (D.seen disk)) }
+
+    // An unformatted store is told so, whatever memory there is.
+    ensures unformatted { D.honest disk → IsUnformatted (D.seen disk) → IsErrAnd result (λ e. (e.0 ≡ Unformatted) ⊎ (e.0 ≡ Device)) }
 
     // A store that holds contents is refused only for its device or for memory.
     ensures holds { D.honest disk → (c : Contents) → Holds c (D.seen disk) → IfErr result (λ e. (e.0 ≡ Device) ⊎ (e.0 ≡ NoMemory)) }

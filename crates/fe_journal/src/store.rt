@@ -68,8 +68,8 @@ fn read_synced<D: Disk>(alloc: Global, disk: &mut D) -> Result<Store, StoreFault
     ensures honesty { D.honest disk.new ↔ D.honest disk.old }
     ensures size { D.size disk.new ≡ D.size disk.old }
 {
-    let mut buffer = vec![in alloc; 0; AREA_BYTES]?;
-    let (slot, header) = read_sound(disk, &mut buffer)?;
+    let (slot, header) = read_sound(disk)?;
+    let buffer = vec![in alloc; 0; AREA_BYTES]?;
     let parts = read_slot(alloc, disk, slot, &header)?;
     Ok(Store {
         buffer,
@@ -80,9 +80,8 @@ fn read_synced<D: Disk>(alloc: Global, disk: &mut D) -> Result<Store, StoreFault
 }
 
 // The slot that counts, and its header, which was tested.
-fn read_sound<D: Disk>(disk: &mut D, buffer: &mut [u8]) -> Result<(usize, Header), StoreFault>
+fn read_sound<D: Disk>(disk: &mut D) -> Result<(usize, Header), StoreFault>
     requires device { D.size disk.old ≡ device_bytes }
-    requires room { 4096 ≤ length buffer.old }
     ensures counts { D.honest disk.old → IfOk result (λ found. CountsAs (D.seen disk.old) (Some found)) }
     ensures sound { IfOk result IsSound }
     ensures faults { D.honest disk.old → IfErr result (λ fault. Tells fault (D.seen disk.old)) }
@@ -92,9 +91,8 @@ fn read_sound<D: Disk>(disk: &mut D, buffer: &mut [u8]) -> Result<(usize, Header
     ensures still { (IsErrOf result Device → ⊥) → D.failures disk.new ≡ D.failures disk.old }
     ensures honesty { D.honest disk.new ↔ D.honest disk.old }
     ensures size { D.size disk.new ≡ D.size disk.old }
-    ensures same { length buffer.new ≡ length buffer.old }
 {
-    let Some((slot, header)) = read_counting(disk, buffer)? else {
+    let Some((slot, header)) = read_counting(disk)? else {
         return Err(StoreFault::Unformatted);
     };
     check_header(slot, &header)?;
@@ -123,13 +121,9 @@ fn read_header<D: Disk>(
     Ok(header_in(bytes))
 }
 
-// The slot that counts, and its header.
-fn read_counting<D: Disk>(
-    disk: &mut D,
-    buffer: &mut [u8],
-) -> Result<Option<(usize, Header)>, DeviceFault>
+// The slot that counts, and its header. It takes no memory, so that a store is known to be unformatted without any.
+fn read_counting<D: Disk>(disk: &mut D) -> Result<Option<(usize, Header)>, DeviceFault>
     requires device { D.size disk.old ≡ device_bytes }
-    requires room { 4096 ≤ length buffer.old }
     ensures counts { D.honest disk.old → IfOk result (CountsAs (D.seen disk.old)) }
     ensures is_slot { IfOk result (λ found. IfSome found (λ s. s.0 < 2)) }
     ensures reads { D.honest disk.old → OnlyReads D.seen D.may_leave D.moment D.left_since disk.old disk.new }
@@ -138,11 +132,10 @@ fn read_counting<D: Disk>(
     ensures still { OnOk result (D.failures disk.new ≡ D.failures disk.old) }
     ensures honesty { D.honest disk.new ↔ D.honest disk.old }
     ensures size { D.size disk.new ≡ D.size disk.old }
-    ensures same { length buffer.new ≡ length buffer.old }
 {
-    let bytes = &mut buffer[..HEADER_BYTES];
-    let first = read_header(disk, 0, bytes)?;
-    let second = read_header(disk, 1, bytes)?;
+    let mut bytes = [0; HEADER_BYTES];
+    let first = read_header(disk, 0, &mut bytes)?;
+    let second = read_header(disk, 1, &mut bytes)?;
     Ok(counting(first, second))
 }
 

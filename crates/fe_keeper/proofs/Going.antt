@@ -1,5 +1,5 @@
 -- The groups of a slot, gone through one after the other.
-use Rattle.std.proofs.Common.{◌≡◌, ℕ, ◌+◌, ◌<◌, ◌≤◌, true, false, List, [], ◌∷◌, length, length-append, ◌∙◌, ap, subst, refl, arith}
+use Rattle.std.proofs.Common.{◌≡◌, ℕ, ◌+◌, ◌<◌, ◌≤◌, inl, inr, true, false, List, [], ◌∷◌, length, length-append, ◌∙◌, ap, subst, refl, arith}
 use Rattle.std.specs.List.{AllByRecursion}
 use Rattle.fe_state.specs.State.{ServerState, after_all}
 use Rattle.fe_state.specs.History.{IsHistory, after_groups}
@@ -16,21 +16,23 @@ use Rattle.fe_replica.proofs.Replayed.{replays_once, replayed_group, group_repla
 use Rattle.fe_keeper.specs.Stands.{AreGroups, Stands}
 use Rattle.fe_keeper.specs.Opened.{IsListing, ReplaysAll, IsRecovered}
 use Rattle.fe_keeper.specs.Replaying.{CanGoOn, IsNext}
+use Rattle.fe_keeper.specs.Damage.{IsBadFrom}
 
 -- ---- in the midst of the groups
 
--- what is left of the payloads, and what it leads to
-pub record IsGoingOn (format : Format) (payloads : List (List ℕ)) (groups : Cursor) (old now : ServerState) : Type 0 where
+-- what is left of the payloads, and what it leads to; the gate of the first of all stands at `first`
+pub record IsGoingOn (format : Format) (payloads : List (List ℕ)) (first : ℕ) (groups : Cursor) (old now : ServerState) : Type 0 where
   pub left : List (List ℕ)
   pub lists : Lists groups left
   pub leads : (s : ServerState) → ReplaysAll format left now s → ReplaysAll format payloads old s
   pub goes : CanGoOn format payloads old → CanGoOn format left now
+  pub bad : (offset : ℕ) → IsBadFrom format left now (groups.start + groups.at) offset → IsBadFrom format payloads old first offset
 
-pub going_begins : (format : Format) (payloads : List (List ℕ)) (groups : Cursor) (s : ServerState) → Lists groups payloads → IsGoingOn format payloads groups s s
-going_begins format payloads groups s lists = record { left = payloads; lists = lists; leads = λ t h. h; goes = λ h. h }
+pub going_begins : (format : Format) (payloads : List (List ℕ)) (groups : Cursor) (s : ServerState) → Lists groups payloads → IsGoingOn format payloads (groups.start + groups.at) groups s s
+going_begins format payloads groups s lists = record { left = payloads; lists = lists; leads = λ t h. h; goes = λ h. h; bad = λ offset h. h }
 
 -- a history that can go on goes on behind its first group
-on_behind : (format : Format) (payload : List ℕ) (rest : List (List ℕ)) (now new : ServerState) → Replays format payload now new → CanGoOn format (payload ∷ rest) now → CanGoOn format rest new
+pub on_behind : (format : Format) (payload : List ℕ) (rest : List (List ℕ)) (now new : ServerState) → Replays format payload now new → CanGoOn format (payload ∷ rest) now → CanGoOn format rest new
 on_behind format payload rest now new replays h = by h.groups h.groups_are h.legal
   where
     by : (groups : List (List Entry)) → AreGroups format groups (payload ∷ rest) → IsHistory now groups → CanGoOn format rest new
@@ -39,31 +41,47 @@ on_behind format payload rest now new replays h = by h.groups h.groups_are h.leg
         let same : after_all now group ≡ new = replays_once format payload now (after_all now group) new (group_replays format payload now group are.0 legal.1) replays in
         record { groups = groups; groups_are = are.1; legal = subst (λ (z : ServerState). IsHistory z groups) same legal.2 }
 
-pub going_on : (format : Format) (payloads : List (List ℕ)) (groups groups' : Cursor) (old now new : ServerState) → IsGoingOn format payloads groups old now
-    → ((left : List (List ℕ)) → Lists groups left → IsNext format left groups' now new true) → IsGoingOn format payloads groups' old new
-going_on format payloads groups groups' old now new h next = by h.left h.leads h.goes (next h.left h.lists)
+-- a cursor goes on behind the first group
+abbrev pub GoesBehind : Cursor → Cursor → Type 0
+GoesBehind groups groups' =
+    (payload : List ℕ) (rest : List (List ℕ)) → Lists groups (payload ∷ rest) → groups' ≡ record { bytes = groups.bytes; start = groups.start; at = groups.at + (5 + length payload) }
+
+-- what is bad behind the first group
+bad_behind : (format : Format) (rest : List (List ℕ)) (new : ServerState) (groups groups' : Cursor) (n offset : ℕ) → groups' ≡ record { bytes = groups.bytes; start = groups.start; at = groups.at + n }
+    → IsBadFrom format rest new (groups'.start + groups'.at) offset → IsBadFrom format rest new (groups.start + groups.at + n) offset
+bad_behind format rest new groups groups' n offset is bad =
+    let start : groups'.start ≡ groups.start = ap (λ (g : Cursor). g.start) is in
+    let at : groups'.at ≡ groups.at + n = ap (λ (g : Cursor). g.at) is in
+    let there : groups'.start + groups'.at ≡ groups.start + groups.at + n = omega (arith, start, at) in
+    subst (λ (k : ℕ). IsBadFrom format rest new k offset) there bad
+
+pub going_on : (format : Format) (payloads : List (List ℕ)) (first : ℕ) (groups groups' : Cursor) (old now new : ServerState) → IsGoingOn format payloads first groups old now → GoesBehind groups groups'
+    → ((left : List (List ℕ)) → Lists groups left → IsNext format left groups' now new true) → IsGoingOn format payloads first groups' old new
+going_on format payloads first groups groups' old now new h behind next = by h.left h.lists h.leads h.goes h.bad (next h.left h.lists)
   where
-    by : (left : List (List ℕ)) → ((s : ServerState) → ReplaysAll format left now s → ReplaysAll format payloads old s) → (CanGoOn format payloads old → CanGoOn format left now) → IsNext format left groups' now new true → IsGoingOn format payloads groups' old new
-    by [] leads goes is = absurd (let e = is.0 in cc)
-    by (payload ∷ rest) leads goes is = record {
+    by : (left : List (List ℕ)) → Lists groups left → ((s : ServerState) → ReplaysAll format left now s → ReplaysAll format payloads old s) → (CanGoOn format payloads old → CanGoOn format left now)
+        → ((offset : ℕ) → IsBadFrom format left now (groups.start + groups.at) offset → IsBadFrom format payloads old first offset) → IsNext format left groups' now new true → IsGoingOn format payloads first groups' old new
+    by [] lists leads goes bad is = absurd (let e = is.0 in cc)
+    by (payload ∷ rest) lists leads goes bad is = record {
       left = rest;
       lists = is.2;
       leads = λ s more. leads s (new, is.1, more);
       goes = λ can. on_behind format payload rest now new is.1 (goes can);
+      bad = λ offset more. bad offset (inr (new, is.1, bad_behind format rest new groups groups' (5 + length payload) offset (behind payload rest lists) more));
     }
 
-pub going_ends : (format : Format) (payloads : List (List ℕ)) (groups groups' : Cursor) (old now new : ServerState) → IsGoingOn format payloads groups old now
+pub going_ends : (format : Format) (payloads : List (List ℕ)) (first : ℕ) (groups groups' : Cursor) (old now new : ServerState) → IsGoingOn format payloads first groups old now
     → ((left : List (List ℕ)) → Lists groups left → IsNext format left groups' now new false) → ReplaysAll format payloads old new
-going_ends format payloads groups groups' old now new h next = by h.left h.leads (next h.left h.lists)
+going_ends format payloads first groups groups' old now new h next = by h.left h.leads (next h.left h.lists)
   where
     by : (left : List (List ℕ)) → ((s : ServerState) → ReplaysAll format left now s → ReplaysAll format payloads old s) → IsNext format left groups' now new false → ReplaysAll format payloads old new
     by [] leads is = leads new is.1
     by (payload ∷ rest) leads is = absurd (let e = is.0 in cc)
 
 -- groups that are listed are listed behind the first
-pub listing_on : (format : Format) (groups groups' : Cursor) (now new : ServerState) → IsListing groups → ((left : List (List ℕ)) → Lists groups left → IsNext format left groups' now new true) → IsListing groups'
-listing_on format groups groups' now new listing next =
-    let on = going_on format listing.0 groups groups' now now new (going_begins format listing.0 groups now listing.1) next in
+pub listing_on : (format : Format) (groups groups' : Cursor) (now new : ServerState) → IsListing groups → GoesBehind groups groups' → ((left : List (List ℕ)) → Lists groups left → IsNext format left groups' now new true) → IsListing groups'
+listing_on format groups groups' now new listing behind next =
+    let on = going_on format listing.0 (groups.start + groups.at) groups groups' now now new (going_begins format listing.0 groups now listing.1) behind next in
     (on.left, on.lists)
 
 -- ---- the next group
@@ -84,15 +102,31 @@ is_next format [] groups groups' read old new is behind replays lists = absurd (
 is_next format (payload ∷ rest) groups groups' read old new is behind replays lists =
     (refl, subst (λ (p : List ℕ). Replays format p old new) (is.first payload rest lists) replays, behind payload rest lists)
 
+-- the record that is bad in the payload that is read is the first that is bad
+pub bad_here : (format : Format) (payloads : List (List ℕ)) (groups : Cursor) (read : List ℕ) (s : ServerState) (within offset : ℕ) → IsRead groups read → Lists groups payloads → IsFirstBad format read s within
+    → offset ≡ groups.start + groups.at + 5 + within → IsBadFrom format payloads s (groups.start + groups.at) offset
+bad_here format [] groups read s within offset is lists bad at = absurd (is.some lists)
+bad_here format (payload ∷ rest) groups read s within offset is lists bad at =
+    inl (within, subst (λ (p : List ℕ). IsFirstBad format p s within) (is.first payload rest lists) bad, at)
+
 -- a payload that goes on has no bad record
-pub not_bad : (format : Format) (payloads : List (List ℕ)) (groups : Cursor) (read : List ℕ) (s : ServerState) (offset : ℕ) → IsRead groups read → Lists groups payloads → CanGoOn format payloads s → IsFirstBad format read s offset → ⊥
-not_bad format [] groups read s offset is lists can bad = is.some lists
-not_bad format (payload ∷ rest) groups read s offset is lists can bad = by can.groups can.groups_are can.legal
+goes_well : (format : Format) (payload : List ℕ) (rest : List (List ℕ)) (s : ServerState) (offset : ℕ) → CanGoOn format (payload ∷ rest) s → IsFirstBad format payload s offset → ⊥
+goes_well format payload rest s offset can bad = by can.groups can.groups_are can.legal
   where
     by : (gs : List (List Entry)) → AreGroups format gs (payload ∷ rest) → IsHistory s gs → ⊥
     by [] are legal = absurd are
-    by (group ∷ gs) are legal =
-        bad_is_refused format payload s (after_all s group) offset (subst (λ (p : List ℕ). IsFirstBad format p s offset) (is.first payload rest lists) bad) (group_replays format payload s group are.0 legal.1)
+    by (group ∷ gs) are legal = bad_is_refused format payload s (after_all s group) offset bad (group_replays format payload s group are.0 legal.1)
+
+pub not_bad : (format : Format) (payloads : List (List ℕ)) (groups : Cursor) (read : List ℕ) (s : ServerState) (offset : ℕ) → IsRead groups read → Lists groups payloads → CanGoOn format payloads s → IsFirstBad format read s offset → ⊥
+not_bad format [] groups read s offset is lists can bad = is.some lists
+not_bad format (payload ∷ rest) groups read s offset is lists can bad =
+    goes_well format payload rest s offset can (subst (λ (p : List ℕ). IsFirstBad format p s offset) (is.first payload rest lists) bad)
+
+-- nor has a history that goes on
+pub none_bad : (format : Format) (payloads : List (List ℕ)) (s : ServerState) (at offset : ℕ) → CanGoOn format payloads s → IsBadFrom format payloads s at offset → ⊥
+none_bad format [] s at offset can bad = bad
+none_bad format (payload ∷ rest) s at offset can (inl (within, bad, is)) = goes_well format payload rest s within can bad
+none_bad format (payload ∷ rest) s at offset can (inr (mid, replays, bad)) = none_bad format rest mid (at + (5 + length payload)) offset (on_behind format payload rest s mid replays can) bad
 
 pub bad_within : (format : Format) (payload : List ℕ) (s : ServerState) (offset : ℕ) → IsFirstBad format payload s offset → offset ≤ length payload
 bad_within format payload s offset bad = omega (arith, bad.offset_is, ap (λ (l : List ℕ). length l) bad.spelled, length-append (group_spelling format bad.front) bad.rest)

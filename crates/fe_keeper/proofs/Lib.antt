@@ -10,3 +10,4 @@ mod Numbers
 mod Openings
 pub mod Taking
 mod Beginning
+pub mod Damages

@@ -5,10 +5,21 @@ use Rattle.fe_state.specs.History.{IsHistory, after_groups}
 use Rattle.fe_state.specs.declared.entry.Entry.{Entry}
 use Rattle.fe_keeper.specs.Stands.{StandsFor}
 use Rattle.fe_keeper.specs.Prefix.{IsCrashPrefix}
+use Rattle.fe_journal.specs.Damage.{IsUnformatted}
+use Rattle.fe_keeper.specs.Damage.{IsDamagedAt}
 
 -- An image stands for at most one state.
 abbrev pub StandsForOne : Type 0
 StandsForOne = (image : List ℕ) (s t : ServerState) → StandsFor image s → StandsFor image t → s ≡ t
+
+-- An image that stands for a state is neither unformatted nor damaged, and none is both of these.
+pub record IsToldApart (image : List ℕ) : Type 0 where
+  pub formatted : (s : ServerState) → StandsFor image s → IsUnformatted image → ⊥
+  pub undamaged : (s : ServerState) (offset : ℕ) → StandsFor image s → IsDamagedAt image offset → ⊥
+  pub either : (offset : ℕ) → IsUnformatted image → IsDamagedAt image offset → ⊥
+
+abbrev pub AreToldApart : Type 0
+AreToldApart = (image : List ℕ) → IsToldApart image
 
 -- What was kept of a history and the history that went on from there, one behind the other.
 pub record GoesOn (beginning : ServerState) (history next : List (List Entry)) (k : ℕ) (s : ServerState) : Type 0 where

@@ -8,5 +8,6 @@ pub mod Faults
 pub mod Parts
 pub mod Replaying
 pub mod Opened
+pub mod Damage
 pub mod Rooms
 pub mod Laws

@@ -1,11 +1,13 @@
-ghost use Rattle.std.specs.Prelude.{◌≡◌, ◌≢◌, ◌⊎◌, ◌↔◌, ℕ, false, IfOk, IfErr};
+ghost use Rattle.std.specs.Prelude.{◌≡◌, ◌≢◌, ◌⊎◌, ◌↔◌, ℕ, false, IfOk, IfErr, IsErrAnd};
 ghost use Rattle.fe_disk.specs.Disk.{Rises};
 ghost use Rattle.fe_state.specs.State.{ServerState, first_state};
+ghost use Rattle.fe_journal.specs.Damage.{IsUnformatted};
 ghost use Rattle.fe_journal.specs.Steps.{OnlyReads};
 ghost use Rattle.fe_journal.specs.Layout.{device_bytes};
 ghost use Rattle.fe_keeper.specs.Stands.{StandsFor, EachStandsFor};
 ghost use Rattle.fe_keeper.specs.Keeper.{first_store};
 ghost use Rattle.fe_keeper.specs.Opened.{disk_after, IsOpenFault};
+ghost use Rattle.fe_keeper.specs.Damage.{Tells};
 ghost use Rattle.fe_keeper.specs.Rooms.{AreRooms};
 ghost use Rattle.fe_keeper.specs.declared.fault.Fault.TheVariants.{Device, NoMemory, Damaged, Unformatted};
 
@@ -32,6 +34,9 @@ pub fn open<D: Disk>(alloc: Global, disk: D) -> Result<Keeper<D>, (Fault, D)>
     ensures stands { D.honest disk → IfOk result (λ keeper. EachStandsFor D.may_leave keeper.store.disk keeper.state) }
     // A store that stands for a state is refused only for its device or for memory.
     ensures refused { D.honest disk → (s : ServerState) → StandsFor (D.seen disk) s → IfErr result (λ e. (e.0 ≡ Device) ⊎ (e.0 ≡ NoMemory)) }
+    // What is told of a store is so, and an unformatted one is told so, whatever memory there is.
+    ensures told { D.honest disk → IfErr result (λ e. Tells e.0 (D.seen disk)) }
+    ensures unformatted { D.honest disk → IsUnformatted (D.seen disk) → IsErrAnd result (λ e. (e.0 ≡ Unformatted) ⊎ (e.0 ≡ Device)) }
     // No stop leaves what could not be left before, and what is read stays the same.
     ensures reads { D.honest disk → OnlyReads D.seen D.may_leave D.moment D.left_since disk (disk_after result) }
 
@@ -67,6 +72,7 @@ pub fn format<D: Disk>(alloc: Global, disk: D) -> Result<Keeper<D>, (Fault, D)>
     ensures state { IfOk result (λ keeper. keeper.state ≡ first_state) }
     ensures store { IfOk result (λ keeper. keeper.store ≡ first_store keeper.store.disk) }
     ensures size { IfOk result (λ keeper. D.size disk ≡ device_bytes) }
+    ensures still { IfOk result (λ keeper. D.failures keeper.store.disk ≡ D.failures disk) }
     ensures unformatted { IfErr result (λ e. (e.0 ≡ Unformatted) ↔ (D.size disk ≢ device_bytes)) }
     ensures device { IfErr result (λ e. e.0 ≡ Device → Rises (D.failures disk) (D.failures e.1)) }
     ensures untouched { IfErr result (λ e. e.0 ≢ Device → e.1 ≡ disk) }

@@ -1,13 +1,15 @@
 //! The state that a slot stands for: that of its image, and its groups gone through.
 
-ghost use Rattle.std.specs.Prelude.{◌≡◌, ◌<◌, ◌≤◌, ℕ, List, true, IfOk, IfErr, OnOk};
+ghost use Rattle.std.specs.Prelude.{◌≡◌, ◌+◌, ◌<◌, ◌≤◌, ℕ, List, ◌∷◌, length, true, Ok, IfOk, IfErr, OnOk, IsErrOf};
 ghost use Rattle.fe_state.specs.State.{ServerState};
+ghost use Rattle.fe_codec.specs.FirstFault.{image_at};
 ghost use Rattle.fe_journal.specs.Contents.{Contents};
 ghost use Rattle.fe_journal.specs.Cursor.{Lists};
 ghost use Rattle.fe_keeper.specs.Stands.{Stands, greatest_generation};
 ghost use Rattle.fe_keeper.specs.Opened.{IsSlotFault, IsListing, IsBase, ReplaysAll, IsRecovered, ArePartsOf};
 ghost use Rattle.fe_keeper.specs.Replaying.{IsNext, CanGoOn};
-ghost use Rattle.fe_keeper.specs.declared.fault.Fault.TheVariants.{NoMemory};
+ghost use Rattle.fe_keeper.specs.Damage.{IsBadFrom, IsWrongIn};
+ghost use Rattle.fe_keeper.specs.declared.fault.Fault.TheVariants.{NoMemory, Damaged};
 
 use crate::{Fault, Format};
 use fe_codec::{ImageFault, read_image};
@@ -30,6 +32,9 @@ pub(crate) fn recovered(
     ensures state { (payloads : List (List ℕ)) → Lists groups.old payloads → IfOk result (IsRecovered format generation image.now payloads) }
     // A slot that stands for a state is refused only for want of memory.
     ensures refused { (c : Contents) (s : ServerState) → ArePartsOf c format generation image.now groups.old → Stands c s → IfErr result (λ fault. fault ≡ NoMemory) }
+    // What is told of one that does not is the first thing wrong in it.
+    ensures damaged { (offset : ℕ) (payloads : List (List ℕ)) → IsErrOf result (Damaged offset) → Lists groups.old payloads
+        → IsWrongIn slot format generation image.now payloads (groups.old.start + groups.old.at) offset }
     ensures faults { IfErr result IsSlotFault }
 {
     let mut state = base_of(alloc, format, generation, slot, image)?;
@@ -47,7 +52,10 @@ fn base_of(
 ) -> Result<State, Fault>
     requires is_slot { slot < 2 }
     ensures base { IfOk result (IsBase format generation image.now) }
+    ensures exact { IfOk result (λ state. image_at format image.now ≡ Ok state) }
     ensures refused { (s : ServerState) → IsBase format generation image.now s → IfErr result (λ fault. fault ≡ NoMemory) }
+    ensures damaged { (offset at : ℕ) (payloads : List (List ℕ)) → IsErrOf result (Damaged offset)
+        → IsWrongIn slot format generation image.now payloads at offset }
     ensures faults { IfErr result IsSlotFault }
 {
     let state = match read_image(alloc, format, image) {
@@ -82,6 +90,8 @@ fn replay_all(format: Format, groups: &mut Groups, state: &mut State) -> Result<
     requires listing { IsListing groups.old }
     ensures all { (payloads : List (List ℕ)) → Lists groups.old payloads → OnOk result (ReplaysAll format payloads state.old state.new) }
     ensures refused { (payloads : List (List ℕ)) → Lists groups.old payloads → CanGoOn format payloads state.old → IfErr result (λ fault. fault ≡ NoMemory) }
+    ensures damaged { (offset : ℕ) (payloads : List (List ℕ)) → IsErrOf result (Damaged offset) → Lists groups.old payloads
+        → IsBadFrom format payloads state.old (groups.old.start + groups.old.at) offset }
     ensures faults { IfErr result IsSlotFault }
 {
     while replay_next(format, groups, state)? {}
@@ -92,8 +102,12 @@ fn replay_all(format: Format, groups: &mut Groups, state: &mut State) -> Result<
 fn replay_next(format: Format, groups: &mut Groups, state: &mut State) -> Result<bool, Fault>
     requires listing { IsListing groups.old }
     ensures next { (payloads : List (List ℕ)) → Lists groups.old payloads → IfOk result (IsNext format payloads groups.new state.old state.new) }
+    ensures place { (payload : List ℕ) (rest : List (List ℕ)) → Lists groups.old (payload ∷ rest)
+        → OnOk result (groups.new ≡ record groups.old { at = groups.old.at + (5 + length payload) }) }
     ensures on { IfOk result (λ more. more ≡ true → (groups.old.at < groups.new.at) × (groups.new.at ≤ 1048576)) }
     ensures refused { (payloads : List (List ℕ)) → Lists groups.old payloads → CanGoOn format payloads state.old → IfErr result (λ fault. fault ≡ NoMemory) }
+    ensures damaged { (offset : ℕ) (payloads : List (List ℕ)) → IsErrOf result (Damaged offset) → Lists groups.old payloads
+        → IsBadFrom format payloads state.old (groups.old.start + groups.old.at) offset }
     ensures faults { IfErr result IsSlotFault }
 {
     let Some(payload) = groups.payload() else {

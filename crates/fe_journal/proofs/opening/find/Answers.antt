@@ -4,7 +4,7 @@ use Rattle.fe_journal.specs.Found.{IsFound}
 use Rattle.fe_journal.specs.Steps.{OnlyReads}
 use Rattle.fe_journal.specs.Store.{IsStore}
 use Rattle.fe_journal.specs.declared.fault.StoreFault.{StoreFault}
-use Rattle.fe_journal.proofs.Founds.{refused_only}
+use Rattle.fe_journal.proofs.Founds.{formatted, refused_only, unformatted_only}
 use Rattle.fe_journal.proofs.opening.find.Goals as goal
 
 pub returns-in-Ok-clause-found : goal.returns-in-Ok-clause-found
@@ -36,3 +36,13 @@ pub returns-in-Ok-clause-works : goal.returns-in-Ok-clause-works
 returns-in-Ok-clause-works g c = λ rises.
     let e = c.in-Ok.ensures.fault.1 (subst (λ (d : g.row.D.Denot). Rises (g.D.Disk.failures c.args.disk) (g.D.Disk.failures d)) c.found_in.ensures.disk rises) in
     cc
+
+pub returns-in-Err-clause-unformatted : goal.returns-in-Err-clause-unformatted
+returns-in-Err-clause-unformatted g c = λ honest odd. unformatted_only (g.D.Disk.seen c.args.disk) c.in-Err.fault (c.in-Err.ensures.faults honest) odd
+
+pub returns-in-Ok-clause-unformatted : goal.returns-in-Ok-clause-unformatted
+returns-in-Ok-clause-unformatted g c = λ honest odd.
+    let same = (c.read_store.ensures.reads honest).same in
+    let store = subst (λ (l : List ℕ). IsStore l c.in-Ok.store) (sym same) (c.in-Ok.ensures.store honest) in
+    let found = subst (λ (l : List ℕ). IsFound g.D.Disk.seen g.D.Disk.may_leave l c.found_in.result) same (c.found_in.ensures.found (c.read_store.ensures.honesty.1 honest) store (c.in-Ok.ensures.settled honest)) in
+    absurd (formatted found.contents (g.D.Disk.seen c.args.disk) found.holds odd)

@@ -1,12 +1,9 @@
-use Rattle.std.proofs.Common.{ℕ, List, length-take, subst, refl, arith}
+use Rattle.std.proofs.Common.{ℕ, List, subst, refl}
 use Rattle.std.proofs.lemmas.Result.{err_from_is_err_and}
 use Rattle.fe_journal.specs.Layout.{header_of}
 use Rattle.fe_journal.specs.Reading.{IsHeader}
 use Rattle.fe_journal.proofs.Readings.{counts_as}
 use Rattle.fe_journal.proofs.store.read_counting.Goals as goal
-
-pub read_header-requires-2-clause-header : goal.read_header-requires-2-clause-header
-read_header-requires-2-clause-header g c = omega (arith, c.read_header.ensures.same, length-take 4096 c.args.buffer.now, c.requires.room)
 
 pub returns-in_err-first-clause-fault : goal.returns-in_err-first-clause-fault
 returns-in_err-first-clause-fault g c = let rises = c.in_err-first.ensures.fault in let p = err_from_is_err_and c.from_residual.result c.from_residual.ensures.1 in rw p.1 (λ _. rises.0 refl, λ _. refl)

@@ -1,10 +1,11 @@
-use Rattle.std.proofs.Common.{ℕ, List, Some, Err, sym, ◌∙◌, ap, subst}
+use Rattle.std.proofs.Common.{◌≡◌, ℕ, List, length, Some, Err, sym, ◌∙◌, ap, subst}
 use Rattle.std.proofs.lemmas.Result.{err_from_is_err_and}
 use Rattle.fe_disk.specs.Disk.{Rises}
 use Rattle.fe_journal.specs.Damage.{Tells}
 use Rattle.fe_journal.specs.Store.{CountsAs, IsSlotRead}
 use Rattle.fe_journal.specs.declared.fault.StoreFault.{StoreFault}
-use Rattle.fe_journal.proofs.Readings.{reads_again, same_fault, fault_back}
+use Rattle.fe_journal.specs.declared.fault.StoreFault.TheVariants.{NoMemory}
+use Rattle.fe_journal.proofs.Readings.{reads_again, same_fault, fault_back, formatted_by}
 use Rattle.fe_journal.proofs.store.read_synced.Goals as goal
 
 pub returns-clause-store : goal.returns-clause-store
@@ -57,18 +58,30 @@ returns-in_err-parts-clause-still g c = λ none.
     c.in_err-parts.ensures.still (λ e. none (fault_back c.from_residual-in_err-parts.result p.0 c.in_err-parts.field-0.0 p.1 p.2 e)) ∙ c.in_ok-slot.ensures.still (λ e. cc)
 
 pub returns-in_err-slot-clause-faults : goal.returns-in_err-slot-clause-faults
-returns-in_err-slot-clause-faults g c = λ honest. let p = err_from_is_err_and c.from_residual-in_err-slot.result c.from_residual-in_err-slot.ensures.1 in rw (p.1, p.2) (c.in_err-slot.ensures.faults honest)
+returns-in_err-slot-clause-faults g c = λ honest. let p = err_from_is_err_and c.from_residual.result c.from_residual.ensures.1 in rw (p.1, p.2) (c.in_err-slot.ensures.faults honest)
 
 pub returns-in_err-slot-clause-reads : goal.returns-in_err-slot-clause-reads
 returns-in_err-slot-clause-reads g c = c.read_sound.ensures.reads
 
 pub returns-in_err-slot-clause-fault : goal.returns-in_err-slot-clause-fault
 returns-in_err-slot-clause-fault g c = λ device.
-    let p = err_from_is_err_and c.from_residual-in_err-slot.result c.from_residual-in_err-slot.ensures.1 in
-    let is = same_fault c.from_residual-in_err-slot.result p.0 c.in_err-slot.field-0.0 p.1 p.2 device in
+    let p = err_from_is_err_and c.from_residual.result c.from_residual.ensures.1 in
+    let is = same_fault c.from_residual.result p.0 c.in_err-slot.field-0.0 p.1 p.2 device in
     c.in_err-slot.ensures.fault (ap (λ (f : StoreFault). Err f) is)
 
 pub returns-in_err-slot-clause-still : goal.returns-in_err-slot-clause-still
 returns-in_err-slot-clause-still g c = λ none.
-    let p = err_from_is_err_and c.from_residual-in_err-slot.result c.from_residual-in_err-slot.ensures.1 in
-    c.in_err-slot.ensures.still (λ e. none (fault_back c.from_residual-in_err-slot.result p.0 c.in_err-slot.field-0.0 p.1 p.2 e))
+    let p = err_from_is_err_and c.from_residual.result c.from_residual.ensures.1 in
+    c.in_err-slot.ensures.still (λ e. none (fault_back c.from_residual.result p.0 c.in_err-slot.field-0.0 p.1 p.2 e))
+
+pub returns-in_err-buffer-clause-faults : goal.returns-in_err-buffer-clause-faults
+returns-in_err-buffer-clause-faults g c = λ honest.
+    let seen = g.D.Disk.seen c.args.disk.now in
+    let sized : length seen ≡ g.D.Disk.size c.args.disk.now = (g.met.D.Disk.seen_is_image c.args.disk.now honest).whole in
+    let formatted : Tells NoMemory seen = formatted_by seen c.in_ok-slot.slot c.in_ok-slot.header (sized ∙ c.requires.device) (c.in_ok-slot.ensures.counts honest) in
+    let p = err_from_is_err_and c.from_residual-in_err-buffer.result c.from_residual-in_err-buffer.ensures.1 in
+    rw (p.1, p.2) formatted
+
+pub returns-in_err-parts-clause-honesty : goal.returns-in_err-parts-clause-honesty
+returns-in_err-parts-clause-honesty g c =
+    (λ honest. c.read_sound.ensures.honesty.0 (c.read_slot.ensures.honesty.0 honest), λ honest. c.read_slot.ensures.honesty.1 (c.read_sound.ensures.honesty.1 honest))

@@ -1,8 +1,13 @@
-use Rattle.std.proofs.Common.{◌≡◌, inr, sym, ◌∙◌, subst}
-use Rattle.std.proofs.lemmas.Result.{IfOk-weaker}
+use Rattle.std.proofs.Common.{◌≡◌, ℕ, Err, inr, sym, ap, ◌∙◌, subst}
+use Rattle.std.proofs.lemmas.Result.{IfOk-weaker, IfErr-weaker}
 use Rattle.fe_keeper.specs.Keeper.{KeeperState}
 use Rattle.fe_keeper.specs.Stands.{StandsFor, EachStandsFor}
 use Rattle.fe_keeper.specs.Opened.{ArePartsOf, KeepsState, keeper_over}
+use Rattle.fe_journal.proofs.Founds.{formatted}
+use Rattle.fe_keeper.specs.Damage.{IsWrongAt, Tells}
+use Rattle.fe_keeper.specs.declared.fault.Fault.{Fault}
+use Rattle.fe_keeper.specs.declared.fault.Fault.TheVariants.{Damaged, NoMemory}
+use Rattle.fe_keeper.proofs.Damages.{tells_found, tells_slot, wrong_there}
 use Rattle.fe_keeper.proofs.Numbers.{numbered}
 use Rattle.fe_keeper.proofs.Openings.{recovered_in, stands_there, stands_by, each_stands}
 use Rattle.fe_keeper.proofs.opening.open.Goals as goal
@@ -69,3 +74,36 @@ returns-clause-stands g c = λ honest.
     let kept : KeepsState g.D.Disk.seen g.D.Disk.may_leave c.in-Ok.found.journal s = record { contents = found.contents; keeps = found.keeps; stands = stands } in
     IfOk-weaker c.keeper_with_room.result (λ keeper. keeper ≡ keeper_over c.in-Ok.found.journal s) (λ keeper. EachStandsFor g.D.Disk.may_leave keeper.store.disk keeper.state)
     (λ keeper is. subst (λ (k : KeeperState g.row.D.Denot). EachStandsFor g.D.Disk.may_leave k.store.disk k.state) (sym is) (each_stands g.D.Disk.seen g.D.Disk.may_leave c.in-Ok.found.journal s kept)) c.keeper_with_room.ensures.made
+
+pub returns-in-Err-recovered-clause-told : goal.returns-in-Err-recovered-clause-told
+returns-in-Err-recovered-clause-told g c = λ honest.
+    let seen = g.D.Disk.seen c.args.disk in
+    let found = c.in-Ok.ensures.found honest in
+    let wrong : (offset : ℕ) → c.in-Err-recovered.fault ≡ Damaged offset → IsWrongAt found.contents offset = λ offset is.
+    wrong_there found.contents c.slot-slot.result c.format-format.result c.generation-generation.result c.deref.result.now c.in-Ok.found.groups.start c.in-Ok.found.groups.at offset
+    (c.slot-slot.ensures.value ∙ found.keeps.slot_is) (c.format-format.ensures ∙ found.keeps.format_is) (c.generation-generation.ensures ∙ found.keeps.generation_is) (c.deref.ensures.value ∙ found.image_is)
+    found.start_is found.from_the_first
+    (c.in-Err-recovered.ensures.damaged offset found.contents.groups (ap (λ (f : Fault). Err f) is) found.groups_are) in
+    tells_slot seen found.contents c.in-Err-recovered.fault found.holds c.in-Err-recovered.ensures.faults wrong
+
+pub returns-in-Err-recovered-clause-unformatted : goal.returns-in-Err-recovered-clause-unformatted
+returns-in-Err-recovered-clause-unformatted g c = λ honest odd.
+    let found = c.in-Ok.ensures.found honest in
+    absurd (formatted found.contents (g.D.Disk.seen c.args.disk) found.holds odd)
+
+pub returns-in-Err-clause-told : goal.returns-in-Err-clause-told
+returns-in-Err-clause-told g c = λ honest.
+    let seen = g.D.Disk.seen c.args.disk in
+    subst (λ (f : Fault). Tells f seen) (sym c.from.ensures) (tells_found seen c.in-Err.fault (c.in-Err.ensures.refused honest))
+
+pub returns-clause-told : goal.returns-clause-told
+returns-clause-told g c = λ honest.
+    let seen = g.D.Disk.seen c.args.disk in
+    let found = c.in-Ok.ensures.found honest in
+    IfErr-weaker c.keeper_with_room.result (λ e. (e.0 ≡ NoMemory) × (e.1 ≡ c.in-Ok.found.journal.disk)) (λ e. Tells e.0 seen)
+    (λ e is. subst (λ (f : Fault). Tells f seen) (sym is.0) (formatted found.contents seen found.holds)) c.keeper_with_room.ensures.refused
+
+pub returns-clause-unformatted : goal.returns-clause-unformatted
+returns-clause-unformatted g c = λ honest odd.
+    let found = c.in-Ok.ensures.found honest in
+    absurd (formatted found.contents (g.D.Disk.seen c.args.disk) found.holds odd)

@@ -1,4 +1,7 @@
+use Rattle.std.proofs.Common.{◌≡◌, ◌+◌, Err}
 use Rattle.std.proofs.lemmas.Result.{err_from_is_err_and}
+use Rattle.fe_keeper.specs.Damage.{OddRecord}
+use Rattle.fe_keeper.specs.declared.fault.Fault.TheVariants.{Damaged}
 use Rattle.fe_keeper.proofs.Bases.{goes_from_base}
 use Rattle.fe_keeper.proofs.recovering.recovered.Goals as goal
 
@@ -10,3 +13,15 @@ returns-in_err-replay_all-clause-refused c = λ contents s parts stands.
 
 pub returns-clause-state : goal.returns-clause-state
 returns-clause-state c = λ payloads lists. record { base = c.in_ok-state.state; is_base = c.in_ok-state.ensures.base; replays = c.in_ok-replay_all.ensures.all payloads lists }
+
+pub returns-in_err-state-clause-damaged : goal.returns-in_err-state-clause-damaged
+returns-in_err-state-clause-damaged c = λ offset payloads asked lists.
+    let p = err_from_is_err_and c.from_residual.result c.from_residual.ensures.1 in
+    let told : c.base_of.result ≡ Err (Damaged offset) = cc (p.1, p.2, c.in_err-state.was, asked) in
+    c.base_of.ensures.damaged offset (c.args.groups.now.start + c.args.groups.now.at) payloads told
+
+pub returns-in_err-replay_all-clause-damaged : goal.returns-in_err-replay_all-clause-damaged
+returns-in_err-replay_all-clause-damaged c = λ offset payloads asked lists.
+    let p = err_from_is_err_and c.from_residual-in_err-replay_all.result c.from_residual-in_err-replay_all.ensures.1 in
+    let told : c.replay_all.result ≡ Err (Damaged offset) = cc (p.1, p.2, c.in_err-replay_all.was, asked) in
+    OddRecord c.in_ok-state.state c.in_ok-state.ensures.exact c.in_ok-state.ensures.base.numbered (c.replay_all.ensures.damaged offset payloads told lists)

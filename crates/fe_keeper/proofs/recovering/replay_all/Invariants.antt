@@ -1,4 +1,4 @@
-use Rattle.std.proofs.Common.{ℕ, ◌-◌, List}
+use Rattle.std.proofs.Common.{ℕ, ◌+◌, ◌-◌, List}
 use Rattle.fe_journal.specs.Cursor.{Lists}
 use Rattle.fe_keeper.specs.Opened.{IsListing}
 use Rattle.fe_keeper.proofs.Going.{IsGoingOn}
@@ -7,7 +7,7 @@ use Rattle.fe_keeper.proofs.recovering.replay_all.Given as goal
 abbrev pub invariant-loop : goal.invariant-loop
 invariant-loop l = record {
   listing : IsListing l.groups;
-  going : (payloads : List (List ℕ)) → Lists l.fn.groups payloads → IsGoingOn l.format payloads l.groups l.fn.state l.state;
+  going : (payloads : List (List ℕ)) → Lists l.fn.groups payloads → IsGoingOn l.format payloads (l.fn.groups.start + l.fn.groups.at) l.groups l.fn.state l.state;
 }
 
 abbrev pub decreases-loop : goal.decreases-loop

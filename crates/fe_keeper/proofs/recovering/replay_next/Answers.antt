@@ -1,6 +1,6 @@
-use Rattle.std.proofs.Common.{Err, ap, arith}
+use Rattle.std.proofs.Common.{◌≡◌, ◌+◌, Err, ap, arith}
 use Rattle.fe_replica.specs.declared.replaying.ReplayFault.{ReplayFault}
-use Rattle.fe_keeper.proofs.Going.{IsRead, no_next, is_next, not_bad, bad_within, goes_up}
+use Rattle.fe_keeper.proofs.Going.{IsRead, no_next, is_next, not_bad, bad_here, bad_within, goes_up}
 use Rattle.fe_keeper.proofs.recovering.replay_next.Goals as goal
 
 pub returns-in_default-clause-next : goal.returns-in_default-clause-next
@@ -24,3 +24,13 @@ pub returns-clause-on : goal.returns-clause-on
 returns-clause-on c = λ _.
     let is : IsRead c.args.groups.now c.in-Some.payload.now = record { some = λ none. (let e = c.in-Some.ensures.none none in cc); first = c.in-Some.ensures.next } in
     goes_up c.requires.listing.0 c.args.groups.now c.skip.new.self c.in-Some.payload.now is c.requires.listing.1 c.skip.ensures.at c.in-Some.ensures.within
+
+pub returns-in_default-clause-place : goal.returns-in_default-clause-place
+returns-in_default-clause-place c = λ payload rest lists. absurd (c.in_default.ensures.next payload rest lists)
+
+pub returns-in-Err-Damaged-clause-damaged : goal.returns-in-Err-Damaged-clause-damaged
+returns-in-Err-Damaged-clause-damaged c = λ offset payloads asked lists.
+    let is : IsRead c.args.groups.now c.in-Some.payload.now = record { some = λ none. (let e = c.in-Some.ensures.none none in cc); first = c.in-Some.ensures.next } in
+    let told : c.offset.result + c.in-Err-Damaged.offset ≡ offset = cc in
+    bad_here c.args.format payloads c.args.groups.now c.in-Some.payload.now c.args.state.now c.in-Err-Damaged.offset offset is lists
+    (c.in-Err-Damaged.ensures.damaged c.in-Err-Damaged.offset (ap (λ (f : ReplayFault). Err f) c.in-Err-Damaged.field-0-is)) (omega (arith, told, c.offset.ensures.value))

@@ -1,0 +1,93 @@
+-- What is told of a store that stands for no state.
+use Rattle.std.proofs.Common.{◌≡◌, ◌⊎◌, inl, inr, ℕ, ◌+◌, ◌≤◌, List, Result, Ok, Err, sym, ◌∙◌, ap, subst, arith}
+use Rattle.fe_state.specs.State.{ServerState}
+use Rattle.fe_state.specs.History.{IsHistory}
+use Rattle.fe_codec.specs.FirstFault.{image_at}
+use Rattle.fe_codec.proofs.ImageOnly.{spellings_read}
+use Rattle.fe_format.specs.declared.format.Format.{Format}
+use Rattle.fe_journal.specs.Layout.{area_of}
+use Rattle.fe_journal.specs.Contents.{Contents, Holds}
+use Rattle.fe_journal.specs.Damage as journal
+use Rattle.fe_journal.specs.declared.fault.StoreFault.{StoreFault}
+use Rattle.fe_journal.specs.declared.fault.StoreFault.TheVariants as store
+use Rattle.fe_journal.proofs.Founds as founds
+use Rattle.fe_keeper.specs.Stands.{Stands, StandsFor, greatest_generation}
+use Rattle.fe_keeper.specs.Opened.{IsSlotFault}
+use Rattle.fe_keeper.specs.Replaying.{CanGoOn}
+use Rattle.fe_keeper.specs.Damage.{IsWrongIn, IsWrongAt, IsDamagedAt, Tells, OddField, OddGeneration, OddRecord, InSlot, InContents}
+use Rattle.fe_keeper.specs.Faults.{fault_of_store}
+use Rattle.fe_keeper.specs.Laws.{AreToldApart}
+use Rattle.fe_keeper.specs.declared.fault.Fault.{Fault}
+use Rattle.fe_keeper.specs.declared.fault.Fault.TheVariants.{Device, Damaged, Unformatted}
+use Rattle.fe_keeper.proofs.Going.{none_bad}
+use Rattle.fe_keeper.proofs.Openings.{stands_by}
+
+-- ---- what is told
+
+-- what the journal told
+pub tells_found : (image : List ℕ) (fault : StoreFault) → journal.Tells fault image → Tells (fault_of_store fault) image
+tells_found image store.Unformatted told = told
+tells_found image (store.Damaged offset) told = InSlot told.0 told.1
+tells_found image store.Device told = told
+tells_found image store.NoMemory told = told
+
+pub told_found : (fault : StoreFault) → (fault ≡ store.Unformatted) ⊎ (fault ≡ store.Device) → (fault_of_store fault ≡ Unformatted) ⊎ (fault_of_store fault ≡ Device)
+told_found fault (inl is) = inl (ap fault_of_store is)
+told_found fault (inr is) = inr (ap fault_of_store is)
+
+-- what is told of contents
+pub tells_slot : (image : List ℕ) (c : Contents) (fault : Fault) → Holds c image → IsSlotFault fault → ((offset : ℕ) → fault ≡ Damaged offset → IsWrongAt c offset) → Tells fault image
+tells_slot image c fault holds (inl is) wrong = subst (λ (f : Fault). Tells f image) (sym is) (founds.formatted c image holds)
+tells_slot image c fault holds (inr (offset, is)) wrong = subst (λ (f : Fault). Tells f image) (sym is) (InContents c holds (wrong offset is))
+
+-- what is wrong in the parts of contents is wrong in them
+pub wrong_there : (c : Contents) (slot : ℕ) (format : Format) (generation : ℕ) (image : List ℕ) (start at offset : ℕ) → slot ≡ c.slot → format ≡ c.format → generation ≡ c.generation → image ≡ c.image
+    → start ≡ area_of c.slot → at ≡ 0 → IsWrongIn slot format generation image c.groups (start + at) offset → IsWrongAt c offset
+wrong_there c slot format generation image start at offset slot_is format_is generation_is image_is start_is at_is wrong =
+    let there : start + at ≡ area_of c.slot = omega (arith, start_is, at_is) in
+    subst (λ (k : ℕ). IsWrongIn c.slot c.format c.generation c.image c.groups k offset) there
+    (subst (λ (x : List ℕ). IsWrongIn c.slot c.format c.generation x c.groups (start + at) offset) image_is
+    (subst (λ (x : ℕ). IsWrongIn c.slot c.format x image c.groups (start + at) offset) generation_is
+    (subst (λ (x : Format). IsWrongIn c.slot x generation image c.groups (start + at) offset) format_is
+    (subst (λ (x : ℕ). IsWrongIn x format generation image c.groups (start + at) offset) slot_is wrong))))
+
+-- ---- and of which stores it is true
+
+-- what contents stand for was spelled
+module _ (c : Contents) (s : ServerState) (stands : Stands c s) where
+  is_base : image_at c.format c.image ≡ Ok stands.base
+  is_base = ap (image_at c.format) stands.image_is ∙ spellings_read c.format stands.base stands.fits
+
+  only_base : (base : ServerState) → image_at c.format c.image ≡ Ok base → stands.base ≡ base
+  only_base base is = let same : ◌≡◌ {A = Result ServerState ℕ} (Ok stands.base) (Ok base) = sym is_base ∙ is in cc
+
+  -- nothing is wrong in them
+  not_wrong : (offset : ℕ) → IsWrongAt c offset → ⊥
+  not_wrong offset (OddField within is at) = let differ : ◌≡◌ {A = Result ServerState ℕ} (Ok stands.base) (Err within) = sym is_base ∙ is in absurd (cc)
+  not_wrong offset (OddGeneration base is above at) =
+      let numbered : c.generation ≤ greatest_generation c.format base.place = subst (λ (b : ServerState). c.generation ≤ greatest_generation c.format b.place) (only_base base is) stands.numbered in
+      omega (arith, numbered, above)
+  not_wrong offset (OddRecord base is numbered bad) =
+      let goes : CanGoOn c.format c.groups base = record {
+        groups = stands.groups;
+        groups_are = stands.groups_are;
+        legal = subst (λ (b : ServerState). IsHistory b stands.groups) (only_base base is) stands.legal;
+      } in
+      none_bad c.format c.groups base (area_of c.slot) offset goes bad
+
+-- a store is told one thing
+pub told_apart : AreToldApart
+told_apart image =
+    record {
+      formatted = λ s stands. founds.formatted stands.contents image stands.holds;
+      undamaged = undamaged;
+      either = either;
+    }
+  where
+    undamaged : (s : ServerState) (offset : ℕ) → StandsFor image s → IsDamagedAt image offset → ⊥
+    undamaged s offset stands (InSlot whole damaged) = founds.undamaged stands.contents image stands.holds offset damaged
+    undamaged s offset stands (InContents c holds wrong) = not_wrong c s (stands_by c image s holds stands) offset wrong
+
+    either : (offset : ℕ) → journal.IsUnformatted image → IsDamagedAt image offset → ⊥
+    either offset odd (InSlot whole damaged) = founds.unformatted_undamaged image offset whole damaged odd
+    either offset odd (InContents c holds wrong) = founds.formatted c image holds odd

@@ -1,0 +1,51 @@
+-- When a store stands for no state, and what is told of it.
+use Rattle.std.specs.Prelude.{◌≡◌, ◌⊎◌, ℕ, ◌+◌, ◌<◌, ◌≤◌, List, [], ◌∷◌, length, Ok, Err}
+use Rattle.fe_state.specs.State.{ServerState}
+use Rattle.fe_codec.specs.FirstFault.{image_at}
+use Rattle.fe_format.specs.declared.format.Format.{Format}
+use Rattle.fe_journal.specs.Layout.{device_bytes, header_of, image_of, area_of}
+use Rattle.fe_journal.specs.Contents.{Contents, Holds}
+use Rattle.fe_journal.specs.Damage as journal
+use Rattle.fe_replica.specs.Replaying.{Replays, IsFirstBad}
+use Rattle.fe_keeper.specs.Stands.{greatest_generation}
+use Rattle.fe_keeper.specs.declared.fault.Fault.{Fault}
+use Rattle.fe_keeper.specs.declared.fault.Fault.TheVariants.{Device, Failed, NoMemory, Mismatch, Damaged, Unformatted}
+
+-- The first record of groups, gone through from a state on, that is no entry's or whose entry may not come next begins at
+-- this offset, where the gate of the first group stands at `at`.
+abbrev pub IsBadFrom : Format → List (List ℕ) → ServerState → ℕ → ℕ → Type 0
+IsBadFrom format [] s at offset = ⊥
+IsBadFrom format (payload ∷ payloads) s at offset =
+    ((within : ℕ) × IsFirstBad format payload s within × (offset ≡ at + 5 + within))
+    ⊎ ((mid : ServerState) × Replays format payload s mid × IsBadFrom format payloads mid (at + (5 + length payload)) offset)
+
+-- The first thing wrong in what a slot holds, in this order, and its offset on the device. The gate of the slot's first
+-- group stands at `at`.
+pub data IsWrongIn (slot : ℕ) (format : Format) (generation : ℕ) (image : List ℕ) (payloads : List (List ℕ)) (at offset : ℕ) : Type 0 where
+  -- a field of the image, at the field
+  OddField : (within : ℕ) → image_at format image ≡ Err within → offset ≡ image_of slot + within → IsWrongIn slot format generation image payloads at offset
+  -- a generation that is too great for the image's place, at its field
+  OddGeneration : (base : ServerState) → image_at format image ≡ Ok base → greatest_generation format base.place < generation → offset ≡ header_of slot + 8
+      → IsWrongIn slot format generation image payloads at offset
+  -- a record that does not go on with what is before it, at the record
+  OddRecord : (base : ServerState) → image_at format image ≡ Ok base → generation ≤ greatest_generation format base.place
+      → IsBadFrom format payloads base at offset → IsWrongIn slot format generation image payloads at offset
+
+abbrev pub IsWrongAt : Contents → ℕ → Type 0
+IsWrongAt c offset = IsWrongIn c.slot c.format c.generation c.image c.groups (area_of c.slot) offset
+
+-- An image of a store's size is damaged first at this offset: in the header of the slot that counts or the lengths of its
+-- groups, and where these are right, in what the slot holds.
+pub data IsDamagedAt (image : List ℕ) (offset : ℕ) : Type 0 where
+  InSlot : length image ≡ device_bytes → journal.IsDamagedAt image offset → IsDamagedAt image offset
+  InContents : (c : Contents) → Holds c image → IsWrongAt c offset → IsDamagedAt image offset
+
+-- What a fault of opening says of the image that the disk reads: it is unformatted; it is damaged first at this offset; memory
+-- was wanted, and it is not unformatted. The others say nothing of it.
+abbrev pub Tells : Fault → List ℕ → Type 0
+Tells Unformatted image = journal.IsUnformatted image
+Tells (Damaged offset) image = IsDamagedAt image offset
+Tells Device image = Unit {0}
+Tells NoMemory image = journal.IsUnformatted image → ⊥
+Tells Failed image = Unit {0}
+Tells (Mismatch place) image = Unit {0}
