@@ -1,12 +1,12 @@
 -- Mails go out of their boxes and are written as replies; and what is empty stays empty.
-use Rattle.std.proofs.Common.{◌≡◌, ℕ, zero, suc, ◌+◌, ◌<◌, ◌≤◌, Bool, true, false, true≢false, List, [], ◌∷◌, ◌++◌, Option, Some, None, IsSome, length, refl, sym, ap, ◌∙◌, subst, arith, rules, append_assoc, append-nil, nat_lt, nat_eq, take, drop, map, get_or, slice_set, take_all, inl, inr, Result, Ok, Err, OnErr, if◌then◌else◌}
+use Rattle.std.proofs.Common.{◌≡◌, ℕ, zero, suc, ◌+◌, ◌<◌, Bool, true, false, true≢false, List, [], ◌∷◌, ◌++◌, Option, Some, None, IsSome, length, refl, sym, ap, ◌∙◌, subst, arith, rules, append_assoc, append-nil, nat_lt, nat_eq, take, drop, map, get_or, slice_set, inl, inr, Result, Ok, Err, OnErr, if◌then◌else◌}
 use Rattle.std.specs.Prelude.{slice_get, is_some}
 use Rattle.std.specs.Option.{option_map_or}
 use Rattle.std.specs.Ordering.{nat_cmp}
 use Rattle.std.specs.FinMap.{FinMap, get}
 use Rattle.std.proofs.lemmas.Option.{same_Some}
 use Rattle.std.proofs.lemmas.Bool.Decides.{nat_tests}
-use Rattle.std.proofs.lemmas.List.{map-append, take-append-drop, drop_more, drop_all, drop-set-lt, take_more_set}
+use Rattle.std.proofs.lemmas.List.{map-append, take-append-drop, drop_more, drop-set-lt, take_more_set}
 use Rattle.fe_state.proofs.Maps.{same_or_other}
 use Rattle.fe_wire.specs.Spelling.{reply_spelling}
 use Rattle.fe_wire.specs.declared.server_message.ServerMessage.{ServerMessage}
@@ -283,11 +283,11 @@ quiet_append f [] d quiet one = (one, tt)
 quiet_append f (c ∷ cs) d quiet one = (quiet.0, quiet_append f cs d quiet.1 one)
 
 -- those are passed over
-quiet_all_emptied : (f : FrontState) (cs ds : List Client) → AreQuiet f cs → all_emptied f (cs ++ ds) ≡ all_emptied f ds
+pub quiet_all_emptied : (f : FrontState) (cs ds : List Client) → AreQuiet f cs → all_emptied f (cs ++ ds) ≡ all_emptied f ds
 quiet_all_emptied f [] ds quiet = refl
 quiet_all_emptied f (c ∷ cs) ds quiet = ap (λ (g : FrontState). all_emptied g (cs ++ ds)) (nothing_emptied f c.conn quiet.0.box) ∙ quiet_all_emptied f cs ds quiet.1
 
-quiet_all_told : (f : FrontState) (cs ds : List Client) → AreQuiet f cs → all_told f (cs ++ ds) ≡ cs ++ all_told f ds
+pub quiet_all_told : (f : FrontState) (cs ds : List Client) → AreQuiet f cs → all_told f (cs ++ ds) ≡ cs ++ all_told f ds
 quiet_all_told f [] ds quiet = refl
 quiet_all_told f (c ∷ cs) ds quiet =
     ap (λ (d : Client). d ∷ all_told (emptied_box f c.conn) (cs ++ ds)) (quiet_told f c quiet.0)

@@ -1,8 +1,8 @@
 -- The messages that are left of a connection are taken one after the other.
-use Rattle.std.proofs.Common.{Vec, Global, ◌≡◌, ℕ, ◌<◌, Bool, true, false, true≢false, Result, Ok, Err, List, [], ◌∷◌, ◌++◌, length, map, Option, Some, None, refl, sym, ap, ◌∙◌, subst, append_assoc, get_or, arith}
+use Rattle.std.proofs.Common.{Vec, Global, ◌≡◌, ℕ, ◌<◌, Bool, true, false, true≢false, Result, Err, List, [], ◌∷◌, ◌++◌, length, map, Option, Some, None, refl, sym, ap, ◌∙◌, subst, append_assoc, get_or, arith}
 use Rattle.std.specs.Prelude.{is_some, slice_get, slice_set, nat_lt, IsErrOf}
 use Rattle.std.proofs.lemmas.Bool.Decides.{nat_tests}
-use Rattle.std.specs.Option.{option_map, option_map_or}
+use Rattle.std.specs.Option.{option_map}
 use Rattle.std.proofs.lemmas.List.{length-map, map-set}
 use Rattle.std.proofs.lemmas.Option.{slice_get-map, slice_get_read}
 use Rattle.fe_keeper.specs.Keeper.{KeeperState}
@@ -13,18 +13,18 @@ use Rattle.fe_state.specs.declared.entry.Entry.{Entry}
 use Rattle.fe_wire.specs.declared.client_message.ClientMessage.{ClientMessage}
 use Rattle.fe_keeper.specs.declared.fault.Fault.{Fault}
 use Rattle.fe_keeper.specs.declared.fault.Fault.TheVariants as keeper
-use Rattle.fe_front.specs.Front.{FrontState, is_connected}
+use Rattle.fe_front.specs.Front.{FrontState}
 use Rattle.fe_desk.specs.Standing.{Client, Standing}
 use Rattle.fe_desk.specs.Storing.{roomy}
 use Rattle.fe_desk.specs.Taking.{Takes, TakesOne, TakesAll}
 use Rattle.fe_desk.specs.Steps.{find, on_client, with_left}
 use Rattle.fe_desk.specs.Keeping.{Enters}
-use Rattle.fe_desk.specs.Messages.{left_of, TakesNext, told_as}
+use Rattle.fe_desk.specs.Messages.{left_of, TakesNext, EndsWith}
 use Rattle.fe_desk.specs.Places.{IsFirstAt}
-use Rattle.fe_desk.specs.Crash.{DeskState, Advances, IsFine, HasFailed, Tells, TellsStep, disk_of}
+use Rattle.fe_desk.specs.Crash.{DeskState, Advances, IsFine, Tells, disk_of}
 use Rattle.fe_desk.specs.declared.port.Port.{Port}
 use Rattle.fe_desk.specs.Desk.{IsTied, IsDesk, IsHanded, unstored, cut_entries, client_of}
-use Rattle.fe_desk.proofs.Places.{numbers, numbers_changed, first_by_numbers, found_by_numbers, found_first, changed_first}
+use Rattle.fe_desk.proofs.Places.{numbers, numbers_changed, first_by_numbers, found_first, changed_first}
 use Rattle.fe_desk.proofs.Reading.{on_client-twice, find-on_client, found-on_client, relieved, none_left, left_among, with_clients, roomy-clients, roomy-keeps, takes_one_of, on_client-stays}
 use Rattle.fe_desk.proofs.Advancing.{HasStore, advances_then, advances_both, desk_as, fine_both, fine_as, advances_itself}
 
@@ -145,6 +145,7 @@ next_one s r t conn room next =
 pub record IsTaken (conn : ℕ) (s t : Standing) : Type 0 where
   pub again : (v : Standing) → TakesAll (with_left t conn []) conn (left_of t conn) v → TakesAll (with_left s conn []) conn (left_of s conn) v
   pub clients : t.clients ≡ on_client conn (relieved (left_of t conn)) s.clients
+  pub rest : EndsWith (left_of s conn) (left_of t conn)
   pub owes : t.owes ≡ s.owes
 
 left-relieved : (conn : ℕ) (left : List ClientMessage) (cs : List Client) → is_some (find conn cs) ≡ true → left_among (find conn (on_client conn (relieved left) cs)) ≡ left
@@ -158,6 +159,7 @@ pub taken_none : (conn : ℕ) (s : Standing) → IsTaken conn s s
 taken_none conn s = record {
   again = λ v h. h;
   clients = sym (on_client-stays conn (relieved (left_of s conn)) s.clients (λ c here. ap (λ (left : List ClientMessage). relieved left c) (ap left_among here)));
+  rest = ([], refl);
   owes = refl;
 }
 
@@ -176,6 +178,7 @@ taken_next conn s a r t here room owes taken next =
           (subst (λ (ms : List ClientMessage). TakesAll (with_left a conn []) conn ms v) (sym before)
           (with_left t conn [], next_one a r t conn room next, subst (λ (ms : List ClientMessage). TakesAll (with_left t conn []) conn ms v) left h));
       clients = clients ∙ ap (λ (ms : List ClientMessage). on_client conn (relieved ms) s.clients) (sym left);
+      rest = (taken.rest.0 ++ next.message ∷ [], taken.rest.1 ∙ ap (λ (ms : List ClientMessage). taken.rest.0 ++ ms) (before ∙ ap (λ (ms : List ClientMessage). next.message ∷ ms) (sym left)) ∙ sym (append_assoc taken.rest.0 (next.message ∷ []) (left_of t conn)));
       owes = ap (λ (u : Standing). u.owes) next.after ∙ owes ∙ taken.owes;
     }
 
@@ -211,6 +214,9 @@ taken_all conn s t none taken =
 pub clients_then : (conn : ℕ) (s a u : Standing) → u.clients ≡ a.clients → IsTaken conn s a → u.clients ≡ (with_left s conn (left_of u conn)).clients
 clients_then conn s a u clients taken =
     clients ∙ taken.clients ∙ ap (λ (cs : List Client). on_client conn (relieved (left_among (find conn cs))) s.clients) (sym clients)
+
+pub rest_then : (conn : ℕ) (s a u : Standing) → u.clients ≡ a.clients → IsTaken conn s a → EndsWith (left_of s conn) (left_of u conn)
+rest_then conn s a u clients taken = subst (λ (cs : List Client). EndsWith (left_of s conn) (left_among (find conn cs))) (sym clients) taken.rest
 
 -- ---- what is told of the disk
 

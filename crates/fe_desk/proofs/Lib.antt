@@ -2,6 +2,7 @@ pub mod Advancing
 pub mod Coming
 pub mod Connecting
 pub mod Emptying
+pub mod Quiets
 pub mod Entering
 pub mod Lives
 pub mod Openings
@@ -12,6 +13,7 @@ pub mod Runnings
 pub mod StepParts
 pub mod Leftovers
 pub mod Reading
+pub mod Feeding
 pub mod Pieces
 pub mod Making
 pub mod Unchecked

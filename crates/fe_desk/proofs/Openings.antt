@@ -15,7 +15,10 @@ use Rattle.fe_keeper.specs.declared.fault.Fault.{Fault}
 use Rattle.fe_keeper.specs.declared.fault.Fault.TheVariants as keeper
 use Rattle.fe_desk.specs.declared.fault.DeskFault.{DeskFault}
 use Rattle.fe_desk.specs.declared.fault.DeskFault.TheVariants.{Store, NoMemory}
-use Rattle.fe_desk.specs.Opened.{disk_after}
+use Rattle.fe_journal.specs.Damage.{IsUnformatted}
+use Rattle.fe_keeper.specs.Damage as store
+use Rattle.fe_desk.specs.Messages.{told_as}
+use Rattle.fe_desk.specs.Opened.{disk_after, TellsOpening}
 use Rattle.fe_desk.specs.declared.handed.Handed.{Handed}
 use Rattle.fe_desk.specs.declared.parts.Parts.{Parts}
 use Rattle.fe_desk.specs.declared.port.Port.{Port}
@@ -107,3 +110,18 @@ written_as (p ∷ ps) = let here : ℕ × List ℕ = (p.conn, p.written) in ap (
 
 pub is_trace : {D : Type 0} (p : Parts D) → IsTraceOf p.trace (standing_of p) p.trace.synced
 is_trace p = record { groups = refl; written = written_as p.trace.ports.items; synced_is = refl }
+
+-- ---- what is told of a store
+
+pub tells_opening : (image : List ℕ) (fault : Fault) → store.Tells fault image → TellsOpening (told_as fault false) image
+tells_opening image keeper.Device tells = tells
+tells_opening image keeper.Failed tells = tells
+tells_opening image keeper.NoMemory tells = tells
+tells_opening image (keeper.Mismatch place) tells = tells
+tells_opening image (keeper.Damaged offset) tells = tells
+tells_opening image keeper.Unformatted tells = tells
+
+-- the store is not unformatted, and there was no memory for its desk
+pub short_opening : {T D : Type 0} (r : Result T (DeskFault × D)) (image : List ℕ) → (IsUnformatted image → ⊥) → IfErr r (λ e. e.0 ≡ NoMemory false) → IfErr r (λ e. TellsOpening e.0 image)
+short_opening (Ok desk) image formatted short = tt
+short_opening (Err e) image formatted short = subst (λ (f : DeskFault). TellsOpening f image) (sym short) formatted

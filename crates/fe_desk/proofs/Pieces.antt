@@ -1,6 +1,6 @@
 -- A piece of a connection's stream: what is left of it is taken, and then what the piece completes.
-use Rattle.std.proofs.Common.{◌≡◌, ℕ, ◌<◌, Bool, true, false, true≢false, Result, Ok, Err, List, [], ◌∷◌, ◌++◌, length, map, Option, Some, None, refl, sym, ap, ◌∙◌, subst, get_or, if◌then◌else◌, MatchBool, arith}
-use Rattle.std.specs.Prelude.{is_some, slice_get, slice_set, IsErrOf, OnOk, IfErr}
+use Rattle.std.proofs.Common.{◌≡◌, ◌≢◌, ℕ, ◌<◌, Bool, true, false, Result, Ok, Err, List, [], ◌++◌, length, map, Option, Some, None, refl, sym, ap, ◌∙◌, subst, get_or, if◌then◌else◌, MatchBool}
+use Rattle.std.specs.Prelude.{is_some, slice_set, IsErrOf, OnOk, IfErr}
 use Rattle.std.specs.Option.{option_map}
 use Rattle.std.proofs.lemmas.Option.{same_Some}
 use Rattle.fe_wire.specs.Stream.{Decoding}
@@ -8,20 +8,21 @@ use Rattle.fe_wire.specs.declared.client_message.ClientMessage.{ClientMessage}
 use Rattle.fe_keeper.specs.Keeper.{KeeperState}
 use Rattle.fe_keeper.specs.declared.fault.Fault.{Fault}
 use Rattle.fe_keeper.specs.declared.fault.Fault.TheVariants as keeper
-use Rattle.fe_front.specs.Front.{FrontState, is_connected}
+use Rattle.fe_front.specs.Front.{is_connected}
 use Rattle.fe_desk.specs.declared.fault.DeskFault.{DeskFault}
 use Rattle.fe_desk.specs.declared.fault.DeskFault.TheVariants as desk
 use Rattle.fe_desk.specs.declared.port.Port.{Port}
 use Rattle.fe_desk.specs.Standing.{Client, Standing}
 use Rattle.fe_desk.specs.Storing.{is_making}
 use Rattle.fe_desk.specs.Taking.{TakesAll}
-use Rattle.fe_desk.specs.Steps.{find, on_client, with_left, with_decoder, unmade, gone, after_frame, Reads, TakesPiece, TakesFrom, TakesBytes}
-use Rattle.fe_desk.specs.Messages.{left_of, outputs, told_as}
+use Rattle.fe_desk.specs.Steps.{find, on_client, with_left, with_decoder, gone, after_frame, Reads, TakesPiece, TakesFrom, TakesBytes}
+use Rattle.fe_desk.specs.Messages.{left_of, outputs, told_as, read_by, EndsWith, ReadsNone, ReadsPiece}
 use Rattle.fe_desk.specs.Places.{IsFirstAt}
-use Rattle.fe_desk.specs.Crash.{DeskState, Advances, IsFine, HasFailed, Tells, TellsStep, disk_of}
-use Rattle.fe_desk.specs.Desk.{IsTied, IsDesk, client_of}
+use Rattle.fe_desk.specs.Crash.{DeskState, Advances, IsFine, Tells, TellsStep}
+use Rattle.fe_desk.specs.Desk.{IsDesk, client_of}
 use Rattle.fe_desk.proofs.Places.{found_first, number_here, client_there, numbers, numbers_changed, first_by_numbers}
-use Rattle.fe_desk.proofs.Reading.{on_client-twice, find-on_client, on_client-alike, on_client-stays, found-on_client, each-on_client, relieved, left_among, left_emptied, takes_all-keeps, first_again, piece_again, later_again, IsRead}
+use Rattle.fe_desk.proofs.Reading.{on_client-twice, find-on_client, on_client-alike, on_client-stays, found-on_client, each-on_client, relieved, left_among, left_emptied, takes_all-keeps, first_again, piece_again, later_again}
+use Rattle.fe_desk.proofs.Feeding.{read_among, read_kept, find_other}
 use Rattle.fe_desk.proofs.Leftovers.{tells_after, client_here, port_changed}
 use Rattle.fe_desk.proofs.Advancing.{HasStore, desk_as, advances_then, advances_both, advances_itself, fine_both, fine_as}
 
@@ -148,6 +149,16 @@ desk_reads honest may_leave b conn change cs keeps clients is =
     (record { handed = is.tied.handed; legal = is.tied.legal; state = is.tied.state })
     (λ k on. ap (λ (ds : List Client). is_some (find k ds)) clients ∙ found-on_client conn change b.standing.clients k keeps ∙ is.known k on)
 
+-- ---- what connections have read
+
+-- nothing else, where only messages were taken
+left_reads_none : (s t : Standing) (conn : ℕ) (left : List ClientMessage) → t.clients ≡ on_client conn (relieved left) s.clients → ReadsNone s t
+left_reads_none s t conn left clients k = ap (λ (cs : List Client). read_among k cs) clients ∙ read_kept k conn (relieved left) s.clients (λ c. refl) (λ c. refl)
+
+-- another than the connection that did
+others_read : (s t : Standing) (conn : ℕ) (change : Client → Client) → ((c : Client) → (change c).conn ≡ c.conn) → t.clients ≡ on_client conn change s.clients → (k : ℕ) → k ≢ conn → read_by t k ≡ read_by s k
+others_read s t conn change keeps clients k other = ap (λ (cs : List Client). read_among k cs) clients ∙ ap (option_map (λ (c : Client). c.decoder)) (find_other k conn change s.clients other keeps)
+
 module _ {D : Type 0} (honest : D → Type 0) (may_leave : D → List ℕ → Type 0) (moment : D → ℕ) (left_since : D → ℕ → List ℕ → Type 0) (failures : D → ℕ) where
   -- what taking the messages that are left of a connection leaves
   pub record TookLeft (conn at : ℕ) (old : DeskState D) (result : Result (Unit {0}) Fault) (new : DeskState D) : Type 0 where
@@ -155,6 +166,7 @@ module _ {D : Type 0} (honest : D → Type 0) (may_leave : D → List ℕ → Ty
     pub taken : OnOk result (TakesAll (with_left old.standing conn []) conn (left_of old.standing conn) new.standing)
     pub again : IsErrOf result keeper.NoMemory → (t : Standing) → TakesAll (with_left new.standing conn []) conn (left_of new.standing conn) t → TakesAll (with_left old.standing conn []) conn (left_of old.standing conn) t
     pub still : IsErrOf result keeper.NoMemory → 0 < length (left_of new.standing conn)
+    pub rest : EndsWith (left_of old.standing conn) (left_of new.standing conn)
     pub clients : new.standing.clients ≡ on_client conn (relieved (left_of new.standing conn)) old.standing.clients
     pub owes : new.standing.owes ≡ old.standing.owes
     pub advances : Advances honest moment left_since old new
@@ -167,6 +179,7 @@ module _ {D : Type 0} (honest : D → Type 0) (may_leave : D → List ℕ → Ty
     pub taken : OnOk result (TakesBytes old.standing (find conn old.standing.clients) piece new.standing)
     pub again : (fed : Bool) → IsErrOf result (desk.NoMemory fed) → (t : Standing) → TakesBytes new.standing (find conn new.standing.clients) (if fed then [] else piece) t
         → TakesBytes old.standing (find conn old.standing.clients) piece t
+    pub fed : (fed : Bool) → IsErrOf result (desk.NoMemory fed) → MatchBool fed (ReadsPiece old.standing conn piece new.standing) (ReadsNone old.standing new.standing)
     pub owes : new.standing.owes ≡ old.standing.owes
     pub outputs_are : outputs new.standing ≡ outputs old.standing
     pub advances : Advances honest moment left_since old new
@@ -182,6 +195,7 @@ module _ {D : Type 0} (honest : D → Type 0) (may_leave : D → List ℕ → Ty
         desk_is = desk_is;
         taken = subst (λ (o : Option Client). TakesBytes a.standing o piece a.standing) (sym none) refl;
         again = λ fed e. cc;
+        fed = λ fed e. cc;
         owes = refl;
         outputs_are = refl;
         advances = advances_itself honest may_leave moment left_since only_now a desk_is;
@@ -204,6 +218,7 @@ module _ {D : Type 0} (honest : D → Type 0) (may_leave : D → List ℕ → Ty
         desk_is = left.desk_is;
         taken = tt;
         again = λ fed e t h. again fed (told_memory fault false fed (same_err e)) t h;
+        fed = λ fed e. subst (λ (x : Bool). MatchBool x (ReadsPiece a.standing conn piece b.standing) (ReadsNone a.standing b.standing)) (told_memory fault false fed (same_err e)).1 (left_reads_none a.standing b.standing conn (left_of b.standing conn) left.clients);
         owes = left.owes;
         outputs_are = left_outputs conn at a b (Err fault) left;
         advances = left.advances;
@@ -237,6 +252,7 @@ module _ {D : Type 0} (honest : D → Type 0) (may_leave : D → List ℕ → Ty
               reading = subst (λ (on : Bool). MatchBool on (TakesPiece b.standing conn c.decoder piece b.standing) (b.standing ≡ b.standing)) (sym off) refl;
             });
         again = λ fed e. cc;
+        fed = λ fed e. cc;
         owes = left.owes;
         outputs_are = left_outputs conn at a b (Ok tt) left;
         advances = left.advances;
@@ -258,6 +274,7 @@ module _ {D : Type 0} (honest : D → Type 0) (may_leave : D → List ℕ → Ty
         desk_is = left.desk_is;
         taken = tt;
         again = λ fed e t h. again fed (told_memory keeper.NoMemory false fed (same_err e)).1 t h;
+        fed = λ fed e. subst (λ (x : Bool). MatchBool x (ReadsPiece a.standing conn piece b.standing) (ReadsNone a.standing b.standing)) (told_memory keeper.NoMemory false fed (same_err e)).1 (left_reads_none a.standing b.standing conn (left_of b.standing conn) left.clients);
         owes = left.owes;
         outputs_are = left_outputs conn at a b (Ok tt) left;
         advances = left.advances;
@@ -362,6 +379,7 @@ module _ {D : Type 0} (honest : D → Type 0) (may_leave : D → List ℕ → Ty
         desk_is = rest.desk_is;
         taken = tt;
         again = λ other e t h. again other (told_memory fault true other (same_err e)) t h;
+        fed = λ other e. read other (told_memory fault true other (same_err e));
         owes = rest.owes ∙ ap (λ (u : Standing). u.owes) fed.standing_is ∙ left.owes;
         outputs_are = left_outputs conn at m n (Err fault) rest ∙ fed_outputs conn piece b m fed ∙ left_outputs conn at a b (Ok tt) left;
         advances = fed_advances conn at piece a b m n (Err fault) left fed rest;
@@ -375,6 +393,26 @@ module _ {D : Type 0} (honest : D → Type 0) (may_leave : D → List ℕ → Ty
 
       none : left_of b.standing conn ≡ []
       none = all_taken conn at a b left
+
+      whole : Reads c.decoder fed.decoder piece (rest.rest.0 ++ left_of n.standing conn)
+      whole = subst (λ (ms : List ClientMessage). Reads c.decoder fed.decoder piece ms) (sym (fed_left conn piece b m fed) ∙ rest.rest.1) (fed_reads conn at piece a b m c here left fed)
+
+      read : (other : Bool) → (fault ≡ keeper.NoMemory) × (true ≡ other) → MatchBool other (ReadsPiece a.standing conn piece n.standing) (ReadsNone a.standing n.standing)
+      read other is =
+          let asked : ◌≡◌ {A = Result (Unit {0}) Fault} (Err fault) (Err keeper.NoMemory) = ap (λ (f : Fault). Err f) is.0 in
+          subst (λ (x : Bool). MatchBool x (ReadsPiece a.standing conn piece n.standing) (ReadsNone a.standing n.standing)) is.1 (record {
+            before = c.decoder;
+            after = fed.decoder;
+            taken = rest.rest.0;
+            was = ap (option_map (λ (d : Client). d.decoder)) here.found;
+            is = left_reads_none m.standing n.standing conn (left_of n.standing conn) rest.clients conn ∙ ap (option_map (λ (d : Client). d.decoder)) (fed_here conn piece b m fed).found;
+            reads = whole;
+            some = rest.still asked;
+            others = λ k other'.
+                left_reads_none m.standing n.standing conn (left_of n.standing conn) rest.clients k
+                ∙ others_read b.standing m.standing conn (reading fed.decoder fed.more) (λ d. refl) (fed_clients conn piece b m fed) k other'
+                ∙ left_reads_none a.standing b.standing conn (left_of b.standing conn) left.clients k;
+          })
 
       again : (other : Bool) → (fault ≡ keeper.NoMemory) × (true ≡ other) → (t : Standing) → TakesBytes n.standing (find conn n.standing.clients) (if other then [] else piece) t → TakesBytes a.standing (find conn a.standing.clients) piece t
       again other is t h =
@@ -415,6 +453,7 @@ module _ {D : Type 0} (honest : D → Type 0) (may_leave : D → List ℕ → Ty
               reading = subst (λ (x : Bool). MatchBool x (TakesPiece b.standing conn c.decoder piece p.standing) (p.standing ≡ b.standing)) (sym on) piece_is;
             });
         again = λ other e. cc;
+        fed = λ other e. cc;
         owes = ap (λ (u : Standing). u.owes) after ∙ behind.owes ∙ rest.owes ∙ ap (λ (u : Standing). u.owes) fed.standing_is ∙ left.owes;
         outputs_are = ap outputs after ∙ behind.outputs_are ∙ left_outputs conn at m n (Ok tt) rest ∙ fed_outputs conn piece b m fed ∙ left_outputs conn at a b (Ok tt) left;
         advances = advances_then honest may_leave moment left_since a n p (fed_advances conn at piece a b m n (Ok tt) left fed rest) same;

@@ -12,7 +12,7 @@ use Rattle.fe_desk.specs.declared.handed.Handed.TheVariants.{Nothing, Cut, Store
 use Rattle.fe_desk.specs.Standing.{Client, Standing}
 use Rattle.fe_desk.specs.Storing.{cut, stored, stored_from, posted, posted_from, cleared, committed, is_making, made, with_room, begun_room, roomy}
 use Rattle.fe_desk.specs.Taking.{Takes, TakesOne, TakesAll}
-use Rattle.fe_desk.specs.Steps.{find, on_client, with_left, with_decoder, unmade, gone, after_frame, Reads, TakesPiece, TakesFrom, TakesBytes}
+use Rattle.fe_desk.specs.Steps.{find, on_client, with_left, with_decoder, unmade, gone, after_frame, Reads, TakesPiece, TakesFrom}
 use Rattle.fe_desk.specs.Messages.{left_of}
 
 -- ---- one client among others

@@ -1,6 +1,7 @@
 pub mod Frames
 pub mod Mails
 pub mod Standing
+pub mod Quiet
 pub mod Keeping
 pub mod Storing
 pub mod Taking

@@ -1,15 +1,18 @@
 -- What of a client a step may leave, what it never touches before its end, and what it tells.
-use Rattle.std.specs.Prelude.{◌≡◌, ℕ, Bool, List, [], ◌∷◌, map}
-use Rattle.std.specs.Option.{option_map_or}
+use Rattle.std.specs.Prelude.{◌≡◌, ◌≢◌, ℕ, ◌<◌, Bool, true, false, List, [], ◌∷◌, ◌++◌, length, map, Option, Some}
+use Rattle.std.specs.Option.{option_map, option_map_or}
 use Rattle.fe_state.specs.declared.entry.Entry.{Entry}
 use Rattle.fe_front.specs.Front.{FrontState}
 use Rattle.fe_keeper.specs.declared.fault.Fault.{Fault}
 use Rattle.fe_keeper.specs.declared.fault.Fault.TheVariants as keeper
+use Rattle.fe_wire.specs.Stream.{Decoding}
 use Rattle.fe_wire.specs.declared.client_message.ClientMessage.{ClientMessage}
 use Rattle.fe_desk.specs.declared.fault.DeskFault.{DeskFault}
 use Rattle.fe_desk.specs.declared.fault.DeskFault.TheVariants as desk
+use Rattle.fe_desk.specs.declared.step.Step.{Step}
+use Rattle.fe_desk.specs.declared.step.Step.TheVariants as step
 use Rattle.fe_desk.specs.Standing.{Standing}
-use Rattle.fe_desk.specs.Steps.{find, with_left}
+use Rattle.fe_desk.specs.Steps.{find, with_left, Reads}
 use Rattle.fe_desk.specs.Taking.{Takes}
 
 -- the messages of a connection number that came whole and are not taken
@@ -34,3 +37,33 @@ outputs s = map (λ c. (c.conn, c.written)) s.clients
 abbrev pub told_as : Fault → Bool → DeskFault
 told_as keeper.NoMemory fed = desk.NoMemory fed
 told_as fault fed = desk.Store fault
+
+-- what a connection number has read of its stream
+abbrev pub read_by : Standing → ℕ → Option Decoding
+read_by s conn = option_map (λ c. c.decoder) (find conn s.clients)
+
+-- these messages are the last of those
+abbrev pub EndsWith : List ClientMessage → List ClientMessage → Type 0
+EndsWith all last = (first : List ClientMessage) × (all ≡ first ++ last)
+
+-- no connection has read anything since
+abbrev pub ReadsNone : Standing → Standing → Type 0
+ReadsNone s t = (conn : ℕ) → read_by t conn ≡ read_by s conn
+
+-- The piece of a connection was read behind what was read before, and nothing of another one. Of the messages that it
+-- completes the first were taken, and the others, one at least, are left.
+pub record ReadsPiece (s : Standing) (conn : ℕ) (piece : List ℕ) (t : Standing) : Type 0 where
+  pub before : Decoding
+  pub after : Decoding
+  pub taken : List ClientMessage
+  pub was : read_by s conn ≡ Some before
+  pub is : read_by t conn ≡ Some after
+  pub reads : Reads before after piece (taken ++ left_of t conn)
+  pub some : 0 < length (left_of t conn)
+  pub others : (other : ℕ) → other ≢ conn → read_by t other ≡ read_by s other
+
+-- what a step that found no memory did with its bytes: their piece was read, or else nothing was
+abbrev pub TellsFed : Bool → Standing → Step → Standing → Type 0
+TellsFed false s step t = ReadsNone s t
+TellsFed true s (step.Bytes conn piece) t = ReadsPiece s conn piece.items t
+TellsFed true s step t = ⊥

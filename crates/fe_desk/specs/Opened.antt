@@ -1,8 +1,9 @@
 -- What opening a desk gives.
-use Rattle.std.specs.Prelude.{◌≡◌, ◌⊎◌, ℕ, false, Result, Ok, Err}
+use Rattle.std.specs.Prelude.{◌≡◌, ◌⊎◌, ℕ, false, List, Result, Ok, Err}
 use Rattle.fe_keeper.specs.declared.fault.Fault.TheVariants as keeper
 use Rattle.fe_desk.specs.declared.fault.DeskFault.{DeskFault}
-use Rattle.fe_desk.specs.declared.fault.DeskFault.TheVariants.{Store, NoMemory}
+use Rattle.fe_keeper.specs.Damage as store
+use Rattle.fe_desk.specs.declared.fault.DeskFault.TheVariants.{Store, NoMemory, Unwritten}
 use Rattle.fe_desk.specs.Crash.{DeskState, disk_of}
 
 -- the disk, after a desk was opened on it or not
@@ -14,3 +15,9 @@ disk_after (Err refused) = refused.1
 abbrev pub IsOpenFault : DeskFault → Type 0
 IsOpenFault fault =
     (fault ≡ Store keeper.Device) ⊎ ((fault ≡ NoMemory false) ⊎ ((fault ≡ Store keeper.Unformatted) ⊎ ((offset : ℕ) × (fault ≡ Store (keeper.Damaged offset)))))
+
+-- what a fault of opening says of the image that the disk reads
+abbrev pub TellsOpening : DeskFault → List ℕ → Type 0
+TellsOpening (Store fault) image = store.Tells fault image
+TellsOpening (NoMemory fed) image = store.Tells keeper.NoMemory image
+TellsOpening Unwritten image = ⊥

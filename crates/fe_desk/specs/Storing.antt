@@ -1,9 +1,8 @@
 -- The way of a batch: it is cut, stored as a group, and posted.
-use Rattle.std.specs.Prelude.{ℕ, Bool, false, nat_eq, List, [], ◌∷◌, ◌++◌, Option, Some, None, if◌then◌else◌}
+use Rattle.std.specs.Prelude.{ℕ, Bool, false, nat_eq, [], ◌∷◌, ◌++◌, Option, None, if◌then◌else◌}
 use Rattle.std.specs.Option.{option_map_or}
 use Rattle.fe_state.specs.declared.batch.Batch.{Batch}
-use Rattle.fe_state.specs.declared.entry.Entry.{Entry}
-use Rattle.fe_front.specs.Front.{FrontState, has_room}
+use Rattle.fe_front.specs.Front.{has_room}
 use Rattle.fe_front.specs.Steps as front
 use Rattle.fe_front.specs.Posting as posting
 use Rattle.fe_desk.specs.declared.handed.Handed.{Handed}

@@ -1,16 +1,16 @@
 //! The steps.
 
 ghost use Rattle.std.specs.Prelude.{◌≡◌, ℕ, Bool, true, false, List, map, Ok, Err, IfErr, OnOk, OnErr, IsErrOf, []};
-ghost use Rattle.fe_mail.specs.Connections.{mails_on};
 ghost use Rattle.fe_keeper.specs.declared.fault.Fault.TheVariants as keeper;
 ghost use Rattle.fe_desk.specs.declared.fault.DeskFault.TheVariants as fault;
 ghost use Rattle.fe_desk.specs.declared.step.Step.{Step as Steps};
 ghost use Rattle.fe_desk.specs.Standing.{Standing, settled, emptied};
 ghost use Rattle.fe_desk.specs.Steps.{DeskStep, Acts, IsAgain};
-ghost use Rattle.fe_desk.specs.Messages.{outputs};
+ghost use Rattle.fe_desk.specs.Messages.{outputs, TellsFed};
 ghost use Rattle.fe_desk.specs.Crash.{Advances, IsFine, Tells, TellsStep};
 ghost use Rattle.fe_desk.specs.Desk.{desk_of, standing_of, IsDesk};
 ghost use Rattle.fe_desk.specs.Checks.{Checks};
+ghost use Rattle.fe_desk.specs.Quiet.{HasNoMail, mails_nothing};
 
 use crate::fault::DeskFault;
 use crate::messages::told;
@@ -22,16 +22,18 @@ use fe_keeper::Fault;
 use std::alloc::AllocError;
 
 impl<D: Disk> Parts<D> {
-    /// Takes a step.
-    pub(crate) fn step(&mut self, step: &Step) -> Result<(), DeskFault>
+    /// Takes a step. With `still`, there is no mail before it, and it makes none.
+    pub(crate) fn step(&mut self, step: &Step, still: bool) -> Result<(), DeskFault>
         requires desk { IsDesk D.honest D.may_leave (desk_of self.old) }
+        requires still { still ≡ true → HasNoMail (standing_of self.old) × (mails_nothing step.now ≡ true) }
         ensures desk { IsDesk D.honest D.may_leave (desk_of self.new) }
         ensures stepped { OnOk result (DeskStep (standing_of self.old) step.now (standing_of self.new)) }
         ensures checked { OnOk result (Checks step.now self.old.keeper self.new.keeper) }
         ensures again { (fed : Bool) (next : Steps) (t : Standing) → IsErrOf result (fault.NoMemory fed) → IsAgain fed step.now next
             → DeskStep (standing_of self.new) next t → DeskStep (standing_of self.old) step.now t }
-        ensures unwritten { IsErrOf result fault.Unwritten → DeskStep (standing_of self.old) step.now (settled (standing_of self.new)) × (self.new.owes ≡ true) }
-        ensures boxes { OnOk result ((conn : ℕ) → mails_on self.new.front.connections conn ≡ []) }
+        ensures fed { (fed : Bool) → IsErrOf result (fault.NoMemory fed) → TellsFed fed (standing_of self.old) step.now (standing_of self.new) }
+        ensures unwritten { IsErrOf result fault.Unwritten → DeskStep (standing_of self.old) step.now (settled (standing_of self.new)) × (self.new.owes ≡ true) × Checks step.now self.old.keeper self.new.keeper }
+        ensures quiet { OnOk result (HasNoMail (standing_of self.new)) }
         ensures advances { Advances D.honest D.moment D.left_since (desk_of self.old) (desk_of self.new) }
         ensures failed { self.old.keeper.store.has_failed ≡ true → (result ≡ Err (fault.Store keeper.Failed)) × (desk_of self.new ≡ desk_of self.old) }
         ensures fine { self.old.keeper.store.has_failed ≡ false → OnOk result (IsFine D.failures (desk_of self.old) (desk_of self.new)) }
@@ -45,7 +47,7 @@ impl<D: Disk> Parts<D> {
             return Err(DeskFault::NoMemory { fed: false });
         }
         self.act(step)?;
-        if self.empty().is_err() {
+        if self.finish(still).is_err() {
             return Err(DeskFault::Unwritten);
         }
         Ok(())
@@ -67,13 +69,31 @@ impl<D: Disk> Parts<D> {
         Ok(())
     }
 
+    /// Ends a step: every box is emptied. With `still`, there is no mail.
+    fn finish(&mut self, still: bool) -> Result<(), AllocError>
+        requires desk { IsDesk D.honest D.may_leave (desk_of self.old) }
+        requires still { still ≡ true → HasNoMail (standing_of self.old) }
+        ensures desk { IsDesk D.honest D.may_leave (desk_of self.new) }
+        ensures emptied { OnOk result (standing_of self.new ≡ emptied (standing_of self.old)) }
+        ensures later { OnErr result ((emptied (standing_of self.new) ≡ emptied (standing_of self.old)) × (self.new.owes ≡ true)) }
+        ensures quiet { OnOk result (HasNoMail (standing_of self.new)) }
+        ensures keeper { self.new.keeper ≡ self.old.keeper }
+        ensures synced { self.new.trace.synced ≡ self.old.trace.synced }
+        ensures groups { (standing_of self.new).groups ≡ (standing_of self.old).groups }
+    {
+        if still {
+            return Ok(());
+        }
+        self.empty()
+    }
+
     /// Empties every box. Where memory is short, the next step begins with it.
     fn empty(&mut self) -> Result<(), AllocError>
         requires desk { IsDesk D.honest D.may_leave (desk_of self.old) }
         ensures desk { IsDesk D.honest D.may_leave (desk_of self.new) }
         ensures emptied { OnOk result (standing_of self.new ≡ emptied (standing_of self.old)) }
         ensures later { OnErr result ((emptied (standing_of self.new) ≡ emptied (standing_of self.old)) × (self.new.owes ≡ true)) }
-        ensures boxes { OnOk result ((conn : ℕ) → mails_on self.new.front.connections conn ≡ []) }
+        ensures quiet { OnOk result (HasNoMail (standing_of self.new)) }
         ensures keeper { self.new.keeper ≡ self.old.keeper }
         ensures synced { self.new.trace.synced ≡ self.old.trace.synced }
         ensures groups { (standing_of self.new).groups ≡ (standing_of self.old).groups }
@@ -92,6 +112,7 @@ impl<D: Disk> Parts<D> {
         ensures checked { OnOk result (Checks step.now self.old.keeper self.new.keeper) }
         ensures again { (fed : Bool) (next : Steps) (t : Standing) → IsErrOf result (fault.NoMemory fed) → IsAgain fed step.now next
             → Acts (standing_of self.new) next t → Acts (standing_of self.old) step.now t }
+        ensures fed { (fed : Bool) → IsErrOf result (fault.NoMemory fed) → TellsFed fed (standing_of self.old) step.now (standing_of self.new) }
         ensures owes { self.new.owes ≡ self.old.owes }
         ensures outputs { OnErr result (outputs (standing_of self.new) ≡ outputs (standing_of self.old)) }
         ensures advances { Advances D.honest D.moment D.left_since (desk_of self.old) (desk_of self.new) }

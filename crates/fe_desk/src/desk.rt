@@ -9,7 +9,7 @@ ghost use Rattle.fe_desk.specs.declared.step.Step.{Step as Steps};
 ghost use Rattle.fe_desk.specs.Standing.{Standing, IsFirstStanding, settled};
 ghost use Rattle.fe_desk.specs.Steps.{DeskStep, Acts, IsAgain};
 ghost use Rattle.fe_desk.specs.Checks.{Checks};
-ghost use Rattle.fe_desk.specs.Messages.{outputs};
+ghost use Rattle.fe_desk.specs.Messages.{outputs, TellsFed};
 ghost use Rattle.fe_desk.specs.Crash.{DeskState, Advances, IsFrom, IsFine, TellsStep, LeavesPrefix, disk_of};
 ghost use Rattle.fe_desk.specs.Traces.{IsTraceOf};
 
@@ -30,6 +30,8 @@ use std::marker::Model;
 #[derive(Drop)]
 pub struct Desk<D: Disk> {
     parts: Parts<D>,
+    /// No box has a mail, and no reply waits. False where that is not known.
+    quiet: bool,
 }
 
 impl<D: Disk> Model for Desk<D> {
@@ -42,11 +44,13 @@ impl<D: Disk> Model for Desk<D> {
 
     ghost coded = { Prim.hlevel (codes, state_code, front_code) };
 
-    ghost use Rattle.fe_desk.specs.Desk.{desk_of, IsDesk};
+    ghost use Rattle.std.specs.Prelude.{◌≡◌, true};
+    ghost use Rattle.fe_desk.specs.Desk.{desk_of, standing_of, IsDesk};
+    ghost use Rattle.fe_desk.specs.Quiet.{HasNoMail};
 
     ghost view = { λ d. desk_of d.parts };
 
-    ghost invariant = { λ d. IsDesk D.honest D.may_leave (desk_of d.parts) };
+    ghost invariant = { λ d. IsDesk D.honest D.may_leave (desk_of d.parts) × (d.quiet ≡ true → HasNoMail (standing_of d.parts)) };
 }
 
 impl<D: Disk> Desk<D> {
@@ -67,7 +71,10 @@ impl<D: Disk> Desk<D> {
             owes: false,
             alloc,
         };
-        Desk { parts }
+        Desk {
+            parts,
+            quiet: false,
+        }
     }
 
     /// Takes a step. At its end all mails are written.
@@ -79,7 +86,9 @@ impl<D: Disk> Desk<D> {
         // Where memory is short, the step is given again, to the same effect.
         ensures again { (fed : Bool) (next : Steps) (t : Standing) → IsErrOf result (fault.NoMemory fed) → IsAgain fed step.now next
             → DeskStep self.new.standing next t → DeskStep self.old.standing step.now t }
-        ensures unwritten { IsErrOf result fault.Unwritten → DeskStep self.old.standing step.now (settled self.new.standing) × (self.new.standing.owes ≡ true) }
+        // With `fed` the bytes of the step were read and are not given again; without it no connection has read anything.
+        ensures fed { (fed : Bool) → IsErrOf result (fault.NoMemory fed) → TellsFed fed self.old.standing step.now self.new.standing }
+        ensures unwritten { IsErrOf result fault.Unwritten → DeskStep self.old.standing step.now (settled self.new.standing) × (self.new.standing.owes ≡ true) × Checks step.now self.old.keeper self.new.keeper }
         // A checkpoint goes on as the step says.
         ensures checked { OnOk result (Checks step.now self.old.keeper self.new.keeper) }
         ensures boxes { OnOk result ((conn : ℕ) → mails_on self.new.standing.front.connections conn ≡ []) }
@@ -97,7 +106,10 @@ impl<D: Disk> Desk<D> {
         // Nothing of a step that the device failed is written.
         ensures silent { IsErrOf result (fault.Store keeper.Device) → outputs self.new.standing ≡ outputs (settled self.old.standing) }
     {
-        self.parts.step(step)
+        let still = self.quiet && step.mails_nothing();
+        let outcome = self.parts.step(step, still);
+        self.quiet = outcome.is_ok();
+        outcome
     }
 
     /// What the desk did since it was opened.
@@ -121,7 +133,7 @@ impl<D: Disk> Desk<D> {
         ensures stands { D.honest (disk_of self) → (begun : ServerState) → IsFrom begun self → (image : List ℕ) → D.may_leave (disk_of self) image
             → LeavesPrefix begun self.standing.groups self.synced image }
     {
-        let Desk { parts } = self;
+        let Desk { parts, .. } = self;
         let Parts { keeper, trace, .. } = parts;
         (trace, keeper.into_disk())
     }
@@ -130,7 +142,7 @@ impl<D: Disk> Desk<D> {
     pub fn into_disk(self) -> D
         ensures { result ≡ disk_of self }
     {
-        let Desk { parts } = self;
+        let Desk { parts, .. } = self;
         let Parts { keeper, .. } = parts;
         keeper.into_disk()
     }

@@ -1,6 +1,6 @@
 //! Bytes of a connection, and the messages in them.
 
-ghost use Rattle.std.specs.Prelude.{◌≡◌, ◌<◌, Bool, false, true, List, [], ◌∷◌, length, map, if◌then◌else◌, IfErr, OnOk, IsErrOf, IsTrue};
+ghost use Rattle.std.specs.Prelude.{◌≡◌, ◌<◌, Bool, false, true, List, [], ◌∷◌, length, map, if◌then◌else◌, IfErr, OnOk, IsErrOf, IsTrue, MatchBool};
 ghost use Rattle.fe_front.specs.Front.{has_room};
 ghost use Rattle.fe_keeper.specs.declared.fault.Fault.TheVariants as keeper;
 ghost use Rattle.fe_desk.specs.declared.fault.DeskFault.TheVariants as fault;
@@ -8,7 +8,7 @@ ghost use Rattle.fe_desk.specs.Standing.{Standing};
 ghost use Rattle.fe_desk.specs.Taking.{TakesAll};
 ghost use Rattle.fe_desk.specs.Steps.{find, with_left, TakesBytes};
 ghost use Rattle.fe_desk.specs.Places.{IsFirstAt};
-ghost use Rattle.fe_desk.specs.Messages.{left_of, outputs, told_as, TakesNext};
+ghost use Rattle.fe_desk.specs.Messages.{left_of, outputs, told_as, TakesNext, EndsWith, ReadsNone, ReadsPiece};
 ghost use Rattle.fe_desk.specs.Crash.{Advances, IsFine, Tells, TellsStep};
 ghost use Rattle.fe_desk.specs.Desk.{client_of, desk_of, standing_of, IsDesk};
 
@@ -31,6 +31,9 @@ impl<D: Disk> Parts<D> {
         ensures again { (fed : Bool) → IsErrOf result (fault.NoMemory fed) → (t : Standing)
             → TakesBytes (standing_of self.new) (find conn (standing_of self.new).clients) (if fed then [] else piece.now) t
             → TakesBytes (standing_of self.old) (find conn (standing_of self.old).clients) piece.now t }
+        ensures fed { (fed : Bool) → IsErrOf result (fault.NoMemory fed)
+            → MatchBool fed (ReadsPiece (standing_of self.old) conn piece.now (standing_of self.new))
+            (ReadsNone (standing_of self.old) (standing_of self.new)) }
         ensures owes { self.new.owes ≡ self.old.owes }
         ensures outputs { outputs (standing_of self.new) ≡ outputs (standing_of self.old) }
         ensures advances { Advances D.honest D.moment D.left_since (desk_of self.old) (desk_of self.new) }
@@ -71,6 +74,7 @@ impl<D: Disk> Parts<D> {
             → TakesAll (with_left (standing_of self.new) conn []) conn (left_of (standing_of self.new) conn) t
             → TakesAll (with_left (standing_of self.old) conn []) conn (left_of (standing_of self.old) conn) t }
         ensures still { IsErrOf result keeper.NoMemory → 0 < length (left_of (standing_of self.new) conn) }
+        ensures rest { EndsWith (left_of (standing_of self.old) conn) (left_of (standing_of self.new) conn) }
         ensures clients { (standing_of self.new).clients ≡ (with_left (standing_of self.old) conn (left_of (standing_of self.new) conn)).clients }
         ensures place { IsFirstAt (standing_of self.new).clients conn at }
         ensures owes { self.new.owes ≡ self.old.owes }

@@ -1,6 +1,7 @@
-ghost use Rattle.std.specs.Prelude.{◌≡◌, ◌≢◌, ◌⊎◌, ◌↔◌, false, None, IfOk, IfErr};
+ghost use Rattle.std.specs.Prelude.{◌≡◌, ◌≢◌, ◌⊎◌, ◌↔◌, false, None, IfOk, IfErr, IsErrAnd};
 ghost use Rattle.fe_disk.specs.Disk.{Rises};
 ghost use Rattle.fe_state.specs.State.{ServerState, first_state};
+ghost use Rattle.fe_journal.specs.Damage.{IsUnformatted};
 ghost use Rattle.fe_journal.specs.Steps.{OnlyReads};
 ghost use Rattle.fe_journal.specs.Layout.{device_bytes};
 ghost use Rattle.fe_keeper.specs.Stands.{StandsFor, EachStandsFor};
@@ -8,7 +9,7 @@ ghost use Rattle.fe_keeper.specs.declared.fault.Fault.TheVariants as keeper;
 ghost use Rattle.fe_desk.specs.declared.fault.DeskFault.TheVariants.{Store, NoMemory};
 ghost use Rattle.fe_desk.specs.Standing.{IsFirstStanding};
 ghost use Rattle.fe_desk.specs.Crash.{disk_of};
-ghost use Rattle.fe_desk.specs.Opened.{disk_after, IsOpenFault};
+ghost use Rattle.fe_desk.specs.Opened.{disk_after, IsOpenFault, TellsOpening};
 
 use crate::desk::Desk;
 use crate::fault::DeskFault;
@@ -26,6 +27,9 @@ pub fn open<D: Disk>(alloc: Global, disk: D) -> Result<Desk<D>, (DeskFault, D)>
     ensures first { IfOk result (λ desk. IsFirstStanding desk.keeper.state desk.standing × (desk.synced ≡ 0)) }
     // A store that stands for a state is refused only for its device or for memory.
     ensures refused { D.honest disk → (s : ServerState) → StandsFor (D.seen disk) s → IfErr result (λ e. (e.0 ≡ Store keeper.Device) ⊎ (e.0 ≡ NoMemory false)) }
+    // What is told of a store is so, and an unformatted one is told so, whatever memory there is.
+    ensures told { D.honest disk → IfErr result (λ e. TellsOpening e.0 (D.seen disk)) }
+    ensures unformatted { D.honest disk → IsUnformatted (D.seen disk) → IsErrAnd result (λ e. (e.0 ≡ Store keeper.Unformatted) ⊎ (e.0 ≡ Store keeper.Device)) }
     ensures reads { D.honest disk → OnlyReads D.seen D.may_leave D.moment D.left_since disk (disk_after result) }
     ensures works { IfOk result (λ desk. desk.keeper.store.has_failed ≡ false) }
     ensures device { IfErr result (λ e. (e.0 ≡ Store keeper.Device) ↔ Rises (D.failures disk) (D.failures e.1)) }
@@ -47,6 +51,9 @@ pub fn format<D: Disk>(alloc: Global, disk: D) -> Result<Desk<D>, (DeskFault, D)
     ensures unformatted { IfErr result (λ e. (e.0 ≡ Store keeper.Unformatted) ↔ (D.size disk ≢ device_bytes)) }
     ensures works { IfOk result (λ desk. desk.keeper.store.has_failed ≡ false) }
     ensures device { IfErr result (λ e. e.0 ≡ Store keeper.Device → Rises (D.failures disk) (D.failures e.1)) }
+    // Another fault is told where no call of the device failed.
+    ensures still { IfOk result (λ desk. D.failures (disk_of desk) ≡ D.failures disk) }
+    ensures calm { IfErr result (λ e. e.0 ≢ Store keeper.Device → D.failures e.1 ≡ D.failures disk) }
     ensures faults { IfErr result (λ e. (e.0 ≡ Store keeper.Device) ⊎ ((e.0 ≡ Store keeper.Unformatted) ⊎ (e.0 ≡ NoMemory false))) }
     ensures honesty { D.honest (disk_after result) ↔ D.honest disk }
 {

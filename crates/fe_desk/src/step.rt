@@ -1,3 +1,6 @@
+ghost use Rattle.std.specs.Prelude.{◌≡◌};
+ghost use Rattle.fe_desk.specs.Quiet.{mails_nothing};
+
 /// A step of a desk. One that has nothing to act on does nothing.
 #[derive(Debug, Drop)]
 pub enum Step {
@@ -19,4 +22,13 @@ pub enum Step {
     CheckStep,
     /// The checkpoint is finished.
     CheckFinish,
+}
+
+impl Step {
+    /// Whether the step makes no mail.
+    pub(crate) fn mails_nothing(&self) -> bool
+        ensures { result ≡ mails_nothing self.now }
+    {
+        !matches!(self, Step::Bytes { .. } | Step::Gone { .. } | Step::Post)
+    }
 }

@@ -1,4 +1,4 @@
-use Rattle.std.proofs.Common.{◌≡◌, ◌<◌, ℕ, List, length, Err, refl, ap, ◌∙◌, arith, rules}
+use Rattle.std.proofs.Common.{◌≡◌, ◌<◌, length, Err, refl, ap, ◌∙◌, rules}
 use Rattle.fe_desk.specs.declared.fault.DeskFault.TheVariants.{Store}
 use Rattle.fe_keeper.specs.declared.fault.Fault.TheVariants.{Device}
 use Rattle.fe_desk.specs.Messages.{outputs}

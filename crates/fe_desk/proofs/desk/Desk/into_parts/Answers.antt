@@ -14,4 +14,4 @@ returns-clause-stands g c =
     subst
     (λ (d : DeskState g.row.D.Denot).
     g.D.Disk.honest (disk_of d) → (begun : ServerState) → IsFrom begun d → (image : List ℕ) → g.D.Disk.may_leave (disk_of d) image → LeavesPrefix begun d.standing.groups d.synced image)
-    c.self.view_is c.self.invariant.upheld
+    c.self.view_is c.self.invariant.0.upheld

@@ -4,6 +4,8 @@ use Rattle.fe_desk.specs.declared.fault.DeskFault.TheVariants.{NoMemory, Unwritt
 use Rattle.fe_desk.specs.declared.step.Step.{Step}
 use Rattle.fe_desk.specs.Standing.{Standing, settled}
 use Rattle.fe_desk.specs.Steps.{DeskStep, IsAgain}
+use Rattle.fe_desk.specs.Checks.{Checks}
+use Rattle.fe_desk.specs.Messages.{TellsFed}
 use Rattle.fe_desk.specs.Desk.{standing_of}
 use Rattle.fe_desk.specs.Crash.{DeskState}
 use Rattle.fe_desk.proofs.desk.Desk.step.Goals as goal
@@ -12,12 +14,18 @@ pub returns-clause-again : goal.returns-clause-again
 returns-clause-again g c =
     subst
     (λ (d : DeskState g.row.D.Denot).
-    (fed : Bool) (next : Step) (t : Standing) → IsErrOf c.step.result (NoMemory fed) → IsAgain fed c.args.step.now next → DeskStep (standing_of c.step.new.self) next t → DeskStep d.standing c.args.step.now t)
-    c.self.view_is c.step.ensures.again
+    (fed : Bool) (next : Step) (t : Standing) → IsErrOf c.step-outcome.result (NoMemory fed) → IsAgain fed c.args.step.now next → DeskStep (standing_of c.step-outcome.new.self) next t → DeskStep d.standing c.args.step.now t)
+    c.self.view_is c.step-outcome.ensures.again
 
 pub returns-clause-unwritten : goal.returns-clause-unwritten
 returns-clause-unwritten g c =
     subst
     (λ (d : DeskState g.row.D.Denot).
-    IsErrOf c.step.result Unwritten → DeskStep d.standing c.args.step.now (settled (standing_of c.step.new.self)) × (c.step.new.self.owes ≡ true))
-    c.self.view_is c.step.ensures.unwritten
+    IsErrOf c.step-outcome.result Unwritten → DeskStep d.standing c.args.step.now (settled (standing_of c.step-outcome.new.self)) × (c.step-outcome.new.self.owes ≡ true) × Checks c.args.step.now d.keeper c.step-outcome.new.self.keeper)
+    c.self.view_is c.step-outcome.ensures.unwritten
+
+pub returns-clause-fed : goal.returns-clause-fed
+returns-clause-fed g c =
+    subst
+    (λ (d : DeskState g.row.D.Denot). (fed : Bool) → IsErrOf c.step-outcome.result (NoMemory fed) → TellsFed fed d.standing c.args.step.now (standing_of c.step-outcome.new.self))
+    c.self.view_is c.step-outcome.ensures.fed

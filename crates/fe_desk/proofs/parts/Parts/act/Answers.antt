@@ -1,6 +1,7 @@
 use Rattle.std.proofs.Common.{ap, map}
 use Rattle.fe_desk.specs.Desk.{standing_of, desk_of}
 use Rattle.fe_desk.proofs.Advancing.{advances_as}
+use Rattle.fe_desk.proofs.Feeding.{bytes_fed}
 use Rattle.fe_desk.proofs.StepParts.{bytes_again, connected_groups, gone_groups}
 use Rattle.fe_desk.proofs.parts.Parts.act.Goals as goal
 
@@ -32,3 +33,8 @@ pub returns-in-Post-clause-advances : goal.returns-in-Post-clause-advances
 returns-in-Post-clause-advances g c =
     advances_as g.D.Disk.honest g.D.Disk.may_leave g.D.Disk.moment g.D.Disk.left_since g.met.D.Disk.only_now (desk_of c.args.self.now) (desk_of c.post.new.self) c.requires.desk
     (record { keeper = c.post.ensures.keeper; groups = ap (λ t. map (λ g. g.items) t.groups.items) c.post.ensures.trace; synced = ap (λ t. t.synced) c.post.ensures.trace })
+
+pub returns-in-Bytes-clause-fed : goal.returns-in-Bytes-clause-fed
+returns-in-Bytes-clause-fed g c = λ fed asked.
+    bytes_fed fed (standing_of c.args.self.now) c.in-Bytes.conn c.in-Bytes.piece c.as_slice.result.now c.args.step.now (standing_of c.bytes.new.self) c.in-Bytes.is c.as_slice.ensures.value
+    (c.bytes.ensures.fed fed asked)

@@ -70,7 +70,7 @@ returns-in_default g c =
     record {
       desk = c.requires.desk;
       standing = refl;
-      checked = unchecked c.args.step.now c.args.self.now.keeper c.args.self.now.keeper c.in_default.not-CheckBegin c.in_default.not-CheckStep c.in_default.not-CheckFinish;
+      checked = unchecked c.args.step.now c.args.self.now.keeper c.in_default.not-CheckBegin c.in_default.not-CheckStep c.in_default.not-CheckFinish;
       advances = advances_itself g.D.Disk.honest g.D.Disk.may_leave g.D.Disk.moment g.D.Disk.left_since g.met.D.Disk.only_now (desk_of c.args.self.now) c.requires.desk;
       fine = record { works = c.requires.works; still = refl };
       fault = tt;

@@ -1,5 +1,6 @@
 use Rattle.std.proofs.Common.{refl}
 use Rattle.fe_desk.specs.declared.parts.Parts.{Parts}
+use Rattle.fe_desk.proofs.Quiets.{all_quiet}
 use Rattle.fe_desk.proofs.StepParts.{emptied_desk, all_written, some_written, none_boxed}
 use Rattle.fe_desk.proofs.parts.Parts.empty.Goals as goal
 
@@ -24,9 +25,9 @@ returns-clause-later g c =
     let q : Parts g.row.D.Denot = record p { front = boxes.new.front; trace = record p.trace { ports = boxes.new.ports }; owes = c.is_err-self.result } in
     some_written p q boxes.result boxes.ensures.later c.is_err-self.ensures.value refl refl refl
 
-pub returns-clause-boxes : goal.returns-clause-boxes
-returns-clause-boxes g c =
+pub returns-clause-quiet : goal.returns-clause-quiet
+returns-clause-quiet g c =
     let p = c.args.self.now in
     let boxes = c.empty_boxes-outcome in
     let q : Parts g.row.D.Denot = record p { front = boxes.new.front; trace = record p.trace { ports = boxes.new.ports }; owes = c.is_err-self.result } in
-    none_boxed p q boxes.result c.requires.desk.known boxes.ensures.front boxes.ensures.emptied
+    all_quiet p q boxes.result (none_boxed p q boxes.result c.requires.desk.known boxes.ensures.front boxes.ensures.emptied) boxes.ensures.told c.is_err-self.ensures.value

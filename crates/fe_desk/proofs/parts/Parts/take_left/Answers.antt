@@ -1,20 +1,13 @@
-use Rattle.std.proofs.Common.{◌≡◌, ◌<◌, length, map, nat_lt, true, false, [], refl, sym, ap, ◌∙◌, subst, ℕ, List, Result, Err, arith, rules}
-use Rattle.std.specs.Prelude.{is_some}
+use Rattle.std.proofs.Common.{◌<◌, length, map, refl, sym, ap, subst, List, arith}
 use Rattle.std.proofs.lemmas.List.{length-map}
 use Rattle.std.proofs.lemmas.Result.{err_from_is_err_and}
-use Rattle.std.proofs.lemmas.Bool.Decides.{nat_tests}
-use Rattle.fe_keeper.specs.declared.fault.Fault.{Fault}
 use Rattle.fe_keeper.specs.declared.fault.Fault.TheVariants as keeper
-use Rattle.fe_wire.specs.declared.client_message.ClientMessage.{ClientMessage}
 use Rattle.fe_desk.specs.Standing.{Client, Standing}
-use Rattle.fe_desk.specs.Messages.{left_of}
-use Rattle.fe_desk.specs.Crash.{Tells}
 use Rattle.fe_desk.specs.Desk.{client_of, desk_of, standing_of}
-use Rattle.fe_desk.specs.declared.port.Port.{Port}
 use Rattle.fe_desk.proofs.Places.{found_there}
 use Rattle.fe_desk.specs.Steps.{find}
 use Rattle.fe_desk.proofs.Reading.{left_among}
-use Rattle.fe_desk.proofs.Leftovers.{left_here, going_first, going_on, going_stops, taken_still, taken_all, clients_then, place_as, tells_after, told_on, some_left, none_left_here, fewer_left, same_clients}
+use Rattle.fe_desk.proofs.Leftovers.{going_first, going_on, going_stops, taken_still, taken_all, clients_then, rest_then, place_as, tells_after, told_on, some_left, none_left_here, fewer_left, same_clients}
 use Rattle.fe_desk.proofs.parts.Parts.take_left.Goals as goal
 
 pub loop-self-init : goal.loop-self-init
@@ -94,3 +87,10 @@ returns-clause-taken g c =
 pub returns-clause-clients : goal.returns-clause-clients
 returns-clause-clients g c =
     clients_then c.args.conn (standing_of c.args.self.now) (standing_of c.loop-self.self) (standing_of c.loop-self.self) refl c.loop-self.invariant.taken
+
+pub returns-in_err-make_room-clause-rest : goal.returns-in_err-make_room-clause-rest
+returns-in_err-make_room-clause-rest g c =
+    rest_then c.args.conn (standing_of c.args.self.now) (standing_of c.loop-self.self) (standing_of c.make_room.new.self) (same_clients _ _ c.make_room.ensures.ports) c.loop-self.invariant.taken
+
+pub returns-clause-rest : goal.returns-clause-rest
+returns-clause-rest g c = c.loop-self.invariant.taken.rest

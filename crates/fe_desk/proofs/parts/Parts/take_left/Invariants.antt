@@ -1,4 +1,4 @@
-use Rattle.std.proofs.Common.{ℕ, length}
+use Rattle.std.proofs.Common.{length}
 use Rattle.fe_desk.specs.Messages.{left_of}
 use Rattle.fe_desk.specs.Desk.{desk_of, standing_of}
 use Rattle.fe_desk.proofs.Leftovers.{Going}

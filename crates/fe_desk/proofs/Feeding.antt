@@ -1,0 +1,111 @@
+-- What each connection number has read of its stream.
+use Rattle.std.proofs.Common.{◌≡◌, ◌≢◌, ℕ, Vec, Global, Bool, true, false, List, [], ◌∷◌, map, Option, Some, refl, sym, ap, ◌∙◌, subst, if◌then◌else◌, arith}
+use Rattle.std.specs.Prelude.{nat_eq, MatchBool}
+use Rattle.std.specs.Option.{option_map}
+use Rattle.std.proofs.lemmas.Bool.Decides.{nat_tests}
+use Rattle.fe_wire.specs.Stream.{Decoding}
+use Rattle.fe_front.specs.Front.{FrontState}
+use Rattle.fe_desk.specs.declared.step.Step.{Step}
+use Rattle.fe_desk.specs.declared.step.Step.TheVariants as step
+use Rattle.fe_desk.specs.Mails.{emptied_box}
+use Rattle.fe_desk.specs.Standing.{Client, Standing, emptied, settled, all_told}
+use Rattle.fe_desk.specs.Steps.{find, on_client}
+use Rattle.fe_desk.specs.Messages.{read_by, ReadsNone, ReadsPiece, TellsFed}
+use Rattle.fe_desk.proofs.Reading.{each-on_client}
+
+abbrev pub read_among : ℕ → List Client → Option Decoding
+read_among k cs = option_map (λ (c : Client). c.decoder) (find k cs)
+
+-- a client's number, and what is read of its stream
+abbrev stream : Client → ℕ × Decoding
+stream c = (c.conn, c.decoder)
+
+-- clients of the same numbers and streams
+read_as : (k : ℕ) (cs ds : List Client) → map stream ds ≡ map stream cs → read_among k ds ≡ read_among k cs
+read_as k [] [] same = refl
+read_as k [] (d ∷ ds) same = cc
+read_as k (c ∷ cs) [] same = cc
+read_as k (c ∷ cs) (d ∷ ds) same =
+    let head : stream d ≡ stream c = cc in
+    let rest : map stream ds ≡ map stream cs = cc in
+    let number : d.conn ≡ c.conn = ap (λ (p : ℕ × Decoding). p.0) head in
+    let decoder : d.decoder ≡ c.decoder = ap (λ (p : ℕ × Decoding). p.1) head in
+    ap (λ (n : ℕ). option_map (λ (x : Client). x.decoder) (if nat_eq n k then Some d else find k ds)) number ∙ by (nat_eq c.conn k) decoder (read_as k cs ds rest)
+  where
+    by : (b : Bool) → d.decoder ≡ c.decoder → read_among k ds ≡ read_among k cs
+        → option_map (λ (x : Client). x.decoder) (if b then Some d else find k ds) ≡ option_map (λ (x : Client). x.decoder) (if b then Some c else find k cs)
+    by true same e = ap (λ (x : Decoding). Some x) same
+    by false same e = e
+
+-- a change that keeps numbers and streams
+pub read_kept : (k conn : ℕ) (change : Client → Client) (cs : List Client) → ((c : Client) → (change c).conn ≡ c.conn) → ((c : Client) → (change c).decoder ≡ c.decoder)
+    → read_among k (on_client conn change cs) ≡ read_among k cs
+read_kept k conn change cs keeps stays =
+    read_as k cs (on_client conn change cs) (each-on_client stream conn change cs (λ c. let n = keeps c in let d = stays c in cc))
+
+unlike : (n k conn : ℕ) → k ≢ conn → nat_eq n conn ≡ true → nat_eq n k ≡ false
+unlike n k conn other is = grind (arith, nat_tests)
+
+-- a client of another number
+pub find_other : (k conn : ℕ) (change : Client → Client) (cs : List Client) → k ≢ conn → ((c : Client) → (change c).conn ≡ c.conn) → find k (on_client conn change cs) ≡ find k cs
+find_other k conn change [] other keeps = refl
+find_other k conn change (c ∷ cs) other keeps = by (nat_eq c.conn conn) refl (find_other k conn change cs other keeps)
+  where
+    by : (b : Bool) → nat_eq c.conn conn ≡ b → find k (on_client conn change cs) ≡ find k cs → find k (if b then change c ∷ cs else c ∷ on_client conn change cs) ≡ (if nat_eq c.conn k then Some c else find k cs)
+    by true is rest =
+        let there : nat_eq c.conn k ≡ false = unlike c.conn k conn other is in
+        ap (λ (n : ℕ). if nat_eq n k then Some (change c) else find k cs) (keeps c) ∙ ap (λ (b : Bool). if b then Some (change c) else find k cs) there
+        ∙ sym (ap (λ (b : Bool). if b then Some c else find k cs) there)
+    by false is rest = ap (λ (o : Option Client). if nat_eq c.conn k then Some c else o) rest
+
+-- ---- mails are written
+
+told_streams : (f : FrontState) (cs : List Client) → map stream (all_told f cs) ≡ map stream cs
+told_streams f [] = refl
+told_streams f (c ∷ cs) = ap (λ (ps : List (ℕ × Decoding)). stream c ∷ ps) (told_streams (emptied_box f c.conn) cs)
+
+emptied_reads : (s : Standing) → ReadsNone s (emptied s)
+emptied_reads s k = read_as k s.clients (all_told s.front s.clients) (told_streams s.front s.clients)
+
+-- nothing is read where mails that were owed are written
+pub settled_reads : (s : Standing) → ReadsNone s (settled s)
+settled_reads s k = by s.owes
+  where
+    by : (b : Bool) → read_by (if b then emptied s else s) k ≡ read_by s k
+    by true = emptied_reads s k
+    by false = refl
+
+-- ---- what a step did with its bytes
+
+pub same_reads : (s t : Standing) → t ≡ s → ReadsNone s t
+same_reads s t same k = ap (λ (u : Standing). read_by u k) same
+
+-- mails that are still owed
+pub settling_reads : (s u : Standing) → settled u ≡ settled s → ReadsNone s u
+settling_reads s u same k = sym (settled_reads u k) ∙ same_reads (settled s) (settled u) same k ∙ settled_reads s k
+
+-- a step that took no bytes
+pub unfed : (fed : Bool) (s : Standing) (step : Step) (t : Standing) → false ≡ fed → ReadsNone s t → TellsFed fed s step t
+unfed fed s step t is none = subst (λ (b : Bool). TellsFed b s step t) is none
+
+-- one that reads its bytes
+pub bytes_fed : (fed : Bool) (s : Standing) (conn : ℕ) (piece : Vec ℕ Global) (slice : List ℕ) (before : Step) (t : Standing) → before ≡ step.Bytes conn piece → slice ≡ piece.items
+    → MatchBool fed (ReadsPiece s conn slice t) (ReadsNone s t) → TellsFed fed s before t
+bytes_fed false s conn piece slice before t is same read = read
+bytes_fed true s conn piece slice before t is same read =
+    subst (λ (x : Step). TellsFed true s x t) (sym is) (subst (λ (xs : List ℕ). ReadsPiece s conn xs t) same read)
+
+-- the same from before the mails were written
+pub fed_settled : (fed : Bool) (s mid : Standing) (step : Step) (t : Standing) → mid ≡ settled s → TellsFed fed mid step t → TellsFed fed s step t
+fed_settled false s mid step t is none = λ k. none k ∙ same_reads (settled s) mid is k ∙ settled_reads s k
+fed_settled true s mid (step.Bytes conn piece) t is read = record {
+  before = read.before;
+  after = read.after;
+  taken = read.taken;
+  was = sym (same_reads (settled s) mid is conn ∙ settled_reads s conn) ∙ read.was;
+  is = read.is;
+  reads = read.reads;
+  some = read.some;
+  others = λ k other. read.others k other ∙ same_reads (settled s) mid is k ∙ settled_reads s k;
+}
+fed_settled true s mid other t is read = absurd read

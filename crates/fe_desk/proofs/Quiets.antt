@@ -1,0 +1,141 @@
+-- Where nothing is to be written, writing all of it changes nothing; and the steps that make no mail keep it so.
+use Rattle.std.proofs.Common.{◌≡◌, ℕ, Bool, true, false, true≢false, List, [], ◌∷◌, ◌++◌, Option, Some, None, refl, sym, ap, ◌∙◌, subst, append-nil, inl, inr, Result, Ok, Err, OnOk, if◌then◌else◌}
+use Rattle.std.specs.Prelude.{nat_eq, is_some, is_err, length, map, MatchBool}
+use Rattle.std.specs.Option.{option_map_or}
+use Rattle.std.specs.FinMap.{insert}
+use Rattle.std.specs.declared.alloc.AllocError.{AllocError}
+use Rattle.fe_state.proofs.Maps.{get_inserted, get_beside, same_or_other}
+use Rattle.fe_mail.specs.Connections.{first_connection, mails_on}
+use Rattle.fe_mail.specs.declared.connection.Connection.{Connection}
+use Rattle.fe_front.specs.Front.{FrontState, is_connected}
+use Rattle.fe_front.specs.Steps as front
+use Rattle.fe_front.specs.Steps.{has_no_cut}
+use Rattle.fe_desk.specs.declared.handed.Handed.{Handed}
+use Rattle.fe_desk.specs.declared.handed.Handed.TheVariants.{Nothing, Cut, Stored}
+use Rattle.fe_desk.specs.declared.parts.Parts.{Parts}
+use Rattle.fe_desk.specs.declared.step.Step.{Step}
+use Rattle.fe_desk.specs.declared.step.Step.TheVariants as step
+use Rattle.fe_desk.specs.Mails.{emptied_box}
+use Rattle.fe_desk.specs.Standing.{Client, Standing, all_emptied, all_told, emptied, settled}
+use Rattle.fe_desk.specs.Steps.{find, on_client, Acts, Connects, new_client, unmade}
+use Rattle.fe_desk.specs.Storing.{stored_from, is_making}
+use Rattle.fe_desk.specs.Quiet.{HasNoMail, NoneWaits, mails_nothing}
+use Rattle.fe_desk.specs.Desk.{client_of, standing_of}
+use Rattle.fe_desk.proofs.Emptying.{AreQuiet, quiet_all_emptied, quiet_all_told}
+use Rattle.fe_desk.proofs.StepParts.{settled_at}
+
+-- ---- there is nothing to write
+
+are_quiet : (f : FrontState) (cs : List Client) → ((conn : ℕ) → mails_on f.connections conn ≡ []) → NoneWaits cs → AreQuiet f cs
+are_quiet f [] boxes replies = tt
+are_quiet f (c ∷ cs) boxes replies = (record { reply = replies.0; box = boxes c.conn }, are_quiet f cs boxes replies.1)
+
+same_parts : (s : Standing) (f : FrontState) (cs : List Client) → s.front ≡ f → s.clients ≡ cs → s.owes ≡ false → s ≡ record s { front = f; clients = cs; owes = false }
+same_parts s f cs front clients owes =
+    ap (λ (g : FrontState). record s { front = g }) front ∙ ap (λ (ds : List Client). record s { front = f; clients = ds }) clients
+    ∙ ap (λ (b : Bool). record s { front = f; clients = cs; owes = b }) owes
+
+-- emptying the boxes changes nothing
+pub quiet_emptied : (s : Standing) → HasNoMail s → s ≡ emptied s
+quiet_emptied s quiet =
+    let are = are_quiet s.front s.clients quiet.boxes quiet.replies in
+    let nil : s.clients ++ [] ≡ s.clients = append-nil s.clients in
+    let front : all_emptied s.front s.clients ≡ s.front = ap (λ (cs : List Client). all_emptied s.front cs) (sym nil) ∙ quiet_all_emptied s.front s.clients [] are in
+    let clients : all_told s.front s.clients ≡ s.clients = ap (λ (cs : List Client). all_told s.front cs) (sym nil) ∙ quiet_all_told s.front s.clients [] are ∙ nil in
+    same_parts s (all_emptied s.front s.clients) (all_told s.front s.clients) (sym front) (sym clients) quiet.owes
+
+-- no reply waits once all are told
+pub none_waits : (f : FrontState) (cs : List Client) → NoneWaits (all_told f cs)
+none_waits f [] = tt
+none_waits f (c ∷ cs) = (refl, none_waits (emptied_box f c.conn) cs)
+
+-- nothing is left where the boxes were emptied
+pub all_quiet : {D : Type 0} (p q : Parts D) (r : Result (Unit {0}) AllocError) → OnOk r ((conn : ℕ) → mails_on q.front.connections conn ≡ [])
+    → OnOk r (map client_of q.trace.ports.items ≡ all_told p.front (map client_of p.trace.ports.items)) → q.owes ≡ is_err r → OnOk r (HasNoMail (standing_of q))
+all_quiet p q (Ok x) boxes told owes = record {
+  boxes = boxes;
+  replies = subst NoneWaits (sym told) (none_waits p.front (map client_of p.trace.ports.items));
+  owes = owes;
+}
+all_quiet p q (Err e) boxes told owes = tt
+
+-- ---- steps that make no mail
+
+-- a box where a connection came
+boxes_joined : (f : FrontState) (conn : ℕ) → ((q : ℕ) → mails_on f.connections q ≡ []) → (q : ℕ) → mails_on (front.connected f conn).connections q ≡ []
+boxes_joined f conn boxes q = elim (same_or_other q conn) [
+  | inl e ↦ ap (λ (k : ℕ). mails_on (insert f.connections conn first_connection) k) e ∙ ap (λ (o : Option Connection). option_map_or (λ (c : Connection). c.mails) o []) (get_inserted f.connections conn first_connection)
+  | inr ne ↦ ap (λ (o : Option Connection). option_map_or (λ (c : Connection). c.mails) o []) (get_beside f.connections conn first_connection q ne) ∙ boxes q
+]
+
+-- a change of a client that leaves its reply
+on_client_replies : (conn : ℕ) (change : Client → Client) (cs : List Client) → ((c : Client) → (change c).reply ≡ c.reply) → NoneWaits cs → NoneWaits (on_client conn change cs)
+on_client_replies conn change [] keeps all = tt
+on_client_replies conn change (c ∷ cs) keeps all = by (nat_eq c.conn conn) (on_client_replies conn change cs keeps all.1)
+  where
+    by : (b : Bool) → NoneWaits (on_client conn change cs) → NoneWaits (if b then change c ∷ cs else c ∷ on_client conn change cs)
+    by true rest = (keeps c ∙ all.0, all.1)
+    by false rest = (all.0, rest)
+
+one_more : (cs : List Client) (c : Client) → NoneWaits cs → c.reply ≡ None → NoneWaits (cs ++ c ∷ [])
+one_more [] c all none = (none, tt)
+one_more (d ∷ ds) c all none = (all.0, one_more ds c all.1 none)
+
+unmade_keeps : (s : Standing) (conn : ℕ) → ((unmade s conn).owes ≡ s.owes) × ((unmade s conn).clients ≡ s.clients)
+unmade_keeps s conn = by (is_making s conn)
+  where
+    by : (b : Bool) → ((if b then record s { making = None } else s).owes ≡ s.owes) × ((if b then record s { making = None } else s).clients ≡ s.clients)
+    by true = (refl, refl)
+    by false = (refl, refl)
+
+connects_quiet : (s t : Standing) (conn : ℕ) → HasNoMail s → Connects s conn t → HasNoMail t
+connects_quiet s t conn quiet comes = subst HasNoMail (sym comes.after) (record {
+  boxes = boxes_joined s.front conn quiet.boxes;
+  replies = by (is_some (find conn s.clients));
+  owes = (unmade_keeps s conn).0 ∙ quiet.owes;
+})
+  where
+    by : (b : Bool) → NoneWaits (if b then on_client conn (λ c. record c { decoder = comes.decoder; left = [] }) s.clients else s.clients ++ new_client conn comes.decoder ∷ [])
+    by true = on_client_replies conn (λ c. record c { decoder = comes.decoder; left = [] }) s.clients (λ c. refl) quiet.replies
+    by false = one_more s.clients (new_client conn comes.decoder) quiet.replies refl
+
+cut_boxes : (f : FrontState) → (front.cut f).connections ≡ f.connections
+cut_boxes f = by (has_no_cut f)
+  where
+    by : (b : Bool) → (if b then f else record f { service = record f.service { pending = [] }; out = Some (record { first = f.durable; length = length f.service.pending }) }).connections ≡ f.connections
+    by true = refl
+    by false = refl
+
+stored_quiet : (h : Handed) (s : Standing) → HasNoMail s → HasNoMail (stored_from h s)
+stored_quiet Nothing s quiet = quiet
+stored_quiet (Cut batch) s quiet = record { boxes = quiet.boxes; replies = quiet.replies; owes = quiet.owes }
+stored_quiet (Stored batch) s quiet = quiet
+
+quiet_kept : (x : Step) (s t : Standing) → mails_nothing x ≡ true → HasNoMail s → Acts s x t → HasNoMail t
+quiet_kept (step.Connect conn) s t none quiet acts = by (is_connected s.front conn) acts
+  where
+    by : (b : Bool) → MatchBool b (t ≡ s) (Connects s conn t) → HasNoMail t
+    by true same = subst HasNoMail (sym same) quiet
+    by false comes = connects_quiet s t conn quiet comes
+quiet_kept (step.Bytes conn piece) s t none quiet acts = absurd (true≢false (sym none))
+quiet_kept (step.Gone conn) s t none quiet acts = absurd (true≢false (sym none))
+quiet_kept step.Cut s t none quiet acts = subst HasNoMail (sym acts) (record {
+  boxes = λ conn. ap (λ m. mails_on m conn) (cut_boxes s.front) ∙ quiet.boxes conn;
+  replies = quiet.replies;
+  owes = quiet.owes;
+})
+quiet_kept step.Append s t none quiet acts = subst HasNoMail (sym acts) (stored_quiet s.handed s quiet)
+quiet_kept step.Post s t none quiet acts = absurd (true≢false (sym none))
+quiet_kept step.CheckBegin s t none quiet acts = subst HasNoMail (sym acts) quiet
+quiet_kept step.CheckStep s t none quiet acts = subst HasNoMail (sym acts) quiet
+quiet_kept step.CheckFinish s t none quiet acts = subst HasNoMail (sym acts) quiet
+
+-- after what settles and acts
+pub still_quiet_after : (s mid t : Standing) (x : Step) → mid ≡ settled s → mails_nothing x ≡ true → HasNoMail s → Acts mid x t → HasNoMail t
+still_quiet_after s mid t x is none quiet acts =
+    quiet_kept x s t none quiet (subst (λ (m : Standing). Acts m x t) (is ∙ settled_at s quiet.owes) acts)
+
+-- what is known of a result that is good
+pub quiet_boxes : {E : Type 0} (r : Result (Unit {0}) E) (s : Standing) → OnOk r (HasNoMail s) → OnOk r ((conn : ℕ) → mails_on s.front.connections conn ≡ [])
+quiet_boxes (Ok x) s quiet = quiet.boxes
+quiet_boxes (Err e) s quiet = tt

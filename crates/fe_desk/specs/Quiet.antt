@@ -1,0 +1,29 @@
+-- A desk of which nothing is to be written.
+use Rattle.std.specs.Prelude.{◌≡◌, ⊤, ℕ, Bool, true, false, List, [], ◌∷◌, None}
+use Rattle.fe_mail.specs.Connections.{mails_on}
+use Rattle.fe_desk.specs.declared.step.Step.{Step}
+use Rattle.fe_desk.specs.declared.step.Step.TheVariants as step
+use Rattle.fe_desk.specs.Standing.{Client, Standing}
+
+-- no reply of these waits
+abbrev pub NoneWaits : List Client → Type 0
+NoneWaits [] = ⊤
+NoneWaits (c ∷ cs) = (c.reply ≡ None) × NoneWaits cs
+
+-- no box has a mail, no reply waits, and no step owes its mails
+pub record HasNoMail (s : Standing) : Type 0 where
+  pub boxes : (conn : ℕ) → mails_on s.front.connections conn ≡ []
+  pub replies : NoneWaits s.clients
+  pub owes : s.owes ≡ false
+
+-- the steps that make no mail
+abbrev pub mails_nothing : Step → Bool
+mails_nothing (step.Connect conn) = true
+mails_nothing (step.Bytes conn piece) = false
+mails_nothing (step.Gone conn) = false
+mails_nothing step.Cut = true
+mails_nothing step.Append = true
+mails_nothing step.Post = false
+mails_nothing step.CheckBegin = true
+mails_nothing step.CheckStep = true
+mails_nothing step.CheckFinish = true
