@@ -4,13 +4,13 @@ use fe_front::{Front, Outcome};
 use fe_mail::{Mail, Refusal};
 use fe_state::{Name, Request, State};
 use fe_words::{Op, Tag};
+use std::alloc::{AllocError, Global};
 use std::process::Abort;
-use std::test::Fail;
 
-/// A front over a new state.
-pub(crate) fn new_front(rt: &HostRuntime) -> Result<Front, Fail> {
-    let state = State::new(rt.alloc())?;
-    Ok(Front::new(rt.alloc(), state)?)
+/// A front over a new state; a refusal drops the state.
+pub(crate) fn new_front(alloc: Global) -> Result<Front, AllocError> {
+    let state = State::new(alloc)?;
+    Front::new(alloc, state)
 }
 
 pub(crate) fn connect(rt: &impl Abort, front: &mut Front, conn: u64) {

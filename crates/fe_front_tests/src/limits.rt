@@ -9,22 +9,23 @@ use std::process::Abort;
 use std::test::Fail;
 
 /// A front with one place left.
-fn late_front(rt: &HostRuntime) -> Result<Front, Fail> {
-    let state = State::starting(rt.alloc(), 9223372036854773758, 1)?;
-    Ok(Front::new(rt.alloc(), state)?)
+fn late_front(alloc: Global) -> Result<Front, AllocError> {
+    let state = State::starting(alloc, 9223372036854773758, 1)?;
+    Front::new(alloc, state)
 }
 
 fn check_end(rt: &impl Abort, front: &mut Front) {
     connect(rt, front, 1);
-    assert_eq!(rt; attach(rt, front, 1, 7), Ok(()));
-    assert_eq!(rt; settle(rt, front, 1, 1), Err(Refusal::Spent));
-    assert_eq!(rt; attach(rt, front, 1, 7), Err(Refusal::Spent));
+    assert!(rt; attach(rt, front, 1, 7) == Ok(()));
+    assert!(rt; settle(rt, front, 1, 1) == Err(Refusal::Spent));
+    assert!(rt; attach(rt, front, 1, 7) == Err(Refusal::Spent));
 }
 
 #[test]
 fn ends(rt: HostRuntime) -> Result<(), Fail> {
-    let mut front = late_front(&rt)?;
+    let mut front = late_front(rt.alloc())?;
     check_end(&rt, &mut front);
+    drop(front);
     Ok(())
 }
 
@@ -50,7 +51,7 @@ fn post_both(rt: &impl Abort, front: &mut Front, long: Batch) {
     assert!(rt; right.is_some());
     assert!(rt; is_strange(front, long));
     assert!(rt; front.post(right.unwrap()).is_ok());
-    assert_eq!(rt; front.durable(), 1);
+    assert!(rt; front.durable() == 1);
 }
 
 fn check_batches(rt: &impl Abort, alloc: Global, front: &mut Front) -> Result<(), Fail> {
@@ -62,34 +63,38 @@ fn check_batches(rt: &impl Abort, alloc: Global, front: &mut Front) -> Result<()
 
 #[test]
 fn strange_batch(rt: HostRuntime) -> Result<(), Fail> {
-    let mut front = new_front(&rt)?;
-    check_batches(&rt, rt.alloc(), &mut front)
+    let mut front = new_front(rt.alloc())?;
+    let checked = check_batches(&rt, rt.alloc(), &mut front);
+    drop(front);
+    checked
 }
 
 /// A connection with 128 mails in its box.
 fn fill_box(rt: &impl Abort, front: &mut Front) {
     come(rt, front, 1, 7);
-    assert_eq!(rt; commit(rt, front), 1);
+    assert!(rt; commit(rt, front) == 1);
     for _ in 0..127 {
         front.mail_refusal(1, 5, Refusal::NotWaiting);
     }
     assert!(rt; front.connected(1));
-    assert_eq!(rt; front.books().left, 128);
+    assert!(rt; front.books().left == 128);
 }
 
 /// One more mail, and the connection goes.
 fn overfill_box(rt: &impl Abort, front: &mut Front) {
     front.mail_refusal(1, 5, Refusal::NotWaiting);
     assert!(rt; !front.connected(1));
-    assert_eq!(rt; front.books().dropped, 129);
-    assert_eq!(rt; front.books().mails, 129);
+    let books = front.books();
+    assert!(rt; books.dropped == 129);
+    assert!(rt; books.mails == 129);
     assert!(rt; !front.attached(7));
 }
 
 #[test]
 fn full_mailbox(rt: HostRuntime) -> Result<(), Fail> {
-    let mut front = new_front(&rt)?;
+    let mut front = new_front(rt.alloc())?;
     fill_box(&rt, &mut front);
     overfill_box(&rt, &mut front);
+    drop(front);
     Ok(())
 }

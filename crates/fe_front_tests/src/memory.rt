@@ -1,25 +1,19 @@
 //! Where memory ends. `rt try --test --fail-alloc N`, for N from 1 on, takes the allocation N away from each test: the
 //! call that finds no memory leaves all as it was, and does its work when it is made again.
 
-use crate::events::{access, attach, call, commit, create, take_all};
+use crate::events::{access, attach, call, commit, create, new_front, take_all};
 use fe_front::{Front, Outcome};
 use fe_mail::Refusal;
-use fe_state::{Request, State};
+use fe_state::Request;
 use fe_words::Op;
 use std::alloc::{AllocError, Global};
 use std::process::Abort;
 use std::test::Fail;
 
-/// A front over a new state; a refusal drops the state.
-fn new_front(alloc: Global) -> Result<Front, AllocError> {
-    let state = State::new(alloc)?;
-    Front::new(alloc, state)
-}
-
 fn connect_at_last(rt: &impl Abort, front: &mut Front) {
     assert!(rt; !front.connected(1));
     if let Err(refusal) = front.connect(1) {
-        assert_eq!(rt; refusal, Refusal::NoMemory);
+        assert!(rt; refusal == Refusal::NoMemory);
         assert!(rt; !front.connected(1));
         assert!(rt; front.connect(1).is_ok());
     }
@@ -28,12 +22,13 @@ fn connect_at_last(rt: &impl Abort, front: &mut Front) {
 
 /// Nothing came of the refused creation of number 1.
 fn check_refused(rt: &impl Abort, front: &Front) {
-    assert!(rt; front.state().kept(7, 1).is_none());
+    let state = front.state();
+    assert!(rt; state.kept(7, 1).is_none());
     assert!(rt; front.waiting(7, 1).is_none());
-    assert!(rt; front.state().array_at(0).is_none());
-    assert_eq!(rt; front.state().next_id(), 1);
-    assert_eq!(rt; front.state().place(), 1);
-    assert_eq!(rt; front.books().refused, 1);
+    assert!(rt; state.array_at(0).is_none());
+    assert!(rt; state.next_id() == 1);
+    assert!(rt; state.place() == 1);
+    assert!(rt; front.books().refused == 1);
 }
 
 fn create_at_last(rt: &impl Abort, front: &mut Front) {
@@ -41,21 +36,21 @@ fn create_at_last(rt: &impl Abort, front: &mut Front) {
     let result = call(rt, front, 1, 1, create(rt, 2));
     if result == Err(Refusal::NoMemory) {
         check_refused(rt, front);
-        assert_eq!(rt; call(rt, front, 1, 1, create(rt, 2)), done);
+        assert!(rt; call(rt, front, 1, 1, create(rt, 2)) == done);
     } else {
-        assert_eq!(rt; result, done);
+        assert!(rt; result == done);
     }
-    assert_eq!(rt; front.state().next_id(), 2);
+    assert!(rt; front.state().next_id() == 2);
 }
 
 /// The waiting lists have the array: one waits on it, and is served.
 fn check_served(rt: &impl Abort, front: &mut Front) {
     let read = call(rt, front, 1, 2, access(1, Op::ReadFe, false));
-    assert_eq!(rt; read, Ok(Outcome::Waits));
+    assert!(rt; read == Ok(Outcome::Waits));
     let write = call(rt, front, 1, 3, access(1, Op::WriteEf(5), false));
-    assert_eq!(rt; write, Ok(Outcome::Completed { entries: 2 }));
-    assert_eq!(rt; commit(rt, front), 4);
-    assert_eq!(rt; take_all(front, 1), 4);
+    assert!(rt; write == Ok(Outcome::Completed { entries: 2 }));
+    assert!(rt; commit(rt, front) == 4);
+    assert!(rt; take_all(front, 1) == 4);
 }
 
 fn front_at_last(alloc: Global) -> Result<Front, AllocError> {
@@ -67,7 +62,7 @@ fn front_at_last(alloc: Global) -> Result<Front, AllocError> {
 
 fn check_front(rt: &impl Abort, front: &mut Front) {
     connect_at_last(rt, front);
-    assert_eq!(rt; attach(rt, front, 1, 7), Ok(()));
+    assert!(rt; attach(rt, front, 1, 7) == Ok(()));
     create_at_last(rt, front);
     check_served(rt, front);
 }
@@ -77,5 +72,6 @@ fn front_where_memory_ends(rt: HostRuntime) -> Result<(), Fail> {
     let _named: Option<Request> = None;
     let mut front = front_at_last(rt.alloc())?;
     check_front(&rt, &mut front);
+    drop(front);
     Ok(())
 }

@@ -50,8 +50,8 @@ fn answered(
 ) -> Result<Vec<u8>, Fail> {
     let (number, request) = fed(alloc, asked)?;
     let done = Outcome::Completed { entries: 1 };
-    assert_eq!(rt; call(rt, front, 1, number, request), Ok(done));
-    assert_eq!(rt; commit(rt, front), 1);
+    assert!(rt; call(rt, front, 1, number, request) == Ok(done));
+    assert!(rt; commit(rt, front) == 1);
     reply(rt, alloc, front)
 }
 
@@ -64,7 +64,8 @@ fn check_frames(
     wanted: &[u8],
 ) -> Result<(), Fail> {
     let told = answered(rt, alloc, front, asked)?;
-    assert_eq!(rt; told.as_slice(), wanted);
+    assert!(rt; told.as_slice() == wanted);
+    drop(told);
     Ok(())
 }
 
@@ -97,17 +98,18 @@ fn check_reply(
     wanted: &[u8],
 ) -> Result<(), Fail> {
     let told = reply(rt, alloc, front)?;
-    assert_eq!(rt; told.as_slice(), wanted);
+    assert!(rt; told.as_slice() == wanted);
+    drop(told);
     Ok(())
 }
 
 /// The frame that was answered `not-now` is answered so again. Its number stands for no call that waits.
 fn check_again(rt: &impl Abort, alloc: Global, front: &mut Front) -> Result<(), Fail> {
     let (number, request) = fed(alloc, NO_WAIT)?;
-    assert_eq!(rt; call(rt, front, 1, number, request), Ok(Outcome::SentAgain));
+    assert!(rt; call(rt, front, 1, number, request) == Ok(Outcome::SentAgain));
     check_reply(rt, alloc, front, NOT_NOW)?;
     let waits = call(rt, front, 1, 2, access(0, Op::ReadFe, false));
-    assert_eq!(rt; waits, Err(Refusal::NumberUsed));
+    assert!(rt; waits == Err(Refusal::NumberUsed));
     Ok(())
 }
 
@@ -127,8 +129,8 @@ fn check_others(rt: &impl Abort, alloc: Global, front: &mut Front) -> Result<(),
 fn make_cells(rt: &impl Abort, front: &mut Front) {
     come(rt, front, 1, 7);
     assert!(rt; call(rt, front, 1, 1, create(rt, 2)).is_ok());
-    assert_eq!(rt; commit(rt, front), 2);
-    assert_eq!(rt; take_all(front, 1), 2);
+    assert!(rt; commit(rt, front) == 2);
+    assert!(rt; take_all(front, 1) == 2);
 }
 
 /// A call of an empty word that is not to wait is answered so, also once the word is full; then other calls.
@@ -143,6 +145,8 @@ fn check_cells(rt: &impl Abort, alloc: Global, front: &mut Front) -> Result<(), 
 
 #[test]
 fn no_wait(rt: HostRuntime) -> Result<(), Fail> {
-    let mut front = new_front(&rt)?;
-    check_cells(&rt, rt.alloc(), &mut front)
+    let mut front = new_front(rt.alloc())?;
+    let checked = check_cells(&rt, rt.alloc(), &mut front);
+    drop(front);
+    checked
 }

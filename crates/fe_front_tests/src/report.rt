@@ -19,7 +19,7 @@ fn four_come(rt: &impl Abort, front: &mut Front) {
 
 fn waits(rt: &impl Abort, front: &mut Front, conn: u64, number: u64, index: u32, op: Op) {
     let outcome = call(rt, front, conn, number, access(index, op, false));
-    assert_eq!(rt; outcome, Ok(Outcome::Waits));
+    assert!(rt; outcome == Ok(Outcome::Waits));
 }
 
 const TWO_WAIT: &str =
@@ -40,16 +40,20 @@ fn check_report(
     lines: &str,
 ) -> Result<(), AllocError> {
     let text = report(alloc, front)?;
-    assert_eq!(rt; text.as_str(), lines);
+    assert!(rt; text.as_str() == lines);
+    drop(text);
     Ok(())
 }
 
 /// The first mail of connection 1 is a report of these lines.
 fn check_box(rt: &impl Abort, front: &mut Front, lines: &str) {
-    match mail(rt, front, 1) {
-        Mail::Report(text) => assert_eq!(rt; text.as_str(), lines),
-        _ => panic!(rt; "no report is in the box"),
-    }
+    let mail = mail(rt, front, 1);
+    let told = match &mail {
+        Mail::Report(text) => text.as_str() == lines,
+        _ => false,
+    };
+    drop(mail);
+    assert!(rt; told, "no report of these lines is in the box");
 }
 
 /// The report comes out of a box as it was.
@@ -68,9 +72,11 @@ fn check_mailed(
 
 #[test]
 fn wait_report(rt: HostRuntime) -> Result<(), Fail> {
-    let mut front = new_front(&rt)?;
+    let mut front = new_front(rt.alloc())?;
     two_wait(&rt, &mut front);
-    check_mailed(&rt, rt.alloc(), &mut front, TWO_WAIT)
+    let checked = check_mailed(&rt, rt.alloc(), &mut front, TWO_WAIT);
+    drop(front);
+    checked
 }
 
 fn report_at_last(alloc: Global, front: &Front) -> Result<String, AllocError> {
@@ -82,15 +88,18 @@ fn report_at_last(alloc: Global, front: &Front) -> Result<String, AllocError> {
 
 fn check_at_last(rt: &impl Abort, alloc: Global, front: &Front) -> Result<(), Fail> {
     let text = report_at_last(alloc, front)?;
-    assert_eq!(rt; text.as_str(), TWO_WAIT);
+    assert!(rt; text.as_str() == TWO_WAIT);
+    drop(text);
     Ok(())
 }
 
 #[test]
 fn report_where_memory_ends(rt: HostRuntime) -> Result<(), Fail> {
-    let mut front = new_front(&rt)?;
+    let mut front = new_front(rt.alloc())?;
     two_wait(&rt, &mut front);
-    check_at_last(&rt, rt.alloc(), &front)
+    let checked = check_at_last(&rt, rt.alloc(), &front);
+    drop(front);
+    checked
 }
 
 /// Nothing waits, without sessions and with some.
@@ -102,8 +111,10 @@ fn check_none(rt: &impl Abort, alloc: Global, front: &mut Front) -> Result<(), F
 
 #[test]
 fn report_of_none(rt: HostRuntime) -> Result<(), Fail> {
-    let mut front = new_front(&rt)?;
-    check_none(&rt, rt.alloc(), &mut front)
+    let mut front = new_front(rt.alloc())?;
+    let checked = check_none(&rt, rt.alloc(), &mut front);
+    drop(front);
+    checked
 }
 
 const ALL_WAIT: &str =
@@ -122,13 +133,15 @@ fn all_wait(rt: &impl Abort, front: &mut Front) {
 /// The report is the same before and after the close is posted.
 fn check_all(rt: &impl Abort, alloc: Global, front: &mut Front) -> Result<(), Fail> {
     check_report(rt, alloc, front, ALL_WAIT)?;
-    assert_eq!(rt; commit(rt, front), 6);
+    assert!(rt; commit(rt, front) == 6);
     Ok(check_report(rt, alloc, front, ALL_WAIT)?)
 }
 
 #[test]
 fn report_where_all_wait(rt: HostRuntime) -> Result<(), Fail> {
-    let mut front = new_front(&rt)?;
+    let mut front = new_front(rt.alloc())?;
     all_wait(&rt, &mut front);
-    check_all(&rt, rt.alloc(), &mut front)
+    let checked = check_all(&rt, rt.alloc(), &mut front);
+    drop(front);
+    checked
 }

@@ -40,7 +40,7 @@ fn sit(rt: &impl Abort, seats: &mut Seats, session: u64)
         holder: None,
         closing: false,
     };
-    assert_eq!(rt; seats.seat(session), Some(seat));
+    assert!(rt; seats.seat(session) == Some(seat));
 }
 
 // A connection has the session, and its close is made: the one leaves the other as it is.
@@ -55,7 +55,7 @@ fn close(rt: &impl Abort, seats: &mut Seats, session: u64)
         holder: Some(9),
         closing: true,
     };
-    assert_eq!(rt; seats.seat(session), Some(seat));
+    assert!(rt; seats.seat(session) == Some(seat));
 }
 
 // The request of a number waits.
@@ -65,21 +65,21 @@ fn wait(rt: &impl Abort, seats: &mut Seats, session: u64, number: u64)
 {
     let turn = request(session, number);
     assert!(rt; seats.seat(session).is_some());
-    assert_eq!(rt; seats.find(session, number), None);
+    assert!(rt; seats.find(session, number) == None);
     assert!(rt; seats.count_of(session) < 32);
     seats.add(session, number, turn.array, turn.index, turn.op);
-    assert_eq!(rt; seats.find(session, number), Some(turn));
+    assert!(rt; seats.find(session, number) == Some(turn));
 }
 
 // What waits of a session is dropped, so many, and it leaves.
 fn leave(rt: &impl Abort, seats: &mut Seats, session: u64, count: u32)
     ensures { seats.new.arrays ≡ seats.old.arrays }
 {
-    assert_eq!(rt; seats.drop_session(session), count);
+    assert!(rt; seats.drop_session(session) == count);
     assert!(rt; seats.seat(session).is_some());
     seats.leave(session);
-    assert_eq!(rt; seats.seat(session), None);
-    assert_eq!(rt; seats.count_of(session), 0);
+    assert!(rt; seats.seat(session) == None);
+    assert!(rt; seats.count_of(session) == 0);
 }
 
 // Finishes all that waits on a word, and counts it.
@@ -93,10 +93,10 @@ fn finish_all(rt: &impl Abort, seats: &mut Seats, index: u32) -> u32
             return count;
         };
         let turn = seats.turn(node);
-        assert_eq!(rt; turn, request(turn.session, turn.number));
-        assert_eq!(rt; turn.index, index);
-        assert_eq!(rt; seats.finish(node), turn);
-        assert_eq!(rt; seats.find(turn.session, turn.number), None);
+        assert!(rt; turn == request(turn.session, turn.number));
+        assert!(rt; turn.index == index);
+        assert!(rt; seats.finish(node) == turn);
+        assert!(rt; seats.find(turn.session, turn.number) == None);
     }
     2048
 }
@@ -121,7 +121,7 @@ fn half_leave(rt: &impl Abort, seats: &mut Seats)
         close(rt, seats, session);
         leave(rt, seats, session, 2);
     }
-    assert_eq!(rt; seats.len(), 64);
+    assert!(rt; seats.len() == 64);
 }
 
 // Others come in their slots.
@@ -131,21 +131,21 @@ fn others_come(rt: &impl Abort, seats: &mut Seats)
 {
     for session in 2000..2032 {
         sit(rt, seats, session);
-        assert_eq!(rt; seats.find(session, 1), None);
+        assert!(rt; seats.find(session, 1) == None);
         wait(rt, seats, session, 3);
     }
-    assert_eq!(rt; seats.seat_count(), 64);
+    assert!(rt; seats.seat_count() == 64);
 }
 
 // A request is cancelled, once.
 fn cancel_one(rt: &impl Abort, seats: &mut Seats)
     ensures { seats.new.arrays ≡ seats.old.arrays }
 {
-    assert_eq!(rt; seats.find(1063, 2), Some(request(1063, 2)));
-    assert_eq!(rt; seats.cancel(1063, 2), Some(request(1063, 2)));
-    assert_eq!(rt; seats.cancel(1063, 2), None);
-    assert_eq!(rt; seats.cancel(1000, 2), None);
-    assert_eq!(rt; seats.count_of(1063), 1);
+    assert!(rt; seats.find(1063, 2) == Some(request(1063, 2)));
+    assert!(rt; seats.cancel(1063, 2) == Some(request(1063, 2)));
+    assert!(rt; seats.cancel(1063, 2) == None);
+    assert!(rt; seats.cancel(1000, 2) == None);
+    assert!(rt; seats.count_of(1063) == 1);
 }
 
 // All that waits is finished.
@@ -155,9 +155,9 @@ fn finish_words(rt: &impl Abort, seats: &mut Seats)
     for index in 0..WORDS {
         // four of the sessions that stayed, with two requests each, and four that came
         let count = if index == 7 { 11 } else { 12 };
-        assert_eq!(rt; finish_all(rt, seats, index), count);
+        assert!(rt; finish_all(rt, seats, index) == count);
     }
-    assert_eq!(rt; seats.len(), 0);
+    assert!(rt; seats.len() == 0);
 }
 
 // Seats with an array of eight words.
@@ -183,5 +183,6 @@ fn check_seats(rt: &impl Abort, seats: &mut Seats)
 fn sessions_come_and_go(rt: HostRuntime) -> Result<(), Fail> {
     let mut seats = new_seats(rt.alloc())?;
     check_seats(&rt, &mut seats);
+    drop(seats);
     Ok(())
 }

@@ -14,58 +14,60 @@ fn take_over(rt: &impl Abort, front: &mut Front) {
     come(rt, front, 1, 7);
     assert!(rt; call(rt, front, 1, 1, create(rt, 2)).is_ok());
     let waits = call(rt, front, 1, 2, access(0, Op::ReadFe, false));
-    assert_eq!(rt; waits, Ok(Outcome::Waits));
+    assert!(rt; waits == Ok(Outcome::Waits));
     come(rt, front, 2, 7);
     let late = call(rt, front, 1, 3, access(0, Op::ReadXx, false));
-    assert_eq!(rt; late, Err(Refusal::NotAttached));
+    assert!(rt; late == Err(Refusal::NotAttached));
 }
 
 /// What waits goes on waiting, and is served.
 fn check_taken_over(rt: &impl Abort, front: &mut Front) {
     let again = call(rt, front, 2, 2, access(0, Op::ReadFe, false));
-    assert_eq!(rt; again, Ok(Outcome::AlreadyWaiting));
-    assert_eq!(rt; front.waiting(7, 2), Some((1, 0, Op::ReadFe)));
+    assert!(rt; again == Ok(Outcome::AlreadyWaiting));
+    assert!(rt; front.waiting(7, 2) == Some((1, 0, Op::ReadFe)));
     let write = call(rt, front, 2, 3, access(0, Op::WriteEf(6), false));
-    assert_eq!(rt; write, Ok(Outcome::Completed { entries: 2 }));
+    assert!(rt; write == Ok(Outcome::Completed { entries: 2 }));
     assert!(rt; front.waiting(7, 2).is_none());
-    assert_eq!(rt; commit(rt, front), 5);
-    assert_eq!(rt; take_all(front, 1), 0);
-    assert_eq!(rt; take_all(front, 2), 5);
+    assert!(rt; commit(rt, front) == 5);
+    assert!(rt; take_all(front, 1) == 0);
+    assert!(rt; take_all(front, 2) == 5);
 }
 
 #[test]
 fn taken_over_while_one_waits(rt: HostRuntime) -> Result<(), Fail> {
-    let mut front = new_front(&rt)?;
+    let mut front = new_front(rt.alloc())?;
     take_over(&rt, &mut front);
     check_taken_over(&rt, &mut front);
+    drop(front);
     Ok(())
 }
 
 /// Session 7 closes: its connection is refused, and so is another one.
 fn close(rt: &impl Abort, front: &mut Front) {
     come(rt, front, 1, 7);
-    assert_eq!(rt; bye(rt, front, 1), Ok(()));
+    assert!(rt; bye(rt, front, 1) == Ok(()));
     assert!(rt; !front.attached(7));
-    assert_eq!(rt; bye(rt, front, 1), Err(Refusal::Closing));
+    assert!(rt; bye(rt, front, 1) == Err(Refusal::Closing));
     connect(rt, front, 2);
-    assert_eq!(rt; attach(rt, front, 2, 7), Err(Refusal::Closing));
+    assert!(rt; attach(rt, front, 2, 7) == Err(Refusal::Closing));
 }
 
 /// The connection has another session meanwhile, and keeps it.
 fn check_elsewhere(rt: &impl Abort, front: &mut Front) {
-    assert_eq!(rt; attach(rt, front, 1, 8), Ok(()));
+    assert!(rt; attach(rt, front, 1, 8) == Ok(()));
     assert!(rt; front.attached(8));
-    assert_eq!(rt; commit(rt, front), 3);
+    assert!(rt; commit(rt, front) == 3);
     assert!(rt; front.attached(8));
-    assert_eq!(rt; take_all(front, 1), 1);
-    assert_eq!(rt; attach(rt, front, 2, 7), Ok(()));
+    assert!(rt; take_all(front, 1) == 1);
+    assert!(rt; attach(rt, front, 2, 7) == Ok(()));
 }
 
 #[test]
 fn elsewhere_while_closing(rt: HostRuntime) -> Result<(), Fail> {
-    let mut front = new_front(&rt)?;
+    let mut front = new_front(rt.alloc())?;
     close(&rt, &mut front);
     check_elsewhere(&rt, &mut front);
+    drop(front);
     Ok(())
 }
 
@@ -74,17 +76,18 @@ fn check_count(rt: &impl Abort, front: &mut Front) {
         come(rt, front, conn, conn);
     }
     connect(rt, front, 65);
-    assert_eq!(rt; attach(rt, front, 65, 65), Err(Refusal::SessionLimit));
-    assert_eq!(rt; bye(rt, front, 1), Ok(()));
-    assert_eq!(rt; attach(rt, front, 65, 65), Err(Refusal::SessionLimit));
-    assert_eq!(rt; commit(rt, front), 65);
-    assert_eq!(rt; attach(rt, front, 65, 65), Ok(()));
-    assert_eq!(rt; attach(rt, front, 65, 64), Ok(()));
+    assert!(rt; attach(rt, front, 65, 65) == Err(Refusal::SessionLimit));
+    assert!(rt; bye(rt, front, 1) == Ok(()));
+    assert!(rt; attach(rt, front, 65, 65) == Err(Refusal::SessionLimit));
+    assert!(rt; commit(rt, front) == 65);
+    assert!(rt; attach(rt, front, 65, 65) == Ok(()));
+    assert!(rt; attach(rt, front, 65, 64) == Ok(()));
 }
 
 #[test]
 fn a_closing_session_counts(rt: HostRuntime) -> Result<(), Fail> {
-    let mut front = new_front(&rt)?;
+    let mut front = new_front(rt.alloc())?;
     check_count(&rt, &mut front);
+    drop(front);
     Ok(())
 }

@@ -17,9 +17,14 @@ fn is_refused(
 ) -> bool {
     match keeper.append(batch_of(rt, alloc, 0, entries)) {
         Err((fault, back)) => {
-            fault == Fault::Mismatch { place } && back.entries.as_slice().len() == entries.len()
+            let count = back.entries.as_slice().len();
+            drop(back);
+            fault == Fault::Mismatch { place } && count == entries.len()
         }
-        Ok(_) => false,
+        Ok(batch) => {
+            drop(batch);
+            false
+        }
     }
 }
 
@@ -36,4 +41,5 @@ fn mismatch(rt: HostRuntime) {
     let alloc = rt.alloc();
     let mut keeper = new_store(&rt, alloc);
     check_refusals(&rt, alloc, &mut keeper);
+    drop(keeper);
 }

@@ -27,7 +27,10 @@ fn two_groups(rt: &impl Abort, alloc: Global) -> MemoryDisk {
 // Whether a store is opened at the place, and whether it has the array of the second group.
 fn has(rt: &impl Abort, alloc: Global, disk: MemoryDisk, place: u64, length: Option<u32>) -> bool {
     let keeper = opened(rt, alloc, disk);
-    keeper.state().place() == place && keeper.state().length(1) == length
+    let state = keeper.state();
+    let has = state.place() == place && state.length(1) == length;
+    drop(keeper);
+    has
 }
 
 // The second gate is neither open nor closed.

@@ -50,19 +50,25 @@ fn migrated(rt: &impl Abort, alloc: Global, calls: u64) -> (MemoryDisk, bool) {
 fn is_kept(rt: &impl Abort, alloc: Global, disk: &MemoryDisk) -> bool {
     TORN.iter().all(|torn| {
         let left = disk.stopped(*torn).ok().expect(rt, "stopped");
-        answers(&opened(rt, alloc, left))
+        let keeper = opened(rt, alloc, left);
+        let answered = answers(&keeper);
+        drop(keeper);
+        answered
     })
 }
 
 // Whether a store is opened in the format with the answer as before.
 fn is_answered(rt: &impl Abort, alloc: Global, disk: MemoryDisk, format: Format) -> bool {
     let keeper = opened(rt, alloc, disk);
-    answers(&keeper) && keeper.store_format() == format
+    let answered = answers(&keeper) && keeper.store_format() == format;
+    drop(keeper);
+    answered
 }
 
 fn check_stop(rt: &impl Abort, alloc: Global, calls: u64) {
     let (disk, done) = migrated(rt, alloc, calls);
     assert!(rt; !done && is_kept(rt, alloc, &disk));
+    drop(disk);
 }
 
 fn check_migrated(rt: &impl Abort, alloc: Global) {

@@ -96,14 +96,23 @@ pub fn opened(rt: &impl Abort, alloc: Global, disk: MemoryDisk) -> Keeper<Memory
 
 /// The place of the state that a store is opened with.
 pub fn place_of(rt: &impl Abort, alloc: Global, disk: MemoryDisk) -> u64 {
-    opened(rt, alloc, disk).state().place()
+    let keeper = opened(rt, alloc, disk);
+    let place = keeper.state().place();
+    drop(keeper);
+    place
 }
 
 /// Why a store is not opened, if it is not.
 pub fn refusal(alloc: Global, disk: MemoryDisk) -> Option<Fault> {
     match open(alloc, disk) {
-        Ok(_) => None,
-        Err((fault, _)) => Some(fault),
+        Ok(keeper) => {
+            drop(keeper);
+            None
+        }
+        Err((fault, disk)) => {
+            drop(disk);
+            Some(fault)
+        }
     }
 }
 

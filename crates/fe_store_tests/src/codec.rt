@@ -182,9 +182,9 @@ fn group_both_ways(rt: HostRuntime) -> Result<(), Fail> {
 #[test]
 fn empty_image(rt: HostRuntime) -> Result<(), Fail> {
     let state = State::new(rt.alloc())?;
-    let mut out = Vec::new(rt.alloc());
-    put_image(Format::Two, &state, &mut out)?;
-    assert!(&rt; out.as_slice() == EMPTY.as_slice());
+    let spelled = is_spelled(rt.alloc(), Format::Two, &state, &EMPTY);
+    drop(state);
+    assert!(&rt; spelled?);
     Ok(())
 }
 
@@ -207,10 +207,16 @@ fn same_again(alloc: Global, format: Format, bytes: &[u8]) -> Result<State, Fail
     let state = read_image(alloc, format, bytes)
         .ok()
         .ok_or("the bytes are an image")?;
-    if is_spelled(alloc, format, &state, bytes)? {
-        Ok(state)
-    } else {
-        Err(Fail::from("the image is another"))
+    match is_spelled(alloc, format, &state, bytes) {
+        Ok(true) => Ok(state),
+        Ok(false) => {
+            drop(state);
+            Err(Fail::from("the image is another"))
+        }
+        Err(error) => {
+            drop(state);
+            Err(Fail::from(error))
+        }
     }
 }
 
@@ -239,6 +245,7 @@ fn check_image(rt: &impl Abort, state: &State) {
 fn check_empty(rt: &impl Abort, alloc: Global) -> Result<(), Fail> {
     let empty = same_again(alloc, Format::One, &EMPTY)?;
     check_counts(rt, &empty, 0, 1);
+    drop(empty);
     Ok(())
 }
 
@@ -247,6 +254,7 @@ fn image_both_ways(rt: HostRuntime) -> Result<(), Fail> {
     check_empty(&rt, rt.alloc())?;
     let state = same_again(rt.alloc(), Format::One, &IMAGE)?;
     check_image(&rt, &state);
+    drop(state);
     Ok(())
 }
 
@@ -283,6 +291,7 @@ fn check_kept(rt: &impl Abort, state: &State) {
 fn kept_answers_both_ways(rt: HostRuntime) -> Result<(), Fail> {
     let state = same_again(rt.alloc(), Format::Two, &LONG_IMAGE)?;
     check_kept(&rt, &state);
+    drop(state);
     Ok(())
 }
 

@@ -39,11 +39,15 @@ fn is_held(found: Found<MemoryDisk>, held: &Held) -> bool {
     groups.skip();
     let is_second = groups.payload().unwrap_or(&[]) == held.second.bytes();
     groups.skip();
-    journal.generation() == held.generation
+    let is_held = journal.generation() == held.generation
         && image.as_slice() == held.image.bytes()
         && is_first
         && is_second
-        && groups.payload().is_none()
+        && groups.payload().is_none();
+    drop(journal);
+    drop(image);
+    drop(groups);
+    is_held
 }
 
 fn new_store(rt: &impl Abort, alloc: Global, format: Format) -> Journal<MemoryDisk> {

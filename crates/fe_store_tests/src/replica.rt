@@ -19,7 +19,9 @@ fn taken(
     entries: &[Entry],
 ) -> Result<Result<(), Refused>, AllocError> {
     let mut log = UndoLog::with_room(alloc, entries.len())?;
-    Ok(take(state, &mut log, 0, entries))
+    let told = take(state, &mut log, 0, entries);
+    drop(log);
+    Ok(told)
 }
 
 /// The first creation of session 7.
@@ -64,36 +66,57 @@ fn check_mismatch(rt: &impl Abort, alloc: Global, state: &mut State) -> Result<(
 #[test]
 fn mismatch(rt: HostRuntime) -> Result<(), Fail> {
     let mut state = State::new(rt.alloc())?;
-    check_mismatch(&rt, rt.alloc(), &mut state)
+    let checked = check_mismatch(&rt, rt.alloc(), &mut state);
+    drop(state);
+    checked
+}
+
+fn check_creation(rt: &impl Abort, alloc: Global, state: &mut State) -> Result<(), Fail> {
+    let entries = [ATTACHED, created().ok_or("a short name")?];
+    assert!(rt; taken(alloc, state, &entries)? == Ok(()));
+    assert!(rt; state.place() == 2 && state.length(1) == Some(2));
+    Ok(())
 }
 
 #[test]
 fn batch_with_a_creation(rt: HostRuntime) -> Result<(), Fail> {
     let mut state = State::new(rt.alloc())?;
-    let entries = [ATTACHED, created().ok_or("a short name")?];
-    assert!(&rt; taken(rt.alloc(), &mut state, &entries)? == Ok(()));
-    assert!(&rt; state.place() == 2 && state.length(1) == Some(2));
+    let checked = check_creation(&rt, rt.alloc(), &mut state);
+    drop(state);
+    checked
+}
+
+/// Goes through the group of session 7's beginning and the end of this session.
+fn replayed(
+    alloc: Global,
+    state: &mut State,
+    session: u64,
+) -> Result<Result<(), ReplayFault>, AllocError> {
+    let entries = [ATTACHED, Entry::Closed { session }];
+    let mut payload = Vec::new(alloc);
+    put_group(Format::Two, &entries, &mut payload)?;
+    Ok(replay(Format::Two, &payload, state))
+}
+
+fn check_replayed(rt: &impl Abort, alloc: Global, state: &mut State) -> Result<(), Fail> {
+    assert!(rt; replayed(alloc, state, 7)? == Ok(()));
+    assert!(rt; state.place() == 2 && state.session_count() == 0);
     Ok(())
 }
 
 #[test]
 fn group_is_replayed(rt: HostRuntime) -> Result<(), Fail> {
     let mut state = State::new(rt.alloc())?;
-    let entries = [ATTACHED, Entry::Closed { session: 7 }];
-    let mut payload = Vec::new(rt.alloc());
-    put_group(Format::Two, &entries, &mut payload)?;
-    assert!(&rt; replay(Format::Two, &payload, &mut state) == Ok(()));
-    assert!(&rt; state.place() == 2 && state.session_count() == 0);
-    Ok(())
+    let checked = check_replayed(&rt, rt.alloc(), &mut state);
+    drop(state);
+    checked
 }
 
 #[test]
 fn bad_second_record(rt: HostRuntime) -> Result<(), Fail> {
     let mut state = State::new(rt.alloc())?;
-    let entries = [ATTACHED, Entry::Closed { session: 8 }];
-    let mut payload = Vec::new(rt.alloc());
-    put_group(Format::Two, &entries, &mut payload)?;
-    let fault = replay(Format::Two, &payload, &mut state);
-    assert!(&rt; fault == Err(ReplayFault::Damaged { offset: 80 }));
+    let fault = replayed(rt.alloc(), &mut state, 8);
+    drop(state);
+    assert!(&rt; fault? == Err(ReplayFault::Damaged { offset: 80 }));
     Ok(())
 }

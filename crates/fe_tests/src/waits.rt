@@ -38,13 +38,13 @@ fn fill(rt: &impl Abort, waits: &mut Waits)
     for number in 1..=32 {
         for slot in 0..64 {
             let row = request(slot, number);
-            assert_eq!(rt; waits.find(slot, number), None);
+            assert!(rt; waits.find(slot, number) == None);
             assert!(rt; waits.count_of(slot) < 32);
             waits.add(slot, number, row.array, row.index, row.op);
-            assert_eq!(rt; waits.find(slot, number), Some(row));
+            assert!(rt; waits.find(slot, number) == Some(row));
         }
     }
-    assert_eq!(rt; waits.len(), 2048);
+    assert!(rt; waits.len() == 2048);
 }
 
 // Finishes at most so many requests on a word. They come in the order in which they began to wait.
@@ -59,17 +59,17 @@ fn finish(rt: &impl Abort, waits: &mut Waits, index: u32, most: u32)
             return;
         };
         let row = waits.row(node);
-        assert_eq!(rt; row, request(row.slot, row.number));
-        assert_eq!(rt; row.index, index);
+        assert!(rt; row == request(row.slot, row.number));
+        assert!(rt; row.index == index);
         assert!(rt; row.slot < 64);
         assert!(rt; row.number <= 32);
         let place = row.number * 64 + row.slot as u64;
         assert!(rt; last < place);
         last = place;
         let before = waits.len();
-        assert_eq!(rt; waits.finish(node), row);
-        assert_eq!(rt; waits.find(row.slot, row.number), None);
-        assert_eq!(rt; waits.len() as u64 + 1, before as u64);
+        assert!(rt; waits.finish(node) == row);
+        assert!(rt; waits.find(row.slot, row.number) == None);
+        assert!(rt; waits.len() as u64 + 1 == before as u64);
     }
 }
 
@@ -80,9 +80,9 @@ fn drop_slot(rt: &impl Abort, waits: &mut Waits, slot: u8)
 {
     let before = waits.len();
     let count = waits.count_of(slot);
-    assert_eq!(rt; waits.drop_session(slot), count);
-    assert_eq!(rt; waits.count_of(slot), 0);
-    assert_eq!(rt; waits.len() as u64 + count as u64, before as u64);
+    assert!(rt; waits.drop_session(slot) == count);
+    assert!(rt; waits.count_of(slot) == 0);
+    assert!(rt; waits.len() as u64 + count as u64 == before as u64);
 }
 
 // A number in the middle of each session's list is taken out, once.
@@ -90,9 +90,9 @@ fn cancel_each(rt: &impl Abort, waits: &mut Waits, number: u64)
     ensures { waits.new.arrays ≡ waits.old.arrays }
 {
     for slot in 0..64 {
-        assert_eq!(rt; waits.cancel(slot, number), Some(request(slot, number)));
-        assert_eq!(rt; waits.cancel(slot, number), None);
-        assert_eq!(rt; waits.count_of(slot), 31);
+        assert!(rt; waits.cancel(slot, number) == Some(request(slot, number)));
+        assert!(rt; waits.cancel(slot, number) == None);
+        assert!(rt; waits.count_of(slot) == 31);
     }
 }
 
@@ -118,14 +118,14 @@ fn finish_words(rt: &impl Abort, waits: &mut Waits)
         finish(rt, waits, index, 2048);
         assert!(rt; waits.first_on(ARRAY, index).is_none());
     }
-    assert_eq!(rt; waits.len(), 0);
+    assert!(rt; waits.len() == 0);
 }
 
 fn drop_slots(rt: &impl Abort, waits: &mut Waits) {
     for slot in 0..64 {
         drop_slot(rt, waits, slot);
     }
-    assert_eq!(rt; waits.len(), 0);
+    assert!(rt; waits.len() == 0);
 }
 
 // Lists with an array of eight words.
@@ -133,8 +133,13 @@ fn new_waits(alloc: Global) -> Result<Waits, AllocError>
     ensures { IfOk result (λ waits. map.get waits.arrays 1 ≡ Some 8) }
 {
     let mut waits = Waits::new(alloc)?;
-    waits.add_array(ARRAY, WORDS)?;
-    Ok(waits)
+    match waits.add_array(ARRAY, WORDS) {
+        Ok(()) => Ok(waits),
+        Err(error) => {
+            drop(waits);
+            Err(error)
+        }
+    }
 }
 
 fn check_waits(rt: &impl Abort, waits: &mut Waits)
@@ -152,22 +157,27 @@ fn check_waits(rt: &impl Abort, waits: &mut Waits)
 fn both_families(rt: HostRuntime) -> Result<(), Fail> {
     let mut waits = new_waits(rt.alloc())?;
     check_waits(&rt, &mut waits);
+    drop(waits);
     Ok(())
 }
 
-// Lists whose one array is gone.
-fn emptied(alloc: Global) -> Result<Waits, AllocError> {
-    let mut waits = Waits::new(alloc)?;
+// An array comes and goes.
+fn check_array_goes(rt: &impl Abort, waits: &mut Waits) -> Result<(), Fail>
+    requires arrays { waits.old.arrays ≡ map.empty }
+    requires members { waits.old.members ≡ map.empty }
+{
     waits.add_array(ARRAY, WORDS)?;
     waits.drop_array(ARRAY);
-    Ok(waits)
+    assert!(rt; waits.len() == 0);
+    Ok(())
 }
 
 #[test]
 fn an_array_goes(rt: HostRuntime) -> Result<(), Fail> {
-    let waits = emptied(rt.alloc())?;
-    assert_eq!(rt; waits.len(), 0);
-    Ok(())
+    let mut waits = Waits::new(rt.alloc())?;
+    let checked = check_array_goes(&rt, &mut waits);
+    drop(waits);
+    checked
 }
 
 // An array, at the second try if not at the first.
@@ -178,10 +188,19 @@ fn add_at_last(rt: &impl Abort, waits: &mut Waits) -> Result<(), AllocError>
     match waits.add_array(ARRAY, WORDS) {
         Ok(()) => {}
         Err(_) => {
-            assert_eq!(rt; waits.len(), 0);
+            assert!(rt; waits.len() == 0);
             waits.add_array(ARRAY, WORDS)?;
         }
     }
+    Ok(())
+}
+
+// An array, at the second try if not at the first, and all that may wait.
+fn check_filled(rt: &impl Abort, waits: &mut Waits) -> Result<(), Fail>
+    requires { waits.old.arrays ≡ map.empty }
+{
+    add_at_last(rt, waits)?;
+    fill(rt, waits);
     Ok(())
 }
 
@@ -191,7 +210,7 @@ fn waits_where_memory_ends(rt: HostRuntime) -> Result<(), Fail> {
         Ok(waits) => waits,
         Err(_) => Waits::new(rt.alloc())?,
     };
-    add_at_last(&rt, &mut waits)?;
-    fill(&rt, &mut waits);
-    Ok(())
+    let checked = check_filled(&rt, &mut waits);
+    drop(waits);
+    checked
 }

@@ -112,9 +112,24 @@ fn check_fed(
     fault: Option<BadFrame>,
 ) -> Result<(), AllocError> {
     let fed = decoder.feed(alloc, piece)?;
-    assert_eq!(rt; fed.messages.as_slice(), messages);
-    assert_eq!(rt; fed.fault, fault);
+    assert!(rt; fed.messages.as_slice() == messages);
+    assert!(rt; fed.fault == fault);
+    drop(fed);
     Ok(())
+}
+
+/// A stream is fed whole as these messages, with no fault.
+fn check_whole(
+    rt: &impl Abort,
+    alloc: Global,
+    version: Version,
+    stream: &[u8],
+    wanted: &[ClientMessage],
+) -> Result<(), AllocError> {
+    let mut decoder = Decoder::with_version(version);
+    let checked = check_fed(rt, alloc, &mut decoder, stream, wanted, None);
+    drop(decoder);
+    checked
 }
 
 /// A stream is fed as these messages, whole and a byte at a time, with no fault.
@@ -125,10 +140,10 @@ fn check_stream(
     stream: &[u8],
     wanted: &[ClientMessage],
 ) -> Result<(), AllocError> {
-    let mut decoder = Decoder::with_version(version);
-    check_fed(rt, alloc, &mut decoder, stream, wanted, None)?;
+    check_whole(rt, alloc, version, stream, wanted)?;
     let messages = fed_in_pieces(alloc, Decoder::with_version(version), stream)?;
-    assert_eq!(rt; messages.as_slice(), wanted);
+    assert!(rt; messages.as_slice() == wanted);
+    drop(messages);
     Ok(())
 }
 
@@ -142,36 +157,40 @@ fn frames_in_pieces(rt: HostRuntime) -> Result<(), Fail> {
 #[test]
 fn mid_frame_completes_nothing(rt: HostRuntime) -> Result<(), Fail> {
     let mut decoder = Decoder::new();
-    check_fed(&rt, rt.alloc(), &mut decoder, &FRAMES[0][..12], &[], None)?;
-    Ok(())
+    let checked = check_fed(&rt, rt.alloc(), &mut decoder, &FRAMES[0][..12], &[], None);
+    drop(decoder);
+    Ok(checked?)
 }
 
 /// The decoder gives the attach and this fault, and then the fault alone.
 fn check_fault(
     rt: &impl Abort,
     alloc: Global,
-    mut decoder: Decoder,
+    decoder: &mut Decoder,
     offset: u64,
-) -> Result<(), AllocError> {
+) -> Result<(), Fail> {
     let fault = Some(BadFrame { offset });
-    check_fed(rt, alloc, &mut decoder, ATTACH_AND_BAD, &[ATTACH], fault)?;
+    check_fed(rt, alloc, decoder, ATTACH_AND_BAD, &[ATTACH], fault)?;
     for _ in 0..2 {
-        check_fed(rt, alloc, &mut decoder, FRAMES[0], &[], fault)?;
+        check_fed(rt, alloc, decoder, FRAMES[0], &[], fault)?;
     }
     Ok(())
 }
 
 #[test]
 fn bad_frame_ends_the_stream(rt: HostRuntime) -> Result<(), Fail> {
-    check_fault(&rt, rt.alloc(), Decoder::new(), 13)?;
-    Ok(())
+    let mut decoder = Decoder::new();
+    let checked = check_fault(&rt, rt.alloc(), &mut decoder, 13);
+    drop(decoder);
+    checked
 }
 
 #[test]
 fn offset_stands_still(rt: HostRuntime) -> Result<(), Fail> {
-    let decoder = Decoder::starting_at(18446744073709551614);
-    check_fault(&rt, rt.alloc(), decoder, 18446744073709551615)?;
-    Ok(())
+    let mut decoder = Decoder::starting_at(18446744073709551614);
+    let checked = check_fault(&rt, rt.alloc(), &mut decoder, 18446744073709551615);
+    drop(decoder);
+    checked
 }
 
 /// The message is put as the frame.
@@ -183,7 +202,7 @@ fn check_put(
 ) -> Result<(), AllocError> {
     let mut out = Vec::new(alloc);
     put_message(&mut out, message)?;
-    assert_eq!(rt; out.as_slice(), frame);
+    assert!(rt; out.as_slice() == frame);
     Ok(())
 }
 
@@ -201,8 +220,8 @@ fn check_frame(
 #[test]
 fn first_path_is_put(rt: HostRuntime) -> Result<(), Fail> {
     let messages = first_path().ok_or("five bytes")?;
-    for (frame, message) in FRAMES.iter().zip(messages) {
-        check_frame(&rt, rt.alloc(), message, frame)?;
+    for (frame, message) in FRAMES.iter().zip(&messages) {
+        check_frame(&rt, rt.alloc(), *message, frame)?;
     }
     Ok(())
 }
@@ -254,7 +273,7 @@ fn check_told(
 {
     let mut out = Vec::new(alloc);
     put_reply(&mut out, reply)?;
-    assert_eq!(rt; out.as_slice(), frame);
+    assert!(rt; out.as_slice() == frame);
     Ok(())
 }
 
@@ -329,8 +348,9 @@ fn no_wait(rt: HostRuntime) -> Result<(), Fail> {
     check_answer(&rt, rt.alloc(), 2, Answer::NotNow, NOT_NOW)?;
     let fault = Some(BadFrame { offset: 0 });
     let mut decoder = Decoder::new();
-    check_fed(&rt, rt.alloc(), &mut decoder, NO_WAIT, &[], fault)?;
-    Ok(())
+    let checked = check_fed(&rt, rt.alloc(), &mut decoder, NO_WAIT, &[], fault);
+    drop(decoder);
+    Ok(checked?)
 }
 
 #[test]
@@ -338,15 +358,11 @@ fn replies_of_first_path(rt: HostRuntime) -> Result<(), Fail> {
     let (session, floor) = (7, 1);
     let welcome = ServerMessage::Welcome { session, floor };
     check_reply(&rt, rt.alloc(), welcome, REPLIES[0])?;
-    let answers = [
-        Answer::Array { id: 1, length: 2 },
-        Answer::Done,
-        Answer::Value(42),
-        Answer::Value(42),
-    ];
-    for ((number, answer), frame) in (1..).zip(answers).zip(&REPLIES[1..]) {
-        check_answer(&rt, rt.alloc(), number, answer, frame)?;
-    }
+    let made = Answer::Array { id: 1, length: 2 };
+    check_answer(&rt, rt.alloc(), 1, made, REPLIES[1])?;
+    check_answer(&rt, rt.alloc(), 2, Answer::Done, REPLIES[2])?;
+    check_answer(&rt, rt.alloc(), 3, Answer::Value(42), REPLIES[3])?;
+    check_answer(&rt, rt.alloc(), 4, Answer::Value(42), REPLIES[4])?;
     Ok(())
 }
 
@@ -397,7 +413,21 @@ fn check_at_last(
     let (front, back) = frame.split_at(5);
     check_fed(rt, alloc, decoder, front, &[], None)?;
     let fed = fed_at_last(decoder, alloc, back)?;
-    assert_eq!(rt; fed.messages.as_slice(), [message].as_slice());
+    assert!(rt; fed.messages.as_slice() == [message].as_slice());
+    drop(fed);
+    Ok(())
+}
+
+/// Each frame of the first path gives its message.
+fn check_each(
+    rt: &impl Abort,
+    alloc: Global,
+    decoder: &mut Decoder,
+    wanted: &[ClientMessage],
+) -> Result<(), Fail> {
+    for (frame, message) in FRAMES.iter().zip(wanted) {
+        check_at_last(rt, alloc, decoder, frame, *message)?;
+    }
     Ok(())
 }
 
@@ -406,8 +436,7 @@ fn check_at_last(
 fn want_of_memory(rt: HostRuntime) -> Result<(), Fail> {
     let wanted = first_path().ok_or("five bytes")?;
     let mut decoder = Decoder::new();
-    for (frame, message) in FRAMES.iter().zip(wanted) {
-        check_at_last(&rt, rt.alloc(), &mut decoder, frame, message)?;
-    }
-    Ok(())
+    let checked = check_each(&rt, rt.alloc(), &mut decoder, &wanted);
+    drop(decoder);
+    checked
 }

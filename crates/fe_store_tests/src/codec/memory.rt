@@ -11,7 +11,7 @@ fn image_at_last(rt: &impl Abort, alloc: Global) -> Result<State, ImageFault> {
     match read_image(alloc, Format::Two, &LONG_IMAGE) {
         Ok(state) => Ok(state),
         Err(fault) => {
-            assert_eq!(rt; fault, ImageFault::NoMemory);
+            assert!(rt; fault == ImageFault::NoMemory);
             read_image(alloc, Format::Two, &LONG_IMAGE)
         }
     }
@@ -27,7 +27,7 @@ fn group_at_last(alloc: Global) -> Result<Option<Vec<Entry>>, AllocError> {
 fn put_at_last(rt: &impl Abort, state: &State, out: &mut Vec<u8>) -> Result<(), AllocError> {
     let before = out.len();
     if put_image(Format::Two, state, out).is_err() {
-        assert_eq!(rt; out.len(), before);
+        assert!(rt; out.len() == before);
         put_image(Format::Two, state, out)?;
     }
     Ok(())
@@ -52,5 +52,7 @@ fn codec_where_memory_ends(rt: HostRuntime) -> Result<(), Fail> {
     let state = image_at_last(&rt, rt.alloc())
         .ok()
         .ok_or("the bytes are an image")?;
-    check_put(&rt, rt.alloc(), &state)
+    let checked = check_put(&rt, rt.alloc(), &state);
+    drop(state);
+    checked
 }

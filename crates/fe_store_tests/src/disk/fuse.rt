@@ -27,10 +27,11 @@ fn two_writes(rt: &impl Abort, disk: &mut Fuse<MemoryDisk>) -> Result<(), Device
 
 // The calls fail from the first on that the fuse does not pass.
 fn burn(rt: &impl Abort, fuse: &mut Fuse<MemoryDisk>, calls: u64) {
-    assert_eq!(rt; two_writes(rt, fuse).is_ok(), calls == 4);
-    assert_eq!(rt; fuse.failures(), if calls == 4 { 0 } else { 1 });
-    assert_eq!(rt; fuse.sync(), Err(DeviceFault));
-    assert_eq!(rt; fuse.failures(), if calls == 4 { 1 } else { 2 });
+    assert!(rt; two_writes(rt, fuse).is_ok() == (calls == 4));
+    let failures = if calls == 4 { 0 } else { 1 };
+    assert!(rt; fuse.failures() == failures);
+    assert!(rt; fuse.sync() == Err(DeviceFault));
+    assert!(rt; fuse.failures() == failures + 1);
 }
 
 fn burnt(rt: &impl Abort, alloc: Global, calls: u64) -> Result<MemoryDisk, AllocError> {
@@ -58,8 +59,13 @@ fn check_row(
     torn: Torn,
     want: [u8; 2],
 ) -> Result<(), Fail> {
-    let mut left = burnt(rt, alloc, calls)?.stopped(torn)?;
-    check_bytes(rt, &mut left, calls, want)
+    let disk = burnt(rt, alloc, calls)?;
+    let left = disk.stopped(torn);
+    drop(disk);
+    let mut left = left?;
+    let checked = check_bytes(rt, &mut left, calls, want);
+    drop(left);
+    checked
 }
 
 #[test]

@@ -66,7 +66,9 @@ fn check_left(
 ) -> Result<(), Fail> {
     check_bytes(rt, left, want, k)?;
     let mut again = left.stopped(Torn::Byte(0x55))?;
-    check_bytes(rt, &mut again, want, k)
+    let checked = check_bytes(rt, &mut again, want, k);
+    drop(again);
+    checked
 }
 
 fn check_stop(
@@ -77,7 +79,9 @@ fn check_stop(
     k: usize,
 ) -> Result<(), Fail> {
     let mut left = disk.stopped(torn)?;
-    check_left(rt, &mut left, want, k)
+    let checked = check_left(rt, &mut left, want, k);
+    drop(left);
+    checked
 }
 
 fn check_stops(rt: &impl Abort, disk: &mut MemoryDisk, plain: &mut Plain) -> Result<(), Fail> {
@@ -87,7 +91,7 @@ fn check_stops(rt: &impl Abort, disk: &mut MemoryDisk, plain: &mut Plain) -> Res
             check_stop(rt, disk, torn, plain.left(torn), k)?;
         }
     }
-    assert_eq!(rt; disk.failures(), 0);
+    assert!(rt; disk.failures() == 0);
     Ok(())
 }
 
@@ -96,34 +100,42 @@ fn check_stops(rt: &impl Abort, disk: &mut MemoryDisk, plain: &mut Plain) -> Res
 fn stops_as_the_table_says(rt: HostRuntime) -> Result<(), Fail> {
     let mut disk = MemoryDisk::new(rt.alloc(), SIZE)?;
     let mut plain = Plain::new();
-    check_stops(&rt, &mut disk, &mut plain)
+    let checked = check_stops(&rt, &mut disk, &mut plain);
+    drop(disk);
+    checked
 }
 
 // A write or a sync whose record finds no memory is a device fault that leaves the disk as it was.
 // `rt try --test --fail-alloc N`, for N from 1 on, takes each allocation away in turn.
-#[test]
-fn faults_where_memory_ends(rt: HostRuntime) -> Result<(), Fail> {
-    let mut disk = MemoryDisk::new(rt.alloc(), SIZE)?;
+fn check_faults(rt: &impl Abort, disk: &mut MemoryDisk) -> Result<(), Fail> {
     let mut found = [0; 2];
     let mut faults = 0;
     for byte in 1..20 {
-        read(&rt, &mut disk, 7, &mut found)?;
+        read(rt, disk, 7, &mut found)?;
         let before = found;
-        let want = match write(&rt, &mut disk, 7, &[byte, byte]) {
+        let want = match write(rt, disk, 7, &[byte, byte]) {
             Ok(()) => [byte, byte],
             Err(_) => {
                 faults = 1;
                 before
             }
         };
-        assert_eq!(rt; disk.failures(), faults);
-        read(&rt, &mut disk, 7, &mut found)?;
-        assert_eq!(rt; found, want);
+        assert!(rt; disk.failures() == faults);
+        read(rt, disk, 7, &mut found)?;
+        assert!(rt; found == want);
         if disk.sync().is_err() {
             faults = 1;
         }
-        assert_eq!(rt; disk.failures(), faults);
+        assert!(rt; disk.failures() == faults);
     }
-    assert!(rt; MemoryDisk::new(rt.alloc(), usize::MAX / 2).is_err());
     Ok(())
+}
+
+#[test]
+fn faults_where_memory_ends(rt: HostRuntime) -> Result<(), Fail> {
+    let mut disk = MemoryDisk::new(rt.alloc(), SIZE)?;
+    let checked = check_faults(&rt, &mut disk);
+    drop(disk);
+    assert!(rt; MemoryDisk::new(rt.alloc(), usize::MAX / 2).is_err());
+    checked
 }

@@ -3,7 +3,7 @@ use super::pieces::Piece;
 use super::steps::append;
 use super::{found, new_store, read};
 use fe_disk::MemoryDisk;
-use fe_journal::Format;
+use fe_journal::{Format, Found, Journal};
 use std::alloc::Global;
 use std::process::Abort;
 
@@ -20,16 +20,21 @@ fn stands(rt: &impl Abort, disk: &mut MemoryDisk, at: usize, bytes: &[u8]) -> bo
     read(rt, disk, at, found).is_ok() && &*found == bytes
 }
 
+fn check_new(rt: &impl Abort, disk: &mut MemoryDisk, magic: &[u8]) {
+    assert!(rt; stands(rt, disk, 0, magic));
+    assert!(rt; stands(rt, disk, 8, &[0, 0, 0, 0, 0, 0, 0, 1, 0, 0, 0, 24]));
+    assert!(rt; stands(rt, disk, 4_095, &[1]));
+    assert!(rt; stands(rt, disk, 4_096, Piece::EmptyImage.bytes()));
+    assert!(rt; stands(rt, disk, 1_052_672, &[0]));
+    assert!(rt; stands(rt, disk, 2_105_343, &[0]));
+}
+
 #[test]
 fn bytes_of_new_store(rt: HostRuntime) {
     for (format, magic) in MAGIC {
         let mut disk = new_store(&rt, rt.alloc(), format).into_disk();
-        assert!(rt; stands(&rt, &mut disk, 0, magic));
-        assert!(rt; stands(&rt, &mut disk, 8, &[0, 0, 0, 0, 0, 0, 0, 1, 0, 0, 0, 24]));
-        assert!(rt; stands(&rt, &mut disk, 4_095, &[1]));
-        assert!(rt; stands(&rt, &mut disk, 4_096, Piece::EmptyImage.bytes()));
-        assert!(rt; stands(&rt, &mut disk, 1_052_672, &[0]));
-        assert!(rt; stands(&rt, &mut disk, 2_105_343, &[0]));
+        check_new(&rt, &mut disk, magic);
+        drop(disk);
     }
 }
 
@@ -61,20 +66,42 @@ fn disk_with(
     room: u32,
 ) -> MemoryDisk {
     let disk = new_store(rt, alloc, format).into_disk();
-    let mut journal = found(rt, alloc, disk).journal;
-    assert_eq!(rt; journal.room(), 1_048_570);
-    assert!(rt; append(rt, &mut journal, payload.bytes()));
-    assert_eq!(rt; journal.room(), room);
+    let Found {
+        mut journal,
+        image,
+        groups,
+    } = found(rt, alloc, disk);
+    drop(image);
+    drop(groups);
+    append_record(rt, &mut journal, payload, room);
     journal.into_disk()
+}
+
+fn append_record(rt: &impl Abort, journal: &mut Journal<MemoryDisk>, payload: Piece, room: u32) {
+    assert!(rt; journal.room() == 1_048_570);
+    assert!(rt; append(rt, journal, payload.bytes()));
+    assert!(rt; journal.room() == room);
+}
+
+fn check_record(rt: &impl Abort, disk: &mut MemoryDisk, payload: Piece, head: Piece, gate: usize) {
+    assert!(rt; stands(rt, disk, 1_052_672, head.bytes()));
+    assert!(rt; stands(rt, disk, 1_052_677, payload.bytes()));
+    assert!(rt; stands(rt, disk, gate, &[0]));
+}
+
+// Where the first group of a store stands.
+fn first_group(rt: &impl Abort, alloc: Global, disk: MemoryDisk) -> usize {
+    let found = found(rt, alloc, disk);
+    let offset = found.groups.offset();
+    drop(found);
+    offset
 }
 
 #[test]
 fn bytes_of_one_record(rt: HostRuntime) {
     for (format, payload, head, gate, room) in RECORDS {
         let mut disk = disk_with(&rt, rt.alloc(), format, payload, room);
-        assert!(rt; stands(&rt, &mut disk, 1_052_672, head.bytes()));
-        assert!(rt; stands(&rt, &mut disk, 1_052_677, payload.bytes()));
-        assert!(rt; stands(&rt, &mut disk, gate, &[0]));
-        assert_eq!(rt; found(&rt, rt.alloc(), disk).groups.offset(), 1_052_677);
+        check_record(&rt, &mut disk, payload, head, gate);
+        assert!(rt; first_group(&rt, rt.alloc(), disk) == 1_052_677);
     }
 }

@@ -3,7 +3,7 @@ use super::pieces::Piece;
 use super::steps::{Step, make};
 use super::{Held, NEW, found, is_held, new_store};
 use fe_disk::{Disk, Fuse, MemoryDisk, Torn};
-use fe_journal::{Format, Journal, find};
+use fe_journal::{Format, Found, Journal, find};
 use std::alloc::Global;
 use std::process::Abort;
 
@@ -136,7 +136,13 @@ fn held_after(row: &Row, calls: u64, torn: Torn) -> &Held {
 // The disk of a new store on which so many device calls of the run were made.
 fn disk_after(rt: &impl Abort, alloc: Global, calls: u64) -> MemoryDisk {
     let fuse = Fuse::new(new_store(rt, alloc, Format::Two).into_disk(), calls);
-    let mut journal = find(alloc, fuse).ok().expect(rt, "opened").journal;
+    let Found {
+        mut journal,
+        image,
+        groups,
+    } = find(alloc, fuse).ok().expect(rt, "opened");
+    drop(image);
+    drop(groups);
     run(rt, &mut journal);
     journal.into_disk().into_inner()
 }
@@ -156,6 +162,7 @@ fn stop_in(rt: &impl Abort, alloc: Global, row: &Row) {
                 "{torn:?} after {calls}"
             );
         }
+        drop(disk);
     }
 }
 

@@ -82,10 +82,21 @@ fn disk_of(rt: &impl Abort, alloc: Global, case: &Case) -> MemoryDisk {
 }
 
 fn is_found(alloc: Global, disk: MemoryDisk, want: &Result<Held, StoreFault>) -> bool {
-    match (find(alloc, disk), want) {
-        (Ok(found), Ok(held)) => is_held(found, held),
-        (Err((fault, _)), Err(want)) => fault == *want,
-        (_, _) => false,
+    match find(alloc, disk) {
+        Ok(found) => match want {
+            Ok(held) => is_held(found, held),
+            Err(_) => {
+                drop(found);
+                false
+            }
+        },
+        Err((fault, disk)) => {
+            drop(disk);
+            match want {
+                Ok(_) => false,
+                Err(want) => fault == *want,
+            }
+        }
     }
 }
 

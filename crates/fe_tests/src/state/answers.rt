@@ -12,7 +12,8 @@ fn check_access(rt: &impl Abort, state: &State, index: u32, op: Op, answer: Opti
     check_reply(rt, state, access(index, op, true), Some(at_once));
 }
 
-fn check_operations(rt: &impl Abort, state: &State) {
+fn check_operations(rt: &impl Abort, state: &mut State) -> Result<(), Fail> {
+    put_cells(rt, state)?;
     let (done, five, zero) = (Answer::Done, Answer::Value(5), Answer::Value(0));
     let rows = [
         (Op::ReadFe, Some(five), None),
@@ -28,16 +29,19 @@ fn check_operations(rt: &impl Abort, state: &State) {
         check_access(rt, state, 1, op, full);
         check_access(rt, state, 0, op, empty);
     }
+    Ok(())
 }
 
 #[test]
 fn operations_on_a_full_and_an_empty_word(rt: HostRuntime) -> Result<(), Fail> {
-    let state = with_cells(&rt, rt.alloc())?;
-    check_operations(&rt, &state);
-    Ok(())
+    let mut state = State::new(rt.alloc())?;
+    let checked = check_operations(&rt, &mut state);
+    drop(state);
+    checked
 }
 
-fn check_creations(rt: &impl Abort, state: &State) {
+fn check_creations(rt: &impl Abort, state: &mut State) -> Result<(), Fail> {
+    put_cells(rt, state)?;
     let made = Answer::Array {
         id: 2,
         length: 65534,
@@ -57,16 +61,19 @@ fn check_creations(rt: &impl Abort, state: &State) {
         let request = create(rt, bytes, length, Tag::Full);
         check_reply(rt, state, request, Some(answer));
     }
+    Ok(())
 }
 
 #[test]
 fn create_refusals(rt: HostRuntime) -> Result<(), Fail> {
-    let state = with_cells(&rt, rt.alloc())?;
-    check_creations(&rt, &state);
-    Ok(())
+    let mut state = State::new(rt.alloc())?;
+    let checked = check_creations(&rt, &mut state);
+    drop(state);
+    checked
 }
 
-fn check_others(rt: &impl Abort, state: &State) {
+fn check_others(rt: &impl Abort, state: &mut State) -> Result<(), Fail> {
+    put_cells(rt, state)?;
     let cells = Answer::Array { id: 1, length: 2 };
     let rows = [
         (find(rt, b"cells"), cells),
@@ -79,11 +86,13 @@ fn check_others(rt: &impl Abort, state: &State) {
     for (request, answer) in rows {
         check_reply(rt, state, request, Some(answer));
     }
+    Ok(())
 }
 
 #[test]
 fn other_replies(rt: HostRuntime) -> Result<(), Fail> {
-    let state = with_cells(&rt, rt.alloc())?;
-    check_others(&rt, &state);
-    Ok(())
+    let mut state = State::new(rt.alloc())?;
+    let checked = check_others(&rt, &mut state);
+    drop(state);
+    checked
 }

@@ -19,19 +19,19 @@ fn keep_done(rt: &impl Abort, state: &mut State) {
         answer: Answer::Done,
         place: 9,
     };
-    assert_eq!(rt; state.floor(7), Some(5));
+    assert!(rt; state.floor(7) == Some(5));
     assert!(rt; 9 < state.place());
     state.load_kept(7, 6, kept);
 }
 
 fn check_loaded(rt: &impl Abort, state: &State) {
-    assert_eq!(rt; state.array_at(0), Some((2, name(rt, b"cells"), 2)));
+    assert!(rt; state.array_at(0) == Some((2, name(rt, b"cells"), 2)));
     for (index, value) in [(0, Some(0)), (1, Some(9)), (2, None)] {
-        assert_eq!(rt; state.word(2, index).map(|word| word.value), value);
+        assert!(rt; state.word(2, index).map(|word| word.value) == value);
     }
-    assert_eq!(rt; state.session_at(0), Some(7));
+    assert!(rt; state.session_at(0) == Some(7));
     for number in 0..40 {
-        assert_eq!(rt; state.kept(7, number).is_some(), number == 6);
+        assert!(rt; state.kept(7, number).is_some() == (number == 6));
     }
 }
 
@@ -41,7 +41,10 @@ fn begun(rt: &impl Abort, alloc: Global) -> Result<State, AllocError> {
     state.load_session(7, 5);
     let cells = name(rt, b"cells");
     assert!(rt; cells.is_plain());
-    state.load_array(2, cells, 2)?;
+    if let Err(error) = state.load_array(2, cells, 2) {
+        drop(state);
+        return Err(error);
+    }
     Ok(state)
 }
 
@@ -49,13 +52,14 @@ fn load(rt: &impl Abort, state: &mut State) {
     fill(rt, state);
     keep_done(rt, state);
     check_loaded(rt, state);
-    assert_eq!(rt; state.next_id(), 3);
+    assert!(rt; state.next_id() == 3);
 }
 
 #[test]
 fn an_image_is_loaded(rt: HostRuntime) -> Result<(), Fail> {
     let mut state = begun(&rt, rt.alloc())?;
     load(&rt, &mut state);
+    drop(state);
     Ok(())
 }
 
@@ -63,12 +67,13 @@ fn an_image_is_loaded(rt: HostRuntime) -> Result<(), Fail> {
 fn a_batch_is_made(rt: HostRuntime) -> Result<(), Fail> {
     let mut batch = Batch::new(rt.alloc(), 5)?;
     batch.push(Entry::Closed { session: 7 });
-    assert_eq!(rt; batch.first, 5);
+    assert!(rt; batch.first == 5);
     assert!(rt; batch.entries.as_slice() == [Entry::Closed { session: 7 }].as_slice());
     assert!(rt; batch.fits_format_1());
     batch.push(finished(1, access(0, Op::Purge, true), Answer::NotNow));
     assert!(rt; !batch.fits_format_1());
     batch.entries.clear();
     assert!(rt; !batch.entries.is_full());
+    drop(batch);
     Ok(())
 }

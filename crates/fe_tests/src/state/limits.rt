@@ -10,31 +10,33 @@ fn create_one(rt: &impl Abort, state: &mut State, id: u64, name: &[u8]) -> Resul
     Ok(())
 }
 
-/// Session 7, and 64 arrays of one word.
-fn with_64_arrays(rt: &impl Abort, alloc: Global) -> Result<State, AllocError> {
-    let mut state = State::new(alloc)?;
-    pass(rt, &mut state, attached(7))?;
+/// Session 7 comes to a new state, and makes 64 arrays of one word.
+fn make_64_arrays(rt: &impl Abort, state: &mut State) -> Result<(), AllocError> {
+    pass(rt, state, attached(7))?;
     for k in 0..64u8 {
         let name = [b'a' + k / 8, b'a' + k % 8];
-        create_one(rt, &mut state, u64::from(k) + 1, &name)?;
+        create_one(rt, state, u64::from(k) + 1, &name)?;
     }
-    Ok(state)
+    Ok(())
 }
 
-fn check_65th(rt: &impl Abort, state: &mut State) -> Result<(), AllocError> {
+fn check_65th(rt: &impl Abort, state: &mut State) -> Result<(), Fail> {
+    make_64_arrays(rt, state)?;
     let further = create(rt, b"further", 1, Tag::Full);
-    assert_eq!(rt; state.answer_to(&further), Some(Answer::ArrayLimit));
+    assert!(rt; state.answer_to(&further) == Some(Answer::ArrayLimit));
     pass(rt, state, finished(65, further, Answer::ArrayLimit))?;
     assert!(rt; state.array_at(63).is_some());
     assert!(rt; state.array_at(64).is_none());
-    assert_eq!(rt; state.next_id(), 65);
+    assert!(rt; state.next_id() == 65);
     Ok(())
 }
 
 #[test]
 fn a_65th_array_is_refused(rt: HostRuntime) -> Result<(), Fail> {
-    let mut state = with_64_arrays(&rt, rt.alloc())?;
-    Ok(check_65th(&rt, &mut state)?)
+    let mut state = State::new(rt.alloc())?;
+    let checked = check_65th(&rt, &mut state);
+    drop(state);
+    checked
 }
 
 fn removed(number: u64, array: u64) -> Entry {
@@ -56,11 +58,12 @@ fn removals(rt: &impl Abort) -> [Entry; 5] {
 fn check_order(rt: &impl Abort, state: &State) {
     for k in 0..64 {
         let id = state.array_at(k).map(|array| array.0);
-        assert_eq!(rt; id, Some(k as u64 + 1));
+        assert!(rt; id == Some(k as u64 + 1));
     }
 }
 
-fn check_put_back(rt: &impl Abort, alloc: Global, state: &mut State) -> Result<(), AllocError> {
+fn check_put_back(rt: &impl Abort, alloc: Global, state: &mut State) -> Result<(), Fail> {
+    make_64_arrays(rt, state)?;
     undo_all(rt, alloc, state, 5, &removals(rt))?;
     check_order(rt, state);
     Ok(())
@@ -68,6 +71,8 @@ fn check_put_back(rt: &impl Abort, alloc: Global, state: &mut State) -> Result<(
 
 #[test]
 fn arrays_put_back_keep_their_order(rt: HostRuntime) -> Result<(), Fail> {
-    let mut state = with_64_arrays(&rt, rt.alloc())?;
-    Ok(check_put_back(&rt, rt.alloc(), &mut state)?)
+    let mut state = State::new(rt.alloc())?;
+    let checked = check_put_back(&rt, rt.alloc(), &mut state);
+    drop(state);
+    checked
 }

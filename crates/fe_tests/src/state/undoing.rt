@@ -15,7 +15,7 @@ fn step_on(
     ensures { OnOk result (IsLogOf log.new state.new) }
 {
     step(rt, state, log, entry)?;
-    assert_eq!(rt; Some(state.place()), place.checked_add(1));
+    assert!(rt; Some(state.place()) == place.checked_add(1));
     Ok(())
 }
 
@@ -34,10 +34,17 @@ pub fn there_and_back(
         return Ok(());
     };
     let before = state.copy()?;
-    step_on(rt, state, log, before.place(), *first)?;
-    there_and_back(rt, state, log, rest)?;
+    if let Err(error) = step_on(rt, state, log, before.place(), *first) {
+        drop(before);
+        return Err(error);
+    }
+    if let Err(error) = there_and_back(rt, state, log, rest) {
+        drop(before);
+        return Err(error);
+    }
     state.undo(log);
     check_same(rt, state, &before);
+    drop(before);
     Ok(())
 }
 
@@ -61,6 +68,20 @@ fn mixed_entries(rt: &impl Abort) -> [Entry; 12] {
     ]
 }
 
+/// Carries out the entries over an empty log, and undoes them.
+fn undo_each(
+    rt: &impl Abort,
+    state: &mut State,
+    log: &mut UndoLog,
+    entries: &[Entry],
+) -> Result<(), AllocError>
+    requires { IsLogOf log.old state.old }
+{
+    there_and_back(rt, state, log, entries)?;
+    assert!(rt; log.len() == 0);
+    Ok(())
+}
+
 /// Carries out the entries over a log with room for so many, and undoes them.
 pub fn undo_all(
     rt: &impl Abort,
@@ -70,15 +91,22 @@ pub fn undo_all(
     entries: &[Entry],
 ) -> Result<(), AllocError> {
     let mut log = UndoLog::with_room(alloc, room)?;
-    there_and_back(rt, state, &mut log, entries)?;
-    assert_eq!(rt; log.len(), 0);
-    Ok(())
+    let undone = undo_each(rt, state, &mut log, entries);
+    drop(log);
+    undone
+}
+
+fn check_mixed(rt: &impl Abort, alloc: Global, state: &mut State) -> Result<(), Fail> {
+    put_cells(rt, state)?;
+    Ok(undo_all(rt, alloc, state, 12, &mixed_entries(rt))?)
 }
 
 #[test]
 fn mixed_entries_are_undone(rt: HostRuntime) -> Result<(), Fail> {
-    let mut state = with_cells(&rt, rt.alloc())?;
-    Ok(undo_all(&rt, rt.alloc(), &mut state, 12, &mixed_entries(&rt))?)
+    let mut state = State::new(rt.alloc())?;
+    let checked = check_mixed(&rt, rt.alloc(), &mut state);
+    drop(state);
+    checked
 }
 
 /// Fills the room of a log for two entries.
@@ -93,24 +121,38 @@ fn fill_log(rt: &impl Abort, state: &mut State, log: &mut UndoLog) -> Result<(),
     Ok(())
 }
 
-fn rewind_two(rt: &impl Abort, alloc: Global, state: &mut State) -> Result<(), AllocError> {
-    let mut log = UndoLog::with_room(alloc, 2)?;
-    fill_log(rt, state, &mut log)?;
-    state.rewind(&mut log);
+fn rewind(rt: &impl Abort, state: &mut State, log: &mut UndoLog) -> Result<(), AllocError>
+    requires { IsLogOf log.old state.old }
+{
+    fill_log(rt, state, log)?;
+    state.rewind(log);
     assert!(rt; log.has_room());
     log.clear();
     Ok(())
 }
 
-fn check_rewound(rt: &impl Abort, alloc: Global, state: &mut State) -> Result<(), AllocError> {
+fn rewind_two(rt: &impl Abort, alloc: Global, state: &mut State) -> Result<(), AllocError> {
+    let mut log = UndoLog::with_room(alloc, 2)?;
+    let rewound = rewind(rt, state, &mut log);
+    drop(log);
+    rewound
+}
+
+fn check_rewound(rt: &impl Abort, alloc: Global, state: &mut State) -> Result<(), Fail> {
+    put_cells(rt, state)?;
     let before = state.copy()?;
-    rewind_two(rt, alloc, state)?;
-    check_same(rt, state, &before);
-    Ok(())
+    let rewound = rewind_two(rt, alloc, state);
+    if rewound.is_ok() {
+        check_same(rt, state, &before);
+    }
+    drop(before);
+    Ok(rewound?)
 }
 
 #[test]
 fn a_log_is_rewound(rt: HostRuntime) -> Result<(), Fail> {
-    let mut state = with_cells(&rt, rt.alloc())?;
-    Ok(check_rewound(&rt, rt.alloc(), &mut state)?)
+    let mut state = State::new(rt.alloc())?;
+    let checked = check_rewound(&rt, rt.alloc(), &mut state);
+    drop(state);
+    checked
 }

@@ -10,5 +10,5 @@ add_array-requires-clause-new c = rw c.in_ok-waits.ensures.arrays (get-empty nat
 pub add_array-requires-clause-room : goal.add_array-requires-clause-room
 add_array-requires-clause-room c = rw (c.in_ok-waits.ensures.arrays, len-empty nat_cmp ℕ) (omega arith)
 
-pub returns : goal.returns
-returns c = rw c.in_ok-add_array.ensures.ok (get-insert_here _ 1 8)
+pub returns-in-Ok : goal.returns-in-Ok
+returns-in-Ok c = rw c.in-Ok.ensures.ok (get-insert_here _ 1 8)
