@@ -11,9 +11,10 @@ use Rattle.fe_state.proofs.Maps.{same_or_other}
 use Rattle.fe_wire.specs.Spelling.{reply_spelling}
 use Rattle.fe_wire.specs.declared.server_message.ServerMessage.{ServerMessage}
 use Rattle.fe_mail.specs.Books.{mail_taken}
-use Rattle.fe_mail.specs.Connections.{mails_on, with_mails}
+use Rattle.fe_mail.specs.Connections.{mails_on, mails_in, with_mails}
 use Rattle.fe_mail.specs.declared.connection.Connection.{Connection}
 use Rattle.fe_mail.specs.declared.mail.Mail.{Mail}
+use Rattle.fe_mail.proofs.MailCounts.{mails_in-remove}
 use Rattle.fe_mail.proofs.Lookups.{mails_on-with_mails, mails_on-with_mails-beside, is_some-with_mails}
 use Rattle.fe_front.specs.Front.{FrontState, is_connected}
 use Rattle.fe_front.specs.Steps.{taken}
@@ -79,6 +80,14 @@ taken_is f conn m ms box =
 -- taking from an empty box changes nothing
 pub nothing_taken : (f : FrontState) (conn : ℕ) → mails_on f.connections conn ≡ [] → taken f conn ≡ f
 nothing_taken f conn box = ap (λ (xs : List Mail). if nat_lt 0 (length xs) then shorter f conn else f) box
+
+-- where no mail stands in all boxes, each is empty
+pub each_empty : (f : FrontState) → mails_in f.connections ≡ 0 → (conn : ℕ) → mails_on f.connections conn ≡ []
+each_empty f none conn = none_of (mails_on f.connections conn) (omega (arith, mails_in-remove f.connections conn, none))
+  where
+    none_of : (xs : List Mail) → length xs ≡ 0 → xs ≡ []
+    none_of [] is = refl
+    none_of (x ∷ xs) is = absurd (omega (arith, is))
 
 -- the mails behind the first are left
 left_in : (f : FrontState) (conn : ℕ) (m : Mail) (ms : List Mail) → mails_on f.connections conn ≡ m ∷ ms → mails_on (taken f conn).connections conn ≡ ms
@@ -150,7 +159,7 @@ pub all_emptied-empty : (f : FrontState) (cs : List Client) → KeepsEmpty f (al
 all_emptied-empty f [] = empty_itself f
 all_emptied-empty f (c ∷ cs) = empty_both f (emptied_box f c.conn) (all_emptied (emptied_box f c.conn) cs) (emptied_box-empty f c.conn) (all_emptied-empty (emptied_box f c.conn) cs)
 
-same_number : (a b : ℕ) → nat_eq a b ≡ true → a ≡ b
+pub same_number : (a b : ℕ) → nat_eq a b ≡ true → a ≡ b
 same_number a b is = search (rules, nat_tests)
 
 -- the box of a connection that has a client is empty then

@@ -16,4 +16,4 @@ pub mod Reading
 pub mod Feeding
 pub mod Pieces
 pub mod Making
-pub mod Unchecked
+pub mod Untouched

@@ -1,19 +1,24 @@
 -- Runs of steps, one after the other.
-use Rattle.std.proofs.Common.{◌≡◌, ℕ, ◌+◌, ◌<◌, false, List, [], ◌∷◌, ◌++◌, length, take, get_or, add-one, zero, suc, Option, Some, None, refl, sym, ap, subst, ◌∙◌, arith}
+use Rattle.std.proofs.Common.{◌≡◌, ℕ, ◌+◌, ◌<◌, Bool, true, false, List, [], ◌∷◌, ◌++◌, length, take, get_or, add-one, zero, suc, Option, Some, None, refl, sym, ap, subst, ◌∙◌, arith}
 use Rattle.std.proofs.lemmas.List.{take_more, append-nil}
 use Rattle.fe_disk.specs.Disk.{LeavesOnly}
 use Rattle.fe_disk.proofs.Moments.{started, joined, weaker}
 use Rattle.fe_state.specs.State.{ServerState}
 use Rattle.fe_state.specs.declared.entry.Entry.{Entry}
 use Rattle.fe_keeper.specs.Stands.{StandsFor, EachStandsFor}
+use Rattle.std.specs.Prelude.{slice_get}
+use Rattle.fe_keeper.specs.declared.fault.Fault.TheVariants as keeper
 use Rattle.fe_desk.specs.declared.fault.DeskFault.{DeskFault}
+use Rattle.fe_desk.specs.declared.fault.DeskFault.TheVariants.{Store, NoMemory, Unwritten}
+use Rattle.fe_desk.specs.Checks.{Checks}
+use Rattle.fe_desk.specs.Messages.{outputs, TellsFed}
 use Rattle.fe_desk.specs.declared.step.Step.{Step}
-use Rattle.fe_desk.specs.Runs.{IsTaken, IsSilentAfter, IsRunOf}
+use Rattle.fe_desk.specs.Runs.{EndsBy, IsTaken, IsRunOf}
 use Rattle.fe_desk.specs.Traces.{IsTraceOf}
 use Rattle.fe_desk.specs.declared.trace.Trace.{Trace}
-use Rattle.fe_desk.specs.Standing.{Standing, IsFirstStanding}
+use Rattle.fe_desk.specs.Standing.{Standing, IsFirstStanding, settled}
 use Rattle.fe_desk.specs.Steps.{DeskStep, DeskRun}
-use Rattle.fe_desk.specs.Crash.{DeskState, IsFrom, Advances, LeavesPrefix, disk_of}
+use Rattle.fe_desk.specs.Crash.{DeskState, IsFrom, Advances, LeavesPrefix, TellsStep, disk_of}
 
 -- a step more
 run_more : (s t u : Standing) (steps : List Step) (step : Step) → DeskRun s steps t → DeskStep t step u → DeskRun s (steps ++ step ∷ []) u
@@ -66,16 +71,34 @@ module _ {D : Type 0} (honest : D → Type 0) (may_leave : D → List ℕ → Ty
         honesty = (λ h. h, λ h. h);
       }
 
--- the steps before the one at fault were taken
-pub taken_to : (s last t : Standing) (steps : List Step) (k : ℕ) (fault : DeskFault) → DeskRun s (take k steps) last → IsSilentAfter fault t last → IsTaken s steps t (Some (k + 1, fault))
-taken_to s last t steps k fault run silent =
-    subst (λ (n : ℕ). IsTaken s steps t (Some (n, fault))) (sym (add-one k)) (last, run, silent)
+-- what the step at fault did, by its fault
+pub ends_by : {D : Type 0} (failures : D → ℕ) (old new : DeskState D) (step : Step) (fault : DeskFault) → TellsStep failures old new fault
+    → (fault ≡ Store keeper.Device → outputs new.standing ≡ outputs old.standing) → ((fed : Bool) → fault ≡ NoMemory fed → TellsFed fed old.standing step new.standing)
+    → (fault ≡ Unwritten → DeskStep old.standing step (settled new.standing) × (new.standing.owes ≡ true) × Checks step old.keeper new.keeper) → EndsBy fault old.standing step new.standing
+ends_by failures old new step (Store cause) tells silent short owed = (tells.0, silent (ap Store tells.0))
+ends_by failures old new step (NoMemory fed) tells silent short owed = short fed refl
+ends_by failures old new step Unwritten tells silent short owed = let took = owed refl in (took.0, took.1)
+
+-- the steps before the one at fault were taken, and then that one
+pub taken_to : (s last t : Standing) (steps : List Step) (k : ℕ) (step : Step) (fault : DeskFault) → DeskRun s (take k steps) last → slice_get steps k ≡ Some step → EndsBy fault last step t
+    → IsTaken s steps t (Some (k + 1, fault))
+taken_to s last t steps k step fault run is ends =
+    subst (λ (n : ℕ). IsTaken s steps t (Some (n, fault))) (sym (add-one k)) (record { last = last; step = step; before = run; is = is; ends = ends })
 
 -- a run from its parts
-pub run_of : {D : Type 0} (honest : D → Type 0) (seen : D → List ℕ) (disk : D) (steps : List Step) (begun : ServerState) (first last : Standing) (t : Trace) (n : ℕ) (fault : Option (ℕ × DeskFault))
-    → (honest disk → StandsFor (seen disk) begun) → IsFirstStanding begun first → IsTraceOf t last n → IsTaken first steps last fault → IsRunOf honest seen disk steps t fault
-run_of honest seen disk steps begun first last t n None stands begins trace taken =
-    (last, record { begun = begun; first = first; stands = stands; begins = begins; run = taken }, record { groups = trace.groups; written = trace.written; synced_is = refl })
-run_of honest seen disk steps begun first last t n (Some (zero, fault)) stands begins trace taken = absurd taken
-run_of honest seen disk steps begun first last t n (Some (suc k, fault)) stands begins trace taken =
-    (taken.0, record { begun = begun; first = first; stands = stands; begins = begins; run = taken.1 }, λ device. trace.written ∙ taken.2 device)
+module _ {D : Type 0} (honest : D → Type 0) (seen : D → List ℕ) (disk : D) (steps : List Step) (begun : ServerState) (first last : Standing) (t : Trace) (n : ℕ) where
+  pub run_of : (fault : Option (ℕ × DeskFault)) → (honest disk → StandsFor (seen disk) begun) → IsFirstStanding begun first → IsTraceOf t last n → IsTaken first steps last fault
+      → (fault ≡ None → n ≡ length last.groups) → IsRunOf honest seen disk steps t fault
+  run_of None stands begins trace taken stored = (
+    last,
+    record { begun = begun; first = first; stands = stands; begins = begins; taken = taken },
+    record { groups = trace.groups; written = trace.written; synced_is = refl },
+    λ none. trace.synced_is ∙ stored none ∙ ap (λ (gs : List (List Entry)). length gs) (sym trace.groups),
+  )
+  run_of (Some (zero, fault)) stands begins trace taken stored = absurd taken
+  run_of (Some (suc k, fault)) stands begins trace taken stored = (
+    last,
+    record { begun = begun; first = first; stands = stands; begins = begins; taken = taken },
+    record { groups = trace.groups; written = trace.written; synced_is = refl },
+    λ none. trace.synced_is ∙ stored none ∙ ap (λ (gs : List (List Entry)). length gs) (sym trace.groups),
+  )

@@ -26,7 +26,8 @@ use std::marker::Model;
 
 /// The front, its connections' streams, and the keeper of a store.
 ///
-/// Mails are written only at a step's end, so each answer that was written was synced before.
+/// Mails are written at a step's end, or before the next step acts where memory was short for them, so each answer that was
+/// written was synced before.
 #[derive(Drop)]
 pub struct Desk<D: Disk> {
     parts: Parts<D>,

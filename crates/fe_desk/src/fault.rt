@@ -1,10 +1,10 @@
 use fe_keeper::Fault;
 
-/// Why a step did nothing, or not all.
+/// Why a step did nothing, or not all; and why a store was not opened or formatted.
 #[derive(Clone, Copy, Debug, PartialEq, Eq)]
 pub enum DeskFault {
-    /// The store is at fault: `Device` where the device failed in this step, `Failed` in each step after that. The store
-    /// has to be opened again.
+    /// The store is at fault. Of a step: `Device` where the device failed in it, and `Failed` in each step after that, until the
+    /// store is opened again. Of opening and formatting: `Device`, `Unformatted` and `Damaged`, as `fe_keeper` tells them.
     Store(Fault),
     /// There was no memory. What was done before in the step stands, and the step may be given again: as it was, or with an
     /// empty piece where its bytes were taken (`fed`).

@@ -4,6 +4,7 @@ ghost use Rattle.fe_state.specs.State.{ServerState, first_state};
 ghost use Rattle.fe_journal.specs.Damage.{IsUnformatted};
 ghost use Rattle.fe_journal.specs.Steps.{OnlyReads};
 ghost use Rattle.fe_journal.specs.Layout.{device_bytes};
+ghost use Rattle.fe_keeper.specs.Keeper.{first_store};
 ghost use Rattle.fe_keeper.specs.Stands.{StandsFor, EachStandsFor};
 ghost use Rattle.fe_keeper.specs.declared.fault.Fault.TheVariants as keeper;
 ghost use Rattle.fe_desk.specs.declared.fault.DeskFault.TheVariants.{Store, NoMemory};
@@ -32,6 +33,7 @@ pub fn open<D: Disk>(alloc: Global, disk: D) -> Result<Desk<D>, (DeskFault, D)>
     ensures unformatted { D.honest disk → IsUnformatted (D.seen disk) → IsErrAnd result (λ e. (e.0 ≡ Store keeper.Unformatted) ⊎ (e.0 ≡ Store keeper.Device)) }
     ensures reads { D.honest disk → OnlyReads D.seen D.may_leave D.moment D.left_since disk (disk_after result) }
     ensures works { IfOk result (λ desk. desk.keeper.store.has_failed ≡ false) }
+    ensures none_under_way { IfOk result (λ desk. desk.keeper.store.checkpoint ≡ None) }
     ensures device { IfErr result (λ e. (e.0 ≡ Store keeper.Device) ↔ Rises (D.failures disk) (D.failures e.1)) }
     ensures still { IfOk result (λ desk. D.failures (disk_of desk) ≡ D.failures disk) }
     ensures faults { IfErr result (λ e. IsOpenFault e.0) }
@@ -44,10 +46,11 @@ pub fn open<D: Disk>(alloc: Global, disk: D) -> Result<Desk<D>, (DeskFault, D)>
     }
 }
 
-/// Makes a new store of format 2 on the device, whatever was there.
+/// Makes a new store of format 2 on the device, whatever was there. Where memory is short the device may be formatted already.
 pub fn format<D: Disk>(alloc: Global, disk: D) -> Result<Desk<D>, (DeskFault, D)>
     ensures formatted { D.honest disk → IfOk result (λ desk. EachStandsFor D.may_leave (disk_of desk) first_state) }
     ensures first { IfOk result (λ desk. IsFirstStanding first_state desk.standing × (desk.keeper.state ≡ first_state) × (desk.synced ≡ 0)) }
+    ensures store { IfOk result (λ desk. desk.keeper.store ≡ first_store (disk_of desk)) }
     ensures unformatted { IfErr result (λ e. (e.0 ≡ Store keeper.Unformatted) ↔ (D.size disk ≢ device_bytes)) }
     ensures works { IfOk result (λ desk. desk.keeper.store.has_failed ≡ false) }
     ensures device { IfErr result (λ e. e.0 ≡ Store keeper.Device → Rises (D.failures disk) (D.failures e.1)) }

@@ -1,7 +1,9 @@
 //! The server's end of the connections of one number.
 
-ghost use Rattle.std.specs.Prelude.{◌≡◌, [], nat_lt, length, ◌++◌, None, Some, OnOk, OnErr, IfOk};
+ghost use Rattle.std.specs.Prelude.{◌≡◌, ℕ, [], nat_lt, length, ◌++◌, None, Some, true, OnOk, OnErr, IfOk, slice_get};
 ghost use Rattle.std.specs.Option.{option_map_or};
+ghost use Rattle.fe_mail.specs.Connections.{mails_on};
+ghost use Rattle.fe_front.specs.Steps.{taken};
 ghost use Rattle.fe_wire.specs.Spelling.{reply_spelling};
 ghost use Rattle.fe_desk.specs.Mails.{emptied_box};
 ghost use Rattle.fe_desk.specs.Standing.{told};
@@ -12,6 +14,7 @@ ghost use Rattle.fe_desk.specs.Keeping.{KeepsFront, KeepsEmpty, IsToldLater};
 use crate::reply::Reply;
 use crate::written::Written;
 use fe_front::Front;
+use fe_mail::Mail;
 use fe_wire::{ClientMessage, Decoder, Version};
 use std::alloc::{AllocError, Global};
 use std::mem;
@@ -95,7 +98,7 @@ impl Port {
         ensures empty { KeepsEmpty front.old front.new }
     {
         self.write_waiting()?;
-        while let Some(mail) = front.take_mail(self.conn) {
+        while let Some(mail) = next_mail(front, self.conn) {
             self.write(Reply::of(mail))?;
         }
         Ok(())
@@ -106,6 +109,9 @@ impl Port {
         ensures written { OnOk result (client_of self.new ≡ record (client_of self.old) { reply = None; written = self.old.written ++ option_map_or reply_spelling self.old.reply [] }) }
         ensures err { OnErr result (client_of self.new ≡ client_of self.old) }
     {
+        if self.reply.is_none() {
+            return Ok(());
+        }
         match mem::take(&mut self.reply) {
             Some(reply) => self.write(reply),
             None => Ok(()),
@@ -123,4 +129,23 @@ impl Port {
         }
         Ok(())
     }
+}
+
+/// The next mail of a connection, if there is one. Where the books show that no box has a mail, none is looked for.
+fn next_mail(front: &mut Front, conn: u64) -> Option<Mail>
+    ensures mail { result ≡ slice_get (mails_on front.old.connections conn) 0 }
+    ensures taken { front.new ≡ taken front.old conn }
+{
+    if has_no_mail(front) {
+        return None;
+    }
+    front.take_mail(conn)
+}
+
+/// Whether the books show that no box has a mail. Spent books show nothing.
+fn has_no_mail(front: &Front) -> bool
+    ensures { result ≡ true → (conn : ℕ) → mails_on front.now.connections conn ≡ [] }
+{
+    let books = front.books();
+    !books.spent && books.left == 0
 }

@@ -1,4 +1,4 @@
-ghost use Rattle.std.specs.Prelude.{◌≡◌, None, List, ℕ, false};
+ghost use Rattle.std.specs.Prelude.{◌≡◌, None, List, ℕ, false, length};
 ghost use Rattle.fe_disk.specs.Disk.{LeavesOnly};
 ghost use Rattle.fe_state.specs.State.{ServerState};
 ghost use Rattle.fe_state.specs.History.{IsHistory};
@@ -27,7 +27,7 @@ pub struct Ran<D: Disk> {
 
 /// Opens a store and takes the steps, in order, as far as to a fault.
 pub fn run<D: Disk>(alloc: Global, disk: D, steps: &[Step]) -> Ran<D>
-    // The trace is that of a run of the steps, all of them or those before the one at fault.
+    // The trace is that of a run of the steps, all of them or those as far as to the one at fault.
     ensures ran { IsRunOf D.honest D.seen disk steps.now result.trace result.fault }
     // A stop at any moment leaves a prefix of the history, which begins with the state that was there.
     ensures history { D.honest disk → (s : ServerState) → EachStandsFor D.may_leave disk s → IsHistory s (groups_of result.trace) }
@@ -57,9 +57,11 @@ pub fn run<D: Disk>(alloc: Global, disk: D, steps: &[Step]) -> Ran<D>
 fn take_steps<D: Disk>(desk: &mut Desk<D>, steps: &[Step]) -> Option<(u64, DeskFault)>
     requires settled { desk.old.standing.owes ≡ false }
     requires works { desk.old.keeper.store.has_failed ≡ false }
+    requires stored { desk.old.synced ≡ length desk.old.standing.groups }
     requires stands { D.honest (disk_of desk.old) → (begun : ServerState) → IsFrom begun desk.old → (image : List ℕ) → D.may_leave (disk_of desk.old) image
         → LeavesPrefix begun desk.old.standing.groups desk.old.synced image }
     ensures taken { IsTaken desk.old.standing steps.now desk.new.standing result }
+    ensures stored { result ≡ None → desk.new.synced ≡ length desk.new.standing.groups }
     ensures advances { Advances D.honest D.moment D.left_since desk.old desk.new }
 {
     for k in 0..steps.len() {

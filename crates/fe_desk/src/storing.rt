@@ -72,6 +72,7 @@ impl<D: Disk> Parts<D> {
         ensures fine { OnOk result.1 (IsFine D.failures (desk_of self.old) (desk_of self.new)) }
         ensures fault { IfErr result.1 (Tells D.failures (desk_of self.old) (desk_of self.new)) }
     {
+        // It names a type for the checker (`docs/DECISIONS.md`, "Toolchain").
         let _ = self.front.state();
         let Ok(group) = copied(self.alloc, batch.entries.as_slice()) else {
             return (Handed::Cut(batch), Err(Fault::NoMemory));

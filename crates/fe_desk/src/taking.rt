@@ -18,6 +18,7 @@ pub(crate) fn take_message(alloc: Global, front: &mut Front, conn: u64, message:
     requires room { IsTrue (has_room front.old) }
     ensures taken { (es : List Entry) × Takes front.old conn message es front.new × Enters front.old es front.new }
 {
+    // It names a type for the checker (`docs/DECISIONS.md`, "Toolchain").
     let _ = front.state();
     match message {
         ClientMessage::Attach { session } => {

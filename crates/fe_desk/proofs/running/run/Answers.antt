@@ -26,6 +26,7 @@ returns-clause-ran g c =
     let first = c.in-Ok.desk in
     let last = c.take_steps-fault.new.desk in
     run_of g.D.Disk.honest g.D.Disk.seen c.args.disk c.args.steps.now first.keeper.state first.standing last.standing c.into_parts-trace.result.0 last.synced c.take_steps-fault.result c.in-Ok.ensures.opened c.in-Ok.ensures.first.0 c.into_parts-trace.ensures.trace c.take_steps-fault.ensures.taken
+    c.take_steps-fault.ensures.stored
 
 pub returns-clause-history : goal.returns-clause-history
 returns-clause-history g c = λ honest s each.

@@ -1,4 +1,4 @@
-use Rattle.std.proofs.Common.{◌≡◌, false, take}
+use Rattle.std.proofs.Common.{◌≡◌, false, length, take}
 use Rattle.fe_desk.specs.Steps.{DeskRun}
 use Rattle.fe_desk.specs.Crash.{Advances}
 use Rattle.fe_desk.proofs.running.take_steps.Given as goal
@@ -9,5 +9,6 @@ invariant-loop-k g l =
       run : DeskRun l.initial.desk.standing (take l.k l.steps) l.desk.standing;
       owes : l.desk.standing.owes ≡ false;
       works : l.desk.keeper.store.has_failed ≡ false;
+      stored : l.desk.synced ≡ length l.desk.standing.groups;
       advances : Advances g.D.Disk.honest g.D.Disk.moment g.D.Disk.left_since l.initial.desk l.desk;
     }

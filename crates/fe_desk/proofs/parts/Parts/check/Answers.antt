@@ -1,7 +1,7 @@
 use Rattle.std.proofs.Common.{refl}
 use Rattle.fe_desk.specs.Desk.{desk_of}
 use Rattle.fe_desk.proofs.Advancing.{advances_itself}
-use Rattle.fe_desk.proofs.Unchecked.{unchecked}
+use Rattle.fe_desk.proofs.Untouched.{untouched}
 use Rattle.fe_desk.proofs.Making.{desk_checked, advances_checked}
 use Rattle.fe_desk.proofs.parts.Parts.check.Goals as goal
 
@@ -70,7 +70,7 @@ returns-in_default g c =
     record {
       desk = c.requires.desk;
       standing = refl;
-      checked = unchecked c.args.step.now c.args.self.now.keeper c.in_default.not-CheckBegin c.in_default.not-CheckStep c.in_default.not-CheckFinish;
+      checked = untouched c.args.step.now c.args.self.now.keeper c.in_default.not-CheckBegin c.in_default.not-CheckStep c.in_default.not-CheckFinish;
       advances = advances_itself g.D.Disk.honest g.D.Disk.may_leave g.D.Disk.moment g.D.Disk.left_since g.met.D.Disk.only_now (desk_of c.args.self.now) c.requires.desk;
       fine = record { works = c.requires.works; still = refl };
       fault = tt;

@@ -6,22 +6,22 @@ use Rattle.fe_desk.proofs.port.Port.take_mails.Goals as goal
 
 pub loop-mail-smaller : goal.loop-mail-smaller
 loop-mail-smaller c =
-    fewer_after c.loop-mail.front c.take_mail.new.self c.loop-mail.self.conn c.write.new.self.conn c.in-Some.mail c.in-Some.ensures.mail c.take_mail.ensures.taken (ap (λ (x : Client). x.conn) c.in_ok-write.ensures.written)
+    fewer_after c.loop-mail.front c.next_mail.new.front c.loop-mail.self.conn c.write.new.self.conn c.in-Some.mail c.in-Some.ensures.mail c.next_mail.ensures.taken (ap (λ (x : Client). x.conn) c.in_ok-write.ensures.written)
 
 pub loop-mail-preserved : goal.loop-mail-preserved
 loop-mail-preserved c = record {
   reply = ap (λ (x : Client). x.reply) c.in_ok-write.ensures.written ∙ c.loop-mail.invariant.reply;
-  later = next_written c.args.front.now (client_of c.args.self.now) c.loop-mail.front (client_of c.loop-mail.self) c.take_mail.new.self (client_of c.write.new.self) c.in-Some.mail c.of.result c.loop-mail.invariant.later c.loop-mail.invariant.reply c.in-Some.ensures.mail c.take_mail.ensures.taken c.of.ensures c.in_ok-write.ensures.written;
-  keeps = next_keeps c.args.front.now c.loop-mail.front c.take_mail.new.self c.loop-mail.self.conn c.loop-mail.invariant.keeps c.take_mail.ensures.taken;
-  empty = next_empty c.args.front.now c.loop-mail.front c.take_mail.new.self c.loop-mail.self.conn c.loop-mail.invariant.empty c.take_mail.ensures.taken;
+  later = next_written c.args.front.now (client_of c.args.self.now) c.loop-mail.front (client_of c.loop-mail.self) c.next_mail.new.front (client_of c.write.new.self) c.in-Some.mail c.of.result c.loop-mail.invariant.later c.loop-mail.invariant.reply c.in-Some.ensures.mail c.next_mail.ensures.taken c.of.ensures c.in_ok-write.ensures.written;
+  keeps = next_keeps c.args.front.now c.loop-mail.front c.next_mail.new.front c.loop-mail.self.conn c.loop-mail.invariant.keeps c.next_mail.ensures.taken;
+  empty = next_empty c.args.front.now c.loop-mail.front c.next_mail.new.front c.loop-mail.self.conn c.loop-mail.invariant.empty c.next_mail.ensures.taken;
 }
 
 pub returns-in_err-write-clause-later : goal.returns-in_err-write-clause-later
 returns-in_err-write-clause-later c =
-    on_any_err c.from_residual-in_err-write.result (next_waits c.args.front.now (client_of c.args.self.now) c.loop-mail.front (client_of c.loop-mail.self) c.take_mail.new.self (client_of c.write.new.self) c.in-Some.mail c.of.result c.loop-mail.invariant.later c.loop-mail.invariant.reply c.in-Some.ensures.mail c.take_mail.ensures.taken c.of.ensures c.in_err-write.ensures.err)
+    on_any_err c.from_residual-in_err-write.result (next_waits c.args.front.now (client_of c.args.self.now) c.loop-mail.front (client_of c.loop-mail.self) c.next_mail.new.front (client_of c.write.new.self) c.in-Some.mail c.of.result c.loop-mail.invariant.later c.loop-mail.invariant.reply c.in-Some.ensures.mail c.next_mail.ensures.taken c.of.ensures c.in_err-write.ensures.err)
 
 pub returns-in_err-write-clause-front : goal.returns-in_err-write-clause-front
-returns-in_err-write-clause-front c = next_keeps c.args.front.now c.loop-mail.front c.take_mail.new.self c.loop-mail.self.conn c.loop-mail.invariant.keeps c.take_mail.ensures.taken
+returns-in_err-write-clause-front c = next_keeps c.args.front.now c.loop-mail.front c.next_mail.new.front c.loop-mail.self.conn c.loop-mail.invariant.keeps c.next_mail.ensures.taken
 
 pub returns-in_err-write-clause-empty : goal.returns-in_err-write-clause-empty
-returns-in_err-write-clause-empty c = next_empty c.args.front.now c.loop-mail.front c.take_mail.new.self c.loop-mail.self.conn c.loop-mail.invariant.empty c.take_mail.ensures.taken
+returns-in_err-write-clause-empty c = next_empty c.args.front.now c.loop-mail.front c.next_mail.new.front c.loop-mail.self.conn c.loop-mail.invariant.empty c.next_mail.ensures.taken
