@@ -1,7 +1,7 @@
 # `make run` proves the program and runs the first schedule. `make try` runs it before any proof. `make examples` runs
-# every schedule of examples/ and compares, `make bench` measures. `make test` is the gate: it proves every crate from
-# nothing and runs every test.
-.PHONY: run try examples bench test toolchain
+# every schedule of examples/ and compares, `make faults` refuses each of their allocations in turn, `make bench`
+# measures. `make test` is the gate: it proves every crate from nothing and runs every test.
+.PHONY: run try examples faults bench test toolchain
 
 SCHEDULE := examples/first_path.txt
 PROGRAM := crates/femem/out/femem
@@ -24,6 +24,9 @@ try: toolchain
 
 examples: $(PROGRAM)
 	@scripts/run_examples $(PROGRAM)
+
+faults: $(PROGRAM)
+	@scripts/refuse_each $(PROGRAM)
 
 bench: $(PROGRAM)
 	@bench/run $(PROGRAM)

@@ -1,13 +1,9 @@
 -- A number that was written is read again, and rows of zeros.
-use Rattle.std.proofs.Common.{◌≡◌, ℕ, ◌-◌, ◌^◌, ◌<◌, ◌≤◌, List, ◌++◌, length, take, drop, replicate, Option, Some, refl, ap, ◌∙◌, arith}
+use Rattle.std.proofs.Common.{◌≡◌, ℕ, ◌-◌, ◌^◌, ◌<◌, ◌≤◌, List, ◌++◌, length, take, drop, replicate, refl, ap, ◌∙◌, arith}
 use Rattle.std.specs.Int.{Width, w32, w64, byte_len, from_be_bytes, to_be_bytes}
 use Rattle.std.proofs.lemmas.List.{take_at, drop_at, drop-replicate, take-replicate}
 use Rattle.std.proofs.lemmas.Nat.{from_be_bytes-to_be_bytes_4, from_be_bytes-to_be_bytes_8}
-use Rattle.fe_codec.specs.Reading.{◌>>=◌, number_at}
-
--- a step that gives a value goes on from it
-pub bind_at : {A B : Type 0} (o : Option A) (f : A → Option B) (x : A) → o ≡ Some x → (o >>= f) ≡ f x
-bind_at o f x e = ap (λ (t : Option _). t >>= f) e
+use Rattle.fe_codec.specs.Reading.{field_at}
 
 pub record IsWide (w : Width) (limit : ℕ) : Type 0 where
   pub len : (n : ℕ) → length (to_be_bytes w n) ≡ byte_len w
@@ -20,7 +16,7 @@ pub wide64 : IsWide w64 (2 ^ 64)
 wide64 = record { len = λ n. refl; again = λ n lt. from_be_bytes-to_be_bytes_8 n lt }
 
 -- the number behind a front of this length
-pub number_again : (w : Width) (limit : ℕ) (wide : IsWide w limit) (front : List ℕ) (n : ℕ) (back : List ℕ) (at : ℕ) → length front ≡ at → n < limit → number_at w (front ++ (to_be_bytes w n ++ back)) at ≡ n
+pub number_again : (w : Width) (limit : ℕ) (wide : IsWide w limit) (front : List ℕ) (n : ℕ) (back : List ℕ) (at : ℕ) → length front ≡ at → n < limit → field_at w (front ++ (to_be_bytes w n ++ back)) at ≡ n
 number_again w limit wide front n back at long lt =
     ap (λ (t : List ℕ). from_be_bytes w (take (byte_len w) t)) (drop_at front (to_be_bytes w n ++ back) at long)
     ∙ ap (from_be_bytes w) (take_at (to_be_bytes w n) back (byte_len w) (wide.len n))

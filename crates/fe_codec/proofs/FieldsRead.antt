@@ -1,14 +1,11 @@
 -- The fields of an entry that is read from a record's bytes fit the bytes that they have.
-use Rattle.std.proofs.Common.{◌≡◌, ℕ, ◌+◌, ◌^◌, ◌<◌, ◌≤◌, Bool, true, false, cond, eqb, ltb, Ok, List, length, take, drop, Option, Some, None, refl, subst, arith}
+use Rattle.std.proofs.Common.{◌≡◌, ℕ, ◌+◌, ◌^◌, ◌<◌, ◌≤◌, Bool, true, false, cond, eqb, ltb, Ok, List, length, take, drop, Option, Some, None, refl, sym, subst, arith}
 use Rattle.std.specs.Prelude.{nat_le, slice_index}
 use Rattle.std.specs.Int.{w32, w64, from_be_bytes}
 use Rattle.std.proofs.lemmas.Bool.{leb-true}
 use Rattle.std.proofs.lemmas.List.{length-take}
 use Rattle.fe_words.specs.declared.word.Tag.{Tag}
-use Rattle.fe_words.specs.declared.op.Op.{Op}
-use Rattle.fe_words.specs.declared.op.Op.TheVariants.{ReadFe, ReadFf, ReadXx, WriteEf, WriteFf, WriteXf, Purge, IntFetchAdd}
 use Rattle.fe_state.specs.declared.answer.Answer.{Answer}
-use Rattle.fe_state.specs.declared.answer.Answer.TheVariants as answers
 use Rattle.fe_state.specs.declared.request.Request.{Request}
 use Rattle.fe_state.specs.declared.request.Request.TheVariants.{Create, Find, Remove, Access}
 use Rattle.fe_state.specs.declared.entry.Entry.{Entry}
@@ -16,12 +13,16 @@ use Rattle.fe_state.specs.declared.entry.Entry.TheVariants.{Attached, Closed, Se
 use Rattle.fe_format.specs.Layout.{name_bytes}
 use Rattle.fe_format.specs.declared.format.Format.{Format}
 use Rattle.fe_format.specs.declared.format.Format.TheVariants.{One, Two}
-use Rattle.fe_codec.specs.Bytes.{IsBytes}
-use Rattle.fe_codec.specs.Codes.{operand_of, answer_number, answer_length}
+use Rattle.fe_codes.specs.Bytes.{IsBytes}
+use Rattle.fe_codes.specs.Codes.{operand_of, answer_number, answer_length}
+use Rattle.fe_codes.specs.Reading.{tag_of, op_of, answer_of}
+use Rattle.fe_codes.proofs.CodeLaws.{op_takes, answer_takes}
 use Rattle.fe_codec.specs.Record.{RequestFits, FieldsFit}
-use Rattle.fe_codec.specs.Reading.{◌>>=◌, number_at, tag_of, op_of, answer_of, name_of, create_of, find_of, access_of, request_of, finished_of, entry_of}
+use Rattle.fe_codes.specs.Binding.{◌>>=◌}
+use Rattle.fe_codec.specs.Reading.{field_at, name_of, create_of, find_of, access_of, request_of, finished_of, entry_of}
 use Rattle.fe_codec.specs.FirstFault.{number}
-use Rattle.fe_codec.proofs.ImageFields.{IsBytes-take, IsBytes-drop, guard_not}
+use Rattle.fe_codes.proofs.Splits.{IsBytes-take, IsBytes-drop}
+use Rattle.fe_codec.proofs.ImageFields.{guard_not}
 
 -- ---- numbers
 
@@ -37,10 +38,10 @@ number_below bytes x fits e =
     let g = guard_not (ltb (length bytes) 8) 0 (from_be_bytes w64 (take 8 bytes), drop 8 bytes) x e in
     subst (λ (y : ℕ × List ℕ). y.0 < 2 ^ 64) g.1 (below64 (take 8 bytes) (IsBytes-take 8 bytes fits))
 
-at32 : (bytes : List ℕ) (at : ℕ) → IsBytes bytes → number_at w32 bytes at < 2 ^ 32
+at32 : (bytes : List ℕ) (at : ℕ) → IsBytes bytes → field_at w32 bytes at < 2 ^ 32
 at32 bytes at h = below32 (take 4 (drop at bytes)) (IsBytes-take 4 (drop at bytes) (IsBytes-drop at bytes h))
 
-at64 : (bytes : List ℕ) (at : ℕ) → IsBytes bytes → number_at w64 bytes at < 2 ^ 64
+at64 : (bytes : List ℕ) (at : ℕ) → IsBytes bytes → field_at w64 bytes at < 2 ^ 64
 at64 bytes at h = below64 (take 8 (drop at bytes)) (IsBytes-take 8 (drop at bytes) (IsBytes-drop at bytes h))
 
 -- ---- what a value that may be missing is, where it is there
@@ -68,36 +69,15 @@ then Q P None f q p = not_given P
 -- ---- fields
 
 op_fits : (code operand : ℕ) → operand < 2 ^ 64 → IfGiven (λ op. operand_of op < 2 ^ 64) (op_of code operand)
-unfolding op_of
-op_fits code operand lt =
-    let P : Op → Type 0 = λ op. operand_of op < 2 ^ 64 in
-    either P (eqb code 16) _ _ (λ _. is_given P ReadFe (omega arith))
-    (either P (eqb code 17) _ _ (λ _. is_given P ReadFf (omega arith))
-    (either P (eqb code 18) _ _ (λ _. is_given P ReadXx (omega arith))
-    (either P (eqb code 19) _ _ (λ _. is_given P (WriteEf operand) lt)
-    (either P (eqb code 20) _ _ (λ _. is_given P (WriteFf operand) lt)
-    (either P (eqb code 21) _ _ (λ _. is_given P (WriteXf operand) lt)
-    (either P (eqb code 22) _ _ (λ _. is_given P Purge (omega arith))
-    (either P (eqb code 23) _ _ (λ _. is_given P (IntFetchAdd operand) lt) (not_given P))))))))
+op_fits code operand lt op e = subst (λ (k : ℕ). k < 2 ^ 64) (sym (op_takes code operand op e).1) lt
 
 abbrev AnswerFits : Answer → Type 0
 AnswerFits answer = (answer_number answer < 2 ^ 64) × (answer_length answer < 2 ^ 32)
 
 answer_fits : (code number size : ℕ) → number < 2 ^ 64 → size < 2 ^ 32 → IfGiven AnswerFits (answer_of code number size)
-unfolding answer_of
-answer_fits code number size n s =
-    let P : Answer → Type 0 = λ answer. AnswerFits answer in
-    either P (eqb code 1) _ _ (λ _. is_given P (answers.Value number) (n, omega arith))
-    (either P (eqb code 2) _ _ (λ _. is_given P answers.Done (omega arith, omega arith))
-    (either P (eqb code 3) _ _ (λ _. is_given P (answers.Array number size) (n, s))
-    (either P (eqb code 4) _ _ (λ _. is_given P answers.NoArray (omega arith, omega arith))
-    (either P (eqb code 5) _ _ (λ _. is_given P answers.BadIndex (omega arith, omega arith))
-    (either P (eqb code 6) _ _ (λ _. is_given P answers.NameTaken (omega arith, omega arith))
-    (either P (eqb code 7) _ _ (λ _. is_given P answers.ArrayLimit (omega arith, omega arith))
-    (either P (eqb code 8) _ _ (λ _. is_given P answers.WordLimit (omega arith, omega arith))
-    (either P (eqb code 9) _ _ (λ _. is_given P answers.BadName (omega arith, omega arith))
-    (either P (eqb code 10) _ _ (λ _. is_given P answers.BadLength (omega arith, omega arith))
-    (either P (eqb code 11) _ _ (λ _. is_given P answers.NotNow (omega arith, omega arith)) (not_given P)))))))))))
+answer_fits code number size n s answer e =
+    let t = answer_takes code number size answer e in
+    (subst (λ (k : ℕ). k < 2 ^ 64) (sym t.1) n, subst (λ (k : ℕ). k < 2 ^ 32) (sym t.2) s)
 
 row_within : (format : Format) → name_bytes format ≤ 32
 row_within One = omega arith
@@ -122,21 +102,21 @@ unfolding request_of create_of find_of access_of
 request_fits format bytes h =
     let P : Request → Type 0 = λ request. RequestFits request in
     let size = at32 bytes (24 + name_bytes format) h in
-    either P (eqb (slice_index bytes 1) 1) _ _ (λ _. then IsRowLong P (name_of format bytes) _ (name_fits format bytes) (λ name short. then (λ (tag : Tag). Unit {0}) P (tag_of (slice_index bytes 4)) _ (any_tag (slice_index bytes 4)) (λ tag _. is_given P (Create name (number_at w32 bytes (24 + name_bytes format)) tag) (short, size))))
+    either P (eqb (slice_index bytes 1) 1) _ _ (λ _. then IsRowLong P (name_of format bytes) _ (name_fits format bytes) (λ name short. then (λ (tag : Tag). Unit {0}) P (tag_of (slice_index bytes 4)) _ (any_tag (slice_index bytes 4)) (λ tag _. is_given P (Create name (field_at w32 bytes (24 + name_bytes format)) tag) (short, size))))
     (either P (eqb (slice_index bytes 1) 2) _ _ (λ _. then IsRowLong P (name_of format bytes) _ (name_fits format bytes) (λ name short. is_given P (Find name) short))
-    (either P (eqb (slice_index bytes 1) 3) _ _ (λ _. is_given P (Remove (number_at w64 bytes 24)) (at64 bytes 24 h))
-    (then (λ op. operand_of op < 2 ^ 64) P (op_of (slice_index bytes 1) (number_at w64 bytes 32)) _ (op_fits (slice_index bytes 1) (number_at w64 bytes 32) (at64 bytes 32 h))
-    (λ op low. is_given P (Access (number_at w64 bytes 24) (number_at w32 bytes (24 + name_bytes format)) op (eqb (slice_index bytes 5) 1)) (at64 bytes 24 h, size, low)))))
+    (either P (eqb (slice_index bytes 1) 3) _ _ (λ _. is_given P (Remove (field_at w64 bytes 24)) (at64 bytes 24 h))
+    (then (λ op. operand_of op < 2 ^ 64) P (op_of (slice_index bytes 1) (field_at w64 bytes 32)) _ (op_fits (slice_index bytes 1) (field_at w64 bytes 32) (at64 bytes 32 h))
+    (λ op low. is_given P (Access (field_at w64 bytes 24) (field_at w32 bytes (24 + name_bytes format)) op (eqb (slice_index bytes 5) 1)) (at64 bytes 24 h, size, low)))))
 
 finished_fits : (format : Format) (bytes : List ℕ) → IsBytes bytes → IfGiven FieldsFit (finished_of format bytes)
 unfolding finished_of
 finished_fits format bytes h =
     let P : Entry → Type 0 = λ entry. FieldsFit entry in
-    let number = number_at w64 bytes (32 + name_bytes format) in
-    let size = number_at w32 bytes (28 + name_bytes format) in
+    let number = field_at w64 bytes (32 + name_bytes format) in
+    let size = field_at w32 bytes (28 + name_bytes format) in
     then RequestFits P (request_of format bytes) _ (request_fits format bytes h) (λ request fits.
     then AnswerFits P (answer_of (slice_index bytes 2) number size) _ (answer_fits (slice_index bytes 2) number size (at64 bytes (32 + name_bytes format) h) (at32 bytes (28 + name_bytes format) h)) (λ answer small.
-    is_given P (Finished (number_at w64 bytes 8) (number_at w64 bytes 16) request answer) (at64 bytes 8 h, fits, small.0, small.1)))
+    is_given P (Finished (field_at w64 bytes 8) (field_at w64 bytes 16) request answer) (at64 bytes 8 h, fits, small.0, small.1)))
 
 -- an entry that a record's bytes may spell
 pub entry_fits : (format : Format) (bytes : List ℕ) (entry : Entry) → IsBytes bytes → entry_of format bytes ≡ Some entry → FieldsFit entry
@@ -144,7 +124,7 @@ unfolding entry_of
 entry_fits format bytes entry h e =
     let P : Entry → Type 0 = λ entry. FieldsFit entry in
     let session = at64 bytes 8 h in
-    (either P (eqb (slice_index bytes 0) 1) _ _ (λ _. is_given P (Attached (number_at w64 bytes 8) (number_at w64 bytes 16)) session)
-    (either P (eqb (slice_index bytes 0) 2) _ _ (λ _. is_given P (Closed (number_at w64 bytes 8)) session)
-    (either P (eqb (slice_index bytes 0) 3) _ _ (λ _. is_given P (Settled (number_at w64 bytes 8) (number_at w64 bytes 16)) session)
+    (either P (eqb (slice_index bytes 0) 1) _ _ (λ _. is_given P (Attached (field_at w64 bytes 8) (field_at w64 bytes 16)) session)
+    (either P (eqb (slice_index bytes 0) 2) _ _ (λ _. is_given P (Closed (field_at w64 bytes 8)) session)
+    (either P (eqb (slice_index bytes 0) 3) _ _ (λ _. is_given P (Settled (field_at w64 bytes 8) (field_at w64 bytes 16)) session)
     (either P (eqb (slice_index bytes 0) 4) _ _ (λ _. finished_fits format bytes h) (not_given P))))) entry e

@@ -16,16 +16,17 @@ use Rattle.fe_state.specs.Directory.{named, word_count}
 use Rattle.fe_state.specs.Effect.{new_array}
 use Rattle.fe_state.specs.State.{ServerState, with_arrays, IsWithinLimits}
 use Rattle.fe_state.specs.declared.array.Array.{Array}
-use Rattle.fe_codec.specs.Bytes.{IsBytes}
+use Rattle.fe_codes.specs.Bytes.{IsBytes}
 use Rattle.fe_format.specs.Layout.{name_bytes}
 use Rattle.fe_codec.specs.Loading.{IsFresh}
 use Rattle.fe_codec.specs.Record.{name_field, IsShort}
 use Rattle.fe_codec.specs.Image.{array_spelling, word_spelling, ArrayOfFormat, ArrayFits}
 use Rattle.fe_format.specs.declared.format.Format.{Format}
 use Rattle.fe_format.specs.declared.format.Format.TheVariants.{One, Two}
-use Rattle.fe_codec.specs.FirstFault.{◌>>=◌, repeated, number_in, is_after, id_at, new_name_at, next_word, next_array, with_new_array}
+use Rattle.fe_codec.specs.FirstFault.{◌followed_by◌, repeated, number_in, is_after, id_at, new_name_at, next_word, next_array, with_new_array}
 use Rattle.fe_codec.proofs.InOrder.{Rises, put_all}
-use Rattle.fe_codec.proofs.ImageFields.{bind_ok, ok_is, Takes, takes_then, field32, number_in_takes, goes_from, number_in_again}
+use Rattle.fe_codes.proofs.Splits.{Splits, splits_then}
+use Rattle.fe_codec.proofs.ImageFields.{bind_ok, ok_is, field32, number_in_takes, goes_from, number_in_again}
 use Rattle.fe_codec.proofs.ImageNames.{id_takes, new_name_takes, short_of, plain_most, id_again, new_name_again}
 use Rattle.fe_codec.proofs.ImageWords.{insert_twice, loads_words, words_again}
 use Rattle.fe_codec.proofs.Loads.{Walk, Loads, load_all}
@@ -48,11 +49,11 @@ pub array_loads : (format : Format) (x y : Walk) → IsBytes x.2 → next_array 
 unfolding next_array
 array_loads format x y fits e =
     let s : ServerState = x.1 in
-    let a = bind_ok (id_at x.0 s.next_id x.2) (λ id. new_name_at format s.arrays id.1 >>= λ name. number_in w32 1 (65537 - word_count s.arrays) name.1 >>= λ size. repeated (next_word id.0) size.0 (0, with_new_array s id.0 name.0 size.0, size.1) >>= λ words. Ok (Some id.0, words.1, words.2)) y e in
+    let a = bind_ok (id_at x.0 s.next_id x.2) (λ id. new_name_at format s.arrays id.1 followed_by λ name. number_in w32 1 (65537 - word_count s.arrays) name.1 followed_by λ size. repeated (next_word id.0) size.0 (0, with_new_array s id.0 name.0 size.0, size.1) followed_by λ words. Ok (Some id.0, words.1, words.2)) y e in
     let id : ℕ = a.0.0 in
-    let b = bind_ok (new_name_at format s.arrays a.0.1) (λ name. number_in w32 1 (65537 - word_count s.arrays) name.1 >>= λ size. repeated (next_word id) size.0 (0, with_new_array s id name.0 size.0, size.1) >>= λ words. Ok (Some id, words.1, words.2)) y a.2 in
+    let b = bind_ok (new_name_at format s.arrays a.0.1) (λ name. number_in w32 1 (65537 - word_count s.arrays) name.1 followed_by λ size. repeated (next_word id) size.0 (0, with_new_array s id name.0 size.0, size.1) followed_by λ words. Ok (Some id, words.1, words.2)) y a.2 in
     let name : List ℕ = b.0.0 in
-    let c = bind_ok (number_in w32 1 (65537 - word_count s.arrays) b.0.1) (λ size. repeated (next_word id) size.0 (0, with_new_array s id name size.0, size.1) >>= λ words. Ok (Some id, words.1, words.2)) y b.2 in
+    let c = bind_ok (number_in w32 1 (65537 - word_count s.arrays) b.0.1) (λ size. repeated (next_word id) size.0 (0, with_new_array s id name size.0, size.1) followed_by λ words. Ok (Some id, words.1, words.2)) y b.2 in
     let size : ℕ = c.0.0 in
     let made : ServerState = with_new_array s id name size in
     let d = bind_ok (repeated (next_word id) size (0, made, c.0.1)) (λ words. Ok (Some id, words.1, words.2)) y c.2 in
@@ -61,17 +62,17 @@ array_loads format x y fits e =
     let t_size = number_in_takes w32 (2 ^ 32) field32 1 (65537 - word_count s.arrays) b.0.1 c.0 t_name.0.rest_fits c.1 in
     let ws = loads_words id name [] size 0 made c.0.1 d.0 t_size.rest_fits refl (get_inserted s.arrays id (new_array name size Empty)) d.1 in
     let entry : ℕ × Array = (id, record { name = name; words = ws.words }) in
-    let front : Takes x.2 (to_be_bytes w64 id ++ name_field format name) b.0.1 = takes_then x.2 (to_be_bytes w64 id) a.0.1 (name_field format name) b.0.1 t_id.0 t_name.0 in
-    let sized : Takes x.2 (to_be_bytes w64 id ++ name_field format name ++ to_be_bytes w32 size) c.0.1 = takes_then x.2 (to_be_bytes w64 id ++ name_field format name) b.0.1 (to_be_bytes w32 size) c.0.1 front t_size in
-    let long : Takes x.2 (to_be_bytes w64 id ++ name_field format name ++ to_be_bytes w32 (length ws.words)) c.0.1 =
-    subst (λ (k : ℕ). Takes x.2 (to_be_bytes w64 id ++ name_field format name ++ to_be_bytes w32 k) c.0.1) (sym ws.count) sized in
+    let front : Splits x.2 (to_be_bytes w64 id ++ name_field format name) b.0.1 = splits_then x.2 (to_be_bytes w64 id) a.0.1 (name_field format name) b.0.1 t_id.0 t_name.0 in
+    let sized : Splits x.2 (to_be_bytes w64 id ++ name_field format name ++ to_be_bytes w32 size) c.0.1 = splits_then x.2 (to_be_bytes w64 id ++ name_field format name) b.0.1 (to_be_bytes w32 size) c.0.1 front t_size in
+    let long : Splits x.2 (to_be_bytes w64 id ++ name_field format name ++ to_be_bytes w32 (length ws.words)) c.0.1 =
+    subst (λ (k : ℕ). Splits x.2 (to_be_bytes w64 id ++ name_field format name ++ to_be_bytes w32 k) c.0.1) (sym ws.count) sized in
     let state : d.0.1 ≡ load_array s entry = ws.state ∙ ap (with_arrays s) (insert_twice s.arrays id (new_array name size Empty) entry.1) in
     record {
       entry = entry;
       rest = d.0.2;
       is = sym (ok_is (Some id, d.0.1, d.0.2) y d.2) ∙ ap (λ (z : ServerState). (Some id, z, d.0.2)) state;
       above = t_id.1;
-      text = takes_then x.2 (to_be_bytes w64 id ++ name_field format name ++ to_be_bytes w32 (length ws.words)) c.0.1 (flat_map word_spelling ws.words) d.0.2 long ws.text;
+      text = splits_then x.2 (to_be_bytes w64 id ++ name_field format name ++ to_be_bytes w32 (length ws.words)) c.0.1 (flat_map word_spelling ws.words) d.0.2 long ws.text;
       good = (short_of format name t_name.1, ws.values);
     }
 
@@ -102,11 +103,11 @@ array_again format previous s e rest may =
     let behind : List ℕ = name_field format name ++ sized in
     let grouped : array_spelling format e ++ rest ≡ to_be_bytes w64 id ++ behind = four (to_be_bytes w64 id) (name_field format name) (to_be_bytes w32 size) (flat_map word_spelling e.1.words) rest in
     let k4 : ℕ × ServerState × List ℕ → Result Walk ℕ = λ ws. Ok (Some id, ws.1, ws.2) in
-    let k3 : ℕ × List ℕ → Result Walk ℕ = λ n. repeated (next_word id) n.0 (0, with_new_array s id name n.0, n.1) >>= k4 in
-    let k2 : List ℕ × List ℕ → Result Walk ℕ = λ n. number_in w32 1 (65537 - word_count s.arrays) n.1 >>= λ z. repeated (next_word id) z.0 (0, with_new_array s id n.0 z.0, z.1) >>= k4 in
-    let k1 : ℕ × List ℕ → Result Walk ℕ = λ i. new_name_at format s.arrays i.1 >>= λ n. number_in w32 1 (65537 - word_count s.arrays) n.1 >>= λ z. repeated (next_word i.0) z.0 (0, with_new_array s i.0 n.0 z.0, z.1) >>= λ ws. Ok (Some i.0, ws.1, ws.2) in
+    let k3 : ℕ × List ℕ → Result Walk ℕ = λ n. repeated (next_word id) n.0 (0, with_new_array s id name n.0, n.1) followed_by k4 in
+    let k2 : List ℕ × List ℕ → Result Walk ℕ = λ n. number_in w32 1 (65537 - word_count s.arrays) n.1 followed_by λ z. repeated (next_word id) z.0 (0, with_new_array s id n.0 z.0, z.1) followed_by k4 in
+    let k1 : ℕ × List ℕ → Result Walk ℕ = λ i. new_name_at format s.arrays i.1 followed_by λ n. number_in w32 1 (65537 - word_count s.arrays) n.1 followed_by λ z. repeated (next_word i.0) z.0 (0, with_new_array s i.0 n.0 z.0, z.1) followed_by λ ws. Ok (Some i.0, ws.1, ws.2) in
     let put : load_array made e ≡ load_array s e = ap (with_arrays s) (insert_twice s.arrays id (new_array name size Empty) e.1) in
-    ap (λ (t : List ℕ). id_at previous s.next_id t >>= k1) grouped
+    ap (λ (t : List ℕ). id_at previous s.next_id t followed_by k1) grouped
     ∙ goes_from (id_at previous s.next_id (to_be_bytes w64 id ++ behind)) k1 (id, behind) (id_again previous s.next_id id behind may.small may.made may.older may.above)
     ∙ goes_from (new_name_at format s.arrays behind) k2 (name, sized) (new_name_again format s.arrays name sized may.plain may.short may.free)
     ∙ goes_from (number_in w32 1 (65537 - word_count s.arrays) sized) k3 (size, words) (number_in_again w32 (2 ^ 32) field32 1 (65537 - word_count s.arrays) size words (omega (arith, may.few_words)) may.some_words (omega (arith, may.few_words)))

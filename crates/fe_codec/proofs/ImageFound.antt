@@ -9,16 +9,17 @@ use Rattle.std.proofs.lemmas.List.{append-nil}
 use Rattle.fe_state.specs.Sessions.{Session}
 use Rattle.fe_state.specs.State.{ServerState, IsWithinLimits, with_arrays, with_sessions}
 use Rattle.fe_state.specs.declared.array.Array.{Array}
-use Rattle.fe_codec.specs.Bytes.{IsBytes}
+use Rattle.fe_codes.specs.Bytes.{IsBytes}
 use Rattle.fe_codec.specs.Given.{ImageGives}
 use Rattle.fe_codec.specs.Laws.{ImageIsSpelled}
 use Rattle.fe_codec.specs.declared.fault.ImageFault.{ImageFault}
 use Rattle.fe_codec.specs.Image.{array_spelling, session_spelling, image_spelling, ArrayOfFormat, SessionOfFormat, HasRoomFor, ArrayFits, SessionFits, FitsImage}
 use Rattle.fe_format.specs.declared.format.Format.{Format}
 use Rattle.fe_codec.specs.declared.header.Header.{Header}
-use Rattle.fe_codec.specs.FirstFault.{◌>>=◌, repeated, number_in, header_at, starting, next_array, next_session, ended, state_at, told_at, image_at}
+use Rattle.fe_codec.specs.FirstFault.{◌followed_by◌, repeated, number_in, header_at, starting, next_array, next_session, ended, state_at, told_at, image_at}
 use Rattle.fe_codec.proofs.InOrder.{put_all, entries-in_order, len-in_order}
-use Rattle.fe_codec.proofs.ImageFields.{bind_ok, ok_is, Takes, takes_then, field32, field64, number_in_takes}
+use Rattle.fe_codes.proofs.Splits.{Splits, splits_then}
+use Rattle.fe_codec.proofs.ImageFields.{bind_ok, ok_is, field32, field64, number_in_takes}
 use Rattle.fe_codec.proofs.ImageArrays.{ArrayRead, load_array, arrays_loaded, array_loads}
 use Rattle.fe_codec.proofs.ImageSessions.{SessionRead, load_session, sessions_loaded, session_loads}
 use Rattle.fe_codec.proofs.Loads.{all_so, loads_all}
@@ -26,22 +27,22 @@ use Rattle.fe_codec.proofs.Loads.{all_so, loads_all}
 abbrev header_spelling : Header → List ℕ
 header_spelling h = to_be_bytes w64 h.place ++ to_be_bytes w64 h.next_id ++ to_be_bytes w32 h.arrays ++ to_be_bytes w32 h.sessions
 
-header_takes : (bytes : List ℕ) (x : Header × List ℕ) → IsBytes bytes → header_at bytes ≡ Ok x → Takes bytes (header_spelling x.0) x.1
+header_takes : (bytes : List ℕ) (x : Header × List ℕ) → IsBytes bytes → header_at bytes ≡ Ok x → Splits bytes (header_spelling x.0) x.1
 unfolding header_at
 header_takes bytes x fits e =
-    let a = bind_ok (number_in w64 0 (2 ^ 63) bytes) (λ place. number_in w64 1 (place.0 + 2) place.1 >>= λ next. number_in w32 0 65 next.1 >>= λ arrays. number_in w32 0 65 arrays.1 >>= λ sessions. Ok (record { place = place.0; next_id = next.0; arrays = arrays.0; sessions = sessions.0 }, sessions.1)) x e in
-    let b = bind_ok (number_in w64 1 (a.0.0 + 2) a.0.1) (λ next. number_in w32 0 65 next.1 >>= λ arrays. number_in w32 0 65 arrays.1 >>= λ sessions. Ok (record { place = a.0.0; next_id = next.0; arrays = arrays.0; sessions = sessions.0 }, sessions.1)) x a.2 in
-    let c = bind_ok (number_in w32 0 65 b.0.1) (λ arrays. number_in w32 0 65 arrays.1 >>= λ sessions. Ok (record { place = a.0.0; next_id = b.0.0; arrays = arrays.0; sessions = sessions.0 }, sessions.1)) x b.2 in
+    let a = bind_ok (number_in w64 0 (2 ^ 63) bytes) (λ place. number_in w64 1 (place.0 + 2) place.1 followed_by λ next. number_in w32 0 65 next.1 followed_by λ arrays. number_in w32 0 65 arrays.1 followed_by λ sessions. Ok (record { place = place.0; next_id = next.0; arrays = arrays.0; sessions = sessions.0 }, sessions.1)) x e in
+    let b = bind_ok (number_in w64 1 (a.0.0 + 2) a.0.1) (λ next. number_in w32 0 65 next.1 followed_by λ arrays. number_in w32 0 65 arrays.1 followed_by λ sessions. Ok (record { place = a.0.0; next_id = next.0; arrays = arrays.0; sessions = sessions.0 }, sessions.1)) x a.2 in
+    let c = bind_ok (number_in w32 0 65 b.0.1) (λ arrays. number_in w32 0 65 arrays.1 followed_by λ sessions. Ok (record { place = a.0.0; next_id = b.0.0; arrays = arrays.0; sessions = sessions.0 }, sessions.1)) x b.2 in
     let d = bind_ok (number_in w32 0 65 c.0.1) (λ sessions. Ok (record { place = a.0.0; next_id = b.0.0; arrays = c.0.0; sessions = sessions.0 }, sessions.1)) x c.2 in
     let t_place = number_in_takes w64 (2 ^ 64) field64 0 (2 ^ 63) bytes a.0 fits a.1 in
     let t_next = number_in_takes w64 (2 ^ 64) field64 1 (a.0.0 + 2) a.0.1 b.0 t_place.rest_fits b.1 in
     let t_arrays = number_in_takes w32 (2 ^ 32) field32 0 65 b.0.1 c.0 t_next.rest_fits c.1 in
     let t_sessions = number_in_takes w32 (2 ^ 32) field32 0 65 c.0.1 d.0 t_arrays.rest_fits d.1 in
-    let two = takes_then bytes (to_be_bytes w64 a.0.0) a.0.1 (to_be_bytes w64 b.0.0) b.0.1 t_place t_next in
-    let three = takes_then bytes (to_be_bytes w64 a.0.0 ++ to_be_bytes w64 b.0.0) b.0.1 (to_be_bytes w32 c.0.0) c.0.1 two t_arrays in
-    let four = takes_then bytes (to_be_bytes w64 a.0.0 ++ to_be_bytes w64 b.0.0 ++ to_be_bytes w32 c.0.0) c.0.1 (to_be_bytes w32 d.0.0) d.0.1 three t_sessions in
+    let two = splits_then bytes (to_be_bytes w64 a.0.0) a.0.1 (to_be_bytes w64 b.0.0) b.0.1 t_place t_next in
+    let three = splits_then bytes (to_be_bytes w64 a.0.0 ++ to_be_bytes w64 b.0.0) b.0.1 (to_be_bytes w32 c.0.0) c.0.1 two t_arrays in
+    let four = splits_then bytes (to_be_bytes w64 a.0.0 ++ to_be_bytes w64 b.0.0 ++ to_be_bytes w32 c.0.0) c.0.1 (to_be_bytes w32 d.0.0) d.0.1 three t_sessions in
     let made : Header × List ℕ = (record { place = a.0.0; next_id = b.0.0; arrays = c.0.0; sessions = d.0.0 }, d.0.1) in
-    subst (λ (y : Header × List ℕ). Takes bytes (header_spelling y.0) y.1) (ok_is made x d.2) four
+    subst (λ (y : Header × List ℕ). Splits bytes (header_spelling y.0) y.1) (ok_is made x d.2) four
 
 ended_ok : (s : ServerState) (bytes : List ℕ) (t : ServerState) → ended s bytes ≡ Ok t → (s ≡ t) × (bytes ≡ [])
 ended_ok s [] t e = (ok_is s t e, refl)
@@ -62,9 +63,9 @@ pub record IsFound (format : Format) (bytes : List ℕ) (s : ServerState) : Type
 state_found : (format : Format) (bytes : List ℕ) (s : ServerState) → IsBytes bytes → state_at format bytes ≡ Ok s → IsFound format bytes s
 unfolding state_at
 state_found format bytes s fits e =
-    let a = bind_ok (header_at bytes) (λ header. repeated (next_array format) header.0.arrays (None, starting header.0, header.1) >>= λ arrays. repeated (next_session format) header.0.sessions (None, arrays.1, arrays.2) >>= λ sessions. ended sessions.1 sessions.2) s e in
+    let a = bind_ok (header_at bytes) (λ header. repeated (next_array format) header.0.arrays (None, starting header.0, header.1) followed_by λ arrays. repeated (next_session format) header.0.sessions (None, arrays.1, arrays.2) followed_by λ sessions. ended sessions.1 sessions.2) s e in
     let h : Header = a.0.0 in
-    let b = bind_ok (repeated (next_array format) h.arrays (None, starting h, a.0.1)) (λ arrays. repeated (next_session format) h.sessions (None, arrays.1, arrays.2) >>= λ sessions. ended sessions.1 sessions.2) s a.2 in
+    let b = bind_ok (repeated (next_array format) h.arrays (None, starting h, a.0.1)) (λ arrays. repeated (next_session format) h.sessions (None, arrays.1, arrays.2) followed_by λ sessions. ended sessions.1 sessions.2) s a.2 in
     let c = bind_ok (repeated (next_session format) h.sessions (None, b.0.1, b.0.2)) (λ sessions. ended sessions.1 sessions.2) s b.2 in
     let end = ended_ok c.0.1 c.0.2 s c.2 in
     let t_header = header_takes bytes a.0 fits a.1 in
@@ -77,8 +78,8 @@ state_found format bytes s fits e =
     let second : c.0.1 ≡ whole =
     fs.state ∙ sessions_loaded (next_session format) (session_spelling format) fs.entries b.0.1
     ∙ ap (λ (z : ServerState). with_sessions z (put_all z.sessions fs.entries)) first in
-    let two = takes_then bytes (header_spelling h) a.0.1 (flat_map (array_spelling format) es.entries) b.0.2 t_header es.text in
-    let three = takes_then bytes (header_spelling h ++ flat_map (array_spelling format) es.entries) b.0.2 (flat_map (session_spelling format) fs.entries) c.0.2 two fs.text in
+    let two = splits_then bytes (header_spelling h) a.0.1 (flat_map (array_spelling format) es.entries) b.0.2 t_header es.text in
+    let three = splits_then bytes (header_spelling h ++ flat_map (array_spelling format) es.entries) b.0.2 (flat_map (session_spelling format) fs.entries) c.0.2 two fs.text in
     let e_is = entries-in_order es.entries es.rises in
     let f_is = entries-in_order fs.entries fs.rises in
     let text : bytes ≡ image_spelling format whole =

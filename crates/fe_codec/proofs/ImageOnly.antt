@@ -18,7 +18,7 @@ use Rattle.fe_codec.specs.Laws.{SpellingIsRead, ImageHasOneSpelling}
 use Rattle.fe_codec.specs.declared.fault.ImageFault.{ImageFault}
 use Rattle.fe_format.specs.declared.format.Format.{Format}
 use Rattle.fe_codec.specs.declared.header.Header.{Header}
-use Rattle.fe_codec.specs.FirstFault.{◌>>=◌, repeated, number_in, header_at, starting, next_array, next_session, ended, state_at, told_at, image_at}
+use Rattle.fe_codec.specs.FirstFault.{◌followed_by◌, repeated, number_in, header_at, starting, next_array, next_session, ended, state_at, told_at, image_at}
 use Rattle.fe_codec.proofs.InOrder.{entries-Rises, put_all-entries}
 use Rattle.fe_codec.proofs.ImageFields.{ok_is, field32, field64, goes_from, number_in_again}
 use Rattle.fe_codec.proofs.ImageArrays.{load_array, arrays_loaded, Remains, remains_next}
@@ -105,9 +105,9 @@ header_again h rest small least most few some =
     let three : List ℕ = to_be_bytes w32 h.arrays ++ four in
     let two : List ℕ = to_be_bytes w64 h.next_id ++ three in
     let k4 : ℕ × List ℕ → Result (Header × List ℕ) ℕ = λ n. Ok (record { place = h.place; next_id = h.next_id; arrays = h.arrays; sessions = n.0 }, n.1) in
-    let k3 : ℕ × List ℕ → Result (Header × List ℕ) ℕ = λ a. number_in w32 0 65 a.1 >>= λ n. Ok (record { place = h.place; next_id = h.next_id; arrays = a.0; sessions = n.0 }, n.1) in
-    let k2 : ℕ × List ℕ → Result (Header × List ℕ) ℕ = λ i. number_in w32 0 65 i.1 >>= λ a. number_in w32 0 65 a.1 >>= λ n. Ok (record { place = h.place; next_id = i.0; arrays = a.0; sessions = n.0 }, n.1) in
-    let k1 : ℕ × List ℕ → Result (Header × List ℕ) ℕ = λ p. number_in w64 1 (p.0 + 2) p.1 >>= λ i. number_in w32 0 65 i.1 >>= λ a. number_in w32 0 65 a.1 >>= λ n. Ok (record { place = p.0; next_id = i.0; arrays = a.0; sessions = n.0 }, n.1) in
+    let k3 : ℕ × List ℕ → Result (Header × List ℕ) ℕ = λ a. number_in w32 0 65 a.1 followed_by λ n. Ok (record { place = h.place; next_id = h.next_id; arrays = a.0; sessions = n.0 }, n.1) in
+    let k2 : ℕ × List ℕ → Result (Header × List ℕ) ℕ = λ i. number_in w32 0 65 i.1 followed_by λ a. number_in w32 0 65 a.1 followed_by λ n. Ok (record { place = h.place; next_id = i.0; arrays = a.0; sessions = n.0 }, n.1) in
+    let k1 : ℕ × List ℕ → Result (Header × List ℕ) ℕ = λ p. number_in w64 1 (p.0 + 2) p.1 followed_by λ i. number_in w32 0 65 i.1 followed_by λ a. number_in w32 0 65 a.1 followed_by λ n. Ok (record { place = p.0; next_id = i.0; arrays = a.0; sessions = n.0 }, n.1) in
     goes_from (number_in w64 0 (2 ^ 63) (to_be_bytes w64 h.place ++ two)) k1 (h.place, two) (number_in_again w64 (2 ^ 64) field64 0 (2 ^ 63) h.place two (omega (arith, small)) (omega arith) small)
     ∙ goes_from (number_in w64 1 (h.place + 2) two) k2 (h.next_id, three) (number_in_again w64 (2 ^ 64) field64 1 (h.place + 2) h.next_id three (omega (arith, small, most)) least (omega (arith, most)))
     ∙ goes_from (number_in w32 0 65 three) k3 (h.arrays, four) (number_in_again w32 (2 ^ 32) field32 0 65 h.arrays four (omega (arith, few)) (omega arith) (omega (arith, few)))
@@ -127,20 +127,20 @@ state_again format s fits =
     let made : ServerState = starting h in
     let middle : ServerState = with_arrays made s.arrays in
     let k3 : Walk → Result ServerState ℕ = λ x. ended x.1 x.2 in
-    let k2 : Walk → Result ServerState ℕ = λ x. repeated (next_session format) h.sessions (None, x.1, x.2) >>= k3 in
-    let k1 : Header × List ℕ → Result ServerState ℕ = λ x. repeated (next_array format) x.0.arrays (None, starting x.0, x.1) >>= λ a. repeated (next_session format) x.0.sessions (None, a.1, a.2) >>= λ b. ended b.1 b.2 in
+    let k2 : Walk → Result ServerState ℕ = λ x. repeated (next_session format) h.sessions (None, x.1, x.2) followed_by k3 in
+    let k1 : Header × List ℕ → Result ServerState ℕ = λ x. repeated (next_array format) x.0.arrays (None, starting x.0, x.1) followed_by λ a. repeated (next_session format) x.0.sessions (None, a.1, a.2) followed_by λ b. ended b.1 b.2 in
     let arrays = again_all (next_array format) load_array (array_spelling format) (Remains format s) (remains_next format s fits.limits) es None made last (arrays_remain format s fits) in
     let sessions = again_all (next_session format) load_session (session_spelling format) (SessionsRemain format s.place) (session_next format s.place fits.limits.place) fs None middle [] (sessions_remain format s fits middle refl) in
     let first : load_all (next_array format) load_array (array_spelling format) made es ≡ middle =
     arrays_loaded (next_array format) (array_spelling format) es made ∙ ap (with_arrays made) (put_all-entries s.arrays) in
     let second : load_all (next_session format) load_session (session_spelling format) middle fs ≡ s =
     sessions_loaded (next_session format) (session_spelling format) fs middle ∙ ap (with_sessions middle) (put_all-entries s.sessions) in
-    ap (λ (t : List ℕ). header_at t >>= k1) (regrouped (to_be_bytes w64 s.place) (to_be_bytes w64 s.next_id) (to_be_bytes w32 (len s.arrays)) (to_be_bytes w32 (len s.sessions)) (flat_map (array_spelling format) es) (flat_map (session_spelling format) fs))
+    ap (λ (t : List ℕ). header_at t followed_by k1) (regrouped (to_be_bytes w64 s.place) (to_be_bytes w64 s.next_id) (to_be_bytes w32 (len s.arrays)) (to_be_bytes w32 (len s.sessions)) (flat_map (array_spelling format) es) (flat_map (session_spelling format) fs))
     ∙ goes_from (header_at _) k1 (h, behind) (header_again h behind fits.limits.place fits.limits.directory.next_id fits.limits.next_id fits.limits.directory.few_arrays fits.limits.few_sessions)
-    ∙ ap (λ (n : ℕ). repeated (next_array format) n (None, made, behind) >>= k2) (len-entries s.arrays)
+    ∙ ap (λ (n : ℕ). repeated (next_array format) n (None, made, behind) followed_by k2) (len-entries s.arrays)
     ∙ goes_from (repeated (next_array format) (length es) (None, made, behind)) k2 (last_key (next_array format) load_array (array_spelling format) None es, load_all (next_array format) load_array (array_spelling format) made es, last) arrays
-    ∙ ap (λ (z : ServerState). repeated (next_session format) h.sessions (None, z, last) >>= k3) first
-    ∙ ap (λ (n : ℕ). repeated (next_session format) n (None, middle, last) >>= k3) (len-entries s.sessions)
+    ∙ ap (λ (z : ServerState). repeated (next_session format) h.sessions (None, z, last) followed_by k3) first
+    ∙ ap (λ (n : ℕ). repeated (next_session format) n (None, middle, last) followed_by k3) (len-entries s.sessions)
     ∙ goes_from (repeated (next_session format) (length fs) (None, middle, last)) k3 (last_key (next_session format) load_session (session_spelling format) None fs, load_all (next_session format) load_session (session_spelling format) middle fs, []) sessions
     ∙ ap (λ (z : ServerState). Ok z) second
 

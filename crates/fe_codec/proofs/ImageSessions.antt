@@ -16,7 +16,7 @@ use Rattle.fe_state.specs.State.{ServerState, with_sessions}
 use Rattle.fe_state.specs.declared.kept.Kept.{Kept}
 use Rattle.fe_state.specs.declared.entry.Entry.{Entry}
 use Rattle.fe_state.specs.declared.entry.Entry.TheVariants.{Attached, Closed, Settled, Finished}
-use Rattle.fe_codec.specs.Bytes.{IsBytes}
+use Rattle.fe_codes.specs.Bytes.{IsBytes}
 use Rattle.fe_format.specs.Layout.{record_bytes}
 use Rattle.fe_codec.specs.Reading as reading
 use Rattle.fe_codec.specs.Reading.{record_entry, if_record, is_record, is_numbered, is_of_format}
@@ -24,9 +24,10 @@ use Rattle.fe_codec.specs.Record.{entry_spelling, IsOfFormat, IsNumbered, Fields
 use Rattle.fe_codec.specs.Image.{entry_of_kept, kept_spelling, session_spelling, KeptOfFormat, SessionOfFormat, SessionFits}
 use Rattle.fe_format.specs.declared.format.Format.{Format}
 use Rattle.fe_format.specs.declared.format.Format.TheVariants.{One, Two}
-use Rattle.fe_codec.specs.FirstFault.{◌>>=◌, or_fault, repeated, row, number_in, is_after, is_next_number, kept_of, kept_at, next_kept, session_at, next_session, with_kept, with_new_session}
+use Rattle.fe_codec.specs.FirstFault.{◌followed_by◌, or_fault, repeated, row, number_in, is_after, is_next_number, kept_of, kept_at, next_kept, session_at, next_session, with_kept, with_new_session}
 use Rattle.fe_codec.proofs.InOrder.{Rises, put_all, entries-in_order, len-in_order, entries-Rises, put_all-entries}
-use Rattle.fe_codec.proofs.ImageFields.{bind_ok, ok_is, given, both_true, Takes, takes_then, field32, field64, number_in_takes, row_takes, row_fits, goes_from, and_true, number_in_again, row_again}
+use Rattle.fe_codes.proofs.Splits.{Splits, splits_then}
+use Rattle.fe_codec.proofs.ImageFields.{bind_ok, ok_is, given, both_true, field32, field64, number_in_takes, row_takes, row_fits, goes_from, and_true, number_in_again, row_again}
 use Rattle.fe_codec.proofs.FieldsRead.{entry_fits}
 use Rattle.fe_codec.proofs.RecordLaws.{entry_again, length-entry_spelling}
 use Rattle.fe_codec.proofs.ImageNames.{session_takes, session_below, session_again}
@@ -113,9 +114,9 @@ pub kept_loads : (format : Format) (session floor : ℕ) (x y : Walk) → IsByte
 unfolding next_kept kept_at
 kept_loads format session floor x y fits e =
     let a = bind_ok (kept_at format x.1.place session floor x.0 x.2) (λ kept. Ok (Some kept.0.0, with_kept x.1 session kept.0, kept.1)) y e in
-    let b = bind_ok (number_in w64 0 x.1.place x.2) (λ place. row (record_bytes format) place.1 >>= λ cells. or_fault (length place.1) (kept_of session floor x.0 place.0 (record_entry format cells.0)) >>= λ kept. Ok (kept, cells.1)) a.0 a.1 in
+    let b = bind_ok (number_in w64 0 x.1.place x.2) (λ place. row (record_bytes format) place.1 followed_by λ cells. or_fault (length place.1) (kept_of session floor x.0 place.0 (record_entry format cells.0)) followed_by λ kept. Ok (kept, cells.1)) a.0 a.1 in
     let place : ℕ = b.0.0 in
-    let c = bind_ok (row (record_bytes format) b.0.1) (λ cells. or_fault (length b.0.1) (kept_of session floor x.0 place (record_entry format cells.0)) >>= λ kept. Ok (kept, cells.1)) a.0 b.2 in
+    let c = bind_ok (row (record_bytes format) b.0.1) (λ cells. or_fault (length b.0.1) (kept_of session floor x.0 place (record_entry format cells.0)) followed_by λ kept. Ok (kept, cells.1)) a.0 b.2 in
     let d = bind_ok (or_fault (length b.0.1) (kept_of session floor x.0 place (record_entry format c.0.0))) (λ kept. Ok (kept, c.0.1)) a.0 c.2 in
     let k : ℕ × Kept = d.0 in
     let is = kept_is session floor x.0 place (record_entry format c.0.0) k (given (length b.0.1) _ k d.1) in
@@ -123,7 +124,7 @@ kept_loads format session floor x y fits e =
     let t_place = number_in_takes w64 (2 ^ 64) field64 0 x.1.place x.2 b.0 fits b.1 in
     let t_record = row_takes (record_bytes format) b.0.1 c.0 t_place.rest_fits c.1 in
     let cells_fit = row_fits (record_bytes format) b.0.1 c.0 t_place.rest_fits c.1 in
-    let both : Takes x.2 (to_be_bytes w64 place ++ c.0.0) c.0.1 = takes_then x.2 (to_be_bytes w64 place) b.0.1 c.0.0 c.0.1 t_place t_record.0 in
+    let both : Splits x.2 (to_be_bytes w64 place ++ c.0.0) c.0.1 = splits_then x.2 (to_be_bytes w64 place) b.0.1 c.0.0 c.0.1 t_place t_record.0 in
     let text : to_be_bytes w64 place ++ c.0.0 ≡ kept_spelling format session k = ap (λ (n : ℕ). to_be_bytes w64 n ++ c.0.0) (sym is.place_is) ∙ ap (λ (t : List ℕ). to_be_bytes w64 k.1.place ++ t) spelled.0 in
     let last : (k, c.0.1) ≡ a.0 = ok_is (k, c.0.1) a.0 d.2 in
     record {
@@ -131,7 +132,7 @@ kept_loads format session floor x y fits e =
       rest = c.0.1;
       is = sym (ok_is (Some a.0.0.0, with_kept x.1 session a.0.0, a.0.1) y a.2) ∙ sym (ap (λ (z : (ℕ × Kept) × List ℕ). (Some z.0.0, with_kept x.1 session z.0, z.1)) last);
       above = is.above;
-      text = subst (λ (t : List ℕ). Takes x.2 t c.0.1) text both;
+      text = subst (λ (t : List ℕ). Splits x.2 t c.0.1) text both;
       good = (spelled.1, record_fits format c.0.0 (entry_of_kept session k) cells_fit is.entry);
     }
 
@@ -164,11 +165,11 @@ pub session_loads : (format : Format) (x y : Walk) → IsBytes x.2 → next_sess
 unfolding next_session
 session_loads format x y fits e =
     let s : ServerState = x.1 in
-    let a = bind_ok (session_at x.0 x.2) (λ session. number_in w64 1 (2 ^ 63 - 31) session.1 >>= λ floor. number_in w32 0 33 floor.1 >>= λ count. repeated (next_kept format session.0 floor.0) count.0 (None, with_new_session s session.0 floor.0, count.1) >>= λ kept. Ok (Some session.0, kept.1, kept.2)) y e in
+    let a = bind_ok (session_at x.0 x.2) (λ session. number_in w64 1 (2 ^ 63 - 31) session.1 followed_by λ floor. number_in w32 0 33 floor.1 followed_by λ count. repeated (next_kept format session.0 floor.0) count.0 (None, with_new_session s session.0 floor.0, count.1) followed_by λ kept. Ok (Some session.0, kept.1, kept.2)) y e in
     let session : ℕ = a.0.0 in
-    let b = bind_ok (number_in w64 1 (2 ^ 63 - 31) a.0.1) (λ floor. number_in w32 0 33 floor.1 >>= λ count. repeated (next_kept format session floor.0) count.0 (None, with_new_session s session floor.0, count.1) >>= λ kept. Ok (Some session, kept.1, kept.2)) y a.2 in
+    let b = bind_ok (number_in w64 1 (2 ^ 63 - 31) a.0.1) (λ floor. number_in w32 0 33 floor.1 followed_by λ count. repeated (next_kept format session floor.0) count.0 (None, with_new_session s session floor.0, count.1) followed_by λ kept. Ok (Some session, kept.1, kept.2)) y a.2 in
     let floor : ℕ = b.0.0 in
-    let c = bind_ok (number_in w32 0 33 b.0.1) (λ count. repeated (next_kept format session floor) count.0 (None, with_new_session s session floor, count.1) >>= λ kept. Ok (Some session, kept.1, kept.2)) y b.2 in
+    let c = bind_ok (number_in w32 0 33 b.0.1) (λ count. repeated (next_kept format session floor) count.0 (None, with_new_session s session floor, count.1) followed_by λ kept. Ok (Some session, kept.1, kept.2)) y b.2 in
     let count : ℕ = c.0.0 in
     let made : ServerState = with_new_session s session floor in
     let d = bind_ok (repeated (next_kept format session floor) count (None, made, c.0.1)) (λ kept. Ok (Some session, kept.1, kept.2)) y c.2 in
@@ -180,12 +181,12 @@ session_loads format x y fits e =
     let entry : ℕ × Session = (session, record { floor = floor; kept = kept }) in
     let same : entries kept ≡ ks.entries = entries-in_order ks.entries ks.rises in
     let many : len kept ≡ count = len-in_order ks.entries ks.rises ∙ ks.count in
-    let front : Takes x.2 (to_be_bytes w64 session ++ to_be_bytes w64 floor) b.0.1 = takes_then x.2 (to_be_bytes w64 session) a.0.1 (to_be_bytes w64 floor) b.0.1 t_session.0 t_floor in
-    let counted : Takes x.2 (to_be_bytes w64 session ++ to_be_bytes w64 floor ++ to_be_bytes w32 count) c.0.1 = takes_then x.2 (to_be_bytes w64 session ++ to_be_bytes w64 floor) b.0.1 (to_be_bytes w32 count) c.0.1 front t_count in
-    let long : Takes x.2 (to_be_bytes w64 session ++ to_be_bytes w64 floor ++ to_be_bytes w32 (len kept)) c.0.1 =
-    subst (λ (k : ℕ). Takes x.2 (to_be_bytes w64 session ++ to_be_bytes w64 floor ++ to_be_bytes w32 k) c.0.1) (sym many) counted in
-    let answers : Takes c.0.1 (flat_map (kept_spelling format session) (entries kept)) d.0.2 =
-    subst (λ (t : List (ℕ × Kept)). Takes c.0.1 (flat_map (kept_spelling format session) t) d.0.2) (sym same) ks.text in
+    let front : Splits x.2 (to_be_bytes w64 session ++ to_be_bytes w64 floor) b.0.1 = splits_then x.2 (to_be_bytes w64 session) a.0.1 (to_be_bytes w64 floor) b.0.1 t_session.0 t_floor in
+    let counted : Splits x.2 (to_be_bytes w64 session ++ to_be_bytes w64 floor ++ to_be_bytes w32 count) c.0.1 = splits_then x.2 (to_be_bytes w64 session ++ to_be_bytes w64 floor) b.0.1 (to_be_bytes w32 count) c.0.1 front t_count in
+    let long : Splits x.2 (to_be_bytes w64 session ++ to_be_bytes w64 floor ++ to_be_bytes w32 (len kept)) c.0.1 =
+    subst (λ (k : ℕ). Splits x.2 (to_be_bytes w64 session ++ to_be_bytes w64 floor ++ to_be_bytes w32 k) c.0.1) (sym many) counted in
+    let answers : Splits c.0.1 (flat_map (kept_spelling format session) (entries kept)) d.0.2 =
+    subst (λ (t : List (ℕ × Kept)). Splits c.0.1 (flat_map (kept_spelling format session) t) d.0.2) (sym same) ks.text in
     let state : d.0.1 ≡ load_session s entry =
     ks.state
     ∙ kept_loaded (next_kept format session floor) (kept_spelling format session) session floor ks.entries made empty (get_inserted s.sessions session (record { floor = floor; kept = empty }))
@@ -195,7 +196,7 @@ session_loads format x y fits e =
       rest = d.0.2;
       is = sym (ok_is (Some session, d.0.1, d.0.2) y d.2) ∙ ap (λ (z : ServerState). (Some session, z, d.0.2)) state;
       above = t_session.1;
-      text = takes_then x.2 (to_be_bytes w64 session ++ to_be_bytes w64 floor ++ to_be_bytes w32 (len kept)) c.0.1 (flat_map (kept_spelling format session) (entries kept)) d.0.2 long answers;
+      text = splits_then x.2 (to_be_bytes w64 session ++ to_be_bytes w64 floor ++ to_be_bytes w32 (len kept)) c.0.1 (flat_map (kept_spelling format session) (entries kept)) d.0.2 long answers;
       good = (
         subst (λ (t : List (ℕ × Kept)). AllByRecursion (KeptOfFormat format session) t) (sym same) (all_so _ _ (λ k good. good.0) ks.entries ks.good),
         (session_below x.0 x.2 a.0 fits a.1, subst (λ (t : List (ℕ × Kept)). AllByRecursion (λ k. FieldsFit (entry_of_kept session k)) t) (sym same) (all_so _ _ (λ k good. good.1) ks.entries ks.good)),
@@ -249,13 +250,13 @@ kept_again format session floor limit previous k rest small may after =
     let behind : List ℕ = cells ++ rest in
     let grouped : kept_spelling format session k ++ rest ≡ to_be_bytes w64 k.1.place ++ behind = append_assoc (to_be_bytes w64 k.1.place) cells rest in
     let k3 : ℕ × Kept → Result ((ℕ × Kept) × List ℕ) ℕ = λ kept. Ok (kept, rest) in
-    let k2 : List ℕ × List ℕ → Result ((ℕ × Kept) × List ℕ) ℕ = λ c. or_fault (length behind) (kept_of session floor previous k.1.place (record_entry format c.0)) >>= λ kept. Ok (kept, c.1) in
-    let k1 : ℕ × List ℕ → Result ((ℕ × Kept) × List ℕ) ℕ = λ place. row (record_bytes format) place.1 >>= λ c. or_fault (length place.1) (kept_of session floor previous place.0 (record_entry format c.0)) >>= λ kept. Ok (kept, c.1) in
-    ap (λ (t : List ℕ). number_in w64 0 limit t >>= k1) grouped
+    let k2 : List ℕ × List ℕ → Result ((ℕ × Kept) × List ℕ) ℕ = λ c. or_fault (length behind) (kept_of session floor previous k.1.place (record_entry format c.0)) followed_by λ kept. Ok (kept, c.1) in
+    let k1 : ℕ × List ℕ → Result ((ℕ × Kept) × List ℕ) ℕ = λ place. row (record_bytes format) place.1 followed_by λ c. or_fault (length place.1) (kept_of session floor previous place.0 (record_entry format c.0)) followed_by λ kept. Ok (kept, c.1) in
+    ap (λ (t : List ℕ). number_in w64 0 limit t followed_by k1) grouped
     ∙ goes_from (number_in w64 0 limit (to_be_bytes w64 k.1.place ++ behind)) k1 (k.1.place, behind) (number_in_again w64 (2 ^ 64) field64 0 limit k.1.place behind (omega (arith, small, may.earlier)) (omega arith) may.earlier)
     ∙ goes_from (row (record_bytes format) behind) k2 (cells, rest) (row_again (record_bytes format) cells rest (length-entry_spelling format (entry_of_kept session k) may.fits))
-    ∙ ap (λ (o : Option Entry). or_fault (length behind) (kept_of session floor previous k.1.place o) >>= k3) (record_again format (entry_of_kept session k) may.fits)
-    ∙ ap (λ (o : Option (ℕ × Kept)). or_fault (length behind) o >>= k3) (kept_of_again session floor previous k may.not_below may.not_beyond after)
+    ∙ ap (λ (o : Option Entry). or_fault (length behind) (kept_of session floor previous k.1.place o) followed_by k3) (record_again format (entry_of_kept session k) may.fits)
+    ∙ ap (λ (o : Option (ℕ × Kept)). or_fault (length behind) o followed_by k3) (kept_of_again session floor previous k may.not_below may.not_beyond after)
 
 -- answers that are to come
 pub record KeptRemains (format : Format) (session floor limit : ℕ) (previous : Option ℕ) (s : ServerState) (ks : List (ℕ × Kept)) : Type 0 where
@@ -269,7 +270,7 @@ unfolding next_kept
 kept_next format session floor limit small previous s k ks rest h =
     let text : List ℕ = kept_spelling format session k ++ rest in
     let go : (ℕ × Kept) × List ℕ → Result Walk ℕ = λ kept. Ok (Some kept.0.0, with_kept s session kept.0, kept.1) in (
-      ap (λ (n : ℕ). kept_at format n session floor previous text >>= go) h.place
+      ap (λ (n : ℕ). kept_at format n session floor previous text followed_by go) h.place
           ∙ goes_from (kept_at format limit session floor previous text) go (k, rest) (kept_again format session floor limit previous k rest small h.each.0 h.rises.0),
       record { rises = h.rises.1; place = h.place; each = h.each.1 },
     )
@@ -308,9 +309,9 @@ session_read format limit small previous s e rest at after may =
     let behind : List ℕ = to_be_bytes w64 floor ++ counted in
     let grouped : session_spelling format e ++ rest ≡ to_be_bytes w64 session ++ behind = four (to_be_bytes w64 session) (to_be_bytes w64 floor) (to_be_bytes w32 (len e.1.kept)) (flat_map (kept_spelling format session) ks) rest in
     let k4 : Walk → Result Walk ℕ = λ x. Ok (Some session, x.1, x.2) in
-    let k3 : ℕ × List ℕ → Result Walk ℕ = λ n. repeated (next_kept format session floor) n.0 (None, made, n.1) >>= k4 in
-    let k2 : ℕ × List ℕ → Result Walk ℕ = λ f. number_in w32 0 33 f.1 >>= λ n. repeated (next_kept format session f.0) n.0 (None, with_new_session s session f.0, n.1) >>= k4 in
-    let k1 : ℕ × List ℕ → Result Walk ℕ = λ i. number_in w64 1 (2 ^ 63 - 31) i.1 >>= λ f. number_in w32 0 33 f.1 >>= λ n. repeated (next_kept format i.0 f.0) n.0 (None, with_new_session s i.0 f.0, n.1) >>= λ x. Ok (Some i.0, x.1, x.2) in
+    let k3 : ℕ × List ℕ → Result Walk ℕ = λ n. repeated (next_kept format session floor) n.0 (None, made, n.1) followed_by k4 in
+    let k2 : ℕ × List ℕ → Result Walk ℕ = λ f. number_in w32 0 33 f.1 followed_by λ n. repeated (next_kept format session f.0) n.0 (None, with_new_session s session f.0, n.1) followed_by k4 in
+    let k1 : ℕ × List ℕ → Result Walk ℕ = λ i. number_in w64 1 (2 ^ 63 - 31) i.1 followed_by λ f. number_in w32 0 33 f.1 followed_by λ n. repeated (next_kept format i.0 f.0) n.0 (None, with_new_session s i.0 f.0, n.1) followed_by λ x. Ok (Some i.0, x.1, x.2) in
     let remains : KeptRemains format session floor limit None made ks = record { rises = entries-Rises e.1.kept; place = at; each = may.each } in
     let read = again_all (next_kept format session floor) (load_kept session) (kept_spelling format session) (KeptRemains format session floor limit) (kept_next format session floor limit small) ks None made rest remains in
     let blank : Session = record { floor = floor; kept = empty } in
@@ -318,11 +319,11 @@ session_read format limit small previous s e rest at after may =
     kept_loaded (next_kept format session floor) (kept_spelling format session) session floor ks made empty (get_inserted s.sessions session blank)
     ∙ ap (λ (m : FinMap nat_cmp Kept). with_sessions made (insert made.sessions session (record { floor = floor; kept = m }))) (put_all-entries e.1.kept)
     ∙ ap (with_sessions s) (insert_twice s.sessions session blank e.1) in
-    ap (λ (t : List ℕ). session_at previous t >>= k1) grouped
+    ap (λ (t : List ℕ). session_at previous t followed_by k1) grouped
     ∙ goes_from (session_at previous (to_be_bytes w64 session ++ behind)) k1 (session, behind) (session_again previous session behind may.small after)
     ∙ goes_from (number_in w64 1 (2 ^ 63 - 31) behind) k2 (floor, counted) (number_in_again w64 (2 ^ 64) field64 1 (2 ^ 63 - 31) floor counted (omega (arith, may.most)) may.least (omega (arith, may.most)))
     ∙ goes_from (number_in w32 0 33 counted) k3 (len e.1.kept, answers) (number_in_again w32 (2 ^ 32) field32 0 33 (len e.1.kept) answers (omega (arith, may.few)) (omega arith) (omega (arith, may.few)))
-    ∙ ap (λ (n : ℕ). repeated (next_kept format session floor) n (None, made, answers) >>= k4) (len-entries e.1.kept)
+    ∙ ap (λ (n : ℕ). repeated (next_kept format session floor) n (None, made, answers) followed_by k4) (len-entries e.1.kept)
     ∙ goes_from (repeated (next_kept format session floor) (length ks) (None, made, answers)) k4 _ read
     ∙ ap (λ (z : ServerState). Ok (Some session, z, rest)) loaded
   where

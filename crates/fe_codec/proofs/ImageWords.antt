@@ -13,10 +13,11 @@ use Rattle.fe_state.proofs.Maps.{get_inserted, get_beside, same_or_other}
 use Rattle.fe_state.specs.Effect.{put_word}
 use Rattle.fe_state.specs.State.{ServerState, with_arrays}
 use Rattle.fe_state.specs.declared.array.Array.{Array}
-use Rattle.fe_codec.specs.Bytes.{IsBytes}
+use Rattle.fe_codes.specs.Bytes.{IsBytes}
 use Rattle.fe_codec.specs.Image.{word_spelling}
 use Rattle.fe_codec.specs.FirstFault.{repeated, word_at, with_word_at, next_word}
-use Rattle.fe_codec.proofs.ImageFields.{bind_ok, ok_is, Takes, takes_then, goes_from}
+use Rattle.fe_codes.proofs.Splits.{Splits, splits_then}
+use Rattle.fe_codec.proofs.ImageFields.{bind_ok, ok_is, goes_from}
 use Rattle.fe_codec.proofs.ImageNames.{word_takes, word_below, word_again}
 
 -- ---- maps
@@ -65,7 +66,7 @@ pub record LoadsWords (id : ℕ) (name : List ℕ) (front : List Word) (n : ℕ)
   pub count : length words ≡ n
   pub values : AllByRecursion (λ w. w.value < 2 ^ 64) words
   pub state : y.1 ≡ holding s id (record { name = name; words = front ++ words })
-  pub text : Takes bytes (flat_map word_spelling words) y.2
+  pub text : Splits bytes (flat_map word_spelling words) y.2
 
 pub loads_words : (id : ℕ) (name : List ℕ) (front : List Word) (n i : ℕ) (s : ServerState) (bytes : List ℕ) (y : ℕ × ServerState × List ℕ) → IsBytes bytes → i ≡ length front
     → get s.arrays id ≡ Some (in_part name front n) → repeated (next_word id) n (i, s, bytes) ≡ Ok y → LoadsWords id name front n s bytes y
@@ -92,7 +93,7 @@ loads_words id name front (suc n) i s bytes y fits at is e =
           more.state
           ∙ ap (with_arrays s) (insert_twice s.arrays id (in_part name (front ++ w ∷ []) n) (record { name = name; words = (front ++ w ∷ []) ++ more.words }))
           ∙ ap (λ (ws : List Word). holding s id (record { name = name; words = ws })) (append_assoc front (w ∷ []) more.words);
-      text = takes_then bytes (word_spelling w) b.0.1 (flat_map word_spelling more.words) y.2 first more.text;
+      text = splits_then bytes (word_spelling w) b.0.1 (flat_map word_spelling more.words) y.2 first more.text;
     }
 
 -- ---- what was spelled is read

@@ -3,10 +3,11 @@ use Rattle.std.proofs.Common.{◌≡◌, ℕ, zero, suc, List, [], ◌∷◌, �
 use Rattle.std.specs.Prelude.{flat_map}
 use Rattle.std.specs.List.{AllByRecursion}
 use Rattle.fe_state.specs.State.{ServerState}
-use Rattle.fe_codec.specs.Bytes.{IsBytes}
-use Rattle.fe_codec.specs.FirstFault.{◌>>=◌, is_after, repeated}
+use Rattle.fe_codes.specs.Bytes.{IsBytes}
+use Rattle.fe_codec.specs.FirstFault.{◌followed_by◌, is_after, repeated}
 use Rattle.fe_codec.proofs.InOrder.{Rises}
-use Rattle.fe_codec.proofs.ImageFields.{bind_ok, ok_is, Takes, takes_then, goes_from}
+use Rattle.fe_codes.proofs.Splits.{Splits, splits_then}
+use Rattle.fe_codec.proofs.ImageFields.{bind_ok, ok_is, goes_from}
 
 -- the key of the part before, the state, and the bytes so far
 abbrev pub Walk : Type 0
@@ -29,7 +30,7 @@ module _ {X : Type 0} (step : Walk → Result Walk ℕ) (load : ServerState → 
       pub rest : List ℕ
       pub is : y ≡ (Some entry.0, load x.1 entry, rest)
       pub above : is_after x.0 entry.0 ≡ true
-      pub text : Takes x.2 (spelled entry) rest
+      pub text : Splits x.2 (spelled entry) rest
       pub good : Good entry
 
     pub record LoadsAll (n : ℕ) (x y : Walk) : Type 0 where
@@ -37,7 +38,7 @@ module _ {X : Type 0} (step : Walk → Result Walk ℕ) (load : ServerState → 
       pub state : y.1 ≡ load_all x.1 entries
       pub count : length entries ≡ n
       pub rises : Rises x.0 entries
-      pub text : Takes x.2 (flat_map spelled entries) y.2
+      pub text : Splits x.2 (flat_map spelled entries) y.2
       pub good : AllByRecursion Good entries
 
     -- parts that were taken are spelled one behind another
@@ -55,7 +56,7 @@ module _ {X : Type 0} (step : Walk → Result Walk ℕ) (load : ServerState → 
           state = more.state;
           count = ap suc more.count;
           rises = (one.above, more.rises);
-          text = takes_then x.2 (spelled one.entry) one.rest (flat_map spelled more.entries) y.2 one.text more.text;
+          text = splits_then x.2 (spelled one.entry) one.rest (flat_map spelled more.entries) y.2 one.text more.text;
           good = (one.good, more.good);
         }
 
@@ -77,6 +78,6 @@ module _ {X : Type 0} (step : Walk → Result Walk ℕ) (load : ServerState → 
       let behind : List ℕ = flat_map spelled es ++ rest in
       let grouped : flat_map spelled (e ∷ es) ++ rest ≡ spelled e ++ behind = append_assoc (spelled e) (flat_map spelled es) rest in
       let one = each previous s e es behind may in
-      ap (λ (t : List ℕ). step (previous, s, t) >>= repeated step (length es)) grouped
+      ap (λ (t : List ℕ). step (previous, s, t) followed_by repeated step (length es)) grouped
       ∙ goes_from (step (previous, s, spelled e ++ behind)) (repeated step (length es)) (Some e.0, load s e, behind) one.0
       ∙ again_all May each es (Some e.0) (load s e) rest one.1

@@ -5,55 +5,26 @@ use Rattle.std.proofs.lemmas.Bool.{le-leb, leb-true}
 use Rattle.std.proofs.lemmas.Option.{same_Some}
 use Rattle.std.proofs.lemmas.List.{take_at, drop_at, length-append, length-replicate}
 use Rattle.fe_state.specs.Format.{request_fits_format_1, answer_fits_format_1}
-use Rattle.fe_words.specs.declared.word.Tag.{Tag}
-use Rattle.fe_words.specs.declared.word.Tag.TheVariants.{Full, Empty}
 use Rattle.fe_words.specs.declared.op.Op.{Op}
 use Rattle.fe_words.specs.declared.op.Op.TheVariants.{ReadFe, ReadFf, ReadXx, WriteEf, WriteFf, WriteXf, Purge, IntFetchAdd}
 use Rattle.fe_state.specs.declared.answer.Answer.{Answer}
-use Rattle.fe_state.specs.declared.answer.Answer.TheVariants as answers
 use Rattle.fe_state.specs.declared.request.Request.{Request}
 use Rattle.fe_state.specs.declared.request.Request.TheVariants.{Create, Find, Remove, Access}
 use Rattle.fe_state.specs.declared.entry.Entry.{Entry}
 use Rattle.fe_state.specs.declared.entry.Entry.TheVariants.{Attached, Closed, Settled, Finished}
-use Rattle.fe_codec.specs.Codes.{tag_code, flag_code, op_code, operand_of, answer_code, answer_number, answer_length}
+use Rattle.fe_codes.specs.Codes.{tag_code, op_code, operand_of, answer_code, answer_number, answer_length}
+use Rattle.fe_codes.specs.Reading.{tag_of, op_of, answer_of}
+use Rattle.fe_codes.proofs.CodeLaws.{tag_again, op_again, answer_again}
 use Rattle.fe_format.specs.Layout.{name_bytes, record_bytes}
-use Rattle.fe_codec.specs.Record.{codes_field, name_row, array_row, record_spelling, short_spelling, entry_spelling, request_codes, request_row, request_size, FitsRecord, IsShort, HasRow, HasRoom, IsOfFormat, RequestFits}
-use Rattle.fe_codec.specs.Reading.{◌>>=◌, number_at, tag_of, op_of, answer_of, name_of, create_of, find_of, access_of, request_of, finished_of, entry_of}
+use Rattle.fe_codec.specs.Record.{flag_code, codes_field, name_row, array_row, record_spelling, short_spelling, entry_spelling, request_codes, request_row, request_size, FitsRecord, IsShort, HasRow, HasRoom, IsOfFormat, RequestFits}
+use Rattle.fe_codes.specs.Binding.{◌>>=◌}
+use Rattle.fe_codec.specs.Reading.{field_at, name_of, create_of, find_of, access_of, request_of, finished_of, entry_of}
 use Rattle.fe_format.specs.declared.format.Format.{Format}
 use Rattle.fe_format.specs.declared.format.Format.TheVariants.{One, Two}
-use Rattle.fe_codec.proofs.FieldLaws.{bind_at, wide32, wide64, number_again}
+use Rattle.fe_codes.proofs.BindingLaws.{bind_at}
+use Rattle.fe_codec.proofs.FieldLaws.{wide32, wide64, number_again}
 
 -- ---- codes
-
-pub tag_again : (tag : Tag) → tag_of (tag_code tag) ≡ Some tag
-unfolding tag_of
-tag_again Empty = refl
-tag_again Full = refl
-
-op_again : (op : Op) → op_of (op_code op) (operand_of op) ≡ Some op
-unfolding op_of
-op_again ReadFe = refl
-op_again ReadFf = refl
-op_again ReadXx = refl
-op_again (WriteEf operand) = refl
-op_again (WriteFf operand) = refl
-op_again (WriteXf operand) = refl
-op_again Purge = refl
-op_again (IntFetchAdd operand) = refl
-
-answer_again : (a : Answer) → answer_of (answer_code a) (answer_number a) (answer_length a) ≡ Some a
-unfolding answer_of
-answer_again (answers.Value value) = refl
-answer_again answers.Done = refl
-answer_again (answers.Array id size) = refl
-answer_again answers.NoArray = refl
-answer_again answers.BadIndex = refl
-answer_again answers.NameTaken = refl
-answer_again answers.ArrayLimit = refl
-answer_again answers.WordLimit = refl
-answer_again answers.BadName = refl
-answer_again answers.BadLength = refl
-answer_again answers.NotNow = refl
 
 flag_again : (flag : Bool) → eqb (flag_code flag) 1 ≡ flag
 flag_again true = refl
@@ -103,25 +74,25 @@ module _ (format : Format) (kind request answer count tag flag session number : 
   front_long : length front ≡ 24 + name_bytes format
   front_long = omega (arith, long)
 
-  pub session_again : number_at w64 the_text 8 ≡ session
+  pub session_again : field_at w64 the_text 8 ≡ session
   session_again = wide64.again session fits.session_fits
 
-  pub number_of_again : number_at w64 the_text 16 ≡ number
+  pub number_of_again : field_at w64 the_text 16 ≡ number
   number_of_again = wide64.again number fits.number_fits
 
-  pub size_again : number_at w32 the_text (24 + name_bytes format) ≡ size
+  pub size_again : field_at w32 the_text (24 + name_bytes format) ≡ size
   size_again =
-      ap (λ (t : List ℕ). number_at w32 t (24 + name_bytes format)) (behind_row (codes_field kind request answer count tag flag) (to_be_bytes w64 session) (to_be_bytes w64 number) row (to_be_bytes w32 size) (to_be_bytes w32 answer_size) (to_be_bytes w64 answer_value) (replicate 8 0))
+      ap (λ (t : List ℕ). field_at w32 t (24 + name_bytes format)) (behind_row (codes_field kind request answer count tag flag) (to_be_bytes w64 session) (to_be_bytes w64 number) row (to_be_bytes w32 size) (to_be_bytes w32 answer_size) (to_be_bytes w64 answer_value) (replicate 8 0))
       ∙ number_again w32 (2 ^ 32) wide32 front size (to_be_bytes w32 answer_size ++ to_be_bytes w64 answer_value ++ replicate 8 0) (24 + name_bytes format) front_long fits.size_fits
 
-  pub answer_size_again : number_at w32 the_text (28 + name_bytes format) ≡ answer_size
+  pub answer_size_again : field_at w32 the_text (28 + name_bytes format) ≡ answer_size
   answer_size_again =
-      ap (λ (t : List ℕ). number_at w32 t (28 + name_bytes format)) (behind_size (codes_field kind request answer count tag flag) (to_be_bytes w64 session) (to_be_bytes w64 number) row (to_be_bytes w32 size) (to_be_bytes w32 answer_size) (to_be_bytes w64 answer_value) (replicate 8 0))
+      ap (λ (t : List ℕ). field_at w32 t (28 + name_bytes format)) (behind_size (codes_field kind request answer count tag flag) (to_be_bytes w64 session) (to_be_bytes w64 number) row (to_be_bytes w32 size) (to_be_bytes w32 answer_size) (to_be_bytes w64 answer_value) (replicate 8 0))
       ∙ number_again w32 (2 ^ 32) wide32 (front ++ to_be_bytes w32 size) answer_size (to_be_bytes w64 answer_value ++ replicate 8 0) (28 + name_bytes format) (omega (arith, length-append front (to_be_bytes w32 size), front_long)) fits.answer_size_fits
 
-  pub answer_value_again : number_at w64 the_text (32 + name_bytes format) ≡ answer_value
+  pub answer_value_again : field_at w64 the_text (32 + name_bytes format) ≡ answer_value
   answer_value_again =
-      ap (λ (t : List ℕ). number_at w64 t (32 + name_bytes format)) (behind_length (codes_field kind request answer count tag flag) (to_be_bytes w64 session) (to_be_bytes w64 number) row (to_be_bytes w32 size) (to_be_bytes w32 answer_size) (to_be_bytes w64 answer_value) (replicate 8 0))
+      ap (λ (t : List ℕ). field_at w64 t (32 + name_bytes format)) (behind_length (codes_field kind request answer count tag flag) (to_be_bytes w64 session) (to_be_bytes w64 number) row (to_be_bytes w32 size) (to_be_bytes w32 answer_size) (to_be_bytes w64 answer_value) (replicate 8 0))
       ∙ number_again w64 (2 ^ 64) wide64 (front ++ to_be_bytes w32 size ++ to_be_bytes w32 answer_size) answer_value (replicate 8 0) (32 + name_bytes format) (omega (arith, length-append front (to_be_bytes w32 size), length-append (front ++ to_be_bytes w32 size) (to_be_bytes w32 answer_size), front_long)) fits.answer_value_fits
 
 -- ---- requests
@@ -168,8 +139,8 @@ unfolding request_of create_of find_of access_of
 request_again format session number (Create name size tag) answer answer_size answer_value s n a v fits room =
     let t : List ℕ = text 4 1 answer (length name) (tag_code tag) 0 session number (name_row format name) size answer_size answer_value in
     let given : Fields 4 1 answer (length name) (tag_code tag) 0 session number (name_row format name) size answer_size answer_value = record { session_fits = s; number_fits = n; size_fits = fits.1; answer_size_fits = a; answer_value_fits = v } in
-    bind_at (name_of format t) (λ name'. tag_of (tag_code tag) >>= λ tag'. Some (Create name' (number_at w32 t (24 + name_bytes format)) tag')) name (name_again format 4 1 answer (tag_code tag) 0 session number name size answer_size answer_value (row_short format name room fits.0))
-    ∙ bind_at (tag_of (tag_code tag)) (λ tag'. Some (Create name (number_at w32 t (24 + name_bytes format)) tag')) tag (tag_again tag)
+    bind_at (name_of format t) (λ name'. tag_of (tag_code tag) >>= λ tag'. Some (Create name' (field_at w32 t (24 + name_bytes format)) tag')) name (name_again format 4 1 answer (tag_code tag) 0 session number name size answer_size answer_value (row_short format name room fits.0))
+    ∙ bind_at (tag_of (tag_code tag)) (λ tag'. Some (Create name (field_at w32 t (24 + name_bytes format)) tag')) tag (tag_again tag)
     ∙ ap (λ (k : ℕ). Some (Create name k tag)) (size_again format 4 1 answer (length name) (tag_code tag) 0 session number (name_row format name) size answer_size answer_value (length-name_row format name (row_short format name room fits.0)) given)
 request_again format session number (Find name) answer answer_size answer_value s n a v fits room =
     let t : List ℕ = text 4 2 answer (length name) 0 0 session number (name_row format name) 0 answer_size answer_value in
@@ -182,8 +153,8 @@ request_again format session number (Access array index op no_wait) answer answe
     let given : Fields 4 (op_code op) answer 0 0 (flag_code no_wait) session number row index answer_size answer_value = record { session_fits = s; number_fits = n; size_fits = fits.1; answer_size_fits = a; answer_value_fits = v } in
     let built : ℕ → ℕ → Op → Bool → Option Request = λ id i o flag. Some (Access id i o flag) in
     op_alone op _ _ _ _
-    ∙ bind_at (op_of (op_code op) (number_at w64 t 32)) (λ o. built (number_at w64 t 24) (number_at w32 t (24 + name_bytes format)) o (eqb (flag_code no_wait) 1)) op (ap (λ (k : ℕ). op_of (op_code op) k) (wide64.again (operand_of op) fits.2) ∙ op_again op)
-    ∙ ap (λ (k : ℕ). built k (number_at w32 t (24 + name_bytes format)) op (eqb (flag_code no_wait) 1)) (wide64.again array fits.0)
+    ∙ bind_at (op_of (op_code op) (field_at w64 t 32)) (λ o. built (field_at w64 t 24) (field_at w32 t (24 + name_bytes format)) o (eqb (flag_code no_wait) 1)) op (ap (λ (k : ℕ). op_of (op_code op) k) (wide64.again (operand_of op) fits.2) ∙ op_again op)
+    ∙ ap (λ (k : ℕ). built k (field_at w32 t (24 + name_bytes format)) op (eqb (flag_code no_wait) 1)) (wide64.again array fits.0)
     ∙ ap (λ (k : ℕ). built array k op (eqb (flag_code no_wait) 1)) (size_again format 4 (op_code op) answer 0 0 (flag_code no_wait) session number row index answer_size answer_value (length-array_row format array (operand_of op)) given)
     ∙ ap (built array index op) (flag_again no_wait)
 
@@ -224,15 +195,15 @@ finished_as : (format : Format) (code count tag flag session number : ℕ) (row 
 unfolding entry_of finished_of
 finished_as format code count tag flag session number row size request answer long given read =
     let t : List ℕ = text 4 code (answer_code answer) count tag flag session number row size (answer_length answer) (answer_number answer) in
-    let value : ℕ = number_at w64 t (32 + name_bytes format) in
-    let words : ℕ = number_at w32 t (28 + name_bytes format) in
-    let built : Request → Answer → Option Entry = λ r a. Some (Finished (number_at w64 t 8) (number_at w64 t 16) r a) in
+    let value : ℕ = field_at w64 t (32 + name_bytes format) in
+    let words : ℕ = field_at w32 t (28 + name_bytes format) in
+    let built : Request → Answer → Option Entry = λ r a. Some (Finished (field_at w64 t 8) (field_at w64 t 16) r a) in
     let value_is : value ≡ answer_number answer = answer_value_again format 4 code (answer_code answer) count tag flag session number row size (answer_length answer) (answer_number answer) long given in
     let words_is : words ≡ answer_length answer = answer_size_again format 4 code (answer_code answer) count tag flag session number row size (answer_length answer) (answer_number answer) long given in
     bind_at (request_of format t) (λ r. answer_of (answer_code answer) value words >>= built r) request read
     ∙ bind_at (answer_of (answer_code answer) value words) (built request) answer
     (ap (λ (k : ℕ). answer_of (answer_code answer) k words) value_is ∙ ap (λ (k : ℕ). answer_of (answer_code answer) (answer_number answer) k) words_is ∙ answer_again answer)
-    ∙ ap (λ (k : ℕ). Some (Finished k (number_at w64 t 16) request answer)) (wide64.again session given.session_fits)
+    ∙ ap (λ (k : ℕ). Some (Finished k (field_at w64 t 16) request answer)) (wide64.again session given.session_fits)
     ∙ ap (λ (k : ℕ). Some (Finished session k request answer)) (wide64.again number given.number_fits)
 
 finished_again : (format : Format) (session number : ℕ) (request : Request) (answer : Answer) → session < 2 ^ 64 → number < 2 ^ 64 → RequestFits request → answer_number answer < 2 ^ 64 → answer_length answer < 2 ^ 32 → HasRow format request
@@ -257,11 +228,11 @@ finished_again format session number (Access array index op no_wait) answer s n 
 pub entry_again : (format : Format) (entry : Entry) → FitsRecord format entry → entry_of format (entry_spelling format entry) ≡ Some entry
 unfolding entry_of
 entry_again format (Attached session floor) fits =
-    ap (λ (k : ℕ). Some (Attached k (number_at w64 (short_spelling format 1 session floor) 16))) (wide64.again session fits.fields)
+    ap (λ (k : ℕ). Some (Attached k (field_at w64 (short_spelling format 1 session floor) 16))) (wide64.again session fits.fields)
     ∙ ap (λ (k : ℕ). Some (Attached session k)) (wide64.again floor (omega (arith, fits.numbered)))
 entry_again format (Closed session) fits = ap (λ (k : ℕ). Some (Closed k)) (wide64.again session fits.fields)
 entry_again format (Settled session floor) fits =
-    ap (λ (k : ℕ). Some (Settled k (number_at w64 (short_spelling format 3 session floor) 16))) (wide64.again session fits.fields)
+    ap (λ (k : ℕ). Some (Settled k (field_at w64 (short_spelling format 3 session floor) 16))) (wide64.again session fits.fields)
     ∙ ap (λ (k : ℕ). Some (Settled session k)) (wide64.again floor (omega (arith, fits.numbered)))
 entry_again format (Finished session number request answer) fits =
     finished_again format session number request answer fits.fields.0 (omega (arith, fits.numbered)) fits.fields.1 fits.fields.2 fits.fields.3 (entry_room format (Finished session number request answer) fits.of_format)

@@ -21,14 +21,16 @@ use Rattle.fe_state.specs.declared.kept.Kept.{Kept}
 use Rattle.fe_state.specs.declared.entry.Entry.{Entry}
 use Rattle.fe_state.specs.declared.entry.Entry.TheVariants.{Finished}
 use Rattle.fe_format.specs.Layout.{name_bytes, record_bytes}
-use Rattle.fe_codec.specs.Reading.{tag_of, record_entry}
+use Rattle.fe_codec.specs.Reading.{record_entry}
+use Rattle.fe_codes.specs.Reading.{tag_of}
 use Rattle.fe_format.specs.declared.format.Format.{Format}
 use Rattle.fe_codec.specs.declared.header.Header.{Header}
 
-infixl 10 ◌>>=◌
-abbrev pub ◌>>=◌ : {A B : Type 0} → Result A ℕ → (A → Result B ℕ) → Result B ℕ
-(Ok x) >>= f = f x
-(Err left) >>= f = Err left
+-- a step, and the one that goes on from its value; what follows a fault is not looked at
+infixl 10 ◌followed_by◌
+abbrev pub ◌followed_by◌ : {A B : Type 0} → Result A ℕ → (A → Result B ℕ) → Result B ℕ
+(Ok x) followed_by f = f x
+(Err left) followed_by f = Err left
 
 -- a value that may be missing, which is a fault
 abbrev pub or_fault : {A : Type 0} → ℕ → Option A → Result A ℕ
@@ -38,7 +40,7 @@ or_fault left None = Err left
 -- the same step as often as is said
 unfoldable pub repeated : {X : Type 0} → (X → Result X ℕ) → ℕ → X → Result X ℕ
 repeated step zero x = Ok x
-repeated step (suc n) x = step x >>= repeated step n
+repeated step (suc n) x = step x followed_by repeated step n
 
 -- ---- fields
 
@@ -52,9 +54,9 @@ number w bytes =
 
 -- a number from the least on, and below the limit
 unfoldable pub number_in : Width → ℕ → ℕ → List ℕ → Result (ℕ × List ℕ) ℕ
-number_in w least limit bytes = do
-  n ← number w bytes
-  if nat_le least n.0 && nat_lt n.0 limit then Ok n else Err (length bytes)
+number_in w least limit bytes =
+    number w bytes followed_by λ n.
+    if nat_le least n.0 && nat_lt n.0 limit then Ok n else Err (length bytes)
 
 -- a number above the one before it, if there is one
 abbrev pub is_after : Option ℕ → ℕ → Bool
@@ -64,12 +66,12 @@ is_after (Some previous) n = nat_lt previous n
 -- ---- header
 
 unfoldable pub header_at : List ℕ → Result (Header × List ℕ) ℕ
-header_at bytes = do
-  place ← number_in w64 0 (2 ^ 63) bytes
-  next ← number_in w64 1 (place.0 + 2) place.1
-  arrays ← number_in w32 0 65 next.1
-  sessions ← number_in w32 0 65 arrays.1
-  Ok (record { place = place.0; next_id = next.0; arrays = arrays.0; sessions = sessions.0 }, sessions.1)
+header_at bytes =
+    number_in w64 0 (2 ^ 63) bytes followed_by λ place.
+    number_in w64 1 (place.0 + 2) place.1 followed_by λ next.
+    number_in w32 0 65 next.1 followed_by λ arrays.
+    number_in w32 0 65 arrays.1 followed_by λ sessions.
+    Ok (record { place = place.0; next_id = next.0; arrays = arrays.0; sessions = sessions.0 }, sessions.1)
 
 -- a state with nothing in it yet
 abbrev pub starting : Header → ServerState
@@ -79,9 +81,9 @@ starting header = record { arrays = empty; sessions = empty; next_id = header.ne
 
 -- an id below the next one, above that of the array before
 unfoldable pub id_at : Option ℕ → ℕ → List ℕ → Result (ℕ × List ℕ) ℕ
-id_at previous next bytes = do
-  id ← number_in w64 1 next bytes
-  if is_after previous id.0 then Ok id else Err (length bytes)
+id_at previous next bytes =
+    number_in w64 1 next bytes followed_by λ id.
+    if is_after previous id.0 then Ok id else Err (length bytes)
 
 -- the length of a name
 unfoldable pub name_length_at : Format → List ℕ → Result (ℕ × List ℕ) ℕ
@@ -94,26 +96,26 @@ abbrev pub is_name_row : ℕ → List ℕ → Bool
 is_name_row n cells = is_plain (take n cells) && list_all (λ b. b == 0) (drop n cells)
 
 unfoldable pub name_at : Format → List ℕ → Result (List ℕ × List ℕ) ℕ
-name_at format bytes = do
-  n ← name_length_at format bytes
-  cells ← row (name_bytes format) n.1
-  if is_name_row n.0 cells.0 then Ok (take n.0 cells.0, cells.1) else Err (length n.1)
+name_at format bytes =
+    name_length_at format bytes followed_by λ n.
+    row (name_bytes format) n.1 followed_by λ cells.
+    if is_name_row n.0 cells.0 then Ok (take n.0 cells.0, cells.1) else Err (length n.1)
 
 -- a name that no array has yet; one that an array has is a fault of its length
 unfoldable pub new_name_at : Format → FinMap nat_cmp Array → List ℕ → Result (List ℕ × List ℕ) ℕ
-new_name_at format arrays bytes = do
-  name ← name_at format bytes
-  if is_some (named arrays name.0) then Err (length bytes) else Ok name
+new_name_at format arrays bytes =
+    name_at format bytes followed_by λ name.
+    if is_some (named arrays name.0) then Err (length bytes) else Ok name
 
 unfoldable pub tag_at : List ℕ → Result (Tag × List ℕ) ℕ
 tag_at [] = Err 0
-tag_at (code ∷ bytes) = or_fault (length (code ∷ bytes)) (tag_of code) >>= λ tag. Ok (tag, bytes)
+tag_at (code ∷ bytes) = or_fault (length (code ∷ bytes)) (tag_of code) followed_by λ tag. Ok (tag, bytes)
 
 unfoldable pub word_at : List ℕ → Result (Word × List ℕ) ℕ
-word_at bytes = do
-  tag ← tag_at bytes
-  value ← number w64 tag.1
-  Ok (word value.0 tag.0, value.1)
+word_at bytes =
+    tag_at bytes followed_by λ tag.
+    number w64 tag.1 followed_by λ value.
+    Ok (word value.0 tag.0, value.1)
 
 -- a state with this word at an index of an array, and one with an array whose words are to come
 abbrev pub with_word_at : ServerState → ℕ → ℕ → Word → ServerState
@@ -124,18 +126,18 @@ with_new_array s id name size = with_arrays s (insert s.arrays id (new_array nam
 
 -- the next word of an array, after index, state and bytes so far
 unfoldable pub next_word : ℕ → ℕ × ServerState × List ℕ → Result (ℕ × ServerState × List ℕ) ℕ
-next_word array x = do
-  w ← word_at x.2
-  Ok (x.0 + 1, with_word_at x.1 array x.0 w.0, w.1)
+next_word array x =
+    word_at x.2 followed_by λ w.
+    Ok (x.0 + 1, with_word_at x.1 array x.0 w.0, w.1)
 
 -- the next array, after the id of the one before, state and bytes so far
 unfoldable pub next_array : Format → Option ℕ × ServerState × List ℕ → Result (Option ℕ × ServerState × List ℕ) ℕ
-next_array format x = do
-  id ← id_at x.0 x.1.next_id x.2
-  name ← new_name_at format x.1.arrays id.1
-  size ← number_in w32 1 (65537 - word_count x.1.arrays) name.1
-  words ← repeated (next_word id.0) size.0 (0, with_new_array x.1 id.0 name.0 size.0, size.1)
-  Ok (Some id.0, words.1, words.2)
+next_array format x =
+    id_at x.0 x.1.next_id x.2 followed_by λ id.
+    new_name_at format x.1.arrays id.1 followed_by λ name.
+    number_in w32 1 (65537 - word_count x.1.arrays) name.1 followed_by λ size.
+    repeated (next_word id.0) size.0 (0, with_new_array x.1 id.0 name.0 size.0, size.1) followed_by λ words.
+    Ok (Some id.0, words.1, words.2)
 
 -- ---- sessions
 
@@ -150,11 +152,11 @@ kept_of session floor previous place _ = None
 
 -- a place below the image's, and the record of what is kept, whose faults are told at its first byte
 unfoldable pub kept_at : Format → ℕ → ℕ → ℕ → Option ℕ → List ℕ → Result ((ℕ × Kept) × List ℕ) ℕ
-kept_at format limit session floor previous bytes = do
-  place ← number_in w64 0 limit bytes
-  cells ← row (record_bytes format) place.1
-  kept ← or_fault (length place.1) (kept_of session floor previous place.0 (record_entry format cells.0))
-  Ok (kept, cells.1)
+kept_at format limit session floor previous bytes =
+    number_in w64 0 limit bytes followed_by λ place.
+    row (record_bytes format) place.1 followed_by λ cells.
+    or_fault (length place.1) (kept_of session floor previous place.0 (record_entry format cells.0)) followed_by λ kept.
+    Ok (kept, cells.1)
 
 -- a state that keeps this, and one with a session whose kept answers are to come
 abbrev pub with_kept : ServerState → ℕ → ℕ × Kept → ServerState
@@ -166,24 +168,24 @@ with_new_session s session floor = with_sessions s (insert s.sessions session (r
 
 -- the next kept answer of a session, after the number of the one before, state and bytes so far
 unfoldable pub next_kept : Format → ℕ → ℕ → Option ℕ × ServerState × List ℕ → Result (Option ℕ × ServerState × List ℕ) ℕ
-next_kept format session floor x = do
-  kept ← kept_at format x.1.place session floor x.0 x.2
-  Ok (Some kept.0.0, with_kept x.1 session kept.0, kept.1)
+next_kept format session floor x =
+    kept_at format x.1.place session floor x.0 x.2 followed_by λ kept.
+    Ok (Some kept.0.0, with_kept x.1 session kept.0, kept.1)
 
 -- a session above the one before
 unfoldable pub session_at : Option ℕ → List ℕ → Result (ℕ × List ℕ) ℕ
-session_at previous bytes = do
-  session ← number w64 bytes
-  if is_after previous session.0 then Ok session else Err (length bytes)
+session_at previous bytes =
+    number w64 bytes followed_by λ session.
+    if is_after previous session.0 then Ok session else Err (length bytes)
 
 -- the next session, after the number of the one before, state and bytes so far
 unfoldable pub next_session : Format → Option ℕ × ServerState × List ℕ → Result (Option ℕ × ServerState × List ℕ) ℕ
-next_session format x = do
-  session ← session_at x.0 x.2
-  floor ← number_in w64 1 (2 ^ 63 - 31) session.1
-  count ← number_in w32 0 33 floor.1
-  kept ← repeated (next_kept format session.0 floor.0) count.0 (None, with_new_session x.1 session.0 floor.0, count.1)
-  Ok (Some session.0, kept.1, kept.2)
+next_session format x =
+    session_at x.0 x.2 followed_by λ session.
+    number_in w64 1 (2 ^ 63 - 31) session.1 followed_by λ floor.
+    number_in w32 0 33 floor.1 followed_by λ count.
+    repeated (next_kept format session.0 floor.0) count.0 (None, with_new_session x.1 session.0 floor.0, count.1) followed_by λ kept.
+    Ok (Some session.0, kept.1, kept.2)
 
 -- ---- images
 
@@ -194,11 +196,11 @@ ended s (b ∷ bytes) = Err (length (b ∷ bytes))
 
 -- the state, or how many bytes there are from the first fault on
 unfoldable pub state_at : Format → List ℕ → Result ServerState ℕ
-state_at format bytes = do
-  header ← header_at bytes
-  arrays ← repeated (next_array format) header.0.arrays (None, starting header.0, header.1)
-  sessions ← repeated (next_session format) header.0.sessions (None, arrays.1, arrays.2)
-  ended sessions.1 sessions.2
+state_at format bytes =
+    header_at bytes followed_by λ header.
+    repeated (next_array format) header.0.arrays (None, starting header.0, header.1) followed_by λ arrays.
+    repeated (next_session format) header.0.sessions (None, arrays.1, arrays.2) followed_by λ sessions.
+    ended sessions.1 sessions.2
 
 -- an offset is counted from the first byte
 abbrev pub told_at : {A : Type 0} → ℕ → Result A ℕ → Result A ℕ

@@ -10,7 +10,7 @@ use Rattle.fe_state.specs.declared.array.Array.{Array}
 use Rattle.fe_state.specs.declared.kept.Kept.{Kept}
 use Rattle.fe_state.specs.declared.entry.Entry.{Entry}
 use Rattle.fe_state.specs.declared.entry.Entry.TheVariants.{Finished}
-use Rattle.fe_codec.specs.Codes.{tag_code}
+use Rattle.fe_codes.specs.Codes.{tag_code}
 use Rattle.fe_codec.specs.Record.{entry_spelling, name_field, IsShort, IsOfFormat, FieldsFit}
 use Rattle.fe_format.specs.declared.format.Format.{Format}
 use Rattle.fe_format.specs.declared.format.Format.TheVariants.{One, Two}

@@ -3,7 +3,7 @@ use Rattle.std.specs.Prelude.{◌≡◌, ℕ, List, ◌++◌, Ok}
 use Rattle.fe_state.specs.declared.entry.Entry.{Entry}
 use Rattle.fe_codec.specs.Record.{entry_spelling, group_spelling, FitsRecord, FitsGroup}
 use Rattle.fe_state.specs.State.{ServerState}
-use Rattle.fe_codec.specs.Bytes.{IsBytes}
+use Rattle.fe_codes.specs.Bytes.{IsBytes}
 use Rattle.fe_codec.specs.Image.{image_spelling, HasRoomFor, FitsImage}
 use Rattle.fe_codec.specs.FirstFault.{image_at}
 use Rattle.fe_format.specs.declared.format.Format.{Format}

@@ -1,4 +1,3 @@
-pub mod Codes
 pub mod Record
 pub mod Reading
 pub mod Laws
@@ -7,4 +6,3 @@ pub mod Appending
 pub mod FirstFault
 pub mod Given
 pub mod Loading
-pub mod Bytes

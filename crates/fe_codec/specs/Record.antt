@@ -1,5 +1,5 @@
 -- The one spelling of each entry as a record, and which entries have one.
-use Rattle.std.specs.Prelude.{◌≡◌, ℕ, ◌-◌, ◌*◌, ◌%◌, ◌<◌, ◌≤◌, ◌^◌, true, List, [], ◌∷◌, ◌++◌, length, replicate, flat_map}
+use Rattle.std.specs.Prelude.{◌≡◌, ℕ, ◌-◌, ◌*◌, ◌%◌, ◌<◌, ◌≤◌, ◌^◌, Bool, true, false, List, [], ◌∷◌, ◌++◌, length, replicate, flat_map}
 use Rattle.std.specs.List.{AllByRecursion}
 use Rattle.std.specs.Int.{w32, w64, to_be_bytes}
 use Rattle.fe_state.specs.Format.{entry_fits_format_1}
@@ -8,7 +8,7 @@ use Rattle.fe_state.specs.declared.request.Request.{Request}
 use Rattle.fe_state.specs.declared.request.Request.TheVariants.{Create, Find, Remove, Access}
 use Rattle.fe_state.specs.declared.entry.Entry.{Entry}
 use Rattle.fe_state.specs.declared.entry.Entry.TheVariants.{Attached, Closed, Settled, Finished}
-use Rattle.fe_codec.specs.Codes.{tag_code, flag_code, op_code, operand_of, answer_code, answer_number, answer_length}
+use Rattle.fe_codes.specs.Codes.{tag_code, op_code, operand_of, answer_code, answer_number, answer_length}
 use Rattle.fe_format.specs.Layout.{name_bytes, record_bytes, group_records}
 use Rattle.fe_format.specs.declared.format.Format.{Format}
 use Rattle.fe_format.specs.declared.format.Format.TheVariants.{One, Two}
@@ -28,6 +28,11 @@ name_field format name = length name ∷ name_row format name
 -- an array and an operand, with zeros behind them
 abbrev pub array_row : Format → ℕ → ℕ → List ℕ
 array_row format array operand = to_be_bytes w64 array ++ to_be_bytes w64 operand ++ replicate (name_bytes format - 16) 0
+
+-- the flag of an access that must not wait
+abbrev pub flag_code : Bool → ℕ
+flag_code false = 0
+flag_code true = 1
 
 -- the first eight bytes of the record of a request that finished
 abbrev pub request_codes : ℕ → Request → List ℕ

@@ -6,8 +6,8 @@ ghost use Rattle.std.specs.Int.{w32, w64, to_be_bytes};
 ghost use Rattle.fe_codec.specs.Appending.{Appends};
 ghost use Rattle.fe_codec.specs.Image.{word_spelling};
 
-use crate::codes::tag_code;
 use byteorder::{BigEndian, ByteOrder};
+use fe_codes::tag_code;
 use fe_words::Word;
 use std::alloc::AllocError;
 

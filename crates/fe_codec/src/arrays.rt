@@ -13,8 +13,8 @@ ghost use Rattle.fe_codec.specs.Loading.{KeepsIds, IsFresh};
 
 use crate::Format;
 use crate::fault::Fault;
-use crate::fields::tag_of;
 use crate::header::{is_after, row, u32_next, u64_in, u64_next};
+use fe_codes::tag_of;
 use fe_state::{Answer, Name, Request, State};
 use fe_words::{Tag, Word};
 

@@ -3,7 +3,6 @@
 
 mod appending;
 mod arrays;
-mod codes;
 mod entries;
 mod entry_of;
 mod fault;

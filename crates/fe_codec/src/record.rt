@@ -1,14 +1,12 @@
 ghost use Rattle.std.specs.Prelude.{◌≡◌, ℕ, ◌+◌, ◌≤◌, [], ◌∷◌, ◌++◌, List, length};
 ghost use Rattle.std.specs.Int.{w32, w64, to_be_bytes};
-ghost use Rattle.fe_codec.specs.Codes.{answer_code, answer_length, answer_number};
+ghost use Rattle.fe_codes.specs.Codes.{answer_code, answer_length, answer_number};
 ghost use Rattle.fe_format.specs.Layout.{name_bytes, record_bytes};
-ghost use Rattle.fe_codec.specs.Record.{codes_field, name_field, name_row, array_row, request_row, request_codes, request_size, record_spelling, short_spelling, entry_spelling, IsShort, HasRoom, HasRow, RequestFits, FieldsFit};
+ghost use Rattle.fe_codec.specs.Record.{flag_code, codes_field, name_field, name_row, array_row, request_row, request_codes, request_size, record_spelling, short_spelling, entry_spelling, IsShort, HasRoom, HasRow, RequestFits, FieldsFit};
 
 use crate::Format;
-use crate::codes::{
-    answer_code, answer_length, answer_number, flag_code, op_code, operand_of, tag_code,
-};
 use byteorder::{BigEndian, ByteOrder};
+use fe_codes::{answer_code, answer_length, answer_number, op_code, operand_of, tag_code};
 use fe_state::{Answer, Entry, NAME_BYTES, Name, Request};
 use std::marker::Model;
 
@@ -202,6 +200,12 @@ impl Record {
             } => Record::finished(format, *session, *number, request, *answer),
         }
     }
+}
+
+fn flag_code(no_wait: bool) -> u8
+    ensures { result ≡ flag_code no_wait }
+{
+    if no_wait { 1 } else { 0 }
 }
 
 fn request_codes(answer: u8, request: &Request) -> [u8; 8]

@@ -9,11 +9,12 @@ use Rattle.fe_state.specs.History.{IsHistory, AreLegal, after_groups}
 use Rattle.fe_state.specs.declared.entry.Entry.{Entry}
 use Rattle.fe_front.specs.Front.{is_connected}
 use Rattle.fe_keeper.specs.Keeper.{KeeperState}
+use Rattle.fe_keeper.specs.Prefix.{LeavesPrefix}
 use Rattle.fe_desk.specs.declared.handed.Handed.{Handed}
 use Rattle.fe_desk.specs.Standing.{Standing}
 use Rattle.fe_desk.specs.Steps.{find}
-use Rattle.fe_desk.specs.Crash.{DeskState, IsFrom, LeavesPrefix, Advances, IsFine, disk_of}
-use Rattle.fe_desk.specs.Desk.{IsTied, IsDesk, IsHanded, unstored, cut_entries}
+use Rattle.fe_desk.specs.Crash.{DeskState, IsFrom, Advances, IsFine, disk_of}
+use Rattle.fe_desk.specs.within.Desk.{IsAhead, IsDesk, IsHanded, unstored, cut_entries}
 
 -- an image that stands for a prefix of a history stands for one of the history that goes on from it, which holds as many
 -- groups or fewer
@@ -61,7 +62,7 @@ disk_as {D} old new same = ap (λ (k : KeeperState D). k.store.disk) same.keeper
 
 -- the same front as far as the store goes: what is pending, the batch that is out and the state
 pub tied_as : (s t : Standing) (replica : ServerState) → t.handed ≡ s.handed → t.front.out ≡ s.front.out → t.front.service.pending ≡ s.front.service.pending → t.front.service.state ≡ s.front.service.state
-    → IsTied s replica → IsTied t replica
+    → IsAhead s replica → IsAhead t replica
 tied_as s t replica handed out pending state tied =
     let same : unstored t ≡ unstored s =
     ap (λ (h : Handed). cut_entries h ++ t.front.service.pending) handed ∙ ap (λ (es : List Entry). cut_entries s.handed ++ es) pending in
@@ -73,7 +74,7 @@ tied_as s t replica handed out pending state tied =
 
 module _ {D : Type 0} (honest : D → Type 0) (may_leave : D → List ℕ → Type 0) where
   -- what is always true of a desk's store stays where the store does
-  pub desk_as : (old new : DeskState D) → IsDesk honest may_leave old → HasStore old new → IsTied new.standing new.keeper.state
+  pub desk_as : (old new : DeskState D) → IsDesk honest may_leave old → HasStore old new → IsAhead new.standing new.keeper.state
       → ((conn : ℕ) → is_connected new.standing.front conn ≡ true → is_some (find conn new.standing.clients) ≡ true) → IsDesk honest may_leave new
   desk_as old new desk same tied known =
       let disk = disk_as old new same in

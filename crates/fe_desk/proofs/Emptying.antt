@@ -19,11 +19,14 @@ use Rattle.fe_mail.proofs.Lookups.{mails_on-with_mails, mails_on-with_mails-besi
 use Rattle.fe_front.specs.Front.{FrontState, is_connected}
 use Rattle.fe_front.specs.Steps.{taken}
 use Rattle.fe_desk.specs.declared.port.Port.{Port}
-use Rattle.fe_desk.specs.Desk.{client_of}
-use Rattle.fe_desk.specs.Mails.{reply_of, spelled, taken_times, emptied_box}
+use Rattle.fe_desk.specs.within.Desk.{client_of}
+use Rattle.fe_messages.specs.Mails.{reply_of, spelled}
+use Rattle.fe_desk.specs.Mails.{taken_times, emptied_box}
+use Rattle.fe_desk.specs.Output.{output_of, Extends}
 use Rattle.fe_desk.specs.Standing.{Client, unwritten, told, all_told, all_emptied}
 use Rattle.fe_desk.specs.Steps.{find}
-use Rattle.fe_desk.specs.Keeping.{KeepsFront, KeepsEmpty, IsToldLater, AreToldLater}
+use Rattle.fe_desk.specs.within.Keeping.{KeepsFront, KeepsEmpty, IsToldLater, AreToldLater}
+use Rattle.fe_desk.proofs.Outputs.{extends_itself, extends_both, extends_at}
 
 -- ---- what stays, over calls one after another
 
@@ -189,7 +192,31 @@ quiet_told f c quiet =
     ∙ ap (λ (o : Option ServerMessage). record c { reply = o }) (sym quiet.reply)
 
 pub later_both : (f g h : FrontState) (c d e : Client) → IsToldLater f c g d → IsToldLater g d h e → IsToldLater f c h e
-later_both f g h c d e a b = record { conn = b.conn ∙ a.conn; front = b.front ∙ a.front; client = b.client ∙ a.client }
+later_both f g h c d e a b =
+    let one = a.output in
+    let two = b.output in
+    record {
+      conn = b.conn ∙ a.conn;
+      output = (one.0 ++ two.0, two.1 ∙ ap (λ (t : List ℕ). t ++ two.0) one.1 ∙ append_assoc c.written one.0 two.0);
+      front = b.front ∙ a.front;
+      client = b.client ∙ a.client;
+    }
+
+pub later_itself : (f : FrontState) (c : Client) → IsToldLater f c f c
+later_itself f c = record { conn = refl; output = ([], sym (append-nil c.written)); front = refl; client = refl }
+
+-- the reply that waits is written
+pub waiting_written : (f : FrontState) (c d : Client) → d ≡ record c { reply = None; written = c.written ++ option_map_or reply_spelling c.reply [] } → IsToldLater f c f d
+waiting_written f c d is =
+    let frame : List ℕ = option_map_or reply_spelling c.reply [] in
+    let rest : List ℕ = spelled (mails_on f.connections c.conn) in
+    let here : IsToldLater f c f (record c { reply = None; written = c.written ++ frame }) = record {
+      conn = refl;
+      output = (frame, refl);
+      front = refl;
+      client = ap (λ (t : List ℕ). record c { reply = None; written = t }) (append_assoc c.written frame rest);
+    } in
+    subst (λ (x : Client). IsToldLater f c f x) (sym is) here
 
 -- what the first mail of a box is, and what its taking leaves
 record TakesMail (f : FrontState) (conn : ℕ) (m : Mail) (g : FrontState) : Type 0 where
@@ -229,7 +256,7 @@ mail_written f c m none first =
     ∙ append_assoc c.written frame rest
     ∙ ap (λ (t : List ℕ). c.written ++ t) (sym t.bytes)
     ∙ ap (λ (o : Option ServerMessage). c.written ++ (option_map_or reply_spelling o [] ++ spelled (mails_on f.connections c.conn))) (sym none) in
-    record { conn = refl; front = t.front; client = ap (λ (t : List ℕ). record c { reply = None; written = t }) same }
+    record { conn = refl; output = (frame, refl); front = t.front; client = ap (λ (t : List ℕ). record c { reply = None; written = t }) same }
 
 -- a mail is taken, and its reply waits
 pub mail_waits : (f : FrontState) (c : Client) (m : Mail) → c.reply ≡ None → Some m ≡ slice_get (mails_on f.connections c.conn) 0
@@ -238,7 +265,7 @@ mail_waits f c m none first =
     let t = takes_mail f c.conn m first in
     let same : reply_spelling (reply_of m) ++ spelled (mails_on (taken f c.conn).connections c.conn) ≡ unwritten f c =
     sym t.bytes ∙ ap (λ (o : Option ServerMessage). option_map_or reply_spelling o [] ++ spelled (mails_on f.connections c.conn)) (sym none) in
-    record { conn = refl; front = t.front; client = ap (λ (t : List ℕ). record c { reply = None; written = c.written ++ t }) same }
+    record { conn = refl; output = ([], sym (append-nil c.written)); front = t.front; client = ap (λ (t : List ℕ). record c { reply = None; written = c.written ++ t }) same }
 
 -- the next mail is taken, and written
 pub next_written : (f : FrontState) (c : Client) (h : FrontState) (e : Client) (g : FrontState) (d : Client) (m : Mail) (r : ServerMessage) → IsToldLater f c h e → e.reply ≡ None
@@ -308,6 +335,11 @@ pub record IsToldSoFar (begun : FrontState) (first : List Client) (f : FrontStat
   pub front : all_emptied f left ≡ all_emptied begun first
   pub clients : done ++ all_told f left ≡ all_told begun first
   pub quiet : AreQuiet f done
+  pub output : Extends (map output_of first) (map output_of (done ++ left))
+
+-- none is done with at the beginning
+pub none_told : (begun : FrontState) (first : List Client) → IsToldSoFar begun first begun [] first
+none_told begun first = record { front = refl; clients = refl; quiet = tt; output = extends_itself (map output_of first) }
 
 -- a client more
 pub one_told : (begun : FrontState) (first : List Client) (f : FrontState) (done : List Client) (c : Client) (left : List Client) (g : FrontState) (d : Client)
@@ -315,10 +347,13 @@ pub one_told : (begun : FrontState) (first : List Client) (f : FrontState) (done
 one_told begun first f done c left g d far front client =
     let h : FrontState = emptied_box f c.conn in
     let e : Client = told f c in
+    let more : Extends (map output_of (done ++ c ∷ left)) (map output_of (done ++ e ∷ left)) = extends_at done c e left refl (unwritten f c, refl) in
     let here : IsToldSoFar begun first h (done ++ e ∷ []) left = record {
       front = far.front;
       clients = append_assoc done (e ∷ []) (all_told h left) ∙ far.clients;
       quiet = quiet_append h done e (still_quiet f h done (emptied_box-empty f c.conn) far.quiet) (record { reply = refl; box = box_emptied f c.conn });
+      output = subst (λ (cs : List Client). Extends (map output_of first) (map output_of cs)) (sym (append_assoc done (e ∷ []) left))
+          (extends_both (map output_of first) (map output_of (done ++ c ∷ left)) (map output_of (done ++ e ∷ left)) far.output more);
     } in
     subst (λ (x : Client). IsToldSoFar begun first g (done ++ x ∷ []) left) (sym client) (subst (λ (x : FrontState). IsToldSoFar begun first x (done ++ e ∷ []) left) (sym front) here)
 
@@ -334,12 +369,13 @@ rest_later begun first f done c left g d far later keeps =
           ∙ ap (λ (x : Client). done ++ x ∷ all_told (emptied_box g d.conn) left) later.client
           ∙ ap (λ (x : FrontState). done ++ told f c ∷ all_told x left) later.front
           ∙ far.clients;
+      output = extends_both (map output_of first) (map output_of (done ++ c ∷ left)) (map output_of (done ++ d ∷ left)) far.output (extends_at done c d left later.conn later.output);
     }
 
 -- ---- port by port
 
 -- a port in the place of another
-replaced : {B : Type 0} (f : Port → B) (ports : List Port) (at : ℕ) (q : Port) → at < length ports → map f (slice_set ports at q) ≡ map f (take at ports) ++ f q ∷ map f (drop (at + 1) ports)
+pub replaced : {B : Type 0} (f : Port → B) (ports : List Port) (at : ℕ) (q : Port) → at < length ports → map f (slice_set ports at q) ≡ map f (take at ports) ++ f q ∷ map f (drop (at + 1) ports)
 replaced f ports at q lt =
     let behind : drop (at + 1) (slice_set ports at q) ≡ drop (at + 1) ports = drop-set-lt (at + 1) ports at q (omega arith) in
     let before : take (at + 1) (slice_set ports at q) ≡ take at ports ++ q ∷ [] = take_more_set ports at q lt in

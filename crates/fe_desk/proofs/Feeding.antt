@@ -8,7 +8,7 @@ use Rattle.fe_front.specs.Front.{FrontState}
 use Rattle.fe_desk.specs.declared.step.Step.{Step}
 use Rattle.fe_desk.specs.declared.step.Step.TheVariants as step
 use Rattle.fe_desk.specs.Mails.{emptied_box}
-use Rattle.fe_desk.specs.Standing.{Client, Standing, emptied, settled, all_told}
+use Rattle.fe_desk.specs.Standing.{Client, Standing, emptied, discharged, all_told}
 use Rattle.fe_desk.specs.Steps.{find, on_client}
 use Rattle.fe_desk.specs.Messages.{read_by, ReadsNone, ReadsPiece, TellsFed}
 use Rattle.fe_desk.proofs.Reading.{each-on_client}
@@ -68,8 +68,8 @@ emptied_reads : (s : Standing) → ReadsNone s (emptied s)
 emptied_reads s k = read_as k s.clients (all_told s.front s.clients) (told_streams s.front s.clients)
 
 -- nothing is read where mails that were owed are written
-pub settled_reads : (s : Standing) → ReadsNone s (settled s)
-settled_reads s k = by s.owes
+pub discharged_reads : (s : Standing) → ReadsNone s (discharged s)
+discharged_reads s k = by s.owes
   where
     by : (b : Bool) → read_by (if b then emptied s else s) k ≡ read_by s k
     by true = emptied_reads s k
@@ -81,8 +81,8 @@ pub same_reads : (s t : Standing) → t ≡ s → ReadsNone s t
 same_reads s t same k = ap (λ (u : Standing). read_by u k) same
 
 -- mails that are still owed
-pub settling_reads : (s u : Standing) → settled u ≡ settled s → ReadsNone s u
-settling_reads s u same k = sym (settled_reads u k) ∙ same_reads (settled s) (settled u) same k ∙ settled_reads s k
+pub settling_reads : (s u : Standing) → discharged u ≡ discharged s → ReadsNone s u
+settling_reads s u same k = sym (discharged_reads u k) ∙ same_reads (discharged s) (discharged u) same k ∙ discharged_reads s k
 
 -- a step that took no bytes
 pub unfed : (fed : Bool) (s : Standing) (step : Step) (t : Standing) → false ≡ fed → ReadsNone s t → TellsFed fed s step t
@@ -96,16 +96,16 @@ bytes_fed true s conn piece slice before t is same read =
     subst (λ (x : Step). TellsFed true s x t) (sym is) (subst (λ (xs : List ℕ). ReadsPiece s conn xs t) same read)
 
 -- the same from before the mails were written
-pub fed_settled : (fed : Bool) (s mid : Standing) (step : Step) (t : Standing) → mid ≡ settled s → TellsFed fed mid step t → TellsFed fed s step t
-fed_settled false s mid step t is none = λ k. none k ∙ same_reads (settled s) mid is k ∙ settled_reads s k
-fed_settled true s mid (step.Bytes conn piece) t is read = record {
+pub fed_discharged : (fed : Bool) (s mid : Standing) (step : Step) (t : Standing) → mid ≡ discharged s → TellsFed fed mid step t → TellsFed fed s step t
+fed_discharged false s mid step t is none = λ k. none k ∙ same_reads (discharged s) mid is k ∙ discharged_reads s k
+fed_discharged true s mid (step.Bytes conn piece) t is read = record {
   before = read.before;
   after = read.after;
   taken = read.taken;
-  was = sym (same_reads (settled s) mid is conn ∙ settled_reads s conn) ∙ read.was;
+  was = sym (same_reads (discharged s) mid is conn ∙ discharged_reads s conn) ∙ read.was;
   is = read.is;
   reads = read.reads;
   some = read.some;
-  others = λ k other. read.others k other ∙ same_reads (settled s) mid is k ∙ settled_reads s k;
+  others = λ k other. read.others k other ∙ same_reads (discharged s) mid is k ∙ discharged_reads s k;
 }
-fed_settled true s mid other t is read = absurd read
+fed_discharged true s mid other t is read = absurd read

@@ -21,15 +21,16 @@ use Rattle.fe_keeper.specs.Keeper.{StoreState, Progress, fits, must_begin, made_
 use Rattle.fe_keeper.specs.declared.fault.Fault.{Fault}
 use Rattle.fe_keeper.specs.declared.fault.Fault.TheVariants.{Device, Failed, NoMemory, Mismatch}
 use Rattle.fe_keeper.specs.Stands.{StandsFor, StandsForEither, EachStandsFor}
+use Rattle.fe_keeper.specs.Prefix.{LeavesPrefix}
 use Rattle.fe_desk.specs.declared.handed.Handed.{Handed}
 use Rattle.fe_desk.specs.declared.handed.Handed.TheVariants.{Nothing, Cut, Stored}
 use Rattle.fe_desk.specs.Standing.{Standing}
 use Rattle.fe_desk.specs.Storing.{handing, stored, stored_from}
 use Rattle.fe_desk.specs.Steps.{find}
 use Rattle.fe_desk.proofs.Advancing.{prefix_more}
-use Rattle.fe_desk.proofs.Coming.{pending-posted}
-use Rattle.fe_desk.specs.Crash.{DeskState, IsFrom, LeavesPrefix, Advances, disk_of}
-use Rattle.fe_desk.specs.Desk.{IsHanded, IsTied, IsDesk, cut_entries, unstored}
+use Rattle.fe_front.proofs.Coming.{pending-posted}
+use Rattle.fe_desk.specs.Crash.{DeskState, IsFrom, Advances, disk_of}
+use Rattle.fe_desk.specs.within.Desk.{IsHanded, IsAhead, IsDesk, cut_entries, unstored}
 
 -- ---- entries behind entries
 
@@ -67,8 +68,8 @@ no_mismatch s first entries place begins some legal (Illegal lead rest e begins2
 
 -- ---- what ties the front to the replica, where a batch is stored
 
-pub tied_stored : (s : Standing) (groups : List (List Entry)) (replica next : ServerState) (batch : Batch) → next ≡ after_all replica batch.entries → IsTied (handing s (Cut batch)) replica
-    → IsTied (record (handing s (Stored batch)) { groups = groups }) next
+pub tied_stored : (s : Standing) (groups : List (List Entry)) (replica next : ServerState) (batch : Batch) → next ≡ after_all replica batch.entries → IsAhead (handing s (Cut batch)) replica
+    → IsAhead (record (handing s (Stored batch)) { groups = groups }) next
 tied_stored s groups replica next batch is tied =
     let pending : List Entry = s.front.service.pending in
     record {
@@ -78,11 +79,11 @@ tied_stored s groups replica next batch is tied =
     }
 
 -- and where none is, whatever becomes of the groups
-pub tied_cut : (s : Standing) (groups : List (List Entry)) (replica next : ServerState) (batch back : Batch) → back ≡ batch → next ≡ replica → IsTied (handing s (Cut batch)) replica
-    → IsTied (record (handing s (Cut back)) { groups = groups }) next
+pub tied_cut : (s : Standing) (groups : List (List Entry)) (replica next : ServerState) (batch back : Batch) → back ≡ batch → next ≡ replica → IsAhead (handing s (Cut batch)) replica
+    → IsAhead (record (handing s (Cut back)) { groups = groups }) next
 tied_cut s groups replica next batch back same is tied =
-    subst (λ (r : ServerState). IsTied (record (handing s (Cut back)) { groups = groups }) r) (sym is)
-    (subst (λ (b : Batch). IsTied (record (handing s (Cut b)) { groups = groups }) replica) (sym same) (record { handed = tied.handed; legal = tied.legal; state = tied.state }))
+    subst (λ (r : ServerState). IsAhead (record (handing s (Cut back)) { groups = groups }) r) (sym is)
+    (subst (λ (b : Batch). IsAhead (record (handing s (Cut b)) { groups = groups }) replica) (sym same) (record { handed = tied.handed; legal = tied.legal; state = tied.state }))
 
 -- no batch is cut: there is none to store
 pub not_cut : (s : Standing) → ((batch : Batch) → s.handed ≡ Cut batch → ⊥) → stored s ≡ s
@@ -100,7 +101,7 @@ pub posts : {T E : Type 0} (r : Result T E) (f g : FrontState) (batch : Batch) �
 posts (Ok x) f g batch refused clause out = clause
 posts (Err e) f g batch refused clause out = absurd (refused.0 refl out)
 
-pub tied_posted : (s t : Standing) (replica : ServerState) (batch : Batch) → s.handed ≡ Stored batch → t.handed ≡ Nothing → t.front ≡ posted s.front batch → IsTied s replica → IsTied t replica
+pub tied_posted : (s t : Standing) (replica : ServerState) (batch : Batch) → s.handed ≡ Stored batch → t.handed ≡ Nothing → t.front ≡ posted s.front batch → IsAhead s replica → IsAhead t replica
 tied_posted s t replica batch handed after is tied =
     let pending : t.front.service.pending ≡ s.front.service.pending = pending-posted s.front t.front batch is in
     let state : t.front.service.state ≡ s.front.service.state = ap (λ (f : FrontState). f.service.state) is ∙ (posted_all-keeps s.front batch.entries batch.first).state in
@@ -264,7 +265,7 @@ module _ {D : Type 0} (honest : D → Type 0) (may_leave : D → List ℕ → Ty
   }
 
   -- the group is stored
-  pub desk_stored : (new : DeskState D) → IsTied new.standing new.keeper.state → ((conn : ℕ) → is_connected new.standing.front conn ≡ true → is_some (find conn new.standing.clients) ≡ true)
+  pub desk_stored : (new : DeskState D) → IsAhead new.standing new.keeper.state → ((conn : ℕ) → is_connected new.standing.front conn ≡ true → is_some (find conn new.standing.clients) ≡ true)
       → new.synced ≡ length new.standing.groups → (honest (disk_of new) → EachStandsFor may_leave (disk_of new) new.keeper.state) → IsDesk honest may_leave new
   desk_stored new tied known all stands = record {
     tied = tied;
@@ -280,7 +281,7 @@ module _ {D : Type 0} (honest : D → Type 0) (may_leave : D → List ℕ → Ty
       → new.synced ≡ old.synced → new.keeper.state ≡ old.keeper.state → new.keeper.store.has_failed ≡ true
       → (honest (disk_of old) → old.keeper.store.has_failed ≡ false
       → LeavesOnly moment left_since (disk_of old) (disk_of new) (StandsForEither old.keeper.state (after_all old.keeper.state entries)))
-      → (honest (disk_of new) ↔ honest (disk_of old)) → IsTied new.standing new.keeper.state
+      → (honest (disk_of new) ↔ honest (disk_of old)) → IsAhead new.standing new.keeper.state
       → ((conn : ℕ) → is_connected new.standing.front conn ≡ true → is_some (find conn new.standing.clients) ≡ true) → IsDesk honest may_leave new
   desk_torn counts_now old new entries works groups all synced state failed run honesty tied known =
       let n = ap (λ (gs : List (List Entry)). length gs) groups in
@@ -331,7 +332,7 @@ module _ {D : Type 0} (honest : D → Type 0) (may_leave : D → List ℕ → Ty
   pub desk_kept : ((disk : D) (t : ℕ) (image : List ℕ) → honest disk → t ≤ moment disk → may_leave disk image → left_since disk t image) → (old new : DeskState D) → IsDesk honest may_leave old
       → old.keeper.store.has_failed ≡ false → new.standing.groups ≡ old.standing.groups → new.synced ≡ old.synced → new.keeper.state ≡ old.keeper.state
       → (honest (disk_of old) → old.keeper.store.has_failed ≡ false → LeavesOnly moment left_since (disk_of old) (disk_of new) (λ image. StandsFor image old.keeper.state))
-      → (honest (disk_of new) ↔ honest (disk_of old)) → IsTied new.standing new.keeper.state
+      → (honest (disk_of new) ↔ honest (disk_of old)) → IsAhead new.standing new.keeper.state
       → ((conn : ℕ) → is_connected new.standing.front conn ≡ true → is_some (find conn new.standing.clients) ≡ true) → IsDesk honest may_leave new
   desk_kept counts_now old new desk works groups synced state run honesty tied known =
       let n = ap (λ (gs : List (List Entry)). length gs) groups in

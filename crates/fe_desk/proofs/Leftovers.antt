@@ -16,17 +16,20 @@ use Rattle.fe_keeper.specs.declared.fault.Fault.TheVariants as keeper
 use Rattle.fe_front.specs.Front.{FrontState}
 use Rattle.fe_desk.specs.Standing.{Client, Standing}
 use Rattle.fe_desk.specs.Storing.{roomy}
-use Rattle.fe_desk.specs.Taking.{Takes, TakesOne, TakesAll}
+use Rattle.fe_messages.specs.Taking.{Takes}
+use Rattle.fe_desk.specs.Taking.{TakesOne, TakesAll}
 use Rattle.fe_desk.specs.Steps.{find, on_client, with_left}
-use Rattle.fe_desk.specs.Keeping.{Enters}
+use Rattle.fe_messages.specs.Enters.{Enters}
 use Rattle.fe_desk.specs.Messages.{left_of, TakesNext, EndsWith}
-use Rattle.fe_desk.specs.Places.{IsFirstAt}
-use Rattle.fe_desk.specs.Crash.{DeskState, Advances, IsFine, Tells, disk_of}
+use Rattle.fe_desk.specs.within.Places.{IsFirstAt}
+use Rattle.fe_desk.specs.Crash.{DeskState, Advances, IsFine, TellsCall, disk_of}
+use Rattle.fe_desk.specs.Checks.{StoresMore}
 use Rattle.fe_desk.specs.declared.port.Port.{Port}
-use Rattle.fe_desk.specs.Desk.{IsTied, IsDesk, IsHanded, unstored, cut_entries, client_of}
+use Rattle.fe_desk.specs.within.Desk.{IsAhead, IsDesk, IsHanded, unstored, cut_entries, client_of}
 use Rattle.fe_desk.proofs.Places.{numbers, numbers_changed, first_by_numbers, found_first, changed_first}
-use Rattle.fe_desk.proofs.Reading.{on_client-twice, find-on_client, found-on_client, relieved, none_left, left_among, with_clients, roomy-clients, roomy-keeps, takes_one_of, on_client-stays}
-use Rattle.fe_desk.proofs.Advancing.{HasStore, advances_then, advances_both, desk_as, fine_both, fine_as, advances_itself}
+use Rattle.fe_desk.proofs.Reading.{on_client-twice, find-on_client, found-on_client, relieved, none_left, left_among, with_clients, roomy-clients, roomy-keeps, takes_one_of, takes_all-append, on_client-stays}
+use Rattle.fe_desk.proofs.Growing.{stores_none, stores_both, stores_then}
+use Rattle.fe_desk.proofs.Advancing.{HasStore, store_itself, advances_then, advances_both, desk_as, fine_both, fine_as, advances_itself}
 
 -- ---- entries behind entries
 
@@ -40,7 +43,7 @@ after-append s (x ∷ xs) ys = after-append (after s x) xs ys
 
 -- ---- the store side of a desk whose front entries entered
 
-tied_enters : (s t : Standing) (replica : ServerState) (es : List Entry) → t.handed ≡ s.handed → Enters s.front es t.front → IsTied s replica → IsTied t replica
+tied_enters : (s t : Standing) (replica : ServerState) (es : List Entry) → t.handed ≡ s.handed → Enters s.front es t.front → IsAhead s replica → IsAhead t replica
 tied_enters s t replica es handed enters tied =
     let more : unstored t ≡ unstored s ++ es =
     ap (λ h. cut_entries h ++ t.front.service.pending) handed ∙ ap (λ (xs : List Entry). cut_entries s.handed ++ xs) enters.pending
@@ -60,8 +63,8 @@ pub desk_enters : {D : Type 0} (honest : D → Type 0) (may_leave : D → List �
     → HasStore old new → new.standing.handed ≡ old.standing.handed → Enters old.standing.front es new.standing.front → new.standing.clients ≡ on_client conn change old.standing.clients
     → ((c : Client) → (change c).conn ≡ c.conn) → IsDesk honest may_leave old → IsDesk honest may_leave new
 desk_enters {D} honest may_leave old new es conn change same handed enters clients keeps desk =
-    let tied : IsTied new.standing new.keeper.state =
-    subst (λ (k : KeeperState D). IsTied new.standing k.state) (sym same.keeper) (tied_enters old.standing new.standing old.keeper.state es handed enters desk.tied) in
+    let tied : IsAhead new.standing new.keeper.state =
+    subst (λ (k : KeeperState D). IsAhead new.standing k.state) (sym same.keeper) (tied_enters old.standing new.standing old.keeper.state es handed enters desk.tied) in
     desk_as honest may_leave old new desk same tied
     (λ k on. ap (λ (cs : List Client). is_some (find k cs)) clients ∙ found-on_client conn change old.standing.clients k keeps ∙ desk.known k (enters.none_comes k on))
 
@@ -146,6 +149,7 @@ pub record IsTaken (conn : ℕ) (s t : Standing) : Type 0 where
   pub again : (v : Standing) → TakesAll (with_left t conn []) conn (left_of t conn) v → TakesAll (with_left s conn []) conn (left_of s conn) v
   pub clients : t.clients ≡ on_client conn (relieved (left_of t conn)) s.clients
   pub rest : EndsWith (left_of s conn) (left_of t conn)
+  pub took : TakesAll (with_left s conn []) conn rest.0 (with_left t conn [])
   pub owes : t.owes ≡ s.owes
 
 left-relieved : (conn : ℕ) (left : List ClientMessage) (cs : List Client) → is_some (find conn cs) ≡ true → left_among (find conn (on_client conn (relieved left) cs)) ≡ left
@@ -160,6 +164,7 @@ taken_none conn s = record {
   again = λ v h. h;
   clients = sym (on_client-stays conn (relieved (left_of s conn)) s.clients (λ c here. ap (λ (left : List ClientMessage). relieved left c) (ap left_among here)));
   rest = ([], refl);
+  took = refl;
   owes = refl;
 }
 
@@ -179,6 +184,9 @@ taken_next conn s a r t here room owes taken next =
           (with_left t conn [], next_one a r t conn room next, subst (λ (ms : List ClientMessage). TakesAll (with_left t conn []) conn ms v) left h));
       clients = clients ∙ ap (λ (ms : List ClientMessage). on_client conn (relieved ms) s.clients) (sym left);
       rest = (taken.rest.0 ++ next.message ∷ [], taken.rest.1 ∙ ap (λ (ms : List ClientMessage). taken.rest.0 ++ ms) (before ∙ ap (λ (ms : List ClientMessage). next.message ∷ ms) (sym left)) ∙ sym (append_assoc taken.rest.0 (next.message ∷ []) (left_of t conn)));
+      took =
+          takes_all-append (with_left s conn []) conn taken.rest.0 (next.message ∷ []) (with_left a conn []) (with_left t conn []) taken.took
+          (with_left t conn [], next_one a r t conn room next, refl);
       owes = ap (λ (u : Standing). u.owes) next.after ∙ owes ∙ taken.owes;
     }
 
@@ -220,7 +228,7 @@ rest_then conn s a u clients taken = subst (λ (cs : List Client). EndsWith (lef
 
 -- ---- what is told of the disk
 
-pub tells_after : {D : Type 0} (failures : D → ℕ) (a b c : DeskState D) (fault : Fault) → IsFine failures a b → Tells failures b c fault → Tells failures a c fault
+pub tells_after : {D : Type 0} (failures : D → ℕ) (a b c : DeskState D) (fault : Fault) → IsFine failures a b → TellsCall failures b c fault → TellsCall failures a c fault
 tells_after failures a b c keeper.Device fine tells = record { failed = tells.failed; rises = subst (λ (n : ℕ). Rises n (failures (disk_of c))) fine.still tells.rises }
 tells_after failures a b c keeper.Failed fine tells = tells
 tells_after failures a b c keeper.NoMemory fine tells = record { works = tells.works; still = tells.still ∙ fine.still }
@@ -241,6 +249,7 @@ pub record Going {D : Type 0} (honest : D → Type 0) (may_leave : D → List �
   pub taken : IsTaken conn old.standing new.standing
   pub advances : Advances honest moment left_since old new
   pub fine : IsFine failures old new
+  pub grows : StoresMore old new
 
 pub place_as : (clients others : List Client) (conn at : ℕ) → others ≡ clients → IsFirstAt clients conn at → IsFirstAt others conn at
 place_as clients others conn at same place = subst (λ (cs : List Client). IsFirstAt cs conn at) (sym same) place
@@ -251,6 +260,7 @@ pub record IsRoomy {D : Type 0} (honest : D → Type 0) (moment : D → ℕ) (le
   pub owes : new.standing.owes ≡ old.standing.owes
   pub advances : Advances honest moment left_since old new
   pub fine : IsFine failures old new
+  pub grows : StoresMore old new
 
 module _ {D : Type 0} (honest : D → Type 0) (may_leave : D → List ℕ → Type 0) (moment : D → ℕ) (left_since : D → ℕ → List ℕ → Type 0) (failures : D → ℕ) where
   pub going_first : ((disk : D) (image : List ℕ) → honest disk → left_since disk (moment disk) image → may_leave disk image) → (conn at : ℕ) (d : DeskState D)
@@ -262,6 +272,7 @@ module _ {D : Type 0} (honest : D → Type 0) (may_leave : D → List ℕ → Ty
         taken = taken_none conn d.standing;
         advances = advances_itself honest may_leave moment left_since only_now d desk;
         fine = record { works = works; still = refl };
+        grows = stores_none d d (store_itself d);
       }
 
   pub going_on : (conn at : ℕ) (old a r t : DeskState D) → is_some (find conn old.standing.clients) ≡ true → Going honest may_leave moment left_since failures conn at old a
@@ -276,6 +287,7 @@ module _ {D : Type 0} (honest : D → Type 0) (may_leave : D → List ℕ → Ty
         taken = taken_next conn old.standing a.standing r.standing t.standing here room.made room.owes going.taken next;
         advances = advances_then honest may_leave moment left_since old r t (advances_both honest may_leave moment left_since old a r going.fine.works going.advances room.advances) same;
         fine = fine_both failures old r t (fine_both failures old a r going.fine room.fine) (fine_as failures r t room.fine.works same);
+        grows = stores_then old r t (stores_both old a r going.grows room.grows) same;
       }
 
   pub going_stops : (conn at : ℕ) (old a u : DeskState D) → Going honest may_leave moment left_since failures conn at old a

@@ -1,9 +1,8 @@
 pub mod Advancing
-pub mod Coming
 pub mod Connecting
+pub mod Outputs
 pub mod Emptying
 pub mod Quiets
-pub mod Entering
 pub mod Lives
 pub mod Openings
 pub mod Places
@@ -17,3 +16,13 @@ pub mod Feeding
 pub mod Pieces
 pub mod Making
 pub mod Untouched
+pub mod Growing
+pub mod Stops
+pub mod Ending
+pub mod Recorded
+pub mod Boxes
+pub mod Answered
+pub mod Messaging
+pub mod Acknowledging
+pub mod Given
+pub mod ManyStops

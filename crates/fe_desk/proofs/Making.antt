@@ -14,8 +14,8 @@ use Rattle.fe_desk.specs.declared.handed.Handed.TheVariants.{Nothing, Cut, Store
 use Rattle.fe_desk.specs.Standing.{Standing}
 use Rattle.fe_desk.specs.Storing.{cut, cleared, committed, made, is_making, with_room, begun_room, roomy}
 use Rattle.fe_desk.specs.Crash.{DeskState, Advances, disk_of}
-use Rattle.fe_desk.specs.Desk.{IsDesk, IsTied, IsHanded}
-use Rattle.fe_desk.proofs.Coming.{posted-stays}
+use Rattle.fe_desk.specs.within.Desk.{IsDesk, IsAhead, IsHanded}
+use Rattle.fe_front.proofs.Coming.{posted-stays}
 use Rattle.fe_desk.proofs.Groups.{advances_kept, desk_kept}
 
 pub on_ok : {T E P Q : Type 0} (r : Result T E) → (P → Q) → OnOk r P → OnOk r Q
@@ -34,7 +34,7 @@ cleared_out s handed = by s.handed handed
     by (Stored batch) out = refl
 
 -- what is pending stays so
-cleared_pending : (s : Standing) → (cleared s).front.service.pending ≡ s.front.service.pending
+pub cleared_pending : (s : Standing) → (cleared s).front.service.pending ≡ s.front.service.pending
 cleared_pending s = by s.handed
   where
     by : (h : Handed) → (cleared (record s { handed = h })).front.service.pending ≡ s.front.service.pending
@@ -61,7 +61,7 @@ committed_room s handed =
     let none : length (committed mid).front.service.pending ≡ 0 = ap (λ (es : List Entry). length es) (cleared_pending (cut mid)) ∙ cut_pending mid.front (cleared_out s handed) in
     ap (λ (n : ℕ). nat_le n 2048) none
 
-begun_by : (s : Standing) (conn : ℕ) (b : Bool) → is_making s conn ≡ b → begun_room s conn ≡ (if b then made (cleared s) else s)
+pub begun_by : (s : Standing) (conn : ℕ) (b : Bool) → is_making s conn ≡ b → begun_room s conn ≡ (if b then made (cleared s) else s)
 begun_by s conn b is = ap (λ (c : Bool). if c then made (cleared s) else s) is
 
 -- room that was begun is gone on with once
@@ -92,7 +92,7 @@ module _ {D : Type 0} (honest : D → Type 0) (may_leave : D → List ℕ → Ty
       → (honest k.store.disk ↔ honest (disk_of d)) → IsDesk honest may_leave (record d { keeper = k })
   desk_checked counts_now desk works state run honesty =
       desk_kept honest may_leave moment left_since counts_now d (record d { keeper = k }) desk works refl refl state run honesty
-      (subst (λ (s : ServerState). IsTied d.standing s) (sym state) desk.tied) desk.known
+      (subst (λ (s : ServerState). IsAhead d.standing s) (sym state) desk.tied) desk.known
 
   pub advances_checked : IsDesk honest may_leave d → k.state ≡ d.keeper.state
       → (honest (disk_of d) → d.keeper.store.has_failed ≡ false → LeavesOnly moment left_since (disk_of d) k.store.disk (λ image. StandsFor image d.keeper.state))

@@ -17,6 +17,7 @@ use Rattle.fe_desk.specs.declared.fault.DeskFault.{DeskFault}
 use Rattle.fe_desk.specs.declared.fault.DeskFault.TheVariants.{Store, NoMemory}
 use Rattle.fe_journal.specs.Damage.{IsUnformatted}
 use Rattle.fe_keeper.specs.Damage as store
+use Rattle.fe_keeper.specs.Prefix.{LeavesPrefix}
 use Rattle.fe_desk.specs.Messages.{told_as}
 use Rattle.fe_desk.specs.Opened.{disk_after, TellsOpening}
 use Rattle.fe_desk.specs.declared.handed.Handed.{Handed}
@@ -24,10 +25,10 @@ use Rattle.fe_desk.specs.declared.parts.Parts.{Parts}
 use Rattle.fe_desk.specs.declared.port.Port.{Port}
 use Rattle.fe_desk.specs.Traces.{IsTraceOf}
 use Rattle.fe_desk.specs.Standing.{Client, Standing, IsFirstStanding}
-use Rattle.fe_desk.specs.Crash.{DeskState, IsFrom, LeavesPrefix, disk_of}
-use Rattle.fe_desk.specs.Desk.{IsDesk, IsTied, IsHanded, unstored, cut_entries, client_of, standing_of}
+use Rattle.fe_desk.specs.Crash.{DeskState, IsFrom, disk_of}
+use Rattle.fe_desk.specs.within.Desk.{IsDesk, IsAhead, IsHanded, unstored, cut_entries, client_of, standing_of}
 
-first_tied : (begun : ServerState) (s : Standing) → IsFirstStanding begun s → IsTied s begun
+first_tied : (begun : ServerState) (s : Standing) → IsFirstStanding begun s → IsAhead s begun
 first_tied begun s first =
     let none : unstored s ≡ [] =
     ap (λ (h : Handed). cut_entries h ++ s.front.service.pending) first.handed ∙ first.front.pending in
@@ -113,7 +114,7 @@ is_trace p = record { groups = refl; written = written_as p.trace.ports.items; s
 
 -- ---- what is told of a store
 
-pub tells_opening : (image : List ℕ) (fault : Fault) → store.Tells fault image → TellsOpening (told_as fault false) image
+pub tells_opening : (image : List ℕ) (fault : Fault) → store.TellsStore fault image → TellsOpening (told_as fault false) image
 tells_opening image keeper.Device tells = tells
 tells_opening image keeper.Failed tells = tells
 tells_opening image keeper.NoMemory tells = tells

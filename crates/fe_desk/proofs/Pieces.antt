@@ -1,5 +1,5 @@
 -- A piece of a connection's stream: what is left of it is taken, and then what the piece completes.
-use Rattle.std.proofs.Common.{◌≡◌, ◌≢◌, ℕ, ◌<◌, Bool, true, false, Result, Ok, Err, List, [], ◌++◌, length, map, Option, Some, None, refl, sym, ap, ◌∙◌, subst, get_or, if◌then◌else◌, MatchBool}
+use Rattle.std.proofs.Common.{◌≡◌, ◌≢◌, ◌⊎◌, inl, inr, ℕ, ◌<◌, Bool, true, false, Result, Ok, Err, List, [], ◌++◌, length, map, Option, Some, None, refl, sym, ap, ◌∙◌, subst, get_or, if◌then◌else◌, MatchBool}
 use Rattle.std.specs.Prelude.{is_some, slice_set, IsErrOf, OnOk, IfErr}
 use Rattle.std.specs.Option.{option_map}
 use Rattle.std.proofs.lemmas.Option.{same_Some}
@@ -17,18 +17,22 @@ use Rattle.fe_desk.specs.Storing.{is_making}
 use Rattle.fe_desk.specs.Taking.{TakesAll}
 use Rattle.fe_desk.specs.Steps.{find, on_client, with_left, with_decoder, gone, after_frame, Reads, TakesPiece, TakesFrom, TakesBytes}
 use Rattle.fe_desk.specs.Messages.{left_of, outputs, told_as, read_by, EndsWith, ReadsNone, ReadsPiece}
-use Rattle.fe_desk.specs.Places.{IsFirstAt}
-use Rattle.fe_desk.specs.Crash.{DeskState, Advances, IsFine, Tells, TellsStep}
-use Rattle.fe_desk.specs.Desk.{IsDesk, client_of}
+use Rattle.fe_desk.specs.Stopping.{TakesFirst, StopsBefore, StopsUnread, StopsBehind}
+use Rattle.fe_desk.specs.within.Places.{IsFirstAt}
+use Rattle.fe_desk.specs.Crash.{DeskState, Advances, IsFine, TellsCall, TellsStep}
+use Rattle.fe_desk.specs.Checks.{StoresMore}
+use Rattle.fe_desk.specs.Ends.{Tears, TearsBytes}
+use Rattle.fe_desk.specs.within.Desk.{IsDesk, client_of}
 use Rattle.fe_desk.proofs.Places.{found_first, number_here, client_there, numbers, numbers_changed, first_by_numbers}
 use Rattle.fe_desk.proofs.Reading.{on_client-twice, find-on_client, on_client-alike, on_client-stays, found-on_client, each-on_client, relieved, left_among, left_emptied, takes_all-keeps, first_again, piece_again, later_again}
 use Rattle.fe_desk.proofs.Feeding.{read_among, read_kept, find_other}
 use Rattle.fe_desk.proofs.Leftovers.{tells_after, client_here, port_changed}
-use Rattle.fe_desk.proofs.Advancing.{HasStore, desk_as, advances_then, advances_both, advances_itself, fine_both, fine_as}
+use Rattle.fe_desk.proofs.Growing.{stores_none, stores_both, stores_then}
+use Rattle.fe_desk.proofs.Advancing.{HasStore, store_itself, desk_as, advances_then, advances_both, advances_itself, fine_both, fine_as}
 
 -- ---- what is told
 
-pub tells_step : {D : Type 0} (failures : D → ℕ) (a b : DeskState D) (fault : Fault) (fed : Bool) → Tells failures a b fault → TellsStep failures a b (told_as fault fed)
+pub tells_step : {D : Type 0} (failures : D → ℕ) (a b : DeskState D) (fault : Fault) (fed : Bool) → TellsCall failures a b fault → TellsStep failures a b (told_as fault fed)
 tells_step failures a b keeper.Device fed tells = (refl, tells)
 tells_step failures a b keeper.Failed fed tells = absurd tells
 tells_step failures a b keeper.NoMemory fed tells = tells
@@ -43,6 +47,14 @@ told_memory keeper.NoMemory fed other is = (refl, cc)
 told_memory (keeper.Mismatch place) fed other is = cc
 told_memory (keeper.Damaged offset) fed other is = cc
 told_memory keeper.Unformatted fed other is = cc
+
+pub told_device : (fault : Fault) (fed : Bool) → told_as fault fed ≡ desk.Store keeper.Device → fault ≡ keeper.Device
+told_device keeper.Device fed is = refl
+told_device keeper.Failed fed is = cc
+told_device keeper.NoMemory fed is = cc
+told_device (keeper.Mismatch place) fed is = cc
+told_device (keeper.Damaged offset) fed is = cc
+told_device keeper.Unformatted fed is = cc
 
 pub told_otherwise : (fault : Fault) (fed : Bool) → told_as fault fed ≡ desk.Unwritten → ⊥
 told_otherwise keeper.Device fed is = cc
@@ -171,7 +183,10 @@ module _ {D : Type 0} (honest : D → Type 0) (may_leave : D → List ℕ → Ty
     pub owes : new.standing.owes ≡ old.standing.owes
     pub advances : Advances honest moment left_since old new
     pub fine : OnOk result (IsFine failures old new)
-    pub fault : IfErr result (Tells failures old new)
+    pub fault : IfErr result (TellsCall failures old new)
+    pub stops : IsErrOf result keeper.NoMemory → StopsBefore old.standing conn new.standing
+    pub torn : IsErrOf result keeper.Device → (last : Standing) × StopsBefore old.standing conn last × Tears last new
+    pub grows : new.keeper.store.has_failed ≡ false → StoresMore old new
 
   -- what the bytes of a connection leave
   pub record TookBytes (conn : ℕ) (piece : List ℕ) (old : DeskState D) (result : Result (Unit {0}) DeskFault) (new : DeskState D) : Type 0 where
@@ -186,6 +201,9 @@ module _ {D : Type 0} (honest : D → Type 0) (may_leave : D → List ℕ → Ty
     pub fine : OnOk result (IsFine failures old new)
     pub fault : IfErr result (TellsStep failures old new)
     pub written : IsErrOf result desk.Unwritten → ⊥
+    pub stops : (fed : Bool) → IsErrOf result (desk.NoMemory fed) → MatchBool fed (StopsBehind old.standing conn piece new.standing) (StopsBefore old.standing conn new.standing ⊎ StopsUnread old.standing conn new.standing)
+    pub torn : IsErrOf result (desk.Store keeper.Device) → TearsBytes old.standing conn piece new
+    pub grows : new.keeper.store.has_failed ≡ false → StoresMore old new
 
   -- the connection number is not known
   pub bytes_unknown : ((disk : D) (image : List ℕ) → honest disk → left_since disk (moment disk) image → may_leave disk image) → (conn : ℕ) (piece : List ℕ) (a : DeskState D)
@@ -202,6 +220,9 @@ module _ {D : Type 0} (honest : D → Type 0) (may_leave : D → List ℕ → Ty
         fine = record { works = works; still = refl };
         fault = tt;
         written = λ e. cc;
+        stops = λ fed e. cc;
+        torn = λ e. cc;
+        grows = λ fine. stores_none a a (store_itself a);
       }
 
   left_outputs : (conn at : ℕ) (a b : DeskState D) (result : Result (Unit {0}) Fault) → TookLeft conn at a result b → outputs b.standing ≡ outputs a.standing
@@ -225,8 +246,22 @@ module _ {D : Type 0} (honest : D → Type 0) (may_leave : D → List ℕ → Ty
         fine = tt;
         fault = tells_step failures a b fault false left.fault;
         written = λ e. told_otherwise fault false (same_err e);
+        stops = λ fed e. stopped fed (told_memory fault false fed (same_err e));
+        torn = λ e. tore (told_device fault false (same_err e));
+        grows = left.grows;
       }
     where
+      stopped : (fed : Bool) → (fault ≡ keeper.NoMemory) × (false ≡ fed) → MatchBool fed (StopsBehind a.standing conn piece b.standing) (StopsBefore a.standing conn b.standing ⊎ StopsUnread a.standing conn b.standing)
+      stopped fed is =
+          let asked : ◌≡◌ {A = Result (Unit {0}) Fault} (Err fault) (Err keeper.NoMemory) = ap (λ (f : Fault). Err f) is.0 in
+          subst (λ (x : Bool). MatchBool x (StopsBehind a.standing conn piece b.standing) (StopsBefore a.standing conn b.standing ⊎ StopsUnread a.standing conn b.standing)) is.1 (inl (left.stops asked))
+
+      tore : fault ≡ keeper.Device → TearsBytes a.standing conn piece b
+      tore is =
+          let asked : ◌≡◌ {A = Result (Unit {0}) Fault} (Err fault) (Err keeper.Device) = ap (λ (f : Fault). Err f) is in
+          let torn = left.torn asked in
+          record { last = torn.0; stops = inl torn.1; tears = torn.2 }
+
       same_err : {x y : DeskFault} → ◌≡◌ {A = Result (Unit {0}) DeskFault} (Err x) (Err y) → x ≡ y
       same_err e = cc
 
@@ -259,6 +294,9 @@ module _ {D : Type 0} (honest : D → Type 0) (may_leave : D → List ℕ → Ty
         fine = left.fine;
         fault = tt;
         written = λ e. cc;
+        stops = λ fed e. cc;
+        torn = λ e. cc;
+        grows = left.grows;
       }
 
   pub all_taken : (conn at : ℕ) (a b : DeskState D) → TookLeft conn at a (Ok tt) b → left_of b.standing conn ≡ []
@@ -267,9 +305,9 @@ module _ {D : Type 0} (honest : D → Type 0) (may_leave : D → List ℕ → Ty
       ∙ left_emptied conn a.standing.clients
 
   -- they were taken, and the piece was not read
-  pub bytes_unread : (conn at : ℕ) (piece : List ℕ) (a b : DeskState D) (c : Client) → IsHere a.standing conn c → TookLeft conn at a (Ok tt) b
+  pub bytes_unread : (conn at : ℕ) (piece : List ℕ) (a b : DeskState D) (c : Client) → IsHere a.standing conn c → TookLeft conn at a (Ok tt) b → is_connected b.standing.front conn ≡ true
       → TookBytes conn piece a (Err (desk.NoMemory false)) b
-  bytes_unread conn at piece a b c here left =
+  bytes_unread conn at piece a b c here left on =
       record {
         desk_is = left.desk_is;
         taken = tt;
@@ -281,6 +319,11 @@ module _ {D : Type 0} (honest : D → Type 0) (may_leave : D → List ℕ → Ty
         fine = tt;
         fault = left.fine;
         written = λ e. told_otherwise keeper.NoMemory false (same_err e);
+        stops = λ fed e.
+            subst (λ (x : Bool). MatchBool x (StopsBehind a.standing conn piece b.standing) (StopsBefore a.standing conn b.standing ⊎ StopsUnread a.standing conn b.standing)) (told_memory keeper.NoMemory false fed (same_err e)).1
+            (inr (record { leftovers = left.taken; there = on }));
+        torn = λ e. cc;
+        grows = left.grows;
       }
     where
       same_err : {x y : DeskFault} → ◌≡◌ {A = Result (Unit {0}) DeskFault} (Err x) (Err y) → x ≡ y
@@ -371,6 +414,9 @@ module _ {D : Type 0} (honest : D → Type 0) (may_leave : D → List ℕ → Ty
   fed_fine : (conn at : ℕ) (piece : List ℕ) (a b m : DeskState D) → TookLeft conn at a (Ok tt) b → HasFed conn piece b m → IsFine failures a m
   fed_fine conn at piece a b m left fed = fine_both failures a b m left.fine (fine_as failures b m left.fine.works (fed_store conn piece b m fed))
 
+  fed_grows : (conn at : ℕ) (piece : List ℕ) (a b m : DeskState D) → TookLeft conn at a (Ok tt) b → HasFed conn piece b m → StoresMore a m
+  fed_grows conn at piece a b m left fed = stores_then a b m (left.grows left.fine.works) (fed_store conn piece b m fed)
+
   -- not all messages of the piece were taken
   pub bytes_more : (conn at : ℕ) (piece : List ℕ) (a b m n : DeskState D) (c : Client) (fault : Fault) → IsHere a.standing conn c → TookLeft conn at a (Ok tt) b → is_connected b.standing.front conn ≡ true
       → HasFed conn piece b m → TookLeft conn at m (Err fault) n → TookBytes conn piece a (Err (told_as fault true)) n
@@ -386,6 +432,9 @@ module _ {D : Type 0} (honest : D → Type 0) (may_leave : D → List ℕ → Ty
         fine = tt;
         fault = tells_step failures a n fault true (tells_after failures a m n fault (fed_fine conn at piece a b m left fed) rest.fault);
         written = λ e. told_otherwise fault true (same_err e);
+        stops = λ other e. stopped other (told_memory fault true other (same_err e));
+        torn = λ e. tore (told_device fault true (same_err e));
+        grows = λ works. stores_both a m n (fed_grows conn at piece a b m left fed) (rest.grows works);
       }
     where
       same_err : {x y : DeskFault} → ◌≡◌ {A = Result (Unit {0}) DeskFault} (Err x) (Err y) → x ≡ y
@@ -396,6 +445,31 @@ module _ {D : Type 0} (honest : D → Type 0) (may_leave : D → List ℕ → Ty
 
       whole : Reads c.decoder fed.decoder piece (rest.rest.0 ++ left_of n.standing conn)
       whole = subst (λ (ms : List ClientMessage). Reads c.decoder fed.decoder piece ms) (sym (fed_left conn piece b m fed) ∙ rest.rest.1) (fed_reads conn at piece a b m c here left fed)
+
+      behind : (v : Standing) → StopsBefore m.standing conn v → StopsBehind a.standing conn piece v
+      behind v h = record {
+        mid = b.standing;
+        before = c.decoder;
+        decoder = fed.decoder;
+        more = fed.more;
+        unread = record { leftovers = left.taken; there = on };
+        was = ap (option_map (λ (d : Client). d.decoder)) here.found;
+        reads = fed_reads conn at piece a b m c here left fed;
+        first =
+            subst (λ (u : Standing). TakesFirst u conn fed.more v) (fed_begins conn piece b m fed none)
+            (subst (λ (ms : List ClientMessage). TakesFirst (with_left m.standing conn []) conn ms v) (fed_left conn piece b m fed) h);
+      }
+
+      stopped : (other : Bool) → (fault ≡ keeper.NoMemory) × (true ≡ other) → MatchBool other (StopsBehind a.standing conn piece n.standing) (StopsBefore a.standing conn n.standing ⊎ StopsUnread a.standing conn n.standing)
+      stopped other is =
+          let asked : ◌≡◌ {A = Result (Unit {0}) Fault} (Err fault) (Err keeper.NoMemory) = ap (λ (f : Fault). Err f) is.0 in
+          subst (λ (x : Bool). MatchBool x (StopsBehind a.standing conn piece n.standing) (StopsBefore a.standing conn n.standing ⊎ StopsUnread a.standing conn n.standing)) is.1 (behind n.standing (rest.stops asked))
+
+      tore : fault ≡ keeper.Device → TearsBytes a.standing conn piece n
+      tore is =
+          let asked : ◌≡◌ {A = Result (Unit {0}) Fault} (Err fault) (Err keeper.Device) = ap (λ (f : Fault). Err f) is in
+          let torn = rest.torn asked in
+          record { last = torn.0; stops = inr (behind torn.0 torn.1); tears = torn.2 }
 
       read : (other : Bool) → (fault ≡ keeper.NoMemory) × (true ≡ other) → MatchBool other (ReadsPiece a.standing conn piece n.standing) (ReadsNone a.standing n.standing)
       read other is =
@@ -460,4 +534,7 @@ module _ {D : Type 0} (honest : D → Type 0) (may_leave : D → List ℕ → Ty
         fine = fine_both failures a n p (fine_both failures a m n (fed_fine conn at piece a b m left fed) rest.fine) (fine_as failures n p rest.fine.works same);
         fault = tt;
         written = λ e. cc;
+        stops = λ other e. cc;
+        torn = λ e. cc;
+        grows = λ works. stores_then a n p (stores_both a m n (fed_grows conn at piece a b m left fed) (rest.grows rest.fine.works)) same;
       }

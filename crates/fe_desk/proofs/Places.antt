@@ -9,10 +9,10 @@ use Rattle.std.specs.List.{position_from}
 use Rattle.std.proofs.lemmas.Iterator.Adapters.{position_from-zero}
 use Rattle.std.proofs.lemmas.Option.{none-some, slice_get_read, same_Some, slice_get-map, slice_get-get_or}
 use Rattle.fe_desk.specs.declared.port.Port.{Port}
-use Rattle.fe_desk.specs.Desk.{client_of}
+use Rattle.fe_desk.specs.within.Desk.{client_of}
 use Rattle.fe_desk.specs.Standing.{Client}
 use Rattle.fe_desk.specs.Steps.{find, on_client}
-use Rattle.fe_desk.specs.Places.{IsFirstAt, number_at}
+use Rattle.fe_desk.specs.within.Places.{IsFirstAt, client_number_at}
 
 -- the numbers of clients, in their order
 abbrev pub numbers : List Client → List ℕ
@@ -62,14 +62,14 @@ number_here clients conn at c p is = same_Some _ _ (ap (λ (o : Option Client). 
 
 -- ---- a place is one by the numbers alone
 
-number_at-numbers : (clients : List Client) (i : ℕ) → number_at clients i ≡ slice_get (numbers clients) i
-number_at-numbers clients i = sym (slice_get-map (λ (c : Client). c.conn) clients i)
+client_number_at-numbers : (clients : List Client) (i : ℕ) → client_number_at clients i ≡ slice_get (numbers clients) i
+client_number_at-numbers clients i = sym (slice_get-map (λ (c : Client). c.conn) clients i)
 
 pub first_by_numbers : (clients others : List Client) (conn at : ℕ) → numbers others ≡ numbers clients → IsFirstAt clients conn at → IsFirstAt others conn at
 first_by_numbers clients others conn at same p =
     let long : length others ≡ length clients = sym (length-map others (λ (c : Client). c.conn)) ∙ ap length same ∙ length-map clients (λ (c : Client). c.conn) in
     let within = p.within in
-    let each : (i : ℕ) → number_at others i ≡ number_at clients i = λ i. number_at-numbers others i ∙ ap (λ (ns : List ℕ). slice_get ns i) same ∙ sym (number_at-numbers clients i) in
+    let each : (i : ℕ) → client_number_at others i ≡ client_number_at clients i = λ i. client_number_at-numbers others i ∙ ap (λ (ns : List ℕ). slice_get ns i) same ∙ sym (client_number_at-numbers clients i) in
     record {
       within = omega (arith, long, within);
       here = each at ∙ p.here;
@@ -140,7 +140,7 @@ found_there clients conn at p =
     let (c, is) = client_there clients at p.within in
     ap (λ (o : Option Client). is_some o) (found_first clients conn at c p is)
 
-pub not_found : (clients : List Client) (conn : ℕ) → ((i : ℕ) → number_at clients i ≢ Some conn) → find conn clients ≡ None
+pub not_found : (clients : List Client) (conn : ℕ) → ((i : ℕ) → client_number_at clients i ≢ Some conn) → find conn clients ≡ None
 not_found [] conn none = refl
 not_found (x ∷ xs) conn none =
     ap (λ (b : Bool). if b then Some x else find conn xs) (other_numbers x.conn conn (λ e. none 0 (ap (λ (n : ℕ). Some n) e)))
@@ -186,7 +186,7 @@ first_here x xs conn is = record {
   first = λ i lt. absurd (omega (arith, lt));
 }
 
-other_before : (x : Client) (xs : List Client) (conn k : ℕ) → nat_eq x.conn conn ≡ false → IsFirstAt xs conn k → (i : ℕ) → i < suc k → number_at (x ∷ xs) i ≢ Some conn
+other_before : (x : Client) (xs : List Client) (conn k : ℕ) → nat_eq x.conn conn ≡ false → IsFirstAt xs conn k → (i : ℕ) → i < suc k → client_number_at (x ∷ xs) i ≢ Some conn
 other_before x xs conn k is p zero lt same = absurd (true≢false (sym (equal_numbers x.conn conn (same_Some _ _ same)) ∙ is))
 other_before x xs conn k is p (suc i) lt same = p.first i (omega (arith, lt)) same
 

@@ -1,5 +1,5 @@
 -- Where nothing is to be written, writing all of it changes nothing; and the steps that make no mail keep it so.
-use Rattle.std.proofs.Common.{◌≡◌, ℕ, Bool, true, false, true≢false, List, [], ◌∷◌, ◌++◌, Option, Some, None, refl, sym, ap, ◌∙◌, subst, append-nil, inl, inr, Result, Ok, Err, OnOk, if◌then◌else◌}
+use Rattle.std.proofs.Common.{◌≡◌, ◌≢◌, ℕ, ◌+◌, ◌<◌, take, drop, slice_set, Bool, true, false, true≢false, List, [], ◌∷◌, ◌++◌, Option, Some, None, refl, sym, ap, ◌∙◌, subst, append-nil, inl, inr, Result, Ok, Err, OnOk, if◌then◌else◌}
 use Rattle.std.specs.Prelude.{nat_eq, is_some, is_err, length, map, MatchBool}
 use Rattle.std.specs.Option.{option_map_or}
 use Rattle.std.specs.FinMap.{insert}
@@ -13,20 +13,21 @@ use Rattle.fe_front.specs.Steps.{has_no_cut}
 use Rattle.fe_desk.specs.declared.handed.Handed.{Handed}
 use Rattle.fe_desk.specs.declared.handed.Handed.TheVariants.{Nothing, Cut, Stored}
 use Rattle.fe_desk.specs.declared.parts.Parts.{Parts}
+use Rattle.fe_desk.specs.declared.port.Port.{Port}
 use Rattle.fe_desk.specs.declared.step.Step.{Step}
 use Rattle.fe_desk.specs.declared.step.Step.TheVariants as step
 use Rattle.fe_desk.specs.Mails.{emptied_box}
-use Rattle.fe_desk.specs.Standing.{Client, Standing, all_emptied, all_told, emptied, settled}
+use Rattle.fe_desk.specs.Standing.{Client, Standing, all_emptied, all_told, emptied, discharged}
 use Rattle.fe_desk.specs.Steps.{find, on_client, Acts, Connects, new_client, unmade}
 use Rattle.fe_desk.specs.Storing.{stored_from, is_making}
-use Rattle.fe_desk.specs.Quiet.{HasNoMail, NoneWaits, mails_nothing}
-use Rattle.fe_desk.specs.Desk.{client_of, standing_of}
-use Rattle.fe_desk.proofs.Emptying.{AreQuiet, quiet_all_emptied, quiet_all_told}
-use Rattle.fe_desk.proofs.StepParts.{settled_at}
+use Rattle.fe_desk.specs.Quiet.{HasNoMail, AreWritten, mails_nothing}
+use Rattle.fe_desk.specs.within.Desk.{client_of, standing_of}
+use Rattle.fe_desk.proofs.Emptying.{AreQuiet, replaced, quiet_all_emptied, quiet_all_told}
+use Rattle.fe_desk.proofs.StepParts.{discharged_at}
 
 -- ---- there is nothing to write
 
-are_quiet : (f : FrontState) (cs : List Client) → ((conn : ℕ) → mails_on f.connections conn ≡ []) → NoneWaits cs → AreQuiet f cs
+are_quiet : (f : FrontState) (cs : List Client) → ((conn : ℕ) → mails_on f.connections conn ≡ []) → AreWritten cs → AreQuiet f cs
 are_quiet f [] boxes replies = tt
 are_quiet f (c ∷ cs) boxes replies = (record { reply = replies.0; box = boxes c.conn }, are_quiet f cs boxes replies.1)
 
@@ -45,7 +46,7 @@ quiet_emptied s quiet =
     same_parts s (all_emptied s.front s.clients) (all_told s.front s.clients) (sym front) (sym clients) quiet.owes
 
 -- no reply waits once all are told
-pub none_waits : (f : FrontState) (cs : List Client) → NoneWaits (all_told f cs)
+pub none_waits : (f : FrontState) (cs : List Client) → AreWritten (all_told f cs)
 none_waits f [] = tt
 none_waits f (c ∷ cs) = (refl, none_waits (emptied_box f c.conn) cs)
 
@@ -54,10 +55,19 @@ pub all_quiet : {D : Type 0} (p q : Parts D) (r : Result (Unit {0}) AllocError) 
     → OnOk r (map client_of q.trace.ports.items ≡ all_told p.front (map client_of p.trace.ports.items)) → q.owes ≡ is_err r → OnOk r (HasNoMail (standing_of q))
 all_quiet p q (Ok x) boxes told owes = record {
   boxes = boxes;
-  replies = subst NoneWaits (sym told) (none_waits p.front (map client_of p.trace.ports.items));
+  replies = subst AreWritten (sym told) (none_waits p.front (map client_of p.trace.ports.items));
   owes = owes;
 }
 all_quiet p q (Err e) boxes told owes = tt
+
+-- a reply waits among these
+some_waits : (cs ds : List Client) (c : Client) → c.reply ≢ None → AreWritten (cs ++ c ∷ ds) → ⊥
+some_waits [] ds c some all = some all.0
+some_waits (x ∷ xs) ds c some all = some_waits xs ds c some all.1
+
+pub port_waits : (ports : List Port) (at : ℕ) (q : Port) → at < length ports → q.reply ≢ None → AreWritten (map client_of (slice_set ports at q)) → ⊥
+port_waits ports at q lt some all =
+    some_waits (map client_of (take at ports)) (map client_of (drop (at + 1) ports)) (client_of q) some (subst AreWritten (replaced client_of ports at q lt) all)
 
 -- ---- steps that make no mail
 
@@ -69,15 +79,15 @@ boxes_joined f conn boxes q = elim (same_or_other q conn) [
 ]
 
 -- a change of a client that leaves its reply
-on_client_replies : (conn : ℕ) (change : Client → Client) (cs : List Client) → ((c : Client) → (change c).reply ≡ c.reply) → NoneWaits cs → NoneWaits (on_client conn change cs)
+on_client_replies : (conn : ℕ) (change : Client → Client) (cs : List Client) → ((c : Client) → (change c).reply ≡ c.reply) → AreWritten cs → AreWritten (on_client conn change cs)
 on_client_replies conn change [] keeps all = tt
 on_client_replies conn change (c ∷ cs) keeps all = by (nat_eq c.conn conn) (on_client_replies conn change cs keeps all.1)
   where
-    by : (b : Bool) → NoneWaits (on_client conn change cs) → NoneWaits (if b then change c ∷ cs else c ∷ on_client conn change cs)
+    by : (b : Bool) → AreWritten (on_client conn change cs) → AreWritten (if b then change c ∷ cs else c ∷ on_client conn change cs)
     by true rest = (keeps c ∙ all.0, all.1)
     by false rest = (all.0, rest)
 
-one_more : (cs : List Client) (c : Client) → NoneWaits cs → c.reply ≡ None → NoneWaits (cs ++ c ∷ [])
+one_more : (cs : List Client) (c : Client) → AreWritten cs → c.reply ≡ None → AreWritten (cs ++ c ∷ [])
 one_more [] c all none = (none, tt)
 one_more (d ∷ ds) c all none = (all.0, one_more ds c all.1 none)
 
@@ -95,7 +105,7 @@ connects_quiet s t conn quiet comes = subst HasNoMail (sym comes.after) (record 
   owes = (unmade_keeps s conn).0 ∙ quiet.owes;
 })
   where
-    by : (b : Bool) → NoneWaits (if b then on_client conn (λ c. record c { decoder = comes.decoder; left = [] }) s.clients else s.clients ++ new_client conn comes.decoder ∷ [])
+    by : (b : Bool) → AreWritten (if b then on_client conn (λ c. record c { decoder = comes.decoder; left = [] }) s.clients else s.clients ++ new_client conn comes.decoder ∷ [])
     by true = on_client_replies conn (λ c. record c { decoder = comes.decoder; left = [] }) s.clients (λ c. refl) quiet.replies
     by false = one_more s.clients (new_client conn comes.decoder) quiet.replies refl
 
@@ -131,9 +141,9 @@ quiet_kept step.CheckStep s t none quiet acts = subst HasNoMail (sym acts) quiet
 quiet_kept step.CheckFinish s t none quiet acts = subst HasNoMail (sym acts) quiet
 
 -- after what settles and acts
-pub still_quiet_after : (s mid t : Standing) (x : Step) → mid ≡ settled s → mails_nothing x ≡ true → HasNoMail s → Acts mid x t → HasNoMail t
+pub still_quiet_after : (s mid t : Standing) (x : Step) → mid ≡ discharged s → mails_nothing x ≡ true → HasNoMail s → Acts mid x t → HasNoMail t
 still_quiet_after s mid t x is none quiet acts =
-    quiet_kept x s t none quiet (subst (λ (m : Standing). Acts m x t) (is ∙ settled_at s quiet.owes) acts)
+    quiet_kept x s t none quiet (subst (λ (m : Standing). Acts m x t) (is ∙ discharged_at s quiet.owes) acts)
 
 -- what is known of a result that is good
 pub quiet_boxes : {E : Type 0} (r : Result (Unit {0}) E) (s : Standing) → OnOk r (HasNoMail s) → OnOk r ((conn : ℕ) → mails_on s.front.connections conn ≡ [])

@@ -11,7 +11,8 @@ use Rattle.fe_desk.specs.declared.handed.Handed.{Handed}
 use Rattle.fe_desk.specs.declared.handed.Handed.TheVariants.{Nothing, Cut, Stored}
 use Rattle.fe_desk.specs.Standing.{Client, Standing}
 use Rattle.fe_desk.specs.Storing.{cut, stored, stored_from, posted, posted_from, cleared, committed, is_making, made, with_room, begun_room, roomy}
-use Rattle.fe_desk.specs.Taking.{Takes, TakesOne, TakesAll}
+use Rattle.fe_messages.specs.Taking.{Takes}
+use Rattle.fe_desk.specs.Taking.{TakesOne, TakesAll}
 use Rattle.fe_desk.specs.Steps.{find, on_client, with_left, with_decoder, unmade, gone, after_frame, Reads, TakesPiece, TakesFrom}
 use Rattle.fe_desk.specs.Messages.{left_of}
 
@@ -125,7 +126,7 @@ posted-clients s cs = by s.handed
     by (Cut batch) = refl
     by (Stored batch) = refl
 
-cleared-clients : (s : Standing) (cs : List Client) → cleared (with_clients s cs) ≡ with_clients (cleared s) cs
+pub cleared-clients : (s : Standing) (cs : List Client) → cleared (with_clients s cs) ≡ with_clients (cleared s) cs
 cleared-clients s cs = ap posted (stored-clients s cs) ∙ posted-clients (stored s) cs
 
 committed-clients : (s : Standing) (cs : List Client) → committed (with_clients s cs) ≡ with_clients (committed s) cs
@@ -138,7 +139,7 @@ with_room-clients s cs = by (has_room s.front)
     by true = refl
     by false = ap (λ (t : Standing). made (committed t)) (cleared-clients s cs) ∙ ap made (committed-clients (cleared s) cs)
 
-begun_room-clients : (s : Standing) (conn : ℕ) (cs : List Client) → begun_room (with_clients s cs) conn ≡ with_clients (begun_room s conn) cs
+pub begun_room-clients : (s : Standing) (conn : ℕ) (cs : List Client) → begun_room (with_clients s cs) conn ≡ with_clients (begun_room s conn) cs
 begun_room-clients s conn cs = by (is_making s conn)
   where
     by : (b : Bool) → (if b then made (cleared (with_clients s cs)) else with_clients s cs) ≡ with_clients (if b then made (cleared s) else s) cs

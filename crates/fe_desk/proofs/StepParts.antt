@@ -9,12 +9,15 @@ use Rattle.fe_desk.specs.declared.parts.Parts.{Parts}
 use Rattle.fe_desk.specs.declared.port.Port.{Port}
 use Rattle.fe_desk.specs.declared.step.Step.{Step}
 use Rattle.fe_desk.specs.declared.step.Step.TheVariants as step
-use Rattle.fe_desk.specs.Standing.{Client, Standing, emptied, settled, all_told, all_emptied}
+use Rattle.fe_desk.specs.Output.{output_of, Extends}
+use Rattle.fe_desk.specs.Standing.{Client, Standing, emptied, discharged, all_told, all_emptied}
 use Rattle.fe_desk.specs.Steps.{find, Acts, DeskStep, IsAgain, Connects, TakesBytes, unmade, gone}
 use Rattle.fe_desk.specs.Storing.{is_making}
-use Rattle.fe_desk.specs.Keeping.{AreToldLater, KeepsFront}
-use Rattle.fe_desk.specs.Desk.{IsDesk, IsTied, client_of, desk_of, standing_of}
+use Rattle.fe_desk.specs.Messages.{outputs}
+use Rattle.fe_desk.specs.within.Keeping.{AreToldLater, KeepsFront}
+use Rattle.fe_desk.specs.within.Desk.{IsDesk, IsAhead, client_of, desk_of, standing_of}
 use Rattle.fe_desk.proofs.Advancing.{HasStore, desk_as, tied_as}
+use Rattle.fe_desk.proofs.Outputs.{all_told-extends}
 use Rattle.fe_desk.proofs.Emptying.{boxes_empty, no_box}
 
 -- ---- clients by their numbers
@@ -43,22 +46,22 @@ numbers_as ps qs same = numbers qs ∙ same ∙ sym (numbers ps)
 
 -- ---- mails that are owed
 
--- a desk that owes nothing is settled
-pub settled_at : (s : Standing) → s.owes ≡ false → settled s ≡ s
-settled_at s none = ap (λ (b : Bool). if b then emptied s else s) none
+-- a desk that owes nothing is discharged
+pub discharged_at : (s : Standing) → s.owes ≡ false → discharged s ≡ s
+discharged_at s none = ap (λ (b : Bool). if b then emptied s else s) none
 
-pub settled_owing : (s : Standing) → s.owes ≡ true → settled s ≡ emptied s
-settled_owing s owing = ap (λ (b : Bool). if b then emptied s else s) owing
+pub discharged_owing : (s : Standing) → s.owes ≡ true → discharged s ≡ emptied s
+discharged_owing s owing = ap (λ (b : Bool). if b then emptied s else s) owing
 
--- what is settled owes nothing
-pub owes_settled : (s : Standing) → (settled s).owes ≡ false
-owes_settled s = by s.owes refl
+-- what is discharged owes nothing
+pub owes_discharged : (s : Standing) → (discharged s).owes ≡ false
+owes_discharged s = by s.owes refl
   where
     by : (b : Bool) → s.owes ≡ b → (if b then emptied s else s).owes ≡ false
     by true is = refl
     by false is = is
 
--- settled later comes to the same
+-- discharged later comes to the same
 pub emptied_later : (s t : Standing) → AreToldLater s.front s.clients t.front t.clients → t.handed ≡ s.handed → t.making ≡ s.making → t.groups ≡ s.groups → emptied t ≡ emptied s
 emptied_later s t later handed making groups =
     let front = later.front in
@@ -76,7 +79,7 @@ module _ {D : Type 0} (p q : Parts D) where
       → map (λ (port : Port). port.conn) q.trace.ports.items ≡ map (λ (port : Port). port.conn) p.trace.ports.items → IsDesk honest may_leave (desk_of q)
   emptied_desk honest may_leave desk same handed kept numbers =
       desk_as honest may_leave (desk_of p) (desk_of q) desk same
-      (subst (λ (k : KeeperState D). IsTied (standing_of q) k.state) (sym same.keeper)
+      (subst (λ (k : KeeperState D). IsAhead (standing_of q) k.state) (sym same.keeper)
       (tied_as (standing_of p) (standing_of q) p.keeper.state handed kept.out kept.pending kept.state desk.tied))
       (λ conn there.
       found_as conn (clients_in p) (clients_in q) (numbers_as p.trace.ports.items q.trace.ports.items numbers) ∙ desk.known conn (kept.none_comes conn there))
@@ -92,6 +95,13 @@ module _ {D : Type 0} (p q : Parts D) where
   some_written (Ok x) later owes handed making groups = tt
   some_written (Err e) later owes handed making groups =
       (emptied_later (standing_of p) (standing_of q) later handed making (ap (λ gs. map (λ g. g.items) gs.items) groups), owes)
+
+  -- what is written goes on from what was
+  pub written_more : (r : Result (Unit {0}) AllocError) → OnOk r (clients_in q ≡ all_told p.front (clients_in p)) → OnErr r (AreToldLater p.front (clients_in p) q.front (clients_in q))
+      → Extends (outputs (standing_of p)) (outputs (standing_of q))
+  written_more (Ok x) told later =
+      subst (λ (cs : List Client). Extends (map output_of (clients_in p)) (map output_of cs)) (sym told) (all_told-extends p.front (clients_in p))
+  written_more (Err e) told later = later.output
 
   -- no box has a mail: those of connections were emptied, and there is no other
   pub none_boxed : (r : Result (Unit {0}) AllocError) → ((conn : ℕ) → is_connected p.front conn ≡ true → is_some (find conn (clients_in p)) ≡ true) → KeepsFront p.front q.front
@@ -121,21 +131,21 @@ given_again true before next none again = absurd (true≢false none)
 
 -- ---- a step from its parts
 
-pub stepped : (s mid last t : Standing) (step : Step) → mid ≡ settled s → Acts mid step last → t ≡ emptied last → DeskStep s step t
+pub stepped : (s mid last t : Standing) (step : Step) → mid ≡ discharged s → Acts mid step last → t ≡ emptied last → DeskStep s step t
 stepped s mid last t step is acts after = record { last = last; acts = subst (λ (m : Standing). Acts m step last) is acts; after = after }
 
 -- mails that were owed are still owed
-pub stepped_settling : (s u t : Standing) (step : Step) → settled u ≡ settled s → DeskStep u step t → DeskStep s step t
+pub stepped_settling : (s u t : Standing) (step : Step) → discharged u ≡ discharged s → DeskStep u step t → DeskStep s step t
 stepped_settling s u t step same d = record { last = d.last; acts = subst (λ (m : Standing). Acts m step d.last) same d.acts; after = d.after }
 
 -- what was done of a step stands, and the rest is done from there
-pub stepped_again : (s mid u t : Standing) (step next : Step) → mid ≡ settled s → u.owes ≡ false → ((last : Standing) → Acts u next last → Acts mid step last) → DeskStep u next t → DeskStep s step t
+pub stepped_again : (s mid u t : Standing) (step next : Step) → mid ≡ discharged s → u.owes ≡ false → ((last : Standing) → Acts u next last → Acts mid step last) → DeskStep u next t → DeskStep s step t
 stepped_again s mid u t step next is none again d =
-    stepped s mid d.last t step is (again d.last (subst (λ (m : Standing). Acts m next d.last) (settled_at u none) d.acts)) d.after
+    stepped s mid d.last t step is (again d.last (subst (λ (m : Standing). Acts m next d.last) (discharged_at u none) d.acts)) d.after
 
 -- a step whose mails are owed took effect but for them
-pub stepped_owing : (s mid last u : Standing) (step : Step) → mid ≡ settled s → Acts mid step last → emptied u ≡ emptied last → u.owes ≡ true → DeskStep s step (settled u)
-stepped_owing s mid last u step is acts later owing = stepped s mid last (settled u) step is acts (settled_owing u owing ∙ later)
+pub stepped_owing : (s mid last u : Standing) (step : Step) → mid ≡ discharged s → Acts mid step last → emptied u ≡ emptied last → u.owes ≡ true → DeskStep s step (discharged u)
+stepped_owing s mid last u step is acts later owing = stepped s mid last (discharged u) step is acts (discharged_owing u owing ∙ later)
 
 -- ---- connections do nothing to the groups
 

@@ -5,8 +5,7 @@ use Rattle.fe_state.specs.State.{ServerState}
 use Rattle.fe_state.specs.History.{IsHistory, after_groups}
 use Rattle.fe_state.specs.declared.entry.Entry.{Entry}
 use Rattle.fe_keeper.specs.Keeper.{KeeperState}
-use Rattle.fe_keeper.specs.Prefix.{IsCrashPrefix}
-use Rattle.fe_keeper.specs.Stands.{StandsFor}
+use Rattle.fe_keeper.specs.Prefix.{LeavesPrefix}
 use Rattle.fe_keeper.specs.declared.fault.Fault.{Fault}
 use Rattle.fe_keeper.specs.declared.fault.Fault.TheVariants as keeper
 use Rattle.fe_desk.specs.declared.fault.DeskFault.{DeskFault}
@@ -33,12 +32,6 @@ pub record IsFrom {D : Type 0} (begun : ServerState) (d : DeskState D) : Type 0 
   pub history : IsHistory begun d.standing.groups
   pub replica : d.keeper.state ≡ after_groups begun (take d.synced d.standing.groups)
 
--- an image stands for the state after whole groups from the front of a history, k of them at least
-pub record LeavesPrefix (begun : ServerState) (groups : List (List Entry)) (k : ℕ) (image : List ℕ) : Type 0 where
-  pub state : ServerState
-  pub stands : StandsFor image state
-  pub prefix : IsCrashPrefix begun groups k state
-
 -- Calls go on with the store: the groups get more behind them, no fewer are stored, and at every moment each image that a
 -- stop leaves stands for a prefix of the history, which holds all groups that were stored before.
 pub record Advances {D : Type 0} (honest : D → Type 0) (moment : D → ℕ) (left_since : D → ℕ → List ℕ → Type 0) (old new : DeskState D) : Type 0 where
@@ -63,13 +56,13 @@ pub record HasFailed {D : Type 0} (failures : D → ℕ) (old new : DeskState D)
   pub rises : Rises (failures (disk_of old)) (failures (disk_of new))
 
 -- what the keeper tells, where it had not failed
-abbrev pub Tells : {D : Type 0} → (D → ℕ) → DeskState D → DeskState D → Fault → Type 0
-Tells failures old new keeper.Device = HasFailed failures old new
-Tells failures old new keeper.Failed = ⊥
-Tells failures old new keeper.NoMemory = IsFine failures old new
-Tells failures old new (keeper.Mismatch place) = ⊥
-Tells failures old new (keeper.Damaged offset) = ⊥
-Tells failures old new keeper.Unformatted = ⊥
+abbrev pub TellsCall : {D : Type 0} → (D → ℕ) → DeskState D → DeskState D → Fault → Type 0
+TellsCall failures old new keeper.Device = HasFailed failures old new
+TellsCall failures old new keeper.Failed = ⊥
+TellsCall failures old new keeper.NoMemory = IsFine failures old new
+TellsCall failures old new (keeper.Mismatch place) = ⊥
+TellsCall failures old new (keeper.Damaged offset) = ⊥
+TellsCall failures old new keeper.Unformatted = ⊥
 
 -- what a step tells, where the keeper had not failed
 abbrev pub TellsStep : {D : Type 0} → (D → ℕ) → DeskState D → DeskState D → DeskFault → Type 0

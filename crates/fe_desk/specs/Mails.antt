@@ -1,29 +1,8 @@
--- What a connection is written: the frames of its mails.
-use Rattle.std.specs.Prelude.{ℕ, zero, suc, List, length}
-use Rattle.std.specs.List.{flat_map}
+-- The mails of a connection are taken out of its box.
+use Rattle.std.specs.Prelude.{ℕ, zero, suc, length}
 use Rattle.fe_mail.specs.Connections.{mails_on}
-use Rattle.fe_mail.specs.Refusal.{code_of}
-use Rattle.fe_mail.specs.declared.mail.Mail.{Mail}
-use Rattle.fe_mail.specs.declared.mail.Mail.TheVariants as mail
-use Rattle.fe_wire.specs.Spelling.{reply_spelling}
-use Rattle.fe_wire.specs.declared.server_message.ServerMessage.{ServerMessage}
-use Rattle.fe_wire.specs.declared.server_message.ServerMessage.TheVariants as server
 use Rattle.fe_front.specs.Front.{FrontState}
 use Rattle.fe_front.specs.Steps.{taken}
-
--- the reply that tells a mail, without the session and the place of an answer
-abbrev pub reply_of : Mail → ServerMessage
-reply_of (mail.Welcome session floor) = server.Welcome session floor
-reply_of (mail.Answer session number answer place) = server.Answer number answer
-reply_of (mail.Refused number refusal) = server.Refused number (code_of refusal)
-reply_of (mail.Withdrawn number) = server.Withdrawn number
-reply_of (mail.Settled floor) = server.Settled floor
-reply_of (mail.Goodbye session) = server.Goodbye session
-reply_of (mail.Report text) = server.Report text
-
--- the bytes that tell mails, in their order
-abbrev pub spelled : List Mail → List ℕ
-spelled mails = flat_map (λ m. reply_spelling (reply_of m)) mails
 
 -- the front after so many mails of a connection were taken
 abbrev pub taken_times : ℕ → FrontState → ℕ → FrontState

@@ -13,7 +13,7 @@ use Rattle.fe_desk.specs.declared.step.Step.{Step}
 use Rattle.fe_desk.specs.declared.step.Step.TheVariants as step
 use Rattle.fe_desk.specs.Standing.{Standing}
 use Rattle.fe_desk.specs.Steps.{find, with_left, Reads}
-use Rattle.fe_desk.specs.Taking.{Takes}
+use Rattle.fe_messages.specs.Taking.{Takes}
 
 -- the messages of a connection number that came whole and are not taken
 abbrev pub left_of : Standing → ℕ → List ClientMessage

@@ -18,6 +18,6 @@ IsOpenFault fault =
 
 -- what a fault of opening says of the image that the disk reads
 abbrev pub TellsOpening : DeskFault → List ℕ → Type 0
-TellsOpening (Store fault) image = store.Tells fault image
-TellsOpening (NoMemory fed) image = store.Tells keeper.NoMemory image
+TellsOpening (Store fault) image = store.TellsStore fault image
+TellsOpening (NoMemory fed) image = store.TellsStore keeper.NoMemory image
 TellsOpening Unwritten image = ⊥

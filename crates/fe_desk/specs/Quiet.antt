@@ -6,14 +6,14 @@ use Rattle.fe_desk.specs.declared.step.Step.TheVariants as step
 use Rattle.fe_desk.specs.Standing.{Client, Standing}
 
 -- no reply of these waits
-abbrev pub NoneWaits : List Client → Type 0
-NoneWaits [] = ⊤
-NoneWaits (c ∷ cs) = (c.reply ≡ None) × NoneWaits cs
+abbrev pub AreWritten : List Client → Type 0
+AreWritten [] = ⊤
+AreWritten (c ∷ cs) = (c.reply ≡ None) × AreWritten cs
 
 -- no box has a mail, no reply waits, and no step owes its mails
 pub record HasNoMail (s : Standing) : Type 0 where
   pub boxes : (conn : ℕ) → mails_on s.front.connections conn ≡ []
-  pub replies : NoneWaits s.clients
+  pub replies : AreWritten s.clients
   pub owes : s.owes ≡ false
 
 -- the steps that make no mail

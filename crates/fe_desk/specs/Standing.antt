@@ -12,7 +12,8 @@ use Rattle.fe_wire.specs.declared.server_message.ServerMessage.{ServerMessage}
 use Rattle.fe_front.specs.Front.{FrontState, IsFirst}
 use Rattle.fe_desk.specs.declared.handed.Handed.{Handed}
 use Rattle.fe_desk.specs.declared.handed.Handed.TheVariants.{Nothing}
-use Rattle.fe_desk.specs.Mails.{spelled, emptied_box}
+use Rattle.fe_messages.specs.Mails.{spelled}
+use Rattle.fe_desk.specs.Mails.{emptied_box}
 
 -- A connection number as the desk knows it: what it has read of the stream, the messages that came whole and were not
 -- taken, for want of memory, the reply of a mail that was taken out of its box and is not written, and what was written to it.
@@ -68,5 +69,5 @@ abbrev pub emptied : Standing → Standing
 emptied s = record s { front = all_emptied s.front s.clients; clients = all_told s.front s.clients; owes = false }
 
 -- mails that an earlier step left are written first
-abbrev pub settled : Standing → Standing
-settled s = if s.owes then emptied s else s
+abbrev pub discharged : Standing → Standing
+discharged s = if s.owes then emptied s else s

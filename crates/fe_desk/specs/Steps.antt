@@ -7,7 +7,7 @@ use Rattle.fe_front.specs.Front.{is_connected}
 use Rattle.fe_front.specs.Steps as front
 use Rattle.fe_desk.specs.declared.step.Step.{Step}
 use Rattle.fe_desk.specs.declared.step.Step.TheVariants as step
-use Rattle.fe_desk.specs.Standing.{Client, Standing, emptied, settled}
+use Rattle.fe_desk.specs.Standing.{Client, Standing, emptied, discharged}
 use Rattle.fe_desk.specs.Storing.{cut, stored, posted, is_making}
 use Rattle.fe_desk.specs.Taking.{TakesAll}
 
@@ -106,7 +106,7 @@ Acts s step.CheckFinish t = t ≡ s
 -- A step: what an earlier one left unwritten is written, the step acts, and every box is emptied.
 pub record DeskStep (s : Standing) (step : Step) (t : Standing) : Type 0 where
   pub last : Standing
-  pub acts : Acts (settled s) step last
+  pub acts : Acts (discharged s) step last
   pub after : t ≡ emptied last
 
 -- steps, one after another

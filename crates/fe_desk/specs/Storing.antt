@@ -29,11 +29,11 @@ stored_from (Stored batch) s = s
 abbrev pub stored : Standing → Standing
 stored s = stored_from s.handed s
 
--- the batch that is stored is posted
+-- the batch that is stored is posted, which ends the making of room
 abbrev pub posted_from : Handed → Standing → Standing
 posted_from Nothing s = s
 posted_from (Cut batch) s = s
-posted_from (Stored batch) s = record s { front = posting.posted s.front batch; handed = Nothing }
+posted_from (Stored batch) s = record s { front = posting.posted s.front batch; handed = Nothing; making = None }
 
 abbrev pub posted : Standing → Standing
 posted s = posted_from s.handed s

@@ -4,13 +4,15 @@ ghost use Rattle.std.specs.Prelude.{◌≡◌, ℕ, Bool, true, false, List, map
 ghost use Rattle.fe_keeper.specs.declared.fault.Fault.TheVariants as keeper;
 ghost use Rattle.fe_desk.specs.declared.fault.DeskFault.TheVariants as fault;
 ghost use Rattle.fe_desk.specs.declared.step.Step.{Step as Steps};
-ghost use Rattle.fe_desk.specs.Standing.{Standing, settled, emptied};
+ghost use Rattle.fe_desk.specs.Output.{Extends};
+ghost use Rattle.fe_desk.specs.Standing.{Standing, discharged, emptied};
 ghost use Rattle.fe_desk.specs.Steps.{DeskStep, Acts, IsAgain};
 ghost use Rattle.fe_desk.specs.Messages.{outputs, TellsFed};
-ghost use Rattle.fe_desk.specs.Crash.{Advances, IsFine, Tells, TellsStep};
-ghost use Rattle.fe_desk.specs.Desk.{desk_of, standing_of, IsDesk};
+ghost use Rattle.fe_desk.specs.Crash.{Advances, IsFine, TellsCall, TellsStep};
+ghost use Rattle.fe_desk.specs.within.Desk.{desk_of, standing_of, IsDesk};
 ghost use Rattle.fe_desk.specs.Checks.{Checks};
-ghost use Rattle.fe_desk.specs.Quiet.{HasNoMail, mails_nothing};
+ghost use Rattle.fe_desk.specs.Ends.{discharged_desk, Lacks, FindsNoMemory, Breaks};
+ghost use Rattle.fe_desk.specs.Quiet.{HasNoMail, AreWritten, mails_nothing};
 
 use crate::fault::DeskFault;
 use crate::messages::told;
@@ -28,17 +30,22 @@ impl<D: Disk> Parts<D> {
         requires still { still ≡ true → HasNoMail (standing_of self.old) × (mails_nothing step.now ≡ true) }
         ensures desk { IsDesk D.honest D.may_leave (desk_of self.new) }
         ensures stepped { OnOk result (DeskStep (standing_of self.old) step.now (standing_of self.new)) }
-        ensures checked { OnOk result (Checks step.now self.old.keeper self.new.keeper) }
+        ensures checked { OnOk result (Checks step.now (desk_of self.old) (desk_of self.new)) }
         ensures again { (fed : Bool) (next : Steps) (t : Standing) → IsErrOf result (fault.NoMemory fed) → IsAgain fed step.now next
             → DeskStep (standing_of self.new) next t → DeskStep (standing_of self.old) step.now t }
         ensures fed { (fed : Bool) → IsErrOf result (fault.NoMemory fed) → TellsFed fed (standing_of self.old) step.now (standing_of self.new) }
-        ensures unwritten { IsErrOf result fault.Unwritten → DeskStep (standing_of self.old) step.now (settled (standing_of self.new)) × (self.new.owes ≡ true) × Checks step.now self.old.keeper self.new.keeper }
+        ensures unwritten { IsErrOf result fault.Unwritten → DeskStep (standing_of self.old) step.now (discharged (standing_of self.new)) × (self.new.owes ≡ true) × Checks step.now (desk_of self.old) (desk_of self.new) }
         ensures quiet { OnOk result (HasNoMail (standing_of self.new)) }
         ensures advances { Advances D.honest D.moment D.left_since (desk_of self.old) (desk_of self.new) }
         ensures failed { self.old.keeper.store.has_failed ≡ true → (result ≡ Err (fault.Store keeper.Failed)) × (desk_of self.new ≡ desk_of self.old) }
         ensures fine { self.old.keeper.store.has_failed ≡ false → OnOk result (IsFine D.failures (desk_of self.old) (desk_of self.new)) }
         ensures fault { self.old.keeper.store.has_failed ≡ false → IfErr result (TellsStep D.failures (desk_of self.old) (desk_of self.new)) }
-        ensures silent { IsErrOf result (fault.Store keeper.Device) → outputs (standing_of self.new) ≡ outputs (settled (standing_of self.old)) }
+        ensures silent { IsErrOf result (fault.Store keeper.Device) → outputs (standing_of self.new) ≡ outputs (discharged (standing_of self.old)) }
+        ensures output { (fed : Bool) → IsErrOf result (fault.NoMemory fed) → self.old.owes ≡ false → outputs (standing_of self.new) ≡ outputs (standing_of self.old) }
+        ensures extends { Extends (outputs (standing_of self.old)) (outputs (standing_of self.new)) }
+        ensures short { (fed : Bool) → IsErrOf result (fault.NoMemory fed) → FindsNoMemory fed step.now (desk_of self.old) (desk_of self.new) }
+        ensures breaks { IsErrOf result (fault.Store keeper.Device) → Breaks step.now (discharged_desk (desk_of self.old)) (desk_of self.new) }
+        ensures waits { IsErrOf result fault.Unwritten → AreWritten (standing_of self.new).clients → ⊥ }
     {
         if self.keeper.has_failed() {
             return Err(DeskFault::Store(Fault::Failed));
@@ -57,11 +64,13 @@ impl<D: Disk> Parts<D> {
     fn settle(&mut self) -> Result<(), AllocError>
         requires desk { IsDesk D.honest D.may_leave (desk_of self.old) }
         ensures desk { IsDesk D.honest D.may_leave (desk_of self.new) }
-        ensures settled { OnOk result (standing_of self.new ≡ settled (standing_of self.old)) }
-        ensures later { OnErr result (settled (standing_of self.new) ≡ settled (standing_of self.old)) }
+        ensures discharged { OnOk result (standing_of self.new ≡ discharged (standing_of self.old)) }
+        ensures later { OnErr result (discharged (standing_of self.new) ≡ discharged (standing_of self.old)) }
         ensures keeper { self.new.keeper ≡ self.old.keeper }
         ensures synced { self.new.trace.synced ≡ self.old.trace.synced }
         ensures groups { (standing_of self.new).groups ≡ (standing_of self.old).groups }
+        ensures extends { Extends (outputs (standing_of self.old)) (outputs (standing_of self.new)) }
+        ensures owed { OnErr result (self.old.owes ≡ true) }
     {
         if self.owes {
             return self.empty();
@@ -80,6 +89,8 @@ impl<D: Disk> Parts<D> {
         ensures keeper { self.new.keeper ≡ self.old.keeper }
         ensures synced { self.new.trace.synced ≡ self.old.trace.synced }
         ensures groups { (standing_of self.new).groups ≡ (standing_of self.old).groups }
+        ensures extends { Extends (outputs (standing_of self.old)) (outputs (standing_of self.new)) }
+        ensures waits { OnErr result (AreWritten (standing_of self.new).clients → ⊥) }
     {
         if still {
             return Ok(());
@@ -97,6 +108,8 @@ impl<D: Disk> Parts<D> {
         ensures keeper { self.new.keeper ≡ self.old.keeper }
         ensures synced { self.new.trace.synced ≡ self.old.trace.synced }
         ensures groups { (standing_of self.new).groups ≡ (standing_of self.old).groups }
+        ensures extends { Extends (outputs (standing_of self.old)) (outputs (standing_of self.new)) }
+        ensures waits { OnErr result (AreWritten (standing_of self.new).clients → ⊥) }
     {
         let outcome = empty_boxes(&mut self.front, &mut self.trace.ports);
         self.owes = outcome.is_err();
@@ -109,7 +122,7 @@ impl<D: Disk> Parts<D> {
         requires works { self.old.keeper.store.has_failed ≡ false }
         ensures desk { IsDesk D.honest D.may_leave (desk_of self.new) }
         ensures acts { OnOk result (Acts (standing_of self.old) step.now (standing_of self.new)) }
-        ensures checked { OnOk result (Checks step.now self.old.keeper self.new.keeper) }
+        ensures checked { OnOk result (Checks step.now (desk_of self.old) (desk_of self.new)) }
         ensures again { (fed : Bool) (next : Steps) (t : Standing) → IsErrOf result (fault.NoMemory fed) → IsAgain fed step.now next
             → Acts (standing_of self.new) next t → Acts (standing_of self.old) step.now t }
         ensures fed { (fed : Bool) → IsErrOf result (fault.NoMemory fed) → TellsFed fed (standing_of self.old) step.now (standing_of self.new) }
@@ -119,6 +132,8 @@ impl<D: Disk> Parts<D> {
         ensures fine { OnOk result (IsFine D.failures (desk_of self.old) (desk_of self.new)) }
         ensures fault { IfErr result (TellsStep D.failures (desk_of self.old) (desk_of self.new)) }
         ensures written { OnErr result (IsErrOf result fault.Unwritten → ⊥) }
+        ensures lacks { (fed : Bool) → IsErrOf result (fault.NoMemory fed) → Lacks fed step.now (desk_of self.old) (desk_of self.new) }
+        ensures breaks { IsErrOf result (fault.Store keeper.Device) → Breaks step.now (desk_of self.old) (desk_of self.new) }
     {
         match step {
             Step::Connect { conn } => self
@@ -150,10 +165,12 @@ impl<D: Disk> Parts<D> {
         requires works { self.old.keeper.store.has_failed ≡ false }
         ensures desk { IsDesk D.honest D.may_leave (desk_of self.new) }
         ensures standing { standing_of self.new ≡ standing_of self.old }
-        ensures checked { OnOk result (Checks step.now self.old.keeper self.new.keeper) }
+        ensures checked { OnOk result (Checks step.now (desk_of self.old) (desk_of self.new)) }
         ensures advances { Advances D.honest D.moment D.left_since (desk_of self.old) (desk_of self.new) }
         ensures fine { OnOk result (IsFine D.failures (desk_of self.old) (desk_of self.new)) }
-        ensures fault { IfErr result (Tells D.failures (desk_of self.old) (desk_of self.new)) }
+        ensures fault { IfErr result (TellsCall D.failures (desk_of self.old) (desk_of self.new)) }
+        ensures lacks { IsErrOf result keeper.NoMemory → Lacks false step.now (desk_of self.old) (desk_of self.new) }
+        ensures breaks { IsErrOf result keeper.Device → Breaks step.now (desk_of self.old) (desk_of self.new) }
     {
         match step {
             Step::CheckBegin => {

@@ -4,8 +4,8 @@ ghost use Rattle.std.specs.Prelude.{◌≡◌, false, nat_eq, [], map, position,
 ghost use Rattle.fe_front.specs.Front.{is_connected};
 ghost use Rattle.fe_desk.specs.Steps as steps;
 ghost use Rattle.fe_desk.specs.Steps.{find, with_left, Connects};
-ghost use Rattle.fe_desk.specs.Places.{IsFirstAt, Joins};
-ghost use Rattle.fe_desk.specs.Desk.{client_of, desk_of, standing_of, IsDesk};
+ghost use Rattle.fe_desk.specs.within.Places.{IsFirstAt, Joins};
+ghost use Rattle.fe_desk.specs.within.Desk.{client_of, desk_of, standing_of, IsDesk};
 
 use crate::parts::Parts;
 use crate::port::Port;
@@ -27,6 +27,7 @@ impl<D: Disk> Parts<D> {
         ensures desk { IsDesk D.honest D.may_leave (desk_of self.new) }
         ensures connected { OnOk result (MatchBool (is_connected self.old.front conn) (standing_of self.new ≡ standing_of self.old) (Connects (standing_of self.old) conn (standing_of self.new))) }
         ensures err { OnErr result (standing_of self.new ≡ standing_of self.old) }
+        ensures unconnected { OnErr result (is_connected self.old.front conn ≡ false) }
         ensures keeper { self.new.keeper ≡ self.old.keeper }
         ensures synced { self.new.trace.synced ≡ self.old.trace.synced }
     {

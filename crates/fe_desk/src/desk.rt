@@ -1,16 +1,21 @@
-ghost use Rattle.std.specs.Prelude.{◌≡◌, ℕ, Bool, true, false, List, map, Ok, Err, IfErr, OnOk, OnErr, IsErrOf, [], length};
+ghost use Rattle.std.specs.Prelude.{◌≡◌, ◌≤◌, ℕ, Bool, true, false, List, map, Ok, Err, IfErr, OnOk, OnErr, IsErrOf, [], length};
 ghost use Rattle.fe_state.specs.State.{ServerState};
+ghost use Rattle.fe_journal.specs.Layout.{device_bytes};
 ghost use Rattle.fe_keeper.specs.declared.fault.Fault.TheVariants as keeper;
 ghost use Rattle.fe_mail.specs.Connections.{mails_on};
 ghost use Rattle.fe_front.specs.Front.{IsFirst};
 ghost use Rattle.fe_keeper.specs.Stands.{EachStandsFor};
+ghost use Rattle.fe_keeper.specs.Prefix.{LeavesPrefix};
 ghost use Rattle.fe_desk.specs.declared.fault.DeskFault.TheVariants as fault;
 ghost use Rattle.fe_desk.specs.declared.step.Step.{Step as Steps};
-ghost use Rattle.fe_desk.specs.Standing.{Standing, IsFirstStanding, settled};
+ghost use Rattle.fe_desk.specs.Output.{Extends};
+ghost use Rattle.fe_desk.specs.Standing.{Standing, IsFirstStanding, discharged};
 ghost use Rattle.fe_desk.specs.Steps.{DeskStep, Acts, IsAgain};
 ghost use Rattle.fe_desk.specs.Checks.{Checks};
 ghost use Rattle.fe_desk.specs.Messages.{outputs, TellsFed};
-ghost use Rattle.fe_desk.specs.Crash.{DeskState, Advances, IsFrom, IsFine, TellsStep, LeavesPrefix, disk_of};
+ghost use Rattle.fe_desk.specs.Crash.{DeskState, Advances, IsFrom, IsFine, TellsStep, disk_of};
+ghost use Rattle.fe_desk.specs.Ends.{discharged_desk, FindsNoMemory, Breaks};
+ghost use Rattle.fe_desk.specs.Quiet.{AreWritten};
 ghost use Rattle.fe_desk.specs.Traces.{IsTraceOf};
 
 use crate::fault::DeskFault;
@@ -46,7 +51,7 @@ impl<D: Disk> Model for Desk<D> {
     ghost coded = { Prim.hlevel (codes, state_code, front_code) };
 
     ghost use Rattle.std.specs.Prelude.{◌≡◌, true};
-    ghost use Rattle.fe_desk.specs.Desk.{desk_of, standing_of, IsDesk};
+    ghost use Rattle.fe_desk.specs.within.Desk.{desk_of, standing_of, IsDesk};
     ghost use Rattle.fe_desk.specs.Quiet.{HasNoMail};
 
     ghost view = { λ d. desk_of d.parts };
@@ -82,30 +87,36 @@ impl<D: Disk> Desk<D> {
     ///
     /// After a fault of the device each step answers `Store(Failed)` and does nothing.
     pub fn step(&mut self, step: &Step) -> Result<(), DeskFault>
-        // The step of a run, whatever pieces the bytes come in.
+        // Of a schedule: the step of a run, whatever pieces the bytes come in. To the store it does what it says, and no more.
         ensures stepped { OnOk result (DeskStep self.old.standing step.now self.new.standing) }
-        // Where memory is short, the step is given again, to the same effect.
-        ensures again { (fed : Bool) (next : Steps) (t : Standing) → IsErrOf result (fault.NoMemory fed) → IsAgain fed step.now next
-            → DeskStep self.new.standing next t → DeskStep self.old.standing step.now t }
-        // With `fed` the bytes of the step were read and are not given again; without it no connection has read anything.
-        ensures fed { (fed : Bool) → IsErrOf result (fault.NoMemory fed) → TellsFed fed self.old.standing step.now self.new.standing }
-        ensures unwritten { IsErrOf result fault.Unwritten → DeskStep self.old.standing step.now (settled self.new.standing) × (self.new.standing.owes ≡ true) × Checks step.now self.old.keeper self.new.keeper }
-        // A checkpoint goes on as the step says.
-        ensures checked { OnOk result (Checks step.now self.old.keeper self.new.keeper) }
+        ensures checked { OnOk result (Checks step.now self.old self.new) }
         ensures boxes { OnOk result ((conn : ℕ) → mails_on self.new.standing.front.connections conn ≡ []) }
 
-        // The groups are a history from the state that was opened. A stop at any moment leaves a prefix of it, with all
-        // groups that were stored before.
+        // Of a crash: the groups are a history from the state that was opened. A stop at any moment leaves a prefix of it, with
+        // all groups that were stored before.
         ensures advances { Advances D.honest D.moment D.left_since self.old self.new }
         ensures stands { D.honest (disk_of self.new) → (begun : ServerState) → IsFrom begun self.new → (image : List ℕ) → D.may_leave (disk_of self.new) image
             → LeavesPrefix begun self.new.standing.groups self.new.synced image }
+        ensures few { self.new.synced ≤ length self.new.standing.groups }
         ensures synced { self.new.keeper.store.has_failed ≡ false → self.new.synced ≡ length self.new.standing.groups }
 
+        // Of faults: where memory is short, the step is given again to the same effect, with an empty piece where its bytes
+        // were read (`fed`). What a step at fault did is said of each fault, and nothing else is done.
+        ensures again { (fed : Bool) (next : Steps) (t : Standing) → IsErrOf result (fault.NoMemory fed) → IsAgain fed step.now next
+            → DeskStep self.new.standing next t → DeskStep self.old.standing step.now t }
+        ensures fed { (fed : Bool) → IsErrOf result (fault.NoMemory fed) → TellsFed fed self.old.standing step.now self.new.standing }
+        ensures short { (fed : Bool) → IsErrOf result (fault.NoMemory fed) → FindsNoMemory fed step.now self.old self.new }
+        ensures unwritten { IsErrOf result fault.Unwritten → DeskStep self.old.standing step.now (discharged self.new.standing) × (self.new.standing.owes ≡ true) × Checks step.now self.old self.new }
+        ensures waits { IsErrOf result fault.Unwritten → AreWritten self.new.standing.clients → ⊥ }
+        ensures breaks { IsErrOf result (fault.Store keeper.Device) → Breaks step.now (discharged_desk self.old) self.new }
+        ensures silent { IsErrOf result (fault.Store keeper.Device) → outputs self.new.standing ≡ outputs (discharged self.old.standing) }
         ensures failed { self.old.keeper.store.has_failed ≡ true → (result ≡ Err (fault.Store keeper.Failed)) × (self.new ≡ self.old) }
         ensures fine { self.old.keeper.store.has_failed ≡ false → OnOk result (IsFine D.failures self.old self.new) }
         ensures fault { self.old.keeper.store.has_failed ≡ false → IfErr result (TellsStep D.failures self.old self.new) }
-        // Nothing of a step that the device failed is written.
-        ensures silent { IsErrOf result (fault.Store keeper.Device) → outputs self.new.standing ≡ outputs (settled self.old.standing) }
+
+        // Of what is written: it goes on from what was, and a step that memory was short for adds nothing, where no mails were owed.
+        ensures output { (fed : Bool) → IsErrOf result (fault.NoMemory fed) → self.old.standing.owes ≡ false → outputs self.new.standing ≡ outputs self.old.standing }
+        ensures extends { Extends (outputs self.old.standing) (outputs self.new.standing) }
     {
         let still = self.quiet && step.mails_nothing();
         let outcome = self.parts.step(step, still);
@@ -131,6 +142,7 @@ impl<D: Disk> Desk<D> {
     pub(crate) fn into_parts(self) -> (Trace, D)
         ensures trace { IsTraceOf result.0 self.standing self.synced }
         ensures disk { result.1 ≡ disk_of self }
+        ensures size { D.size result.1 ≡ device_bytes }
         ensures stands { D.honest (disk_of self) → (begun : ServerState) → IsFrom begun self → (image : List ℕ) → D.may_leave (disk_of self) image
             → LeavesPrefix begun self.standing.groups self.synced image }
     {
@@ -141,7 +153,8 @@ impl<D: Disk> Desk<D> {
 
     /// The disk, as the steps left it.
     pub fn into_disk(self) -> D
-        ensures { result ≡ disk_of self }
+        ensures disk { result ≡ disk_of self }
+        ensures size { D.size result ≡ device_bytes }
     {
         let Desk { parts, .. } = self;
         let Parts { keeper, .. } = parts;

@@ -1,9 +1,36 @@
 //! Laws of histories over stops.
 
+ghost use Rattle.fe_desk.specs.Acknowledged.{AcknowledgedStand};
 ghost use Rattle.fe_desk.specs.Laws.{LivesJoin};
+ghost use Rattle.fe_desk.specs.Lives.{StopsAreLives, GivenAgain};
+
+use fe_keeper::images_stand_for_one;
 
 /// Over any number of stops, what each of them kept and what came behind the last is one history, in which no number of a
 /// session takes effect twice (`fe_state::numbers_finish_once`).
 pub fn lives_join()
     ensures { LivesJoin }
+{}
+
+/// Each answer that was written, or lies in a box to be written, is that of an entry of the groups that were stored before,
+/// at the entry's place, and the operation table's in the state there; or it was kept when the store was opened. And each
+/// welcome, goodbye and settled floor is that of an entry of those groups.
+pub fn acknowledged_answers_stand()
+    ensures { AcknowledgedStand }
+{}
+
+/// Over any number of stops, where each store was opened from the image that the stop before left, one history stands: it
+/// has what each stop kept, and goes on with the groups of the last desk. A request number takes effect once in it while its
+/// session is kept. And each answer, welcome, goodbye and settled floor that was written in any of the lives is that of its
+/// entry in it.
+pub fn stops_are_lives()
+    ensures { StopsAreLives }
+{
+    images_stand_for_one();
+}
+
+/// Steps that found no memory, and are given again until they are taken, are the run of those steps. The mails that the last
+/// of them owes are written by the next step.
+pub fn steps_are_given_again()
+    ensures { GivenAgain }
 {}

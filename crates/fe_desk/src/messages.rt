@@ -1,23 +1,26 @@
 //! Bytes of a connection, and the messages in them.
 
-ghost use Rattle.std.specs.Prelude.{◌≡◌, ◌<◌, Bool, false, true, List, [], ◌∷◌, length, map, if◌then◌else◌, IfErr, OnOk, IsErrOf, IsTrue, MatchBool};
+ghost use Rattle.std.specs.Prelude.{◌≡◌, ◌<◌, ◌⊎◌, Bool, false, true, List, [], ◌∷◌, length, map, if◌then◌else◌, IfErr, OnOk, IsErrOf, IsTrue, MatchBool};
 ghost use Rattle.fe_front.specs.Front.{has_room};
 ghost use Rattle.fe_keeper.specs.declared.fault.Fault.TheVariants as keeper;
 ghost use Rattle.fe_desk.specs.declared.fault.DeskFault.TheVariants as fault;
 ghost use Rattle.fe_desk.specs.Standing.{Standing};
 ghost use Rattle.fe_desk.specs.Taking.{TakesAll};
 ghost use Rattle.fe_desk.specs.Steps.{find, with_left, TakesBytes};
-ghost use Rattle.fe_desk.specs.Places.{IsFirstAt};
+ghost use Rattle.fe_desk.specs.within.Places.{IsFirstAt};
 ghost use Rattle.fe_desk.specs.Messages.{left_of, outputs, told_as, TakesNext, EndsWith, ReadsNone, ReadsPiece};
-ghost use Rattle.fe_desk.specs.Crash.{Advances, IsFine, Tells, TellsStep};
-ghost use Rattle.fe_desk.specs.Desk.{client_of, desk_of, standing_of, IsDesk};
+ghost use Rattle.fe_desk.specs.Crash.{Advances, IsFine, TellsCall, TellsStep};
+ghost use Rattle.fe_desk.specs.Stopping.{StopsBefore, StopsUnread, StopsBehind};
+ghost use Rattle.fe_desk.specs.Checks.{StoresMore};
+ghost use Rattle.fe_desk.specs.Ends.{Tears, TearsBytes};
+ghost use Rattle.fe_desk.specs.within.Desk.{client_of, desk_of, standing_of, IsDesk};
 
 use crate::fault::DeskFault;
 use crate::parts::Parts;
 use crate::port::Port;
-use crate::taking::take_message;
 use fe_disk::Disk;
 use fe_keeper::Fault;
+use fe_messages::take_message;
 use fe_wire::ClientMessage;
 
 impl<D: Disk> Parts<D> {
@@ -39,6 +42,11 @@ impl<D: Disk> Parts<D> {
         ensures advances { Advances D.honest D.moment D.left_since (desk_of self.old) (desk_of self.new) }
         ensures fine { OnOk result (IsFine D.failures (desk_of self.old) (desk_of self.new)) }
         ensures fault { IfErr result (TellsStep D.failures (desk_of self.old) (desk_of self.new)) }
+        ensures stops { (fed : Bool) → IsErrOf result (fault.NoMemory fed)
+            → MatchBool fed (StopsBehind (standing_of self.old) conn piece.now (standing_of self.new))
+            (StopsBefore (standing_of self.old) conn (standing_of self.new) ⊎ StopsUnread (standing_of self.old) conn (standing_of self.new)) }
+        ensures torn { IsErrOf result (fault.Store keeper.Device) → TearsBytes (standing_of self.old) conn piece.now (desk_of self.new) }
+        ensures grows { self.new.keeper.store.has_failed ≡ false → StoresMore (desk_of self.old) (desk_of self.new) }
         ensures written { IsErrOf result fault.Unwritten → ⊥ }
     {
         let Some(at) = self.place_of(conn) else {
@@ -80,7 +88,10 @@ impl<D: Disk> Parts<D> {
         ensures owes { self.new.owes ≡ self.old.owes }
         ensures advances { Advances D.honest D.moment D.left_since (desk_of self.old) (desk_of self.new) }
         ensures fine { OnOk result (IsFine D.failures (desk_of self.old) (desk_of self.new)) }
-        ensures fault { IfErr result (Tells D.failures (desk_of self.old) (desk_of self.new)) }
+        ensures fault { IfErr result (TellsCall D.failures (desk_of self.old) (desk_of self.new)) }
+        ensures stops { IsErrOf result keeper.NoMemory → StopsBefore (standing_of self.old) conn (standing_of self.new) }
+        ensures torn { IsErrOf result keeper.Device → (last : Standing) × StopsBefore (standing_of self.old) conn last × Tears last (desk_of self.new) }
+        ensures grows { self.new.keeper.store.has_failed ≡ false → StoresMore (desk_of self.old) (desk_of self.new) }
     {
         while self.trace.ports[at].has_left() {
             self.make_room(conn)?;

@@ -20,49 +20,54 @@ use fe_front::Front;
 use fe_keeper::Keeper;
 use std::alloc::Global;
 
-/// Opens a store: a sync, and then only reads. The desk begins with the state that the disk stands for: nothing waits, and
-/// no connection is there.
-pub fn open<D: Disk>(alloc: Global, disk: D) -> Result<Desk<D>, (DeskFault, D)>
-    ensures opened { D.honest disk → IfOk result (λ desk. StandsFor (D.seen disk) desk.keeper.state) }
-    ensures stands { D.honest disk → IfOk result (λ desk. EachStandsFor D.may_leave (disk_of desk) desk.keeper.state) }
-    ensures first { IfOk result (λ desk. IsFirstStanding desk.keeper.state desk.standing × (desk.synced ≡ 0)) }
-    // A store that stands for a state is refused only for its device or for memory.
-    ensures refused { D.honest disk → (s : ServerState) → StandsFor (D.seen disk) s → IfErr result (λ e. (e.0 ≡ Store keeper.Device) ⊎ (e.0 ≡ NoMemory false)) }
-    // What is told of a store is so, and an unformatted one is told so, whatever memory there is.
-    ensures told { D.honest disk → IfErr result (λ e. TellsOpening e.0 (D.seen disk)) }
-    ensures unformatted { D.honest disk → IsUnformatted (D.seen disk) → IsErrAnd result (λ e. (e.0 ≡ Store keeper.Unformatted) ⊎ (e.0 ≡ Store keeper.Device)) }
-    ensures reads { D.honest disk → OnlyReads D.seen D.may_leave D.moment D.left_since disk (disk_after result) }
-    ensures works { IfOk result (λ desk. desk.keeper.store.has_failed ≡ false) }
-    ensures none_under_way { IfOk result (λ desk. desk.keeper.store.checkpoint ≡ None) }
-    ensures device { IfErr result (λ e. (e.0 ≡ Store keeper.Device) ↔ Rises (D.failures disk) (D.failures e.1)) }
-    ensures still { IfOk result (λ desk. D.failures (disk_of desk) ≡ D.failures disk) }
-    ensures faults { IfErr result (λ e. IsOpenFault e.0) }
-    ensures honesty { D.honest (disk_after result) ↔ D.honest disk }
-    ensures size { D.size (disk_after result) ≡ D.size disk }
-{
-    match fe_keeper::open(alloc, disk) {
-        Ok(keeper) => desk_over(alloc, keeper),
-        Err((fault, disk)) => Err((told(fault, false), disk)),
+impl<D: Disk> Desk<D> {
+    /// Opens a store: a sync, and then only reads. The desk begins with the state that the disk stands for: nothing waits, and
+    /// no connection is there.
+    pub fn open(alloc: Global, disk: D) -> Result<Desk<D>, (DeskFault, D)>
+        ensures opened { D.honest disk → IfOk result (λ desk. StandsFor (D.seen disk) desk.keeper.state) }
+        ensures stands { D.honest disk → IfOk result (λ desk. EachStandsFor D.may_leave (disk_of desk) desk.keeper.state) }
+        ensures first { IfOk result (λ desk. IsFirstStanding desk.keeper.state desk.standing × (desk.synced ≡ 0)) }
+        // A store that stands for a state is refused only for its device or for memory.
+        ensures refused { D.honest disk → (s : ServerState) → StandsFor (D.seen disk) s → IfErr result (λ e. (e.0 ≡ Store keeper.Device) ⊎ (e.0 ≡ NoMemory false)) }
+        // What is told of a store is so, and an unformatted one is told so, whatever memory there is.
+        ensures told { D.honest disk → IfErr result (λ e. TellsOpening e.0 (D.seen disk)) }
+        ensures unformatted { D.honest disk → IsUnformatted (D.seen disk) → IsErrAnd result (λ e. (e.0 ≡ Store keeper.Unformatted) ⊎ (e.0 ≡ Store keeper.Device)) }
+        ensures reads { D.honest disk → OnlyReads D.seen D.may_leave D.moment D.left_since disk (disk_after result) }
+        ensures works { IfOk result (λ desk. desk.keeper.store.has_failed ≡ false) }
+        ensures none_under_way { IfOk result (λ desk. desk.keeper.store.checkpoint ≡ None) }
+        ensures device { IfErr result (λ e. (e.0 ≡ Store keeper.Device) ↔ Rises (D.failures disk) (D.failures e.1)) }
+        ensures still { IfOk result (λ desk. D.failures (disk_of desk) ≡ D.failures disk) }
+        ensures faults { IfErr result (λ e. IsOpenFault e.0) }
+        ensures honesty { D.honest (disk_after result) ↔ D.honest disk }
+        ensures size { D.size (disk_after result) ≡ D.size disk }
+        ensures sized { IfOk result (λ desk. D.size disk ≡ device_bytes) }
+    {
+        match Keeper::open(alloc, disk) {
+            Ok(keeper) => desk_over(alloc, keeper),
+            Err((fault, disk)) => Err((told(fault, false), disk)),
+        }
     }
-}
 
-/// Makes a new store of format 2 on the device, whatever was there. Where memory is short the device may be formatted already.
-pub fn format<D: Disk>(alloc: Global, disk: D) -> Result<Desk<D>, (DeskFault, D)>
-    ensures formatted { D.honest disk → IfOk result (λ desk. EachStandsFor D.may_leave (disk_of desk) first_state) }
-    ensures first { IfOk result (λ desk. IsFirstStanding first_state desk.standing × (desk.keeper.state ≡ first_state) × (desk.synced ≡ 0)) }
-    ensures store { IfOk result (λ desk. desk.keeper.store ≡ first_store (disk_of desk)) }
-    ensures unformatted { IfErr result (λ e. (e.0 ≡ Store keeper.Unformatted) ↔ (D.size disk ≢ device_bytes)) }
-    ensures works { IfOk result (λ desk. desk.keeper.store.has_failed ≡ false) }
-    ensures device { IfErr result (λ e. e.0 ≡ Store keeper.Device → Rises (D.failures disk) (D.failures e.1)) }
-    // Another fault is told where no call of the device failed.
-    ensures still { IfOk result (λ desk. D.failures (disk_of desk) ≡ D.failures disk) }
-    ensures calm { IfErr result (λ e. e.0 ≢ Store keeper.Device → D.failures e.1 ≡ D.failures disk) }
-    ensures faults { IfErr result (λ e. (e.0 ≡ Store keeper.Device) ⊎ ((e.0 ≡ Store keeper.Unformatted) ⊎ (e.0 ≡ NoMemory false))) }
-    ensures honesty { D.honest (disk_after result) ↔ D.honest disk }
-{
-    match fe_keeper::format(alloc, disk) {
-        Ok(keeper) => desk_over(alloc, keeper),
-        Err((fault, disk)) => Err((told(fault, false), disk)),
+    /// Makes a new store of format 2 on the device, whatever was there. Where memory is short the device may be formatted already.
+    pub fn format(alloc: Global, disk: D) -> Result<Desk<D>, (DeskFault, D)>
+        ensures formatted { D.honest disk → IfOk result (λ desk. EachStandsFor D.may_leave (disk_of desk) first_state) }
+        ensures first { IfOk result (λ desk. IsFirstStanding first_state desk.standing × (desk.keeper.state ≡ first_state) × (desk.synced ≡ 0)) }
+        ensures store { IfOk result (λ desk. desk.keeper.store ≡ first_store (disk_of desk)) }
+        ensures sized { IfOk result (λ desk. D.size disk ≡ device_bytes) }
+        ensures unformatted { IfErr result (λ e. (e.0 ≡ Store keeper.Unformatted) ↔ (D.size disk ≢ device_bytes)) }
+        ensures works { IfOk result (λ desk. desk.keeper.store.has_failed ≡ false) }
+        ensures device { IfErr result (λ e. e.0 ≡ Store keeper.Device → Rises (D.failures disk) (D.failures e.1)) }
+        // Another fault is told where no call of the device failed.
+        ensures still { IfOk result (λ desk. D.failures (disk_of desk) ≡ D.failures disk) }
+        ensures calm { IfErr result (λ e. e.0 ≢ Store keeper.Device → D.failures e.1 ≡ D.failures disk) }
+        ensures faults { IfErr result (λ e. (e.0 ≡ Store keeper.Device) ⊎ ((e.0 ≡ Store keeper.Unformatted) ⊎ (e.0 ≡ NoMemory false))) }
+        ensures honesty { D.honest (disk_after result) ↔ D.honest disk }
+        ensures size { D.size (disk_after result) ≡ D.size disk }
+    {
+        match Keeper::format(alloc, disk) {
+            Ok(keeper) => desk_over(alloc, keeper),
+            Err((fault, disk)) => Err((told(fault, false), disk)),
+        }
     }
 }
 

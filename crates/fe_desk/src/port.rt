@@ -1,6 +1,6 @@
 //! The server's end of the connections of one number.
 
-ghost use Rattle.std.specs.Prelude.{◌≡◌, ℕ, [], nat_lt, length, ◌++◌, None, Some, true, OnOk, OnErr, IfOk, slice_get};
+ghost use Rattle.std.specs.Prelude.{◌≡◌, ◌≢◌, ℕ, [], nat_lt, length, ◌++◌, None, Some, true, OnOk, OnErr, IfOk, slice_get};
 ghost use Rattle.std.specs.Option.{option_map_or};
 ghost use Rattle.fe_mail.specs.Connections.{mails_on};
 ghost use Rattle.fe_front.specs.Steps.{taken};
@@ -8,13 +8,13 @@ ghost use Rattle.fe_wire.specs.Spelling.{reply_spelling};
 ghost use Rattle.fe_desk.specs.Mails.{emptied_box};
 ghost use Rattle.fe_desk.specs.Standing.{told};
 ghost use Rattle.fe_desk.specs.Steps.{BeginsStream, Reads, new_client};
-ghost use Rattle.fe_desk.specs.Desk.{client_of};
-ghost use Rattle.fe_desk.specs.Keeping.{KeepsFront, KeepsEmpty, IsToldLater};
+ghost use Rattle.fe_desk.specs.within.Desk.{client_of};
+ghost use Rattle.fe_desk.specs.within.Keeping.{KeepsFront, KeepsEmpty, IsToldLater};
 
-use crate::reply::Reply;
 use crate::written::Written;
 use fe_front::Front;
 use fe_mail::Mail;
+use fe_messages::Reply;
 use fe_wire::{ClientMessage, Decoder, Version};
 use std::alloc::{AllocError, Global};
 use std::mem;
@@ -94,6 +94,7 @@ impl Port {
         ensures emptied { OnOk result (front.new ≡ emptied_box front.old self.old.conn) }
         // What is not written is written later, to the same effect.
         ensures later { OnErr result (IsToldLater front.old (client_of self.old) front.new (client_of self.new)) }
+        ensures waits { OnErr result (self.new.reply ≢ None) }
         ensures front { KeepsFront front.old front.new }
         ensures empty { KeepsEmpty front.old front.new }
     {
@@ -108,6 +109,7 @@ impl Port {
     fn write_waiting(&mut self) -> Result<(), AllocError>
         ensures written { OnOk result (client_of self.new ≡ record (client_of self.old) { reply = None; written = self.old.written ++ option_map_or reply_spelling self.old.reply [] }) }
         ensures err { OnErr result (client_of self.new ≡ client_of self.old) }
+        ensures waits { OnErr result (self.new.reply ≢ None) }
     {
         if self.reply.is_none() {
             return Ok(());

@@ -1,15 +1,15 @@
-ghost use Rattle.std.specs.Prelude.{◌≡◌, None, List, ℕ, false, length};
+ghost use Rattle.std.specs.Prelude.{◌≡◌, ◌↔◌, None, List, ℕ, false, length};
 ghost use Rattle.fe_disk.specs.Disk.{LeavesOnly};
 ghost use Rattle.fe_state.specs.State.{ServerState};
 ghost use Rattle.fe_state.specs.History.{IsHistory};
 ghost use Rattle.fe_keeper.specs.Stands.{EachStandsFor};
-ghost use Rattle.fe_desk.specs.Crash.{Advances, IsFrom, LeavesPrefix, disk_of};
-ghost use Rattle.fe_desk.specs.Runs.{IsRunOf, IsTaken, HasOpened};
+ghost use Rattle.fe_keeper.specs.Prefix.{LeavesPrefix};
+ghost use Rattle.fe_desk.specs.Crash.{Advances, IsFrom, disk_of};
+ghost use Rattle.fe_desk.specs.Runs.{IsRunOf, IsTaken, CountsEnd};
 ghost use Rattle.fe_desk.specs.Traces.{groups_of};
 
 use crate::desk::Desk;
 use crate::fault::DeskFault;
-use crate::opening::open;
 use crate::step::Step;
 use crate::trace::Trace;
 use fe_disk::Disk;
@@ -27,17 +27,20 @@ pub struct Ran<D: Disk> {
 
 /// Opens a store and takes the steps, in order, as far as to a fault.
 pub fn run<D: Disk>(alloc: Global, disk: D, steps: &[Step]) -> Ran<D>
-    // The trace is that of a run of the steps, all of them or those as far as to the one at fault.
-    ensures ran { IsRunOf D.honest D.seen disk steps.now result.trace result.fault }
+    // The run ends at the opening, at a step, or whole: what was done, what is told, and whether the device failed.
+    ensures ran { IsRunOf D.honest D.seen D.failures disk steps.now result }
     // A stop at any moment leaves a prefix of the history, which begins with the state that was there.
     ensures history { D.honest disk → (s : ServerState) → EachStandsFor D.may_leave disk s → IsHistory s (groups_of result.trace) }
     ensures any_moment { D.honest disk → (s : ServerState) → EachStandsFor D.may_leave disk s
         → LeavesOnly D.moment D.left_since disk result.disk (LeavesPrefix s (groups_of result.trace) 0) }
     // And at the end one that holds all groups that were stored.
-    ensures stands { D.honest disk → (s : ServerState) → EachStandsFor D.may_leave disk s → HasOpened result.fault
+    ensures stands { D.honest disk → (s : ServerState) → EachStandsFor D.may_leave disk s
         → (image : List ℕ) → D.may_leave result.disk image → LeavesPrefix s (groups_of result.trace) result.trace.synced image }
+    // The disk is one to open again.
+    ensures honesty { D.honest result.disk ↔ D.honest disk }
+    ensures size { D.size result.disk ≡ D.size disk }
 {
-    let mut desk = match open(alloc, disk) {
+    let mut desk = match Desk::open(alloc, disk) {
         Ok(desk) => desk,
         Err((fault, disk)) => {
             return Ran {
@@ -55,13 +58,13 @@ pub fn run<D: Disk>(alloc: Global, disk: D, steps: &[Step]) -> Ran<D>
 
 /// Takes the steps as far as to a fault.
 fn take_steps<D: Disk>(desk: &mut Desk<D>, steps: &[Step]) -> Option<(u64, DeskFault)>
-    requires settled { desk.old.standing.owes ≡ false }
+    requires discharged { desk.old.standing.owes ≡ false }
     requires works { desk.old.keeper.store.has_failed ≡ false }
     requires stored { desk.old.synced ≡ length desk.old.standing.groups }
     requires stands { D.honest (disk_of desk.old) → (begun : ServerState) → IsFrom begun desk.old → (image : List ℕ) → D.may_leave (disk_of desk.old) image
         → LeavesPrefix begun desk.old.standing.groups desk.old.synced image }
-    ensures taken { IsTaken desk.old.standing steps.now desk.new.standing result }
-    ensures stored { result ≡ None → desk.new.synced ≡ length desk.new.standing.groups }
+    ensures taken { IsTaken desk.old steps.now desk.new result }
+    ensures counts { CountsEnd result (D.failures (disk_of desk.old)) (D.failures (disk_of desk.new)) }
     ensures advances { Advances D.honest D.moment D.left_since desk.old desk.new }
 {
     for k in 0..steps.len() {

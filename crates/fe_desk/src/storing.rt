@@ -1,15 +1,18 @@
 //! The way of a batch: it is cut, stored as a group, and posted.
 
-ghost use Rattle.std.specs.Prelude.{◌≡◌, ◌⊎◌, false, Some, Ok, IsTrue, IfOk, IfErr, OnOk, OnErr, IsErrOf};
+ghost use Rattle.std.specs.Prelude.{◌≡◌, true, false, Some, Ok, IsTrue, IfOk, IfErr, OnOk, OnErr, IsErrOf};
 ghost use Rattle.fe_state.specs.declared.batch.Batch.{Batch};
 ghost use Rattle.fe_front.specs.Front.{has_room};
 ghost use Rattle.fe_keeper.specs.declared.fault.Fault.TheVariants.{Device, NoMemory};
 ghost use Rattle.fe_desk.specs.declared.handed.Handed.TheVariants.{Cut};
 ghost use Rattle.fe_desk.specs.Standing.{Standing};
 ghost use Rattle.fe_desk.specs.Storing as way;
-ghost use Rattle.fe_desk.specs.Storing.{handing, stored, posted, cleared, made, committed, begun_room, roomy};
-ghost use Rattle.fe_desk.specs.Crash.{Advances, IsFine, Tells, with_handed};
-ghost use Rattle.fe_desk.specs.Desk.{desk_of, standing_of, IsDesk};
+ghost use Rattle.fe_desk.specs.Storing.{handing, stored, posted, cleared, made, committed, is_making, begun_room, roomy};
+ghost use Rattle.fe_desk.specs.Crash.{Advances, IsFine, TellsCall, with_handed};
+ghost use Rattle.fe_desk.specs.Stopping.{HasCut, MayBegin, StopsMaking};
+ghost use Rattle.fe_desk.specs.Checks.{StoresMore};
+ghost use Rattle.fe_desk.specs.Ends.{Tears};
+ghost use Rattle.fe_desk.specs.within.Desk.{desk_of, standing_of, IsDesk};
 
 use crate::handed::Handed;
 use crate::parts::Parts;
@@ -39,12 +42,15 @@ impl<D: Disk> Parts<D> {
         requires works { self.old.keeper.store.has_failed ≡ false }
         ensures desk { IsDesk D.honest D.may_leave (desk_of self.new) }
         ensures stored { OnOk result (standing_of self.new ≡ stored (standing_of self.old)) }
-        ensures memory { IsErrOf result NoMemory → standing_of self.new ≡ standing_of self.old }
+        ensures memory { IsErrOf result NoMemory → desk_of self.new ≡ desk_of self.old }
         ensures owes { self.new.owes ≡ self.old.owes }
         ensures ports { self.new.trace.ports ≡ self.old.trace.ports }
         ensures advances { Advances D.honest D.moment D.left_since (desk_of self.old) (desk_of self.new) }
         ensures fine { OnOk result (IsFine D.failures (desk_of self.old) (desk_of self.new)) }
-        ensures fault { IfErr result (Tells D.failures (desk_of self.old) (desk_of self.new)) }
+        ensures fault { IfErr result (TellsCall D.failures (desk_of self.old) (desk_of self.new)) }
+        ensures at_hand { OnErr result (HasCut (standing_of self.old)) }
+        ensures torn { IsErrOf result Device → Tears (standing_of self.old) (desk_of self.new) }
+        ensures grows { self.new.keeper.store.has_failed ≡ false → StoresMore (desk_of self.old) (desk_of self.new) }
     {
         match mem::replace(&mut self.handed, Handed::Nothing) {
             Handed::Cut(batch) => {
@@ -65,12 +71,14 @@ impl<D: Disk> Parts<D> {
         requires works { self.old.keeper.store.has_failed ≡ false }
         ensures desk { IsDesk D.honest D.may_leave (with_handed (desk_of self.new) result.0) }
         ensures stored { OnOk result.1 (handing (standing_of self.new) result.0 ≡ stored (handing (standing_of self.old) (Cut batch))) }
-        ensures memory { IsErrOf result.1 NoMemory → handing (standing_of self.new) result.0 ≡ handing (standing_of self.old) (Cut batch) }
+        ensures memory { IsErrOf result.1 NoMemory → with_handed (desk_of self.new) result.0 ≡ with_handed (desk_of self.old) (Cut batch) }
         ensures owes { self.new.owes ≡ self.old.owes }
         ensures ports { self.new.trace.ports ≡ self.old.trace.ports }
         ensures advances { Advances D.honest D.moment D.left_since (with_handed (desk_of self.old) (Cut batch)) (with_handed (desk_of self.new) result.0) }
         ensures fine { OnOk result.1 (IsFine D.failures (desk_of self.old) (desk_of self.new)) }
-        ensures fault { IfErr result.1 (Tells D.failures (desk_of self.old) (desk_of self.new)) }
+        ensures fault { IfErr result.1 (TellsCall D.failures (desk_of self.old) (desk_of self.new)) }
+        ensures torn { IsErrOf result.1 Device → Tears (handing (standing_of self.old) (Cut batch)) (with_handed (desk_of self.new) result.0) }
+        ensures grows { self.new.keeper.store.has_failed ≡ false → StoresMore (desk_of self.old) (desk_of self.new) }
     {
         // It names a type for the checker (`docs/DECISIONS.md`, "Toolchain").
         let _ = self.front.state();
@@ -95,7 +103,7 @@ impl<D: Disk> Parts<D> {
         }
     }
 
-    /// Posts the batch that is stored, if there is one.
+    /// Posts the batch that is stored, if there is one. Room that was begun is made then.
     pub(crate) fn post(&mut self)
         requires desk { IsDesk D.honest D.may_leave (desk_of self.old) }
         ensures desk { IsDesk D.honest D.may_leave (desk_of self.new) }
@@ -107,6 +115,7 @@ impl<D: Disk> Parts<D> {
             // The batch that was cut is the one that is out.
             Handed::Stored(batch) => {
                 let _ = self.front.post(batch);
+                self.making = None;
             }
             handed => self.handed = handed,
         }
@@ -118,12 +127,15 @@ impl<D: Disk> Parts<D> {
         requires works { self.old.keeper.store.has_failed ≡ false }
         ensures desk { IsDesk D.honest D.may_leave (desk_of self.new) }
         ensures cleared { OnOk result (standing_of self.new ≡ cleared (standing_of self.old)) }
-        ensures memory { IsErrOf result NoMemory → standing_of self.new ≡ standing_of self.old }
+        ensures memory { IsErrOf result NoMemory → desk_of self.new ≡ desk_of self.old }
         ensures owes { self.new.owes ≡ self.old.owes }
         ensures ports { self.new.trace.ports ≡ self.old.trace.ports }
         ensures advances { Advances D.honest D.moment D.left_since (desk_of self.old) (desk_of self.new) }
         ensures fine { OnOk result (IsFine D.failures (desk_of self.old) (desk_of self.new)) }
-        ensures fault { IfErr result (Tells D.failures (desk_of self.old) (desk_of self.new)) }
+        ensures fault { IfErr result (TellsCall D.failures (desk_of self.old) (desk_of self.new)) }
+        ensures at_hand { OnErr result (HasCut (standing_of self.old)) }
+        ensures torn { IsErrOf result Device → Tears (standing_of self.old) (desk_of self.new) }
+        ensures grows { self.new.keeper.store.has_failed ≡ false → StoresMore (desk_of self.old) (desk_of self.new) }
     {
         self.store()?;
         self.post();
@@ -142,7 +154,10 @@ impl<D: Disk> Parts<D> {
         ensures ports { self.new.trace.ports ≡ self.old.trace.ports }
         ensures advances { Advances D.honest D.moment D.left_since (desk_of self.old) (desk_of self.new) }
         ensures fine { OnOk result (IsFine D.failures (desk_of self.old) (desk_of self.new)) }
-        ensures fault { IfErr result (Tells D.failures (desk_of self.old) (desk_of self.new)) }
+        ensures fault { IfErr result (TellsCall D.failures (desk_of self.old) (desk_of self.new)) }
+        ensures stops { IsErrOf result NoMemory → StopsMaking (standing_of self.old) conn (standing_of self.new) × HasCut (standing_of self.new) }
+        ensures torn { IsErrOf result Device → (last : Standing) × StopsMaking (standing_of self.old) conn last × Tears last (desk_of self.new) }
+        ensures grows { self.new.keeper.store.has_failed ≡ false → StoresMore (desk_of self.old) (desk_of self.new) }
     {
         self.go_on(conn)?;
         if self.front.room() {
@@ -157,12 +172,16 @@ impl<D: Disk> Parts<D> {
         requires works { self.old.keeper.store.has_failed ≡ false }
         ensures desk { IsDesk D.honest D.may_leave (desk_of self.new) }
         ensures begun { OnOk result (standing_of self.new ≡ begun_room (standing_of self.old) conn) }
-        ensures memory { IsErrOf result NoMemory → standing_of self.new ≡ standing_of self.old }
+        ensures memory { IsErrOf result NoMemory → desk_of self.new ≡ desk_of self.old }
         ensures owes { self.new.owes ≡ self.old.owes }
         ensures ports { self.new.trace.ports ≡ self.old.trace.ports }
         ensures advances { Advances D.honest D.moment D.left_since (desk_of self.old) (desk_of self.new) }
         ensures fine { OnOk result (IsFine D.failures (desk_of self.old) (desk_of self.new)) }
-        ensures fault { IfErr result (Tells D.failures (desk_of self.old) (desk_of self.new)) }
+        ensures fault { IfErr result (TellsCall D.failures (desk_of self.old) (desk_of self.new)) }
+        ensures making { OnErr result (is_making (standing_of self.old) conn ≡ true) }
+        ensures at_hand { OnErr result (HasCut (standing_of self.old)) }
+        ensures torn { IsErrOf result Device → Tears (standing_of self.old) (desk_of self.new) }
+        ensures grows { self.new.keeper.store.has_failed ≡ false → StoresMore (desk_of self.old) (desk_of self.new) }
     {
         if self.making == Some(conn) {
             self.clear()?;
@@ -178,13 +197,14 @@ impl<D: Disk> Parts<D> {
         requires works { self.old.keeper.store.has_failed ≡ false }
         ensures desk { IsDesk D.honest D.may_leave (desk_of self.new) }
         ensures committed { OnOk result (standing_of self.new ≡ made (committed (cleared (standing_of self.old)))) }
-        ensures memory { IsErrOf result NoMemory
-            → (standing_of self.new ≡ standing_of self.old) ⊎ (begun_room (standing_of self.new) conn ≡ made (committed (cleared (standing_of self.old)))) }
+        ensures stops { IsErrOf result NoMemory → MayBegin (standing_of self.old) conn (standing_of self.new) × HasCut (standing_of self.new) }
         ensures owes { self.new.owes ≡ self.old.owes }
         ensures ports { self.new.trace.ports ≡ self.old.trace.ports }
         ensures advances { Advances D.honest D.moment D.left_since (desk_of self.old) (desk_of self.new) }
         ensures fine { OnOk result (IsFine D.failures (desk_of self.old) (desk_of self.new)) }
-        ensures fault { IfErr result (Tells D.failures (desk_of self.old) (desk_of self.new)) }
+        ensures fault { IfErr result (TellsCall D.failures (desk_of self.old) (desk_of self.new)) }
+        ensures torn { IsErrOf result Device → (last : Standing) × MayBegin (standing_of self.old) conn last × Tears last (desk_of self.new) }
+        ensures grows { self.new.keeper.store.has_failed ≡ false → StoresMore (desk_of self.old) (desk_of self.new) }
     {
         self.clear()?;
         self.cut();

@@ -2,7 +2,7 @@ ghost use Rattle.std.specs.Prelude.{◌≡◌, ◌++◌, [], OnOk, OnErr};
 ghost use Rattle.fe_wire.specs.Spelling.{reply_spelling};
 ghost use Rattle.fe_desk.specs.Frames.{AreReplies};
 
-use crate::reply::Reply;
+use fe_messages::Reply;
 use std::alloc::{AllocError, Global};
 use std::marker::Model;
 

@@ -1,6 +1,6 @@
 //! New stores, and steps for runs over them.
 
-use fe_desk::{Step, format};
+use fe_desk::{Desk, Step};
 use fe_disk::MemoryDisk;
 use std::alloc::Global;
 use std::process::Abort;
@@ -8,7 +8,10 @@ use std::process::Abort;
 /// A disk with a new store.
 pub fn new_store(rt: &impl Abort, alloc: Global) -> MemoryDisk {
     let disk = MemoryDisk::new(alloc, 4_202_496).ok().expect(rt, "a disk");
-    format(alloc, disk).ok().expect(rt, "formatted").into_disk()
+    Desk::format(alloc, disk)
+        .ok()
+        .expect(rt, "formatted")
+        .into_disk()
 }
 
 /// Adds a step.

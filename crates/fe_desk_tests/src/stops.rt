@@ -2,7 +2,7 @@
 
 use crate::frames::{ATTACH, FILL};
 use crate::runs::{add, add_bytes, new_store};
-use fe_desk::{Ran, Step, Trace, open, run};
+use fe_desk::{Desk, Ran, Step, Trace, run};
 use fe_disk::{Fuse, MemoryDisk, Torn};
 use std::alloc::Global;
 use std::process::Abort;
@@ -38,7 +38,7 @@ fn checkpoint(rt: &impl Abort, alloc: Global) -> Vec<Step> {
 // The place of the store that a stop leaves, and how many bytes of its journal are used.
 fn left(rt: &impl Abort, alloc: Global, disk: &MemoryDisk, torn: Torn) -> (u64, u32) {
     let left = disk.stopped(torn).ok().expect(rt, "stopped");
-    let desk = open(alloc, left).ok().expect(rt, "opened");
+    let desk = Desk::open(alloc, left).ok().expect(rt, "opened");
     let keeper = desk.keeper();
     let found = (keeper.state().place(), keeper.used());
     desk.into_disk();

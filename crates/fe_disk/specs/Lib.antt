@@ -1,7 +1,10 @@
 pub mod Disk
 pub mod Memory
-pub mod MemoryLaws
 pub mod Ranges
 pub mod Record
-pub mod MemoryFields
 pub mod Fuse
+pub mod FailOnce
+pub mod Liar
+pub mod FileDisk
+pub mod Held
+pub mod within

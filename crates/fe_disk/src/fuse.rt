@@ -1,7 +1,7 @@
 //! A disk that fails from some call on, so that each call of a run can be the one at which it stops.
-ghost use Rattle.std.specs.Prelude.{◌≡◌, ◌⊎◌, ◌↔◌, ◌+◌, ◌-◌, ◌^◌, ◌<◌, ◌≤◌, length, is_err, if◌then◌else◌, IsErr, OnOk};
-ghost use Rattle.fe_disk.specs.Disk.{bytes_at, after_write, IsTorn, Follows, AddsNone, LeavesJust, Elapses, Rises};
+ghost use Rattle.std.specs.Prelude.{◌≡◌, ◌↔◌, ◌-◌, ◌<◌, IsTrue};
 
+use crate::counted::Counted;
 use crate::{DeviceFault, Disk};
 
 /// Passes so many device calls on to its disk, and fails each one after without touching the disk.
@@ -10,9 +10,8 @@ use crate::{DeviceFault, Disk};
 /// disk's; at `u64::MAX` it fails each call too.
 #[derive(Drop)]
 pub struct Fuse<D> {
-    inner: D,
+    disk: Counted<D>,
     calls_left: u64,
-    failures: u64,
 }
 
 impl<D: Disk> Fuse<D> {
@@ -24,11 +23,9 @@ impl<D: Disk> Fuse<D> {
         ensures calls { calls_left result ≡ calls }
         ensures failures { fault_count result ≡ D.failures inner }
     {
-        let failures = inner.failures();
         Fuse {
-            inner,
+            disk: Counted::new(inner),
             calls_left: calls,
-            failures,
         }
     }
 
@@ -37,41 +34,22 @@ impl<D: Disk> Fuse<D> {
         ensures { result ≡ disk_of self }
     {
         let Fuse {
-            inner,
+            disk,
             calls_left: _,
-            failures: _,
         } = self;
-        inner
+        disk.into_inner()
     }
-}
 
-// Spends a call. It is a fault where none is left, or where the count of faults is at its top.
-fn spend(calls_left: &mut u64, failures: &mut u64) -> Result<(), DeviceFault>
-    ensures spent { calls_left.new ≡ calls_left.old - 1 }
-    ensures refused { IsErr result ↔ ((calls_left.old ≡ 0) ⊎ (failures.old ≡ 2 ^ 64 - 1)) }
-    ensures fault { IsErr result ↔ Rises failures.old failures.new }
-    ensures still { OnOk result (failures.new ≡ failures.old) }
-    ensures room { OnOk result (failures.new < 2 ^ 64 - 1) }
-{
-    let is_blown = *calls_left == 0;
-    *calls_left = calls_left.saturating_sub(1);
-    if is_blown || *failures == u64::MAX {
-        *failures = failures.saturating_add(1);
-        return Err(DeviceFault);
+    // Spends a call, and tells whether one was left.
+    fn spend(&mut self) -> bool
+        ensures left { IsTrue result ↔ (0 < calls_left self.old) }
+        ensures spent { calls_left self.new ≡ calls_left self.old - 1 }
+        ensures disk { self.new.disk ≡ self.old.disk }
+    {
+        let is_left = self.calls_left > 0;
+        self.calls_left = self.calls_left.saturating_sub(1);
+        is_left
     }
-    Ok(())
-}
-
-// Counts a fault of the disk.
-fn count(failures: &mut u64, outcome: Result<(), DeviceFault>) -> Result<(), DeviceFault>
-    requires { failures.old < 2 ^ 64 - 1 }
-    ensures same { result ≡ outcome }
-    ensures counted { failures.new ≡ (if is_err outcome then failures.old + 1 else failures.old) }
-{
-    if outcome.is_err() {
-        *failures += 1;
-    }
-    outcome
 }
 
 impl<D: Disk> Disk for Fuse<D> {
@@ -104,11 +82,11 @@ impl<D: Disk> Disk for Fuse<D> {
     ghost only_now = { λ fuse. D.only_now (disk_of fuse) };
 
     fn size(&self) -> usize {
-        self.inner.size()
+        self.disk.size()
     }
 
     fn failures(&self) -> u64 {
-        self.failures
+        self.disk.failures()
     }
 
     fn read_at(&mut self, at: usize, buffer: &mut [u8]) -> Result<(), DeviceFault>
@@ -124,9 +102,10 @@ impl<D: Disk> Disk for Fuse<D> {
         ensures size { D.size (disk_of self.new) ≡ D.size (disk_of self.old) }
         ensures fuse { Burns D.failures result self.old self.new }
     {
-        spend(&mut self.calls_left, &mut self.failures)?;
-        let outcome = self.inner.read_at(at, buffer);
-        count(&mut self.failures, outcome)
+        if !self.spend() {
+            return Err(self.disk.refuse());
+        }
+        self.disk.read_at(at, buffer)
     }
 
     fn write_at(&mut self, at: usize, bytes: &[u8]) -> Result<(), DeviceFault>
@@ -142,9 +121,10 @@ impl<D: Disk> Disk for Fuse<D> {
         ensures size { D.size (disk_of self.new) ≡ D.size (disk_of self.old) }
         ensures fuse { Burns D.failures result self.old self.new }
     {
-        spend(&mut self.calls_left, &mut self.failures)?;
-        let outcome = self.inner.write_at(at, bytes);
-        count(&mut self.failures, outcome)
+        if !self.spend() {
+            return Err(self.disk.refuse());
+        }
+        self.disk.write_at(at, bytes)
     }
 
     fn sync(&mut self) -> Result<(), DeviceFault>
@@ -159,8 +139,9 @@ impl<D: Disk> Disk for Fuse<D> {
         ensures size { D.size (disk_of self.new) ≡ D.size (disk_of self.old) }
         ensures fuse { Burns D.failures result self.old self.new }
     {
-        spend(&mut self.calls_left, &mut self.failures)?;
-        let outcome = self.inner.sync();
-        count(&mut self.failures, outcome)
+        if !self.spend() {
+            return Err(self.disk.refuse());
+        }
+        self.disk.sync()
     }
 }

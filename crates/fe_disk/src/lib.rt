@@ -1,11 +1,25 @@
 //! The disk model: what a read gives, and which images a stop at any moment may leave.
 #![tactic(auto)]
 
+mod counted;
 mod disk;
+mod fail_once;
+mod faults;
+mod file_disk;
+mod file_fault;
 mod fuse;
+mod held;
+mod hold;
+mod liar;
 mod memory_disk;
 mod record;
 
 pub use disk::{DeviceFault, Disk};
+pub use fail_once::FailOnce;
+pub use file_disk::FileDisk;
+pub use file_fault::FileFault;
 pub use fuse::Fuse;
+pub use held::Held;
+pub use hold::Hold;
+pub use liar::Liar;
 pub use memory_disk::{MemoryDisk, Torn};

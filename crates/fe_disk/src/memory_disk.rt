@@ -2,7 +2,7 @@
 ghost use Rattle.std.specs.Prelude.{◌≡◌, ◌+◌, ◌-◌, ◌^◌, ◌≤◌, ◌↔◌, [], length, IfOk, IsErr, OnOk, OnErr};
 ghost use Rattle.fe_disk.specs.Disk.{bytes_at, after_write, IsTorn, Follows, AddsNone, LeavesJust, Elapses, Rises};
 ghost use Rattle.fe_disk.specs.Memory.{IsHonest, LeavesNow, LeavesSince, IsLeftBy, IsBlank, disk_after_write, disk_after_sync, disk_after_fault};
-ghost use Rattle.fe_disk.specs.MemoryLaws.{seen_may_stay_law, left_is_image_law, counts_now_law, only_now_law};
+ghost use Rattle.fe_disk.specs.within.MemoryLaws.{seen_may_stay_law, left_is_image_law, counts_now_law, only_now_law};
 
 use crate::record::{Call, record_sync, record_write, replace, torn_copy};
 use crate::{DeviceFault, Disk};
@@ -35,7 +35,7 @@ impl Model for MemoryDisk {
 
     ghost Value = { MemoryState };
 
-    ghost use Rattle.fe_disk.specs.MemoryFields.{state_of, IsRecord};
+    ghost use Rattle.fe_disk.specs.within.MemoryFields.{state_of, IsRecord};
 
     ghost view = { state_of };
 

@@ -18,7 +18,7 @@ use Rattle.fe_mail.specs.Books.{Books, Balances}
 use Rattle.fe_mail.specs.Connections.{session_on, mails_in}
 use Rattle.fe_mail.specs.declared.connection.Connection.{Connection}
 use Rattle.fe_mail.proofs.MailCounts.{mails_in-empty}
-use Rattle.fe_front.specs.Tables.{AreSound}
+use Rattle.fe_front.specs.within.Tables.{AreSound}
 
 -- nobody has a session
 nobody : (sessions : FinMap nat_cmp Session) (seats : FinMap nat_cmp Seat) → IsSeated sessions seats → (session : ℕ) → holder_of seats session ≡ None

@@ -131,4 +131,4 @@ steps_lead f f' (Gone conn count) es front limits step = still f f' (dropped f c
 steps_lead f f' (Cut batch) es front limits step = still f f' (cut f) es step.1 (unchosen f _ (has_no_cut f) refl)
 steps_lead f f' (Post batch) es front limits step = still f f' (posted f batch) es step.1 (posted_all-keeps f batch.entries batch.first).state
 steps_lead f f' (TakeMail conn m) es front limits step = still f f' (taken f conn) es step.1 (chosen f _ (nat_lt 0 (length (mails_on f.connections conn))) refl)
-steps_lead f f' (Tell conn m) es front limits step = still f f' (mailed f conn m) es step (mailed-keeps f conn m).state
+steps_lead f f' (Tell conn m) es front limits step = still f f' (mailed f conn m) es step.1 (mailed-keeps f conn m).state

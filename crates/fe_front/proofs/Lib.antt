@@ -1,11 +1,14 @@
 pub mod Admitted
 pub mod Agreement
 pub mod Below
+pub mod Coming
 pub mod Counts
+pub mod Events
 pub mod First
 pub mod Keeping
 pub mod Leading
 pub mod Posted
 pub mod Repeating
+pub mod Rising
 pub mod Sitting
 pub mod Ties

@@ -6,7 +6,7 @@ use Rattle.fe_service.specs.ServiceState.{ServiceState}
 use Rattle.fe_mail.specs.Books.{Books, Balances}
 use Rattle.fe_mail.specs.Connections.{mails_in}
 use Rattle.fe_mail.specs.declared.connection.Connection.{Connection}
-use Rattle.fe_front.specs.Tables.{AreSound}
+use Rattle.fe_front.specs.within.Tables.{AreSound}
 use Rattle.fe_front.specs.declared.tables.Tables.{Tables}
 use Rattle.fe_front.proofs.Agreement.{Agree}
 

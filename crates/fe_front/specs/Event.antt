@@ -3,6 +3,7 @@ use Rattle.std.specs.Prelude.{ℕ, Option}
 use Rattle.fe_state.specs.declared.batch.Batch.{Batch}
 use Rattle.fe_state.specs.declared.request.Request.{Request}
 use Rattle.fe_mail.specs.declared.mail.Mail.{Mail}
+use Rattle.fe_mail.specs.declared.mail.Mail.TheVariants.{Refused, Report}
 use Rattle.fe_front.specs.declared.outcome.Outcome.{Outcome}
 
 pub data Event : Type 0 where
@@ -25,5 +26,11 @@ pub data Event : Type 0 where
   Post : Batch → Event
   -- a connection, and its first mail, if it had one
   TakeMail : ℕ → Option Mail → Event
-  -- a connection and its mail: of a report or a refusal
+  -- a connection and what it is told: a report or a refusal (`IsReportOrRefusal`)
   Tell : ℕ → Mail → Event
+
+-- a mail that answers at once: a report or a refusal
+abbrev pub IsReportOrRefusal : Mail → Type 0
+IsReportOrRefusal (Report text) = Unit {0}
+IsReportOrRefusal (Refused number refusal) = Unit {0}
+IsReportOrRefusal _ = ⊥

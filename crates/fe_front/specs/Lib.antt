@@ -1,8 +1,14 @@
 pub mod Call
 pub mod Event
 pub mod Front
+pub mod Mails
 pub mod Posting
 pub mod Refusals
+pub mod Rising
 pub mod Step
 pub mod Steps
-pub mod Tables
+pub use Rattle.fe_mail.specs.Books
+pub use Rattle.fe_mail.specs.Connections
+pub use Rattle.fe_mail.specs.Mail
+pub use Rattle.fe_mail.specs.Refusal
+pub mod within

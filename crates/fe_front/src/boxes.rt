@@ -2,7 +2,7 @@ ghost use Rattle.std.specs.Prelude.{◌≡◌, None, slice_get, OnOk, OnErr, IfE
 ghost use Rattle.std.specs.FinMap.{get};
 ghost use Rattle.fe_mail.specs.Connections.{mails_on};
 ghost use Rattle.fe_front.specs.Steps.{connected, taken, next_batch, cut};
-ghost use Rattle.fe_front.specs.Tables.{front_of, AreSound};
+ghost use Rattle.fe_front.specs.within.Tables.{front_of, AreSound};
 
 use crate::out::Out;
 use crate::tables::Tables;

@@ -2,7 +2,7 @@ ghost use Rattle.std.specs.Prelude.{◌≡◌, ◌+◌, ◌≤◌, ◌⊎◌, �
 ghost use Rattle.fe_front.specs.Call.{request_at, IsCallRefused, IsNumberRefused, WantsMemory, Called, Completed, Waits, repeat_of, repeated, waiters_completed};
 ghost use Rattle.fe_front.specs.Front.{has_room, is_spent};
 ghost use Rattle.fe_front.specs.Refusals.{addressed, in_window};
-ghost use Rattle.fe_front.specs.Tables.{front_of, AreSound};
+ghost use Rattle.fe_front.specs.within.Tables.{front_of, AreSound};
 ghost use Rattle.fe_mail.specs.Books.{Balances};
 ghost use Rattle.fe_mail.specs.declared.refusal.Refusal as refusals;
 ghost use Rattle.fe_service.specs.Events.{IsFree, HasRoom};

@@ -41,7 +41,7 @@ pub struct Front {
 
 impl Model for Front {
     ghost use Rattle.fe_front.specs.Front.{FrontState, front_code};
-    ghost use Rattle.fe_front.specs.Tables.{front_of, AreSound};
+    ghost use Rattle.fe_front.specs.within.Tables.{front_of, AreSound};
 
     ghost Value = { FrontState };
 

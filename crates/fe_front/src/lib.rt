@@ -12,6 +12,7 @@ mod posting;
 mod sessions;
 mod tables;
 
+pub use fe_mail::{Books, Mail, Refusal, ReportText};
 pub use front::{Front, ROOM};
-pub use laws::steps_are_legal;
+pub use laws::{books_rise, steps_are_legal};
 pub use outcome::{Outcome, StrangeBatch};

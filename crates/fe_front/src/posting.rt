@@ -1,7 +1,7 @@
 ghost use Rattle.std.specs.Prelude.{◌≡◌, ◌+◌, ◌^◌, ◌<◌, ◌≤◌, ◌↔◌, length, Some, IsTrue};
 ghost use Rattle.fe_front.specs.Front.{IsTied};
 ghost use Rattle.fe_front.specs.Posting.{IsOut, delivered, vacated, ended, posted_entry, posted_all, posted};
-ghost use Rattle.fe_front.specs.Tables.{front_of, AreSound};
+ghost use Rattle.fe_front.specs.within.Tables.{front_of, AreSound};
 
 use crate::tables::Tables;
 use fe_mail::{Mail, session_of};

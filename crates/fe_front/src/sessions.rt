@@ -3,7 +3,7 @@ ghost use Rattle.std.specs.FinMap.{get};
 ghost use Rattle.fe_front.specs.Front.{has_room, is_connected};
 ghost use Rattle.fe_front.specs.Refusals.{attaching, settling, leaving, cancelling, may_settle, unspent, waits_below};
 ghost use Rattle.fe_front.specs.Steps.{joined, attached_to, settled_to, closed_by, cancelled_from, cancelled_by};
-ghost use Rattle.fe_front.specs.Tables.{front_of, AreSound};
+ghost use Rattle.fe_front.specs.within.Tables.{front_of, AreSound};
 ghost use Rattle.fe_mail.specs.Connections.{session_on};
 ghost use Rattle.fe_seats.specs.Seating.{holder_of};
 ghost use Rattle.fe_service.specs.Events.{floor_of, MaySit, HasRoom};

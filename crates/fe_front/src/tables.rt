@@ -6,7 +6,7 @@ ghost use Rattle.fe_mail.specs.Connections.{session_on};
 ghost use Rattle.fe_front.specs.Front.{is_connected, is_spent};
 ghost use Rattle.fe_front.specs.Refusals.{own};
 ghost use Rattle.fe_front.specs.Steps.{withdrawn_from, parted, released, freed, departed, departing, unboxed, dropped, mailed};
-ghost use Rattle.fe_front.specs.Tables.{front_of, AreSound};
+ghost use Rattle.fe_front.specs.within.Tables.{front_of, AreSound};
 
 use crate::out::Out;
 use fe_mail::{Books, Connections, Mail, Refusal};

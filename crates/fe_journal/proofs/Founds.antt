@@ -9,7 +9,7 @@ use Rattle.fe_format.specs.Layout.{magic_of, IsImageLength}
 use Rattle.fe_journal.specs.Groups.{IsGroup, StandFrom, HoldsGroups, Fits, end_of}
 use Rattle.fe_journal.specs.Contents.{Contents, Holds, IsValidAs, Counts, generation_at, image_length_at}
 use Rattle.fe_journal.specs.Cursor.{Cursor, Lists}
-use Rattle.fe_journal.specs.Damage.{Tells, IsUnformatted, IsDamagedAt, NoGeneration, OddImage, OddGroup}
+use Rattle.fe_journal.specs.Damage.{TellsFound, IsUnformatted, IsDamagedAt, NoGeneration, OddImage, OddGroup}
 use Rattle.fe_journal.specs.Found.{IsFound}
 use Rattle.fe_journal.specs.Journal.{JournalState, IsLeft, Keeps}
 use Rattle.fe_journal.specs.Store.{IsStore, IsWhole}
@@ -170,7 +170,7 @@ module _ (c : Contents) (image : List ℕ) (holds : Holds c image) where
   formatted (inr none) = none c.slot c.format holds.counts.is_slot holds.counts.valid
 
   -- contents are refused only for the device or for memory
-  pub refused_only : (fault : StoreFault) → Tells fault image → (fault ≡ Device) ⊎ (fault ≡ NoMemory)
+  pub refused_only : (fault : StoreFault) → TellsFound fault image → (fault ≡ Device) ⊎ (fault ≡ NoMemory)
   refused_only Unformatted told = absurd (formatted told)
   refused_only (Damaged offset) told = absurd (undamaged offset told.1)
   refused_only Device told = inl refl
@@ -189,7 +189,7 @@ unformatted_undamaged image offset whole (OddImage slot format counts numbered w
 unformatted_undamaged image offset whole (OddGroup slot format groups counts numbered fits stand is_open wrong at) odd = none_counts image slot format whole counts odd
 
 -- but unformatted, where the device does not fail
-pub unformatted_only : (image : List ℕ) (fault : StoreFault) → Tells fault image → IsUnformatted image → (fault ≡ Unformatted) ⊎ (fault ≡ Device)
+pub unformatted_only : (image : List ℕ) (fault : StoreFault) → TellsFound fault image → IsUnformatted image → (fault ≡ Unformatted) ⊎ (fault ≡ Device)
 unformatted_only image Unformatted told odd = inl refl
 unformatted_only image (Damaged offset) told odd = absurd (unformatted_undamaged image offset told.0 told.1 odd)
 unformatted_only image Device told odd = inr refl

@@ -7,7 +7,7 @@ use Rattle.fe_journal.specs.Layout.{header_of, area_of, area_bytes, device_bytes
 use Rattle.fe_format.specs.Layout.{IsImageLength}
 use Rattle.fe_journal.specs.Groups.{Fits, end_of}
 use Rattle.fe_journal.specs.Contents.{IsValidAs, generation_at}
-use Rattle.fe_journal.specs.Damage.{Tells, IsUnformatted, NoGeneration, OddImage, OddGroup}
+use Rattle.fe_journal.specs.Damage.{TellsFound, IsUnformatted, NoGeneration, OddImage, OddGroup}
 use Rattle.fe_journal.specs.Reading.{IsHeader, IsHeaderAt, IsCounting, IsOddAt, HeaderFault, GroupFault}
 use Rattle.fe_journal.specs.Steps.{OnlyReads}
 use Rattle.fe_journal.specs.Store.{CountsAs}
@@ -95,7 +95,7 @@ module _ (image : List ℕ) where
       (second_counts first header one (subst (λ (o : Option Header). IsHeader image (header_of 1) o) is.1 two) is.2)
 
   -- what is told of a slot that counts
-  pub header_tells : (slot : ℕ) (header : Header) (fault : StoreFault) → length image ≡ device_bytes → CountsAs image (Some (slot, header)) → HeaderFault slot header fault → Tells fault image
+  pub header_tells : (slot : ℕ) (header : Header) (fault : StoreFault) → length image ≡ device_bytes → CountsAs image (Some (slot, header)) → HeaderFault slot header fault → TellsFound fault image
   header_tells slot header (Damaged offset) whole counts (inl none) = (whole, NoGeneration slot header.format counts.0 (counts.1 ∙ none.0) none.1)
   header_tells slot header (Damaged offset) whole counts (inr odd) =
       (whole, OddImage slot header.format counts.0 (let g = counts.1 in let n = odd.0 in omega (arith, g, n)) (λ fits. odd.1 (subst (λ (n : ℕ). IsImageLength header.format n) counts.2 fits)) odd.2)
@@ -105,7 +105,7 @@ module _ (image : List ℕ) where
 
   -- an odd group in the bytes that were read of the area
   pub group_tells : (slot : ℕ) (header : Header) (area : List ℕ) (fault : StoreFault) → length image ≡ device_bytes → slot < 2 → area ≡ bytes_at image (area_of slot) area_bytes → 1 ≤ header.generation → IsImageLength header.format header.image_length
-      → CountsAs image (Some (slot, header)) → GroupFault slot header.format area fault → Tells fault image
+      → CountsAs image (Some (slot, header)) → GroupFault slot header.format area fault → TellsFound fault image
   group_tells slot header area (Damaged offset) whole is_slot read numbered fits counts odd =
       let at = odd.0 in
       let within : at < 1048576 = odd.1 in
@@ -132,9 +132,9 @@ module _ (image : List ℕ) where
   formatted_by slot header whole counts (inr none) = none slot header.format counts.0.is_slot counts.0.valid
 
   -- of the device nothing is told, and of memory no more
-  pub nothing_told : (fault : StoreFault) → (IsUnformatted image → ⊥) → (fault ≡ Device) ⊎ (fault ≡ NoMemory) → Tells fault image
-  nothing_told fault formatted (inl is) = subst (λ (f : StoreFault). Tells f image) (sym is) tt
-  nothing_told fault formatted (inr is) = subst (λ (f : StoreFault). Tells f image) (sym is) formatted
+  pub nothing_told : (fault : StoreFault) → (IsUnformatted image → ⊥) → (fault ≡ Device) ⊎ (fault ≡ NoMemory) → TellsFound fault image
+  nothing_told fault formatted (inl is) = subst (λ (f : StoreFault). TellsFound f image) (sym is) tt
+  nothing_told fault formatted (inr is) = subst (λ (f : StoreFault). TellsFound f image) (sym is) formatted
 
 -- a fault that is handed on
 pub same_fault : {T : Type 0} (r : Result T StoreFault) (given fault : StoreFault) → r ≡ Err given → given ≡ fault → r ≡ Err Device → fault ≡ Device

@@ -26,8 +26,8 @@ pub data IsDamagedAt (image : List ℕ) (offset : ℕ) : Type 0 where
 
 -- What a fault of opening says of the image that the disk reads: it is unformatted; it has a store's size, and is damaged
 -- first at this offset; memory was wanted, and it is not unformatted. A fault of the device says nothing.
-abbrev pub Tells : StoreFault → List ℕ → Type 0
-Tells Unformatted image = IsUnformatted image
-Tells (Damaged offset) image = (length image ≡ device_bytes) × IsDamagedAt image offset
-Tells Device image = Unit {0}
-Tells NoMemory image = IsUnformatted image → ⊥
+abbrev pub TellsFound : StoreFault → List ℕ → Type 0
+TellsFound Unformatted image = IsUnformatted image
+TellsFound (Damaged offset) image = (length image ≡ device_bytes) × IsDamagedAt image offset
+TellsFound Device image = Unit {0}
+TellsFound NoMemory image = IsUnformatted image → ⊥

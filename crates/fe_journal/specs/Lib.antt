@@ -8,6 +8,5 @@ pub mod Journal
 pub mod Store
 pub mod Found
 pub mod Cursor
-pub mod CursorFields
-pub mod Fields
 pub mod Steps
+pub mod within

@@ -21,50 +21,50 @@ const EMPTY_IMAGE: [u8; 24] = [
     0, 0, 0, 0, 0, 0, 0, 0, 0, 0, 0, 0, 0, 0, 0, 1, 0, 0, 0, 0, 0, 0, 0, 0,
 ];
 
-/// Makes a new store of format 2 on the device, whatever was there. Nothing is promised of a device
-/// whose formatting was stopped or failed: it is formatted again.
-pub fn format<D: Disk>(alloc: Global, disk: D) -> Result<Journal<D>, (StoreFault, D)>
-    ensures formatted { D.honest disk → IfOk result (λ journal. Keeps D.seen D.may_leave journal (first_contents Two) None) }
+impl<D: Disk> Journal<D> {
+    /// Makes a new store of format 2 on the device, whatever was there. Nothing is promised of a device
+    /// whose formatting was stopped or failed: it is formatted again.
+    pub fn format(alloc: Global, disk: D) -> Result<Journal<D>, (StoreFault, D)>
+        ensures formatted { D.honest disk → IfOk result (λ journal. Keeps D.seen D.may_leave journal (first_contents Two) None) }
 
-    // Over any disk: a journal that stands at the beginning.
-    ensures value { IfOk result (λ journal. journal ≡ new_journal Two journal.disk) }
-    ensures still { IfOk result (λ journal. D.failures journal.disk ≡ D.failures disk) }
+        // Over any disk: a journal that stands at the beginning.
+        ensures value { IfOk result (λ journal. journal ≡ new_journal Two journal.disk) }
+        ensures still { IfOk result (λ journal. D.failures journal.disk ≡ D.failures disk) }
 
-    ensures unformatted { IfErr result (λ e. (e.0 ≡ Unformatted) ↔ (D.size disk ≢ device_bytes)) }
-    ensures device { IfErr result (λ e. e.0 ≡ Device → Rises (D.failures disk) (D.failures e.1)) }
-    ensures untouched { IfErr result (λ e. e.0 ≢ Device → e.1 ≡ disk) }
-    ensures refused { IfErr result (λ e. IsFormatFault e.0) }
-    ensures honesty { IfOk result (λ journal. D.honest journal.disk ↔ D.honest disk) }
-    ensures honesty_back { IfErr result (λ e. D.honest e.1 ↔ D.honest disk) }
-    ensures size_back { IfErr result (λ e. D.size e.1 ≡ D.size disk) }
-{
-    format_in(alloc, Format::Two, disk)
-}
+        ensures unformatted { IfErr result (λ e. (e.0 ≡ Unformatted) ↔ (D.size disk ≢ device_bytes)) }
+        ensures device { IfErr result (λ e. e.0 ≡ Device → Rises (D.failures disk) (D.failures e.1)) }
+        ensures untouched { IfErr result (λ e. e.0 ≢ Device → e.1 ≡ disk) }
+        ensures refused { IfErr result (λ e. IsFormatFault e.0) }
+        ensures honesty { IfOk result (λ journal. D.honest journal.disk ↔ D.honest disk) }
+        ensures honesty_back { IfErr result (λ e. D.honest e.1 ↔ D.honest disk) }
+        ensures size { IfOk result (λ journal. D.size journal.disk ≡ D.size disk) }
+        ensures size_back { IfErr result (λ e. D.size e.1 ≡ D.size disk) }
+    {
+        Journal::format_in(alloc, Format::Two, disk)
+    }
 
-/// The same, in a format of choice.
-pub fn format_in<D: Disk>(
-    alloc: Global,
-    format: Format,
-    disk: D,
-) -> Result<Journal<D>, (StoreFault, D)>
-    ensures formatted { D.honest disk → IfOk result (λ journal. Keeps D.seen D.may_leave journal (first_contents format) None) }
+    /// The same, in a format of choice.
+    pub fn format_in(alloc: Global, format: Format, disk: D) -> Result<Journal<D>, (StoreFault, D)>
+        ensures formatted { D.honest disk → IfOk result (λ journal. Keeps D.seen D.may_leave journal (first_contents format) None) }
 
-    // Over any disk: a journal that stands at the beginning.
-    ensures value { IfOk result (λ journal. journal ≡ new_journal format journal.disk) }
-    ensures still { IfOk result (λ journal. D.failures journal.disk ≡ D.failures disk) }
+        // Over any disk: a journal that stands at the beginning.
+        ensures value { IfOk result (λ journal. journal ≡ new_journal format journal.disk) }
+        ensures still { IfOk result (λ journal. D.failures journal.disk ≡ D.failures disk) }
 
-    ensures unformatted { IfErr result (λ e. (e.0 ≡ Unformatted) ↔ (D.size disk ≢ device_bytes)) }
-    ensures device { IfErr result (λ e. e.0 ≡ Device → Rises (D.failures disk) (D.failures e.1)) }
-    ensures untouched { IfErr result (λ e. e.0 ≢ Device → e.1 ≡ disk) }
-    ensures refused { IfErr result (λ e. IsFormatFault e.0) }
-    ensures honesty { IfOk result (λ journal. D.honest journal.disk ↔ D.honest disk) }
-    ensures honesty_back { IfErr result (λ e. D.honest e.1 ↔ D.honest disk) }
-    ensures size_back { IfErr result (λ e. D.size e.1 ≡ D.size disk) }
-{
-    let mut disk = disk;
-    match write_store(alloc, format, &mut disk) {
-        Err(fault) => Err((fault, disk)),
-        Ok(buffer) => Ok(Journal::opened(disk, buffer, 0, format, 1, 0)),
+        ensures unformatted { IfErr result (λ e. (e.0 ≡ Unformatted) ↔ (D.size disk ≢ device_bytes)) }
+        ensures device { IfErr result (λ e. e.0 ≡ Device → Rises (D.failures disk) (D.failures e.1)) }
+        ensures untouched { IfErr result (λ e. e.0 ≢ Device → e.1 ≡ disk) }
+        ensures refused { IfErr result (λ e. IsFormatFault e.0) }
+        ensures honesty { IfOk result (λ journal. D.honest journal.disk ↔ D.honest disk) }
+        ensures honesty_back { IfErr result (λ e. D.honest e.1 ↔ D.honest disk) }
+        ensures size { IfOk result (λ journal. D.size journal.disk ≡ D.size disk) }
+        ensures size_back { IfErr result (λ e. D.size e.1 ≡ D.size disk) }
+    {
+        let mut disk = disk;
+        match write_store(alloc, format, &mut disk) {
+            Err(fault) => Err((fault, disk)),
+            Ok(buffer) => Ok(Journal::opened(disk, buffer, 0, format, 1, 0)),
+        }
     }
 }
 

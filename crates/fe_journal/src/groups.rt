@@ -17,7 +17,7 @@ impl Model for Groups {
 
     ghost Value = { Cursor };
 
-    ghost use Rattle.fe_journal.specs.CursorFields.{cursor_of, IsCursor};
+    ghost use Rattle.fe_journal.specs.within.CursorFields.{cursor_of, IsCursor};
 
     ghost view = { cursor_of };
 
@@ -63,10 +63,11 @@ impl Groups {
         self.start + self.at + 5
     }
 
-    /// Goes on behind the next group, where there is one.
+    /// Goes on behind the next group, where there is one. Else it does nothing.
     pub fn skip(&mut self)
         ensures at { (payload : List ℕ) (rest : List (List ℕ)) → Lists self.old (payload ∷ rest) → self.new ≡ record self.old { at = self.old.at + (5 + length payload) } }
         ensures rest { (payload : List ℕ) (rest : List (List ℕ)) → Lists self.old (payload ∷ rest) → Lists self.new rest }
+        ensures none { Lists self.old [] → self.new ≡ self.old }
     {
         let length = match self.payload() {
             None => return,

@@ -39,7 +39,7 @@ impl<D: Disk> Model for Journal<D> {
 
     ghost Value = { JournalState D };
 
-    ghost use Rattle.fe_journal.specs.Fields.{state_of, IsJournal};
+    ghost use Rattle.fe_journal.specs.within.Fields.{state_of, IsJournal};
 
     ghost view = { state_of };
 
@@ -89,7 +89,7 @@ impl<D: Disk> Journal<D> {
     }
 
     /// The format of the slot that counts, in which groups are appended.
-    pub fn format(&self) -> Format
+    pub fn store_format(&self) -> Format
         ensures { result ≡ self.now.format }
     {
         self.format

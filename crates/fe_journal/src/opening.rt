@@ -1,7 +1,7 @@
 ghost use Rattle.std.specs.Prelude.{◌≡◌, ◌⊎◌, ◌↔◌, IfOk, IfErr, OnOk, IsErrAnd};
 ghost use Rattle.fe_disk.specs.Disk.{LeavesJust, Rises};
 ghost use Rattle.fe_journal.specs.Contents.{Contents, Holds};
-ghost use Rattle.fe_journal.specs.Damage.{Tells, IsUnformatted};
+ghost use Rattle.fe_journal.specs.Damage.{TellsFound, IsUnformatted};
 ghost use Rattle.fe_journal.specs.Layout.{device_bytes};
 ghost use Rattle.fe_journal.specs.Journal.{IsReady};
 ghost use Rattle.fe_journal.specs.Steps.{OnlyReads};
@@ -24,37 +24,40 @@ pub struct Found<D: Disk> {
     pub groups: Groups,
 }
 
-/// Opens a store: a sync, and then only reads. It takes some three megabytes, of which the journal
-/// keeps one.
-///
-/// What is told of a damaged store is the first thing wrong in the slot that counts: its generation,
-/// its image's length, the lengths of its groups (`docs/formats.md`, "Device").
-pub fn find<D: Disk>(alloc: Global, disk: D) -> Result<Found<D>, (StoreFault, D)>
-    ensures found { D.honest disk → IfOk result (IsFound D.seen D.may_leave (D.seen disk)) }
-    ensures refused { D.honest disk → IfErr result (λ e. Tells e.0 (D.seen disk)) }
+impl<D: Disk> Journal<D> {
+    /// Opens a store: a sync, and then only reads. It takes some three megabytes, of which the journal
+    /// keeps one.
+    ///
+    /// What is told of a damaged store is the first thing wrong in the slot that counts: its generation,
+    /// its image's length, the lengths of its groups (`docs/formats.md`, "Device").
+    pub fn find(alloc: Global, disk: D) -> Result<Found<D>, (StoreFault, D)>
+        ensures found { D.honest disk → IfOk result (IsFound D.seen D.may_leave (D.seen disk)) }
+        ensures refused { D.honest disk → IfErr result (λ e. TellsFound e.0 (D.seen disk)) }
 
-    // An unformatted store is told so, whatever memory there is.
-    ensures unformatted { D.honest disk → IsUnformatted (D.seen disk) → IsErrAnd result (λ e. (e.0 ≡ Unformatted) ⊎ (e.0 ≡ Device)) }
+        // An unformatted store is told so, whatever memory there is.
+        ensures unformatted { D.honest disk → IsUnformatted (D.seen disk) → IsErrAnd result (λ e. (e.0 ≡ Unformatted) ⊎ (e.0 ≡ Device)) }
 
-    // A store that holds contents is refused only for its device or for memory.
-    ensures holds { D.honest disk → (c : Contents) → Holds c (D.seen disk) → IfErr result (λ e. (e.0 ≡ Device) ⊎ (e.0 ≡ NoMemory)) }
+        // A store that holds contents is refused only for its device or for memory.
+        ensures holds { D.honest disk → (c : Contents) → Holds c (D.seen disk) → IfErr result (λ e. (e.0 ≡ Device) ⊎ (e.0 ≡ NoMemory)) }
 
-    // No stop leaves what could not be left before, and what is read stays the same.
-    ensures reads { D.honest disk → OnlyReads D.seen D.may_leave D.moment D.left_since disk (disk_after result) }
+        // No stop leaves what could not be left before, and what is read stays the same.
+        ensures reads { D.honest disk → OnlyReads D.seen D.may_leave D.moment D.left_since disk (disk_after result) }
 
-    // Over any disk: a journal with no slot begun that has not failed.
-    ensures ready { IfOk result (λ found. IsReady found.journal) }
-    ensures listed { IfOk result AreListed }
-    ensures device { IfErr result (λ e. (e.0 ≡ Device) ↔ Rises (D.failures disk) (D.failures e.1)) }
-    ensures still { IfOk result (λ found. D.failures found.journal.disk ≡ D.failures disk) }
-    ensures works { IfOk result (λ found. Rises (D.failures disk) (D.failures found.journal.disk) → ⊥) }
-    ensures honesty { D.honest (disk_after result) ↔ D.honest disk }
-    ensures size { D.size (disk_after result) ≡ D.size disk }
-{
-    let mut disk = disk;
-    match read_store(alloc, &mut disk) {
-        Err(fault) => Err((fault, disk)),
-        Ok(store) => Ok(found_in(store, disk)),
+        // Over any disk: a journal with no slot begun that has not failed.
+        ensures ready { IfOk result (λ found. IsReady found.journal) }
+        ensures listed { IfOk result AreListed }
+        ensures device { IfErr result (λ e. (e.0 ≡ Device) ↔ Rises (D.failures disk) (D.failures e.1)) }
+        ensures still { IfOk result (λ found. D.failures found.journal.disk ≡ D.failures disk) }
+        ensures works { IfOk result (λ found. Rises (D.failures disk) (D.failures found.journal.disk) → ⊥) }
+        ensures honesty { D.honest (disk_after result) ↔ D.honest disk }
+        ensures size { D.size (disk_after result) ≡ D.size disk }
+        ensures sized { IfOk result (λ found. D.size disk ≡ device_bytes) }
+    {
+        let mut disk = disk;
+        match read_store(alloc, &mut disk) {
+            Err(fault) => Err((fault, disk)),
+            Ok(store) => Ok(found_in(store, disk)),
+        }
     }
 }
 

@@ -3,7 +3,7 @@ ghost use Rattle.std.specs.Prelude.{◌≡◌, ◌⊎◌, ◌↔◌, ◌+◌, �
 ghost use Rattle.fe_disk.specs.Disk.{LeavesJust, Rises, bytes_at};
 ghost use Rattle.fe_journal.specs.Layout.{device_bytes, header_of};
 ghost use Rattle.fe_format.specs.Layout.{IsImageLength};
-ghost use Rattle.fe_journal.specs.Damage.{Tells};
+ghost use Rattle.fe_journal.specs.Damage.{TellsFound};
 ghost use Rattle.fe_journal.specs.Reading.{IsHeader, HeaderFault, GroupFault, EndsAt};
 ghost use Rattle.fe_journal.specs.Steps.{OnlyReads};
 ghost use Rattle.fe_journal.specs.Store.{CountsAs, IsSlotRead, AreParts, IsSound, IsStore, IsWhole};
@@ -36,7 +36,7 @@ pub struct Store {
 /// Syncs, and then only reads.
 pub fn read_store<D: Disk>(alloc: Global, disk: &mut D) -> Result<Store, StoreFault>
     ensures store { D.honest disk.old → IfOk result (IsStore (D.seen disk.old)) }
-    ensures faults { D.honest disk.old → IfErr result (λ fault. Tells fault (D.seen disk.old)) }
+    ensures faults { D.honest disk.old → IfErr result (λ fault. TellsFound fault (D.seen disk.old)) }
     ensures settled { D.honest disk.old → OnOk result (LeavesJust (D.seen disk.new) (D.may_leave disk.new)) }
     ensures reads { D.honest disk.old → OnlyReads D.seen D.may_leave D.moment D.left_since disk.old disk.new }
 
@@ -59,7 +59,7 @@ fn read_synced<D: Disk>(alloc: Global, disk: &mut D) -> Result<Store, StoreFault
     requires device { D.size disk.old ≡ device_bytes }
     requires settled { D.honest disk.old → LeavesJust (D.seen disk.old) (D.may_leave disk.old) }
     ensures store { D.honest disk.old → IfOk result (IsStore (D.seen disk.old)) }
-    ensures faults { D.honest disk.old → IfErr result (λ fault. Tells fault (D.seen disk.old)) }
+    ensures faults { D.honest disk.old → IfErr result (λ fault. TellsFound fault (D.seen disk.old)) }
     ensures whole { IfOk result IsWhole }
     ensures reads { D.honest disk.old → OnlyReads D.seen D.may_leave D.moment D.left_since disk.old disk.new }
 
@@ -84,7 +84,7 @@ fn read_sound<D: Disk>(disk: &mut D) -> Result<(usize, Header), StoreFault>
     requires device { D.size disk.old ≡ device_bytes }
     ensures counts { D.honest disk.old → IfOk result (λ found. CountsAs (D.seen disk.old) (Some found)) }
     ensures sound { IfOk result IsSound }
-    ensures faults { D.honest disk.old → IfErr result (λ fault. Tells fault (D.seen disk.old)) }
+    ensures faults { D.honest disk.old → IfErr result (λ fault. TellsFound fault (D.seen disk.old)) }
     ensures reads { D.honest disk.old → OnlyReads D.seen D.may_leave D.moment D.left_since disk.old disk.new }
 
     ensures fault { IsErrOf result Device → Rises (D.failures disk.old) (D.failures disk.new) }
@@ -209,7 +209,7 @@ fn read_slot<D: Disk>(
     requires numbered { 1 ≤ header.now.generation }
     requires length { IsImageLength header.now.format header.now.image_length }
     ensures parts { D.honest disk.old → IfOk result (IsSlotRead (D.seen disk.old) slot header.now) }
-    ensures faults { D.honest disk.old → CountsAs (D.seen disk.old) (Some (slot, header.now)) → IfErr result (λ fault. Tells fault (D.seen disk.old)) }
+    ensures faults { D.honest disk.old → CountsAs (D.seen disk.old) (Some (slot, header.now)) → IfErr result (λ fault. TellsFound fault (D.seen disk.old)) }
     ensures whole { IfOk result AreParts }
     ensures ends { IfOk result (λ parts. EndsAt header.now.format parts.area.items parts.used) }
     ensures reads { D.honest disk.old → OnlyReads D.seen D.may_leave D.moment D.left_since disk.old disk.new }

@@ -1,30 +1,30 @@
 -- A batch that is appended to what a store keeps.
-use Rattle.std.proofs.Common.{◌≡◌, ◌⊎◌, ◌&&◌, nat_le, inl, inr, ⊎_elim, ℕ, ◌+◌, ◌-◌, ◌*◌, ◌%◌, ◌^◌, ◌≤◌, ◌<◌, Option, Some, None, Bool, true, false, List, [], ◌∷◌, ◌++◌, length, take, refl, sym, ap, subst, ◌∙◌, append_assoc, arith}
+use Rattle.std.proofs.Common.{◌≡◌, ◌&&◌, nat_le, inl, inr, ⊎_elim, ℕ, ◌+◌, ◌-◌, ◌*◌, ◌%◌, ◌^◌, ◌≤◌, ◌<◌, Option, Some, None, Bool, true, false, List, [], ◌∷◌, ◌++◌, length, refl, sym, ap, subst, ◌∙◌, arith}
 use Rattle.std.specs.List.{AllByRecursion, list_all}
 use Rattle.std.proofs.lemmas.Grind.{flat_map-append}
-use Rattle.std.proofs.lemmas.List.{append-nil, length-append}
+use Rattle.std.proofs.lemmas.List.{length-append}
 use Rattle.std.proofs.lemmas.Bool.{leb-true}
 use Rattle.std.proofs.Math.Nat.{add-mul}
-use Rattle.std.specs.Prelude.{Result, Ok, Err, IsOk, OnOk, OnErr}
+use Rattle.std.specs.Prelude.{Result, Ok, Err, IsOk, OnOk}
 use Rattle.fe_disk.specs.Disk.{LeavesOnly}
 use Rattle.fe_disk.proofs.Moments.{weaker}
 use Rattle.fe_state.specs.State.{ServerState, after, after_all}
 use Rattle.fe_state.specs.Format.{entry_fits_format_1}
-use Rattle.fe_state.specs.History.{AreLegal, IsHistory, after_groups}
+use Rattle.fe_state.specs.History.{AreLegal, after_groups}
 use Rattle.fe_state.specs.declared.entry.Entry.{Entry}
 use Rattle.fe_state.proofs.Histories.{history-append}
-use Rattle.fe_codec.specs.Record.{entry_spelling, group_spelling, FitsRecord, FitsGroup, IsGroupOf, CanPut}
+use Rattle.fe_codec.specs.Record.{entry_spelling, group_spelling, FitsGroup, IsGroupOf, CanPut}
 use Rattle.fe_codec.proofs.RecordLaws.{length-entry_spelling}
 use Rattle.fe_format.specs.Layout.{record_bytes, group_records, IsPayloadLength, IsImageLength}
 use Rattle.fe_format.specs.declared.format.Format.{Format}
 use Rattle.fe_format.specs.declared.format.Format.TheVariants.{One, Two}
 use Rattle.fe_journal.specs.Contents.{Contents, Holds, HoldsEither, with_group}
 use Rattle.fe_journal.specs.Journal.{JournalState, Draft, Keeps}
-use Rattle.fe_keeper.specs.CatchUp.{HasRoomFor, HasMore, CatchesUp}
+use Rattle.fe_keeper.specs.within.CatchUp.{HasRoomFor, HasMore, CatchesUp}
 use Rattle.fe_keeper.specs.Keeper.{Progress, StoreState, is_spellable, catches_up, fits, appended}
 use Rattle.fe_journal.specs.Groups.{room_at}
-use Rattle.fe_keeper.specs.Stands.{AreGroups, Stands, StandsFor, StandsForEither}
-use Rattle.fe_keeper.specs.Upholds.{IsDraftOf, IsDrafted, Upholds, IsUnderWay, IsCheckpoint, IsStore, progress_of, store_of}
+use Rattle.fe_keeper.specs.Stands.{AreGroups, Stands, StandsForEither}
+use Rattle.fe_keeper.specs.within.Upholds.{IsDraftOf, IsDrafted, Upholds, IsCheckpoint, IsStore, progress_of, store_of}
 use Rattle.std.specs.Option.{option_map}
 use Rattle.std.specs.Prelude.{vec_len, vec_capacity}
 use Rattle.fe_keeper.specs.declared.checkpoint.Checkpoint.{Checkpoint}

@@ -8,7 +8,7 @@ use Rattle.fe_journal.specs.Contents.{Contents}
 use Rattle.fe_journal.specs.Cursor.{Cursor}
 use Rattle.fe_keeper.specs.Stands.{Stands, greatest_generation}
 use Rattle.fe_keeper.specs.Opened.{IsBase, ArePartsOf}
-use Rattle.fe_keeper.specs.Replaying.{CanGoOn}
+use Rattle.fe_keeper.specs.within.Replaying.{CanGoOn}
 
 -- the base of what contents stand for, read of their parts
 pub base_there : (c : Contents) (s : ServerState) (format : Format) (generation : ℕ) (image : List ℕ) (groups : Cursor) → ArePartsOf c format generation image groups → (stands : Stands c s) → IsBase format generation image stands.base

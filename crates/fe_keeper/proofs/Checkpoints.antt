@@ -10,8 +10,8 @@ use Rattle.fe_format.specs.declared.format.Format.TheVariants.{Two}
 use Rattle.fe_journal.specs.Contents.{Contents, Holds}
 use Rattle.fe_journal.specs.Journal.{JournalState, Draft, Keeps, new_draft, with_slice}
 use Rattle.fe_keeper.specs.Stands.{Stands, StandsFor}
-use Rattle.fe_keeper.specs.Upholds.{IsDraftOf, IsDrafted, Upholds, progress_of}
-use Rattle.fe_keeper.specs.Slices.{KeepsDraft}
+use Rattle.fe_keeper.specs.within.Upholds.{IsDraftOf, IsDrafted, Upholds, progress_of}
+use Rattle.fe_keeper.specs.within.Slices.{KeepsDraft}
 use Rattle.fe_keeper.specs.declared.checkpoint.Checkpoint.{Checkpoint}
 use Rattle.fe_keeper.specs.declared.store.Store.{Store}
 

@@ -13,9 +13,9 @@ use Rattle.fe_journal.specs.declared.fault.StoreFault.TheVariants as store
 use Rattle.fe_journal.proofs.Founds as founds
 use Rattle.fe_keeper.specs.Stands.{Stands, StandsFor, greatest_generation}
 use Rattle.fe_keeper.specs.Opened.{IsSlotFault}
-use Rattle.fe_keeper.specs.Replaying.{CanGoOn}
-use Rattle.fe_keeper.specs.Damage.{IsWrongIn, IsWrongAt, IsDamagedAt, Tells, OddField, OddGeneration, OddRecord, InSlot, InContents}
-use Rattle.fe_keeper.specs.Faults.{fault_of_store}
+use Rattle.fe_keeper.specs.within.Replaying.{CanGoOn}
+use Rattle.fe_keeper.specs.Damage.{IsWrongIn, IsWrongAt, IsDamagedAt, TellsStore, OddField, OddGeneration, OddRecord, InSlot, InContents}
+use Rattle.fe_keeper.specs.within.Faults.{fault_of_store}
 use Rattle.fe_keeper.specs.Laws.{AreToldApart}
 use Rattle.fe_keeper.specs.declared.fault.Fault.{Fault}
 use Rattle.fe_keeper.specs.declared.fault.Fault.TheVariants.{Device, Damaged, Unformatted}
@@ -25,7 +25,7 @@ use Rattle.fe_keeper.proofs.Openings.{stands_by}
 -- ---- what is told
 
 -- what the journal told
-pub tells_found : (image : List ℕ) (fault : StoreFault) → journal.Tells fault image → Tells (fault_of_store fault) image
+pub tells_found : (image : List ℕ) (fault : StoreFault) → journal.TellsFound fault image → TellsStore (fault_of_store fault) image
 tells_found image store.Unformatted told = told
 tells_found image (store.Damaged offset) told = InSlot told.0 told.1
 tells_found image store.Device told = told
@@ -36,9 +36,9 @@ told_found fault (inl is) = inl (ap fault_of_store is)
 told_found fault (inr is) = inr (ap fault_of_store is)
 
 -- what is told of contents
-pub tells_slot : (image : List ℕ) (c : Contents) (fault : Fault) → Holds c image → IsSlotFault fault → ((offset : ℕ) → fault ≡ Damaged offset → IsWrongAt c offset) → Tells fault image
-tells_slot image c fault holds (inl is) wrong = subst (λ (f : Fault). Tells f image) (sym is) (founds.formatted c image holds)
-tells_slot image c fault holds (inr (offset, is)) wrong = subst (λ (f : Fault). Tells f image) (sym is) (InContents c holds (wrong offset is))
+pub tells_slot : (image : List ℕ) (c : Contents) (fault : Fault) → Holds c image → IsSlotFault fault → ((offset : ℕ) → fault ≡ Damaged offset → IsWrongAt c offset) → TellsStore fault image
+tells_slot image c fault holds (inl is) wrong = subst (λ (f : Fault). TellsStore f image) (sym is) (founds.formatted c image holds)
+tells_slot image c fault holds (inr (offset, is)) wrong = subst (λ (f : Fault). TellsStore f image) (sym is) (InContents c holds (wrong offset is))
 
 -- what is wrong in the parts of contents is wrong in them
 pub wrong_there : (c : Contents) (slot : ℕ) (format : Format) (generation : ℕ) (image : List ℕ) (start at offset : ℕ) → slot ≡ c.slot → format ≡ c.format → generation ≡ c.generation → image ≡ c.image

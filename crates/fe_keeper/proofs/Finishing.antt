@@ -17,9 +17,9 @@ use Rattle.fe_journal.specs.Contents.{Contents, HoldsEither}
 use Rattle.fe_journal.specs.Journal.{JournalState, Draft, Keeps, begun_of, catch_up_groups, finished}
 use Rattle.fe_journal.specs.declared.begun.Begun.{Begun}
 use Rattle.fe_keeper.specs.Stands.{Stands, StandsFor, AreGroups, greatest_generation}
-use Rattle.fe_keeper.specs.Upholds.{IsDraftOf, IsUnderWay, IsCheckpoint, IsStore, Upholds, progress_of}
+use Rattle.fe_keeper.specs.within.Upholds.{IsDraftOf, IsUnderWay, IsCheckpoint, IsStore, Upholds, progress_of}
 use Rattle.fe_keeper.specs.Keeper.{has_slices}
-use Rattle.fe_keeper.specs.Slices.{KeepsDraft}
+use Rattle.fe_keeper.specs.within.Slices.{KeepsDraft}
 use Rattle.fe_keeper.specs.declared.checkpoint.Checkpoint.{Checkpoint}
 use Rattle.fe_keeper.specs.declared.store.Store.{Store}
 use Rattle.fe_keeper.proofs.Appending.{length-group}

@@ -15,7 +15,7 @@ use Rattle.fe_replica.specs.Replaying.{Replays, IsFirstBad}
 use Rattle.fe_replica.proofs.Replayed.{replays_once, replayed_group, group_replays, bad_is_refused}
 use Rattle.fe_keeper.specs.Stands.{AreGroups, Stands}
 use Rattle.fe_keeper.specs.Opened.{IsListing, ReplaysAll, IsRecovered}
-use Rattle.fe_keeper.specs.Replaying.{CanGoOn, IsNext}
+use Rattle.fe_keeper.specs.within.Replaying.{CanGoOn, IsNext}
 use Rattle.fe_keeper.specs.Damage.{IsBadFrom}
 
 -- ---- in the midst of the groups

@@ -11,7 +11,7 @@ use Rattle.fe_journal.specs.Journal.{JournalState}
 use Rattle.fe_replica.specs.Replaying.{Replays}
 use Rattle.fe_replica.proofs.Following.{place_after}
 use Rattle.fe_keeper.specs.Stands.{greatest_generation}
-use Rattle.fe_keeper.specs.Upholds.{IsNumbered}
+use Rattle.fe_keeper.specs.within.Upholds.{IsNumbered}
 use Rattle.fe_keeper.specs.Opened.{ReplaysAll, IsRecovered}
 
 -- ---- places

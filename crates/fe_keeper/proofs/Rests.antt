@@ -8,7 +8,7 @@ use Rattle.fe_state.specs.State.{ServerState}
 use Rattle.fe_format.specs.declared.format.Format.{Format}
 use Rattle.fe_keeper.specs.Keeper.{Progress, StoreState, stepped, finished, has_slices}
 use Rattle.fe_keeper.specs.Stands.{StandsFor}
-use Rattle.fe_keeper.specs.Upholds.{IsStore, Upholds, store_of}
+use Rattle.fe_keeper.specs.within.Upholds.{IsStore, Upholds, store_of}
 use Rattle.fe_keeper.specs.declared.store.Store.{Store}
 use Rattle.fe_keeper.proofs.Checkpoints.{stays}
 

@@ -42,10 +42,10 @@ pub data IsDamagedAt (image : List ℕ) (offset : ℕ) : Type 0 where
 
 -- What a fault of opening says of the image that the disk reads: it is unformatted; it is damaged first at this offset; memory
 -- was wanted, and it is not unformatted. The others say nothing of it.
-abbrev pub Tells : Fault → List ℕ → Type 0
-Tells Unformatted image = journal.IsUnformatted image
-Tells (Damaged offset) image = IsDamagedAt image offset
-Tells Device image = Unit {0}
-Tells NoMemory image = journal.IsUnformatted image → ⊥
-Tells Failed image = Unit {0}
-Tells (Mismatch place) image = Unit {0}
+abbrev pub TellsStore : Fault → List ℕ → Type 0
+TellsStore Unformatted image = journal.IsUnformatted image
+TellsStore (Damaged offset) image = IsDamagedAt image offset
+TellsStore Device image = Unit {0}
+TellsStore NoMemory image = journal.IsUnformatted image → ⊥
+TellsStore Failed image = Unit {0}
+TellsStore (Mismatch place) image = Unit {0}

@@ -1,8 +1,8 @@
 -- A keeper as its callers see it, and what its calls leave of it.
-use Rattle.std.specs.Prelude.{◌≡◌, ℕ, zero, suc, ◌+◌, ◌-◌, ◌*◌, Bool, true, false, ◌&&◌, nat_le, if◌then◌else◌, List, length, Option, Some, None, is_some, is_none, not}
+use Rattle.std.specs.Prelude.{ℕ, zero, suc, ◌+◌, ◌-◌, ◌*◌, Bool, true, false, ◌&&◌, nat_le, if◌then◌else◌, List, length, Option, Some, None, is_none, not}
 use Rattle.std.specs.Option.{option_map_or}
 use Rattle.std.specs.List.{list_all}
-use Rattle.fe_state.specs.State.{ServerState, after_all}
+use Rattle.fe_state.specs.State.{ServerState}
 use Rattle.fe_state.specs.Format.{entry_fits_format_1}
 use Rattle.fe_state.specs.declared.entry.Entry.{Entry}
 use Rattle.fe_format.specs.Layout.{record_bytes}

@@ -1,13 +1,7 @@
 pub mod Stands
 pub mod Prefix
 pub mod Keeper
-pub mod CatchUp
-pub mod Upholds
-pub mod Slices
-pub mod Faults
-pub mod Parts
-pub mod Replaying
 pub mod Opened
 pub mod Damage
-pub mod Rooms
 pub mod Laws
+pub mod within

@@ -3,12 +3,13 @@ use Rattle.std.specs.Prelude.{◌≡◌, ◌⊎◌, ℕ, ◌≤◌, List, [], �
 use Rattle.fe_state.specs.State.{ServerState}
 use Rattle.fe_codec.specs.Image.{image_spelling, FitsImage}
 use Rattle.fe_format.specs.declared.format.Format.{Format}
-use Rattle.fe_journal.specs.Contents.{Contents}
+use Rattle.fe_journal.specs.Contents.{Contents, Holds}
+use Rattle.fe_journal.specs.Groups.{end_of}
 use Rattle.fe_journal.specs.Cursor.{Cursor, Lists}
 use Rattle.fe_journal.specs.Journal.{JournalState, Keeps}
 use Rattle.fe_replica.specs.Replaying.{Replays}
 use Rattle.fe_keeper.specs.Stands.{Stands, greatest_generation}
-use Rattle.fe_keeper.specs.Keeper.{KeeperState}
+use Rattle.fe_keeper.specs.Keeper.{KeeperState, StoreState}
 use Rattle.fe_keeper.specs.declared.fault.Fault.{Fault}
 use Rattle.fe_keeper.specs.declared.fault.Fault.TheVariants.{Device, NoMemory, Damaged, Unformatted}
 
@@ -38,6 +39,13 @@ pub record KeepsState {D : Type 0} (seen : D → List ℕ) (may_leave : D → Li
   pub contents : Contents
   pub keeps : Keeps seen may_leave journal contents None
   pub stands : Stands contents state
+
+-- The store of the slot that counts in the image: its format, and the bytes of its open groups.
+pub record IsStoreIn {D : Type 0} (image : List ℕ) (store : StoreState D) : Type 0 where
+  pub contents : Contents
+  pub holds : Holds contents image
+  pub format_is : store.format ≡ contents.format
+  pub used_is : store.used ≡ end_of contents.groups
 
 -- ---- what a slot holds, whatever disk it was read from
 

@@ -3,6 +3,7 @@ use Rattle.std.specs.Prelude.{◌≡◌, ℕ, ◌≤◌, List, length, take}
 use Rattle.fe_state.specs.State.{ServerState}
 use Rattle.fe_state.specs.History.{after_groups}
 use Rattle.fe_state.specs.declared.entry.Entry.{Entry}
+use Rattle.fe_keeper.specs.Stands.{StandsFor}
 
 -- The state is that after some of the groups from the front of the history, k of them at least, none skipped.
 pub record IsCrashPrefix (beginning : ServerState) (history : List (List Entry)) (k : ℕ) (s : ServerState) : Type 0 where
@@ -10,3 +11,9 @@ pub record IsCrashPrefix (beginning : ServerState) (history : List (List Entry))
   pub least : k ≤ kept
   pub most : kept ≤ length history
   pub state_is : s ≡ after_groups beginning (take kept history)
+
+-- The image stands for such a state.
+pub record LeavesPrefix (beginning : ServerState) (history : List (List Entry)) (k : ℕ) (image : List ℕ) : Type 0 where
+  pub state : ServerState
+  pub stands : StandsFor image state
+  pub prefix : IsCrashPrefix beginning history k state

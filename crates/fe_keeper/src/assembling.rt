@@ -1,8 +1,8 @@
 ghost use Rattle.std.specs.Prelude.{◌≡◌, IfOk, IfErr};
 ghost use Rattle.fe_journal.specs.Journal.{IsReady};
-ghost use Rattle.fe_keeper.specs.Upholds.{IsNumbered};
+ghost use Rattle.fe_keeper.specs.within.Upholds.{IsNumbered};
 ghost use Rattle.fe_keeper.specs.Opened.{keeper_over, KeepsState};
-ghost use Rattle.fe_keeper.specs.Rooms.{AreRooms};
+ghost use Rattle.fe_keeper.specs.within.Rooms.{AreRooms};
 ghost use Rattle.fe_keeper.specs.declared.fault.Fault.TheVariants.{NoMemory};
 
 use crate::Fault;

@@ -1,14 +1,14 @@
-ghost use Rattle.std.specs.Prelude.{◌≡◌, ◌↔◌, ◌+◌, ◌≤◌, [], true, false, not, nat_le, IfOk, IfErr, OnOk, OnErr, IsErrOf, vec_len, vec_capacity};
+ghost use Rattle.std.specs.Prelude.{◌≡◌, ◌↔◌, ◌+◌, ◌<◌, ◌≤◌, true, false, not, nat_le, length, IfOk, IfErr, OnOk, OnErr, IsErrOf, vec_len};
 ghost use Rattle.fe_disk.specs.Disk.{LeavesOnly, Rises};
 ghost use Rattle.fe_state.specs.State.{ServerState};
-ghost use Rattle.fe_codec.specs.Image.{image_spelling, FitsImage};
-ghost use Rattle.fe_format.specs.Layout.{IsImageLength};
+ghost use Rattle.fe_codec.specs.Image.{image_spelling};
 ghost use Rattle.fe_format.specs.declared.format.Format.TheVariants.{Two};
 ghost use Rattle.fe_journal.specs.Contents.{Contents, Holds};
 ghost use Rattle.fe_journal.specs.declared.fault.JournalFault.TheVariants as journal_fault;
 ghost use Rattle.fe_keeper.specs.Keeper.{slice_size};
-ghost use Rattle.fe_keeper.specs.Slices.{IsBegunFor, KeepsDraft, sliced, journal_sliced};
-ghost use Rattle.fe_keeper.specs.Upholds.{progress_of};
+ghost use Rattle.fe_keeper.specs.within.Fresh.{IsFresh, IsImageOf};
+ghost use Rattle.fe_keeper.specs.within.Slices.{IsBegunFor, KeepsDraft, sliced, journal_sliced};
+ghost use Rattle.fe_keeper.specs.within.Upholds.{progress_of};
 ghost use Rattle.fe_keeper.specs.declared.fault.Fault.TheVariants.{NoMemory};
 
 use crate::store::LONGEST_GROUP;
@@ -38,13 +38,9 @@ pub(crate) struct Checkpoint {
 impl Checkpoint {
     /// A checkpoint of the state, of which nothing is written.
     pub(crate) fn new(alloc: Global, state: &State) -> Result<Checkpoint, Fault>
-        ensures image { IfOk result (λ made. made.image.items ≡ image_spelling Two state.now) }
-        ensures fits { OnOk result (FitsImage Two state.now) }
-        ensures allowed { IfOk result (λ made. IsImageLength Two (vec_len made.image)) }
-        ensures written { IfOk result (λ made. made.written ≡ 0) }
-        ensures place { IfOk result (λ made. made.place ≡ state.now.place) }
-        ensures empty { IfOk result (λ made. made.catch_up.items ≡ []) }
-        ensures room { IfOk result (λ made. 1048560 ≤ vec_capacity made.catch_up) }
+        ensures image { IfOk result (λ made. IsImageOf made state.now) }
+        ensures fresh { IfOk result (λ made. IsFresh made state.now.place) }
+        ensures size { IfOk result (λ made. vec_len made.image ≡ length (image_spelling Two state.now)) }
         ensures memory { IfErr result (λ fault. fault ≡ NoMemory) }
     {
         let mut image = Vec::new(alloc);
@@ -82,6 +78,8 @@ impl Checkpoint {
         ensures value { OnOk result (self.new ≡ sliced self.old) }
         ensures journal { OnOk result (journal.new ≡ journal_sliced journal.old journal.new.disk (sliced self.old)) }
         ensures more { IfOk result (λ more. more ≡ not (nat_le (vec_len self.old.image) (sliced self.old).written)) }
+        ensures rests { vec_len self.old.image ≤ self.old.written → (self.new ≡ self.old) × (journal.new ≡ journal.old) }
+        ensures called { IsErrOf result journal_fault.Device → self.old.written < vec_len self.old.image }
         ensures err { OnErr result (self.new ≡ self.old) }
         ensures failing { OnErr result (journal.new ≡ record journal.old { disk = journal.new.disk; has_failed = true }) }
         ensures device { IsErrOf result journal_fault.Device → Rises (D.failures journal.old.disk) (D.failures journal.new.disk) }

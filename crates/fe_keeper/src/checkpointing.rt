@@ -1,46 +1,43 @@
 //! Checkpoints: the image of the state is written beside the slot that counts, slice by slice.
 
-ghost use Rattle.std.specs.Prelude.{◌≡◌, ◌⊎◌, ◌≤◌, ◌↔◌, true, false, length, IsTrue, IfOk, OnOk, OnErr, IsErrOf, IsSome};
+ghost use Rattle.std.specs.Prelude.{◌≡◌, ◌≤◌, ◌↔◌, true, false, length, is_some, vec_len, IsTrue, IfOk, IfSome, OnOk, OnErr, IsErrOf, IsSome};
 ghost use Rattle.fe_disk.specs.Disk.{LeavesOnly, Rises};
 ghost use Rattle.fe_state.specs.State.{ServerState};
-ghost use Rattle.fe_codec.specs.Image.{image_spelling};
-ghost use Rattle.fe_format.specs.declared.format.Format.TheVariants.{Two};
+ghost use Rattle.fe_keeper.specs.within.Fresh.{IsFresh, IsImageOf};
 ghost use Rattle.fe_keeper.specs.Stands.{StandsFor};
-ghost use Rattle.fe_keeper.specs.Upholds.{IsStore, Upholds, store_of};
+ghost use Rattle.fe_keeper.specs.within.Upholds.{IsStore, Upholds, store_of};
 ghost use Rattle.fe_keeper.specs.Keeper as effect;
 ghost use Rattle.fe_keeper.specs.Keeper.{fits, can_begin, has_slices, stepped, finished, renewed, made_room, must_begin};
-ghost use Rattle.fe_keeper.specs.declared.fault.Fault.TheVariants.{Device, NoMemory};
 ghost use Rattle.fe_journal.specs.declared.fault.JournalFault.TheVariants as journal;
 
+use crate::Format;
 use crate::checkpoint::Checkpoint;
 use crate::store::Store;
-use crate::{Fault, Format};
 use fe_disk::Disk;
 use fe_journal::JournalFault;
-use fe_state::{Entry, State};
-use std::alloc::Global;
+use fe_state::Entry;
 
 impl<D: Disk> Store<D> {
-    /// Begins a checkpoint: spells the image of the state, and begins the other slot.
-    pub(crate) fn begin(&mut self, alloc: Global, state: &State) -> Result<(), Fault>
+    /// Begins a checkpoint that is made: begins the other slot for it.
+    pub(crate) fn begin(&mut self, checkpoint: Checkpoint) -> Result<(), JournalFault>
         requires sound { IsStore self.old }
         requires can { IsTrue (can_begin (store_of self.old)) }
-        requires place { self.old.place ≡ state.now.place }
+        requires fresh { IsFresh checkpoint self.old.place }
         requires works { self.old.journal.has_failed ≡ false }
         ensures sound { IsStore self.new }
-        ensures any_moment { D.honest self.old.journal.disk → Upholds D.seen D.may_leave self.old state.now
-            → LeavesOnly D.moment D.left_since self.old.journal.disk self.new.journal.disk (λ image. StandsFor image state.now) }
-        ensures upheld { D.honest self.old.journal.disk → Upholds D.seen D.may_leave self.old state.now → self.new.journal.has_failed ≡ false → Upholds D.seen D.may_leave self.new state.now }
-        ensures value { OnOk result (store_of self.new ≡ record (effect.begun (store_of self.old) (length (image_spelling Two state.now))) { disk = self.new.journal.disk }) }
+        ensures any_moment { D.honest self.old.journal.disk → (s : ServerState) → Upholds D.seen D.may_leave self.old s
+            → LeavesOnly D.moment D.left_since self.old.journal.disk self.new.journal.disk (λ image. StandsFor image s) }
+        ensures upheld { D.honest self.old.journal.disk → (s : ServerState) → Upholds D.seen D.may_leave self.old s → IsImageOf checkpoint s → OnOk result (Upholds D.seen D.may_leave self.new s) }
+        ensures value { OnOk result (store_of self.new ≡ record (effect.begun (store_of self.old) (vec_len checkpoint.image)) { disk = self.new.journal.disk }) }
+        ensures under_way { OnOk result (IsSome self.new.checkpoint) }
         ensures working { OnOk result (self.new.journal.has_failed ≡ false) }
-        ensures memory { IsErrOf result NoMemory → self.new ≡ self.old }
-        ensures err { IsErrOf result Device → store_of self.new ≡ record (store_of self.old) { disk = self.new.journal.disk; has_failed = true } }
-        ensures device { IsErrOf result Device → Rises (D.failures self.old.journal.disk) (D.failures self.new.journal.disk) }
+        ensures device { IsErrOf result journal.Device → Rises (D.failures self.old.journal.disk) (D.failures self.new.journal.disk) }
         ensures still { OnOk result (D.failures self.new.journal.disk ≡ D.failures self.old.journal.disk) }
-        ensures faults { OnErr result (IsErrOf result Device ⊎ IsErrOf result NoMemory) }
+        ensures faults { OnErr result (IsErrOf result journal.Device) }
+        ensures failing { OnErr result (self.new.journal.has_failed ≡ true) }
+        ensures place { self.new.place ≡ self.old.place }
         ensures honesty { D.honest self.new.journal.disk ↔ D.honest self.old.journal.disk }
     {
-        let checkpoint = Checkpoint::new(alloc, state)?;
         let generation = self.journal.generation() + 1;
         self.journal
             .slot_close(Format::Two, generation, checkpoint.image.len())?;
@@ -61,6 +58,8 @@ impl<D: Disk> Store<D> {
         ensures value { OnOk result (store_of self.new ≡ record (stepped (store_of self.old)) { disk = self.new.journal.disk }) }
         ensures working { OnOk result (self.new.journal.has_failed ≡ false) }
         ensures more { IfOk result (λ more. more ≡ has_slices (store_of self.new).checkpoint) }
+        ensures rests { has_slices (store_of self.old).checkpoint ≡ false → self.new ≡ self.old }
+        ensures called { IsErrOf result journal.Device → IsTrue (has_slices (store_of self.old).checkpoint) }
         ensures device { IsErrOf result journal.Device → Rises (D.failures self.old.journal.disk) (D.failures self.new.journal.disk) }
         ensures still { OnOk result (D.failures self.new.journal.disk ≡ D.failures self.old.journal.disk) }
         ensures faults { OnErr result (IsErrOf result journal.Device) }
@@ -146,66 +145,64 @@ impl<D: Disk> Store<D> {
     }
 
     /// Makes a whole checkpoint: one that nothing came after.
-    fn renew(&mut self, alloc: Global, state: &State) -> Result<(), Fault>
+    fn renew(&mut self, whole: Checkpoint) -> Result<(), JournalFault>
         requires sound { IsStore self.old }
         requires can { IsTrue (can_begin (store_of self.old)) }
-        requires place { self.old.place ≡ state.now.place }
+        requires fresh { IsFresh whole self.old.place }
         requires works { self.old.journal.has_failed ≡ false }
         ensures sound { IsStore self.new }
-        ensures any_moment { D.honest self.old.journal.disk → Upholds D.seen D.may_leave self.old state.now
-            → LeavesOnly D.moment D.left_since self.old.journal.disk self.new.journal.disk (λ image. StandsFor image state.now) }
-        ensures upheld { D.honest self.old.journal.disk → Upholds D.seen D.may_leave self.old state.now → self.new.journal.has_failed ≡ false → Upholds D.seen D.may_leave self.new state.now }
+        ensures any_moment { D.honest self.old.journal.disk → (s : ServerState) → Upholds D.seen D.may_leave self.old s → IsImageOf whole s
+            → LeavesOnly D.moment D.left_since self.old.journal.disk self.new.journal.disk (λ image. StandsFor image s) }
+        ensures upheld { D.honest self.old.journal.disk → (s : ServerState) → Upholds D.seen D.may_leave self.old s → IsImageOf whole s → OnOk result (Upholds D.seen D.may_leave self.new s) }
         ensures value { OnOk result (store_of self.new ≡ record (renewed (store_of self.old)) { disk = self.new.journal.disk }) }
-        ensures memory { IsErrOf result NoMemory → self.new ≡ self.old }
-        ensures device { IsErrOf result Device → Rises (D.failures self.old.journal.disk) (D.failures self.new.journal.disk) }
+        ensures device { IsErrOf result journal.Device → Rises (D.failures self.old.journal.disk) (D.failures self.new.journal.disk) }
         ensures still { OnOk result (D.failures self.new.journal.disk ≡ D.failures self.old.journal.disk) }
-        ensures failing { IsErrOf result Device → self.new.journal.has_failed ≡ true }
-        ensures faults { OnErr result (IsErrOf result Device ⊎ IsErrOf result NoMemory) }
-        ensures kept { self.new.place ≡ self.old.place }
+        ensures faults { OnErr result (IsErrOf result journal.Device) }
+        ensures failing { OnErr result (self.new.journal.has_failed ≡ true) }
+        ensures place { self.new.place ≡ self.old.place }
         ensures honesty { D.honest self.new.journal.disk ↔ D.honest self.old.journal.disk }
     {
-        self.begin(alloc, state)?;
-        self.finish()?;
-        Ok(())
+        self.begin(whole)?;
+        self.finish()
     }
 
-    /// Makes room for a batch that does not fit: finishes the checkpoint under way, and where that is not
-    /// enough makes a whole one.
+    /// Makes room for a batch that does not fit: finishes the checkpoint under way, and makes the whole one
+    /// that is made for it where that is not enough.
     pub(crate) fn make_room(
         &mut self,
-        alloc: Global,
-        state: &State,
         entries: &[Entry],
-    ) -> Result<(), Fault>
+        whole: Option<Checkpoint>,
+    ) -> Result<(), JournalFault>
         requires sound { IsStore self.old }
-        requires place { self.old.place ≡ state.now.place }
         requires works { self.old.journal.has_failed ≡ false }
         requires few { length entries.now ≤ 4097 }
+        requires must { is_some whole ≡ must_begin (store_of self.old) entries.now }
+        requires fresh { IfSome whole (λ made. IsFresh made self.old.place) }
         ensures sound { IsStore self.new }
-        ensures any_moment { D.honest self.old.journal.disk → Upholds D.seen D.may_leave self.old state.now
-            → LeavesOnly D.moment D.left_since self.old.journal.disk self.new.journal.disk (λ image. StandsFor image state.now) }
-        ensures upheld { D.honest self.old.journal.disk → Upholds D.seen D.may_leave self.old state.now → self.new.journal.has_failed ≡ false → Upholds D.seen D.may_leave self.new state.now }
+        ensures any_moment { D.honest self.old.journal.disk → (s : ServerState) → Upholds D.seen D.may_leave self.old s → IfSome whole (λ made. IsImageOf made s)
+            → LeavesOnly D.moment D.left_since self.old.journal.disk self.new.journal.disk (λ image. StandsFor image s) }
+        ensures upheld { D.honest self.old.journal.disk → (s : ServerState) → Upholds D.seen D.may_leave self.old s → IfSome whole (λ made. IsImageOf made s)
+            → OnOk result (Upholds D.seen D.may_leave self.new s) }
         ensures value { OnOk result (store_of self.new ≡ record (made_room (store_of self.old) entries.now) { disk = self.new.journal.disk }) }
         ensures fits { OnOk result (IsTrue (fits (store_of self.new) entries.now)) }
-        ensures memory { IsErrOf result NoMemory → IsTrue (must_begin (store_of self.old) entries.now) × (self.new.journal.has_failed ≡ false) }
-        ensures device { IsErrOf result Device → Rises (D.failures self.old.journal.disk) (D.failures self.new.journal.disk) }
+        ensures works { OnOk result (self.new.journal.has_failed ≡ false) }
+        ensures device { IsErrOf result journal.Device → Rises (D.failures self.old.journal.disk) (D.failures self.new.journal.disk) }
         ensures still { OnOk result (D.failures self.new.journal.disk ≡ D.failures self.old.journal.disk) }
-        ensures calm { IsErrOf result NoMemory → D.failures self.new.journal.disk ≡ D.failures self.old.journal.disk }
-        ensures failing { IsErrOf result Device → self.new.journal.has_failed ≡ true }
-        ensures faults { OnErr result (IsErrOf result Device ⊎ IsErrOf result NoMemory) }
-        ensures kept { self.new.place ≡ self.old.place }
+        ensures faults { OnErr result (IsErrOf result journal.Device) }
+        ensures failing { OnErr result (self.new.journal.has_failed ≡ true) }
+        ensures place { self.new.place ≡ self.old.place }
         ensures honesty { D.honest self.new.journal.disk ↔ D.honest self.old.journal.disk }
     {
         if self.fits(entries) {
             return Ok(());
         }
+        let Some(whole) = whole else {
+            return self.finish();
+        };
         if self.checkpoint.is_none() {
-            return self.renew(alloc, state);
+            return self.renew(whole);
         }
         self.finish()?;
-        if self.fits(entries) {
-            return Ok(());
-        }
-        self.renew(alloc, state)
+        self.renew(whole)
     }
 }

@@ -32,7 +32,7 @@ impl From<AllocError> for Fault {
 
 impl From<JournalFault> for Fault {
     ghost use Rattle.std.specs.Prelude.{◌≡◌};
-    ghost use Rattle.fe_keeper.specs.Faults.{fault_of_journal};
+    ghost use Rattle.fe_keeper.specs.within.Faults.{fault_of_journal};
 
     ghost from_gives = { λ before fault. fault ≡ fault_of_journal before };
 
@@ -46,7 +46,7 @@ impl From<JournalFault> for Fault {
 
 impl From<StoreFault> for Fault {
     ghost use Rattle.std.specs.Prelude.{◌≡◌};
-    ghost use Rattle.fe_keeper.specs.Faults.{fault_of_store};
+    ghost use Rattle.fe_keeper.specs.within.Faults.{fault_of_store};
 
     ghost from_gives = { λ before fault. fault ≡ fault_of_store before };
 
@@ -62,7 +62,7 @@ impl From<StoreFault> for Fault {
 
 impl From<Refused> for Fault {
     ghost use Rattle.std.specs.Prelude.{◌≡◌};
-    ghost use Rattle.fe_keeper.specs.Faults.{fault_of_refused};
+    ghost use Rattle.fe_keeper.specs.within.Faults.{fault_of_refused};
 
     ghost from_gives = { λ before fault. fault ≡ fault_of_refused before };
 

@@ -4,13 +4,15 @@ ghost use Rattle.fe_state.specs.State.{after_all};
 ghost use Rattle.fe_replica.specs.Taking.{Continues, IsMismatch, MakesSomeArray};
 ghost use Rattle.fe_codec.specs.Image.{image_spelling};
 ghost use Rattle.fe_format.specs.declared.format.Format.TheVariants.{Two};
+ghost use Rattle.fe_journal.specs.Layout.{device_bytes};
 ghost use Rattle.fe_keeper.specs.Stands.{StandsFor, StandsForEither, EachStandsFor};
 ghost use Rattle.fe_keeper.specs.Keeper as effect;
 ghost use Rattle.fe_keeper.specs.Keeper.{appended, made_room, must_begin, can_begin, has_slices, stepped, finished};
-ghost use Rattle.fe_keeper.specs.Upholds.{IsStore, Upholds, store_of};
+ghost use Rattle.fe_keeper.specs.within.Upholds.{IsStore, Upholds, store_of};
 ghost use Rattle.fe_state.specs.UndoLog.{empty_log};
 ghost use Rattle.fe_keeper.specs.declared.fault.Fault.TheVariants.{Device, Failed, NoMemory, Mismatch};
 
+use crate::checkpoint::Checkpoint;
 use crate::parts::Parts;
 use crate::store::Store;
 use crate::{Fault, Format};
@@ -38,7 +40,7 @@ impl<D: Disk> Model for Keeper<D> {
 
     ghost coded = { Prim.hlevel (codes, state_code) };
 
-    ghost use Rattle.fe_keeper.specs.Parts.{kept_of, IsKept};
+    ghost use Rattle.fe_keeper.specs.within.Parts.{kept_of, IsKept};
 
     ghost view = { λ k. kept_of k.parts };
 
@@ -81,14 +83,15 @@ impl<D: Disk> Keeper<D> {
         // A stop at any moment leaves the replica before, or it with the whole batch.
         ensures any_moment { D.honest self.old.store.disk → self.old.store.has_failed ≡ false
             → LeavesOnly D.moment D.left_since self.old.store.disk self.new.store.disk (StandsForEither self.old.state (after_all self.old.state batch.entries)) }
-        // For want of memory nothing of the batch is stored.
-        ensures short { IfErr result (λ e. e.0 ≡ NoMemory → D.honest self.old.store.disk → self.old.store.has_failed ≡ false
-            → LeavesOnly D.moment D.left_since self.old.store.disk self.new.store.disk (λ image. StandsFor image self.old.state)) }
+        // For want of memory nothing is done: the replica, the store and its disk are as they were.
+        ensures short { IfErr result (λ e. e.0 ≡ NoMemory → self.new ≡ self.old) }
         ensures stands { D.honest self.new.store.disk → self.new.store.has_failed ≡ false → EachStandsFor D.may_leave self.new.store.disk self.new.state }
 
         ensures returned { IfOk result (λ back. back ≡ batch) }
         ensures given_back { IfErr result (λ e. e.1 ≡ batch) }
         ensures continues { OnOk result (Continues self.old.state batch.first batch.entries) }
+        // A device call is made only for a batch that continues the history.
+        ensures continued { IfErr result (λ e. e.0 ≡ Device → Continues self.old.state batch.first batch.entries) }
         ensures state { OnOk result (self.new.state ≡ after_all self.old.state batch.entries) }
         ensures store { OnOk result (self.new.store ≡ record (appended (made_room self.old.store batch.entries) batch.entries) { disk = self.new.store.disk }) }
         ensures err { OnErr result (self.new.state ≡ self.old.state) }
@@ -100,7 +103,6 @@ impl<D: Disk> Keeper<D> {
         ensures untouched { IfErr result (λ e. e.0 ≡ Failed → self.new ≡ self.old) }
         ensures device { IfErr result (λ e. e.0 ≡ Device → Rises (D.failures self.old.store.disk) (D.failures self.new.store.disk) × (self.new.store.has_failed ≡ true)) }
         ensures still { OnOk result (D.failures self.new.store.disk ≡ D.failures self.old.store.disk) }
-        ensures calm { IfErr result (λ e. e.0 ≡ NoMemory → D.failures self.new.store.disk ≡ D.failures self.old.store.disk) }
         ensures faults { IfErr result (λ e. (e.0 ≡ Device) ⊎ ((e.0 ≡ Failed) ⊎ ((e.0 ≡ NoMemory) ⊎ ((place : ℕ) × (e.0 ≡ Mismatch place))))) }
         ensures honesty { D.honest self.new.store.disk ↔ D.honest self.old.store.disk }
     {
@@ -122,6 +124,7 @@ impl<D: Disk> Keeper<D> {
         ensures begun { IfOk result (λ begun. begun ≡ true → self.new.store ≡ record (effect.begun self.old.store (length (image_spelling Two self.old.state))) { disk = self.new.store.disk }) }
         ensures none { IfOk result (λ begun. begun ≡ false → self.new ≡ self.old) }
         ensures memory { IsErrOf result NoMemory → self.new ≡ self.old }
+        ensures needed { IsErrOf result NoMemory → IsTrue (can_begin self.old.store) }
         ensures failed { IsErrOf result Failed ↔ IsTrue self.old.store.has_failed }
         ensures untouched { IsErrOf result Failed → self.new ≡ self.old }
         ensures device { IsErrOf result Device → Rises (D.failures self.old.store.disk) (D.failures self.new.store.disk) }
@@ -136,7 +139,8 @@ impl<D: Disk> Keeper<D> {
         if !self.parts.store.can_begin() {
             return Ok(false);
         }
-        self.parts.store.begin(self.parts.alloc, &self.parts.state)?;
+        let checkpoint = Checkpoint::new(self.parts.alloc, &self.parts.state)?;
+        self.parts.store.begin(checkpoint)?;
         Ok(true)
     }
 
@@ -149,6 +153,9 @@ impl<D: Disk> Keeper<D> {
         ensures state { self.new.state ≡ self.old.state }
         ensures value { IfOk result (λ more. more ≡ has_slices self.new.store.checkpoint) }
         ensures store { OnOk result (self.new.store ≡ record (stepped self.old.store) { disk = self.new.store.disk }) }
+        // Where no slice is left, it makes no device call.
+        ensures rests { has_slices self.old.store.checkpoint ≡ false → self.new ≡ self.old }
+        ensures called { IsErrOf result Device → IsTrue (has_slices self.old.store.checkpoint) }
         ensures failed { IsErrOf result Failed ↔ IsTrue self.old.store.has_failed }
         ensures untouched { IsErrOf result Failed → self.new ≡ self.old }
         ensures device { IsErrOf result Device → Rises (D.failures self.old.store.disk) (D.failures self.new.store.disk) }
@@ -176,6 +183,9 @@ impl<D: Disk> Keeper<D> {
         ensures state { self.new.state ≡ self.old.state }
         ensures value { IfOk result (λ was. was ≡ is_some self.old.store.checkpoint) }
         ensures store { OnOk result (self.new.store ≡ record (finished self.old.store) { disk = self.new.store.disk }) }
+        // Where none is under way, it makes no device call.
+        ensures rests { is_some self.old.store.checkpoint ≡ false → self.new ≡ self.old }
+        ensures called { IsErrOf result Device → IsTrue (is_some self.old.store.checkpoint) }
         ensures failed { IsErrOf result Failed ↔ IsTrue self.old.store.has_failed }
         ensures untouched { IsErrOf result Failed → self.new ≡ self.old }
         ensures device { IsErrOf result Device → Rises (D.failures self.old.store.disk) (D.failures self.new.store.disk) }
@@ -212,12 +222,13 @@ impl<D: Disk> Keeper<D> {
     pub fn store_format(&self) -> Format
         ensures { result ≡ self.now.store.format }
     {
-        self.parts.store.journal.format()
+        self.parts.store.journal.store_format()
     }
 
     /// The disk, as the calls of the keeper left it.
     pub fn into_disk(self) -> D
-        ensures { result ≡ self.store.disk }
+        ensures disk { result ≡ self.store.disk }
+        ensures size { D.size result ≡ device_bytes }
     {
         let Keeper { parts } = self;
         let Parts { store, .. } = parts;

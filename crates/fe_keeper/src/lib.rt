@@ -19,4 +19,3 @@ pub use fault::Fault;
 pub use fe_format::Format;
 pub use keeper::Keeper;
 pub use laws::{images_stand_for_one, stops_join, stores_are_told_apart};
-pub use opening::{format, open};

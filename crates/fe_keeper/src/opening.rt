@@ -6,9 +6,9 @@ ghost use Rattle.fe_journal.specs.Steps.{OnlyReads};
 ghost use Rattle.fe_journal.specs.Layout.{device_bytes};
 ghost use Rattle.fe_keeper.specs.Stands.{StandsFor, EachStandsFor};
 ghost use Rattle.fe_keeper.specs.Keeper.{first_store};
-ghost use Rattle.fe_keeper.specs.Opened.{disk_after, IsOpenFault};
-ghost use Rattle.fe_keeper.specs.Damage.{Tells};
-ghost use Rattle.fe_keeper.specs.Rooms.{AreRooms};
+ghost use Rattle.fe_keeper.specs.Opened.{disk_after, IsOpenFault, IsStoreIn};
+ghost use Rattle.fe_keeper.specs.Damage.{TellsStore};
+ghost use Rattle.fe_keeper.specs.within.Rooms.{AreRooms};
 ghost use Rattle.fe_keeper.specs.declared.fault.Fault.TheVariants.{Device, NoMemory, Damaged, Unformatted};
 
 use crate::Fault;
@@ -16,79 +16,90 @@ use crate::assembling::{Rooms, keeper_over, keeper_with_room};
 use crate::keeper::Keeper;
 use crate::recovering::recovered;
 use fe_disk::Disk;
-use fe_journal::{Found, find};
+use fe_journal::{Found, Journal};
 use fe_state::State;
 use std::alloc::{AllocError, Global};
 
 /// The bytes of a device (`docs/formats.md`, "Device").
 const DEVICE_BYTES: usize = 4_202_496;
 
-/// Opens a store: a sync, and then only reads. The keeper has the state that the disk stands for.
-///
-/// What is told of a damaged store is the first thing wrong in the slot that counts: its generation, its
-/// image's length, the lengths of its groups, its image, its generation against the image's place, and then
-/// its records (`docs/formats.md`, "Device").
-pub fn open<D: Disk>(alloc: Global, disk: D) -> Result<Keeper<D>, (Fault, D)>
-    // What the disk reads stands for the keeper's state, and so does each image that a stop may leave.
-    ensures opened { D.honest disk → IfOk result (λ keeper. StandsFor (D.seen disk) keeper.state) }
-    ensures stands { D.honest disk → IfOk result (λ keeper. EachStandsFor D.may_leave keeper.store.disk keeper.state) }
-    // A store that stands for a state is refused only for its device or for memory.
-    ensures refused { D.honest disk → (s : ServerState) → StandsFor (D.seen disk) s → IfErr result (λ e. (e.0 ≡ Device) ⊎ (e.0 ≡ NoMemory)) }
-    // What is told of a store is so, and an unformatted one is told so, whatever memory there is.
-    ensures told { D.honest disk → IfErr result (λ e. Tells e.0 (D.seen disk)) }
-    ensures unformatted { D.honest disk → IsUnformatted (D.seen disk) → IsErrAnd result (λ e. (e.0 ≡ Unformatted) ⊎ (e.0 ≡ Device)) }
-    // No stop leaves what could not be left before, and what is read stays the same.
-    ensures reads { D.honest disk → OnlyReads D.seen D.may_leave D.moment D.left_since disk (disk_after result) }
+impl<D: Disk> Keeper<D> {
+    /// Opens a store: a sync, and then only reads. The keeper has the state that the disk stands for.
+    ///
+    /// What is told of a damaged store is the first thing wrong in the slot that counts: its generation, its
+    /// image's length, the lengths of its groups, its image, its generation against the image's place, and then
+    /// its records (`docs/formats.md`, "Device").
+    pub fn open(alloc: Global, disk: D) -> Result<Keeper<D>, (Fault, D)>
+        // What the disk reads stands for the keeper's state, and so does each image that a stop may leave.
+        ensures opened { D.honest disk → IfOk result (λ keeper. StandsFor (D.seen disk) keeper.state) }
+        ensures stands { D.honest disk → IfOk result (λ keeper. EachStandsFor D.may_leave keeper.store.disk keeper.state) }
+        // A store that stands for a state is refused only for its device or for memory.
+        ensures refused { D.honest disk → (s : ServerState) → StandsFor (D.seen disk) s → IfErr result (λ e. (e.0 ≡ Device) ⊎ (e.0 ≡ NoMemory)) }
+        // What is told of a store is so, and an unformatted one is told so, whatever memory there is.
+        ensures told { D.honest disk → IfErr result (λ e. TellsStore e.0 (D.seen disk)) }
+        ensures unformatted { D.honest disk → IsUnformatted (D.seen disk) → IsErrAnd result (λ e. (e.0 ≡ Unformatted) ⊎ (e.0 ≡ Device)) }
+        // No stop leaves what could not be left before, and what is read stays the same.
+        ensures reads { D.honest disk → OnlyReads D.seen D.may_leave D.moment D.left_since disk (disk_after result) }
 
-    ensures works { IfOk result (λ keeper. keeper.store.has_failed ≡ false) }
-    ensures none_under_way { IfOk result (λ keeper. keeper.store.checkpoint ≡ None) }
-    ensures device { IfErr result (λ e. (e.0 ≡ Device) ↔ Rises (D.failures disk) (D.failures e.1)) }
-    ensures faults { IfErr result (λ e. IsOpenFault e.0) }
-    ensures still { IfOk result (λ keeper. D.failures keeper.store.disk ≡ D.failures disk) }
-    // Nor was it a call of a device whose count stands still at its top.
-    ensures calm { IfOk result (λ keeper. Rises (D.failures disk) (D.failures keeper.store.disk) → ⊥) }
-    ensures honesty { D.honest (disk_after result) ↔ D.honest disk }
-    ensures size { D.size (disk_after result) ≡ D.size disk }
-{
-    let Found {
-        journal,
-        image,
-        mut groups,
-    } = match find(alloc, disk) {
-        Err((fault, disk)) => return Err((Fault::from(fault), disk)),
-        Ok(found) => found,
-    };
-    let (format, generation, slot) = (journal.format(), journal.generation(), journal.slot());
-    match recovered(alloc, format, generation, slot, &image, &mut groups) {
-        Err(fault) => Err((fault, journal.into_disk())),
-        Ok(state) => keeper_with_room(alloc, journal, state),
-    }
-}
+        // The store is that of the slot that counts on the disk: its format, and the bytes of its open groups.
+        ensures store { D.honest disk → IfOk result (λ keeper. IsStoreIn (D.seen disk) keeper.store) }
 
-/// Makes a new store of format 2 on the device, whatever was there. Nothing is promised of a device whose
-/// formatting was stopped or failed: it is formatted again.
-pub fn format<D: Disk>(alloc: Global, disk: D) -> Result<Keeper<D>, (Fault, D)>
-    ensures formatted { D.honest disk → IfOk result (λ keeper. EachStandsFor D.may_leave keeper.store.disk first_state) }
-    ensures state { IfOk result (λ keeper. keeper.state ≡ first_state) }
-    ensures store { IfOk result (λ keeper. keeper.store ≡ first_store keeper.store.disk) }
-    ensures size { IfOk result (λ keeper. D.size disk ≡ device_bytes) }
-    ensures still { IfOk result (λ keeper. D.failures keeper.store.disk ≡ D.failures disk) }
-    ensures unformatted { IfErr result (λ e. (e.0 ≡ Unformatted) ↔ (D.size disk ≢ device_bytes)) }
-    ensures device { IfErr result (λ e. e.0 ≡ Device → Rises (D.failures disk) (D.failures e.1)) }
-    ensures untouched { IfErr result (λ e. e.0 ≢ Device → e.1 ≡ disk) }
-    ensures faults { IfErr result (λ e. (e.0 ≡ Device) ⊎ ((e.0 ≡ Unformatted) ⊎ (e.0 ≡ NoMemory))) }
-    ensures honesty { D.honest (disk_after result) ↔ D.honest disk }
-{
-    if disk.size() != DEVICE_BYTES {
-        return Err((Fault::Unformatted, disk));
+        ensures works { IfOk result (λ keeper. keeper.store.has_failed ≡ false) }
+        ensures none_under_way { IfOk result (λ keeper. keeper.store.checkpoint ≡ None) }
+        ensures device { IfErr result (λ e. (e.0 ≡ Device) ↔ Rises (D.failures disk) (D.failures e.1)) }
+        ensures faults { IfErr result (λ e. IsOpenFault e.0) }
+        ensures still { IfOk result (λ keeper. D.failures keeper.store.disk ≡ D.failures disk) }
+        // Nor was it a call of a device whose count stands still at its top.
+        ensures calm { IfOk result (λ keeper. Rises (D.failures disk) (D.failures keeper.store.disk) → ⊥) }
+        ensures honesty { D.honest (disk_after result) ↔ D.honest disk }
+        ensures size { D.size (disk_after result) ≡ D.size disk }
+        ensures sized { IfOk result (λ keeper. D.size disk ≡ device_bytes) }
+    {
+        let Found {
+            journal,
+            image,
+            mut groups,
+        } = match Journal::find(alloc, disk) {
+            Err((fault, disk)) => return Err((Fault::from(fault), disk)),
+            Ok(found) => found,
+        };
+        let (format, generation, slot) = (
+            journal.store_format(),
+            journal.generation(),
+            journal.slot(),
+        );
+        match recovered(alloc, format, generation, slot, &image, &mut groups) {
+            Err(fault) => Err((fault, journal.into_disk())),
+            Ok(state) => keeper_with_room(alloc, journal, state),
+        }
     }
-    let (state, rooms) = match beginning(alloc) {
-        Err(_) => return Err((Fault::NoMemory, disk)),
-        Ok(parts) => parts,
-    };
-    match fe_journal::format(alloc, disk) {
-        Err((fault, disk)) => Err((Fault::from(fault), disk)),
-        Ok(journal) => Ok(keeper_over(alloc, rooms, journal, state)),
+
+    /// Makes a new store of format 2 on the device, whatever was there. Nothing is promised of a device whose
+    /// formatting was stopped or failed: it is formatted again.
+    pub fn format(alloc: Global, disk: D) -> Result<Keeper<D>, (Fault, D)>
+        ensures formatted { D.honest disk → IfOk result (λ keeper. EachStandsFor D.may_leave keeper.store.disk first_state) }
+        ensures state { IfOk result (λ keeper. keeper.state ≡ first_state) }
+        ensures store { IfOk result (λ keeper. keeper.store ≡ first_store keeper.store.disk) }
+        ensures sized { IfOk result (λ keeper. D.size disk ≡ device_bytes) }
+        ensures still { IfOk result (λ keeper. D.failures keeper.store.disk ≡ D.failures disk) }
+        ensures unformatted { IfErr result (λ e. (e.0 ≡ Unformatted) ↔ (D.size disk ≢ device_bytes)) }
+        ensures device { IfErr result (λ e. e.0 ≡ Device → Rises (D.failures disk) (D.failures e.1)) }
+        ensures untouched { IfErr result (λ e. e.0 ≢ Device → e.1 ≡ disk) }
+        ensures faults { IfErr result (λ e. (e.0 ≡ Device) ⊎ ((e.0 ≡ Unformatted) ⊎ (e.0 ≡ NoMemory))) }
+        ensures honesty { D.honest (disk_after result) ↔ D.honest disk }
+        ensures size { D.size (disk_after result) ≡ D.size disk }
+    {
+        if disk.size() != DEVICE_BYTES {
+            return Err((Fault::Unformatted, disk));
+        }
+        let (state, rooms) = match beginning(alloc) {
+            Err(_) => return Err((Fault::NoMemory, disk)),
+            Ok(parts) => parts,
+        };
+        match Journal::format(alloc, disk) {
+            Err((fault, disk)) => Err((Fault::from(fault), disk)),
+            Ok(journal) => Ok(keeper_over(alloc, rooms, journal, state)),
+        }
     }
 }
 

@@ -1,16 +1,18 @@
-ghost use Rattle.std.specs.Prelude.{◌≡◌, ◌⊎◌, ◌↔◌, ℕ, ◌≤◌, length, true, false, Ok, Err, IsTrue, OnOk, OnErr, IsErrOf};
+ghost use Rattle.std.specs.Prelude.{◌≡◌, ◌⊎◌, ◌↔◌, ℕ, ◌≤◌, length, true, false, is_some, IsTrue, IfOk, IfSome, OnOk, OnErr, IsErrOf};
 ghost use Rattle.fe_disk.specs.Disk.{LeavesOnly, Rises};
 ghost use Rattle.fe_state.specs.State.{IsWithinLimits, after_all};
 ghost use Rattle.fe_state.specs.UndoLog.{empty_log, rewound};
 ghost use Rattle.fe_replica.specs.Taking.{Continues, IsMismatch, MakesSomeArray};
-ghost use Rattle.fe_keeper.specs.Stands.{StandsFor, StandsForEither};
-ghost use Rattle.fe_keeper.specs.Keeper.{fits, appended, made_room, must_begin};
-ghost use Rattle.fe_keeper.specs.Upholds.{IsStore, Upholds, store_of};
-ghost use Rattle.fe_keeper.specs.Parts.{HasTaken, IsKept};
+ghost use Rattle.fe_keeper.specs.Stands.{StandsForEither};
+ghost use Rattle.fe_keeper.specs.within.Fresh.{IsFresh, IsImageOf};
+ghost use Rattle.fe_keeper.specs.Keeper.{appended, made_room, must_begin};
+ghost use Rattle.fe_keeper.specs.within.Upholds.{IsStore, Upholds, store_of};
+ghost use Rattle.fe_keeper.specs.within.Parts.{HasTaken, IsKept, kept_of};
 ghost use Rattle.fe_keeper.specs.declared.fault.Fault.TheVariants.{Device, Failed, NoMemory, Mismatch};
 ghost use Rattle.fe_journal.specs.declared.fault.JournalFault.TheVariants as journal;
 
 use crate::Fault;
+use crate::checkpoint::Checkpoint;
 use crate::store::Store;
 use fe_disk::Disk;
 use fe_journal::JournalFault;
@@ -35,15 +37,44 @@ impl<D: Disk> Parts<D> {
         let _ = self.state.place();
     }
 
-    /// Stores a batch that was taken and fits, or takes it back.
-    fn put(&mut self, entries: &[Entry]) -> Result<(), JournalFault>
+    /// The checkpoint of the state before a batch that was taken, where a whole one has to be made for it:
+    /// for that time the replica is that state. So all memory is taken before any call of the device.
+    fn whole(&mut self, first: u64, entries: &[Entry]) -> Result<Option<Checkpoint>, Fault>
+        requires store { IsStore self.old.store }
+        requires few { length entries.now ≤ 4097 }
+        requires continues { Continues (rewound self.old.log self.old.state) first entries.now }
+        requires taken { HasTaken (rewound self.old.log self.old.state) entries.now self.old.state self.old.log }
+        requires place { self.old.store.place ≡ (rewound self.old.log self.old.state).place }
+        ensures store { self.new.store ≡ self.old.store }
+        ensures taken { OnOk result (HasTaken (rewound self.old.log self.old.state) entries.now self.new.state self.new.log) }
+        ensures room { self.new.log.room ≡ self.old.log.room }
+        ensures must { IfOk result (λ whole. is_some whole ≡ must_begin (store_of self.old.store) entries.now) }
+        ensures fresh { IfOk result (λ whole. IfSome whole (λ made. IsFresh made self.old.store.place)) }
+        ensures image { IfOk result (λ whole. IfSome whole (λ made. IsImageOf made (rewound self.old.log self.old.state))) }
+        ensures err { OnErr result ((self.new.state ≡ rewound self.old.log self.old.state) × (self.new.log ≡ empty_log self.old.log.room)) }
+        ensures needed { OnErr result (IsTrue (must_begin (store_of self.old.store) entries.now)) }
+        ensures faults { OnErr result (IsErrOf result NoMemory) }
+    {
+        if !self.store.must_begin(entries) {
+            return Ok(None);
+        }
+        self.state.rewind(&mut self.log);
+        let whole = Checkpoint::new(self.alloc, &self.state)?;
+        take(&mut self.state, &mut self.log, first, entries)?;
+        Ok(Some(whole))
+    }
+
+    /// Stores a batch that was taken, or takes it back. It takes no memory.
+    fn put(&mut self, entries: &[Entry], whole: Option<Checkpoint>) -> Result<(), JournalFault>
         requires store { IsStore self.old.store }
         requires works { self.old.store.journal.has_failed ≡ false }
-        requires fits { IsTrue (fits (store_of self.old.store) entries.now) }
         requires few { length entries.now ≤ 4097 }
         requires taken { HasTaken (rewound self.old.log self.old.state) entries.now self.old.state self.old.log }
         requires place { self.old.store.place ≡ (rewound self.old.log self.old.state).place }
         requires limits { IsWithinLimits (rewound self.old.log self.old.state) }
+        requires must { is_some whole ≡ must_begin (store_of self.old.store) entries.now }
+        requires fresh { IfSome whole (λ made. IsFresh made self.old.store.place) }
+        requires image { IfSome whole (λ made. IsImageOf made (rewound self.old.log self.old.state)) }
         ensures store { IsStore self.new.store }
         ensures place { self.new.store.place ≡ self.new.state.place }
         ensures log { self.new.log ≡ empty_log self.old.log.room }
@@ -52,7 +83,7 @@ impl<D: Disk> Parts<D> {
             (StandsForEither (rewound self.old.log self.old.state) (after_all (rewound self.old.log self.old.state) entries.now)) }
         ensures upheld { D.honest self.old.store.journal.disk → Upholds D.seen D.may_leave self.old.store (rewound self.old.log self.old.state) → OnOk result (Upholds D.seen D.may_leave self.new.store self.new.state) }
         ensures state { OnOk result (self.new.state ≡ after_all (rewound self.old.log self.old.state) entries.now) }
-        ensures value { OnOk result (store_of self.new.store ≡ record (appended (store_of self.old.store) entries.now) { disk = self.new.store.journal.disk }) }
+        ensures value { OnOk result (store_of self.new.store ≡ record (appended (made_room (store_of self.old.store) entries.now) entries.now) { disk = self.new.store.journal.disk }) }
         ensures err { OnErr result (self.new.state ≡ rewound self.old.log self.old.state) }
         ensures failing { OnErr result (self.new.store.journal.has_failed ≡ true) }
         ensures device { IsErrOf result journal.Device → Rises (D.failures self.old.store.journal.disk) (D.failures self.new.store.journal.disk) }
@@ -61,50 +92,12 @@ impl<D: Disk> Parts<D> {
         ensures honesty { D.honest self.new.store.journal.disk ↔ D.honest self.old.store.journal.disk }
     {
         self.limits();
-        let outcome = self.store.append(entries);
+        let outcome = self.store.put(entries, whole);
         match outcome {
             Ok(()) => self.log.clear(),
             Err(_) => self.state.rewind(&mut self.log),
         }
         outcome
-    }
-
-    /// Makes room for a batch that was taken, where it does not fit: for that time the replica is the one
-    /// before it.
-    fn make_room(&mut self, first: u64, entries: &[Entry]) -> Result<(), Fault>
-        requires store { IsStore self.old.store }
-        requires works { self.old.store.journal.has_failed ≡ false }
-        requires few { length entries.now ≤ 4097 }
-        requires continues { Continues (rewound self.old.log self.old.state) first entries.now }
-        requires taken { HasTaken (rewound self.old.log self.old.state) entries.now self.old.state self.old.log }
-        requires place { self.old.store.place ≡ (rewound self.old.log self.old.state).place }
-        ensures store { IsStore self.new.store }
-        ensures place { self.new.store.place ≡ self.old.store.place }
-        ensures taken { OnOk result (HasTaken (rewound self.old.log self.old.state) entries.now self.new.state self.new.log) }
-        ensures log { OnErr result (self.new.log ≡ empty_log self.old.log.room) }
-        ensures room { self.new.log.room ≡ self.old.log.room }
-        ensures any_moment { D.honest self.old.store.journal.disk → Upholds D.seen D.may_leave self.old.store (rewound self.old.log self.old.state)
-            → LeavesOnly D.moment D.left_since self.old.store.journal.disk self.new.store.journal.disk (λ image. StandsFor image (rewound self.old.log self.old.state)) }
-        ensures upheld { D.honest self.old.store.journal.disk → Upholds D.seen D.may_leave self.old.store (rewound self.old.log self.old.state)
-            → self.new.store.journal.has_failed ≡ false → Upholds D.seen D.may_leave self.new.store (rewound self.old.log self.old.state) }
-        ensures value { OnOk result (store_of self.new.store ≡ record (made_room (store_of self.old.store) entries.now) { disk = self.new.store.journal.disk }) }
-        ensures fits { OnOk result (IsTrue (fits (store_of self.new.store) entries.now)) }
-        ensures works { OnOk result (self.new.store.journal.has_failed ≡ false) }
-        ensures err { OnErr result (self.new.state ≡ rewound self.old.log self.old.state) }
-        ensures memory { IsErrOf result NoMemory → (MakesSomeArray entries.now ⊎ IsTrue (must_begin (store_of self.old.store) entries.now)) × (self.new.store.journal.has_failed ≡ false) }
-        ensures device { IsErrOf result Device → Rises (D.failures self.old.store.journal.disk) (D.failures self.new.store.journal.disk) × (self.new.store.journal.has_failed ≡ true) }
-        ensures still { OnOk result (D.failures self.new.store.journal.disk ≡ D.failures self.old.store.journal.disk) }
-        ensures calm { IsErrOf result NoMemory → D.failures self.new.store.journal.disk ≡ D.failures self.old.store.journal.disk }
-        ensures faults { OnErr result (IsErrOf result Device ⊎ IsErrOf result NoMemory) }
-        ensures honesty { D.honest self.new.store.journal.disk ↔ D.honest self.old.store.journal.disk }
-    {
-        if self.store.fits(entries) {
-            return Ok(());
-        }
-        self.state.rewind(&mut self.log);
-        self.store.make_room(self.alloc, &self.state, entries)?;
-        take(&mut self.state, &mut self.log, first, entries)?;
-        Ok(())
     }
 
     /// Takes a batch and stores it.
@@ -114,9 +107,11 @@ impl<D: Disk> Parts<D> {
         ensures kept { IsKept D.honest D.seen D.may_leave self.new }
         ensures any_moment { D.honest self.old.store.journal.disk → self.old.store.journal.has_failed ≡ false
             → LeavesOnly D.moment D.left_since self.old.store.journal.disk self.new.store.journal.disk (StandsForEither self.old.state (after_all self.old.state entries.now)) }
-        ensures short { IsErrOf result NoMemory → D.honest self.old.store.journal.disk → self.old.store.journal.has_failed ≡ false
-            → LeavesOnly D.moment D.left_since self.old.store.journal.disk self.new.store.journal.disk (λ image. StandsFor image self.old.state) }
+        // For want of memory nothing is done.
+        ensures short { IsErrOf result NoMemory → kept_of self.new ≡ kept_of self.old }
         ensures continues { OnOk result (Continues self.old.state first entries.now) }
+        // The device is called only once the batch was taken.
+        ensures continued { IsErrOf result Device → Continues self.old.state first entries.now }
         ensures state { OnOk result (self.new.state ≡ after_all self.old.state entries.now) }
         ensures value { OnOk result (store_of self.new.store ≡ record (appended (made_room (store_of self.old.store) entries.now) entries.now) { disk = self.new.store.journal.disk }) }
         ensures err { OnErr result (self.new.state ≡ self.old.state) }
@@ -127,7 +122,6 @@ impl<D: Disk> Parts<D> {
         ensures untouched { IsErrOf result Failed → self.new ≡ self.old }
         ensures device { IsErrOf result Device → Rises (D.failures self.old.store.journal.disk) (D.failures self.new.store.journal.disk) × (self.new.store.journal.has_failed ≡ true) }
         ensures still { OnOk result (D.failures self.new.store.journal.disk ≡ D.failures self.old.store.journal.disk) }
-        ensures calm { IsErrOf result NoMemory → D.failures self.new.store.journal.disk ≡ D.failures self.old.store.journal.disk }
         ensures faults { OnErr result (IsErrOf result Device ⊎ (IsErrOf result Failed ⊎ (IsErrOf result NoMemory ⊎ ((place : ℕ) × IsErrOf result (Mismatch place))))) }
         ensures honesty { D.honest self.new.store.journal.disk ↔ D.honest self.old.store.journal.disk }
     {
@@ -136,8 +130,8 @@ impl<D: Disk> Parts<D> {
         }
         self.limits();
         take(&mut self.state, &mut self.log, first, entries)?;
-        self.make_room(first, entries)?;
-        self.put(entries)?;
+        let whole = self.whole(first, entries)?;
+        self.put(entries, whole)?;
         Ok(())
     }
 }

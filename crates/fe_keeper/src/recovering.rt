@@ -7,7 +7,7 @@ ghost use Rattle.fe_journal.specs.Contents.{Contents};
 ghost use Rattle.fe_journal.specs.Cursor.{Lists};
 ghost use Rattle.fe_keeper.specs.Stands.{Stands, greatest_generation};
 ghost use Rattle.fe_keeper.specs.Opened.{IsSlotFault, IsListing, IsBase, ReplaysAll, IsRecovered, ArePartsOf};
-ghost use Rattle.fe_keeper.specs.Replaying.{IsNext, CanGoOn};
+ghost use Rattle.fe_keeper.specs.within.Replaying.{IsNext, CanGoOn};
 ghost use Rattle.fe_keeper.specs.Damage.{IsBadFrom, IsWrongIn};
 ghost use Rattle.fe_keeper.specs.declared.fault.Fault.TheVariants.{NoMemory, Damaged};
 

@@ -1,17 +1,19 @@
-ghost use Rattle.std.specs.Prelude.{◌≡◌, ◌⊎◌, ◌+◌, ◌<◌, ◌≤◌, ◌^◌, ◌↔◌, true, false, length, Some, IsTrue, IfOk, OnOk, OnErr, IsErrOf, IsSome, is_some, vec_capacity};
+ghost use Rattle.std.specs.Prelude.{◌≡◌, ◌⊎◌, ◌+◌, ◌<◌, ◌≤◌, ◌^◌, ◌*◌, ◌++◌, ◌↔◌, true, false, length, Some, IsTrue, IfSome, OnOk, OnErr, IsErrOf, is_some, vec_len, vec_capacity};
 ghost use Rattle.std.specs.List.{AllByRecursion, list_all};
 ghost use Rattle.fe_state.specs.Format.{entry_fits_format_1};
 ghost use Rattle.fe_disk.specs.Disk.{LeavesOnly, Rises};
 ghost use Rattle.fe_state.specs.State.{ServerState, after_all};
 ghost use Rattle.fe_state.specs.History.{AreLegal};
 ghost use Rattle.fe_codec.specs.Record.{CanPut, FitsGroup, group_spelling};
-ghost use Rattle.fe_keeper.specs.CatchUp.{HasRoomFor, CatchesUp};
+ghost use Rattle.fe_keeper.specs.within.CatchUp.{HasRoomFor, CatchesUp};
 ghost use Rattle.fe_codec.specs.Image.{image_spelling};
 ghost use Rattle.fe_format.specs.declared.format.Format.TheVariants.{Two};
 ghost use Rattle.fe_keeper.specs.Stands.{StandsFor, StandsForEither};
-ghost use Rattle.fe_keeper.specs.Upholds.{IsStore, Upholds, store_of};
+ghost use Rattle.fe_keeper.specs.within.Upholds.{IsStore, Upholds, store_of};
 ghost use Rattle.fe_keeper.specs.Keeper as effect;
-ghost use Rattle.fe_keeper.specs.Keeper.{fits, is_spellable, catches_up, can_begin, has_slices, stepped, finished, appended, made_room, must_begin};
+ghost use Rattle.fe_keeper.specs.within.Fresh.{IsFresh, IsImageOf};
+ghost use Rattle.fe_journal.specs.Groups.{room_at};
+ghost use Rattle.fe_keeper.specs.Keeper.{fits, is_spellable, catches_up, caught_up_bytes, can_begin, has_slices, stepped, finished, appended, made_room, must_begin};
 ghost use Rattle.fe_keeper.specs.declared.fault.Fault.TheVariants.{Device, Failed, NoMemory};
 ghost use Rattle.fe_journal.specs.declared.fault.JournalFault.TheVariants as journal;
 
@@ -24,6 +26,9 @@ use fe_state::Entry;
 
 /// How many entries the longest group of format 2 has.
 pub(crate) const LONGEST_GROUP: usize = 13_107;
+
+/// How many bytes the longest payload in an empty journal area has.
+const LONGEST_PAYLOAD: usize = 1_048_570;
 
 /// Whether format 1 has a record for each entry.
 fn all_fit_format_1(entries: &[Entry]) -> bool
@@ -55,15 +60,47 @@ fn spell(format: Format, entries: &[Entry], group: &mut Vec<u8>)
     let _ = put_group(format, entries, group);
 }
 
-/// Adds entries, for which there is room, to those that a checkpoint under way catches up with.
-fn catch_up(checkpoint: &mut Option<Checkpoint>, entries: &[Entry])
+/// Adds the records of entries in format 2, for which there is room. The bytes of a group that has them so
+/// are taken as they are.
+fn put_records(format: Format, group: &[u8], entries: &[Entry], out: &mut Vec<u8>)
+    requires spelled { group.now ≡ group_spelling format entries.now }
+    requires group { FitsGroup format entries.now }
+    requires each { AllByRecursion (CanPut Two) entries.now }
+    requires few { length entries.now ≤ 4097 }
+    requires room { vec_len out.old + length entries.now * 80 ≤ vec_capacity out.old }
+    ensures items { out.new.items ≡ out.old.items ++ group_spelling Two entries.now }
+    ensures fits { FitsGroup Two entries.now }
+    ensures capacity { vec_capacity out.old ≤ vec_capacity out.new }
+{
+    let _ = match format {
+        Format::One => put_group(Format::Two, entries, out),
+        Format::Two => out.extend_from_slice(group),
+    };
+}
+
+/// Adds entries, for which there is room, to those that a checkpoint under way catches up with. The group is
+/// what they were spelled as.
+fn catch_up(checkpoint: &mut Option<Checkpoint>, format: Format, group: &[u8], entries: &[Entry])
+    requires spelled { group.now ≡ group_spelling format entries.now }
+    requires group { FitsGroup format entries.now }
     requires each { AllByRecursion (CanPut Two) entries.now }
     requires few { length entries.now ≤ 4097 }
     requires room { HasRoomFor checkpoint.old (length entries.now) }
     ensures { CatchesUp entries.now checkpoint.old checkpoint.new }
 {
     if let Some(checkpoint) = checkpoint {
-        let _ = put_group(Format::Two, entries, &mut checkpoint.catch_up);
+        put_records(format, group, entries, &mut checkpoint.catch_up);
+    }
+}
+
+/// The longest payload, in bytes, behind the group of so many entries that a checkpoint catches up with.
+fn room_behind(entries: usize) -> usize
+    requires few { entries ≤ 13107 }
+    ensures { result ≡ room_at (caught_up_bytes entries) }
+{
+    match entries {
+        0 => LONGEST_PAYLOAD,
+        _ => LONGEST_PAYLOAD - (5 + entries * Format::Two.record_bytes()),
     }
 }
 
@@ -84,7 +121,7 @@ impl<D: Disk> Store<D> {
         requires few { length entries.now ≤ 4097 }
         ensures { result ≡ fits (store_of self.now) entries.now }
     {
-        let format = self.journal.format();
+        let format = self.journal.store_format();
         is_spellable(format, entries)
             && entries.len() * format.record_bytes() <= self.journal.room() as usize
             && self.catches_up(entries.len())
@@ -95,7 +132,7 @@ impl<D: Disk> Store<D> {
     pub(crate) fn can_begin(&self) -> bool
         ensures { result ≡ can_begin (store_of self.now) }
     {
-        let is_behind = match self.journal.format() {
+        let is_behind = match self.journal.store_format() {
             Format::One => true,
             Format::Two => self.journal.used() > 0,
         };
@@ -110,6 +147,25 @@ impl<D: Disk> Store<D> {
         match &self.checkpoint {
             None => true,
             Some(checkpoint) => (self.place - checkpoint.place) as usize + entries <= LONGEST_GROUP,
+        }
+    }
+
+    /// Whether a whole checkpoint has to be made for a batch: it does not fit, and would not once the
+    /// checkpoint under way is finished.
+    pub(crate) fn must_begin(&self, entries: &[Entry]) -> bool
+        requires sound { IsStore self.now }
+        requires few { length entries.now ≤ 4097 }
+        ensures { result ≡ must_begin (store_of self.now) entries.now }
+    {
+        if self.fits(entries) {
+            return false;
+        }
+        match &self.checkpoint {
+            None => true,
+            Some(checkpoint) => {
+                let since = (self.place - checkpoint.place) as usize;
+                entries.len() * Format::Two.record_bytes() > room_behind(since)
+            }
         }
     }
 
@@ -137,10 +193,44 @@ impl<D: Disk> Store<D> {
         ensures untouched { IsErrOf result journal.Failed → self.new.journal ≡ self.old.journal }
         ensures honesty { D.honest self.new.journal.disk ↔ D.honest self.old.journal.disk }
     {
-        spell(self.journal.format(), entries, &mut self.group);
+        let format = self.journal.store_format();
+        spell(format, entries, &mut self.group);
         self.journal.append_group(&self.group)?;
-        catch_up(&mut self.checkpoint, entries);
+        catch_up(&mut self.checkpoint, format, &self.group, entries);
         self.place += entries.len() as u64;
         Ok(())
+    }
+
+    /// Stores a batch, once there is room for it: with the whole checkpoint that is made for it, where it
+    /// needs one.
+    pub(crate) fn put(
+        &mut self,
+        entries: &[Entry],
+        whole: Option<Checkpoint>,
+    ) -> Result<(), JournalFault>
+        requires sound { IsStore self.old }
+        requires works { self.old.journal.has_failed ≡ false }
+        requires some { 1 ≤ length entries.now }
+        requires few { length entries.now ≤ 4097 }
+        requires each { AllByRecursion (CanPut Two) entries.now }
+        requires place { self.old.place + length entries.now < 2 ^ 63 }
+        requires must { is_some whole ≡ must_begin (store_of self.old) entries.now }
+        requires fresh { IfSome whole (λ made. IsFresh made self.old.place) }
+        ensures sound { IsStore self.new }
+        ensures any_moment { D.honest self.old.journal.disk → (s : ServerState) → Upholds D.seen D.may_leave self.old s → IfSome whole (λ made. IsImageOf made s) → AreLegal s entries.now
+            → LeavesOnly D.moment D.left_since self.old.journal.disk self.new.journal.disk (StandsForEither s (after_all s entries.now)) }
+        ensures upheld { D.honest self.old.journal.disk → (s : ServerState) → Upholds D.seen D.may_leave self.old s → IfSome whole (λ made. IsImageOf made s) → AreLegal s entries.now
+            → OnOk result (Upholds D.seen D.may_leave self.new (after_all s entries.now)) }
+        ensures value { OnOk result (store_of self.new ≡ record (appended (made_room (store_of self.old) entries.now) entries.now) { disk = self.new.journal.disk }) }
+        ensures place { OnOk result (self.new.place ≡ self.old.place + length entries.now) }
+        ensures kept { OnErr result (self.new.place ≡ self.old.place) }
+        ensures failing { OnErr result (self.new.journal.has_failed ≡ true) }
+        ensures device { IsErrOf result journal.Device → Rises (D.failures self.old.journal.disk) (D.failures self.new.journal.disk) }
+        ensures still { OnOk result (D.failures self.new.journal.disk ≡ D.failures self.old.journal.disk) }
+        ensures faults { OnErr result (IsErrOf result journal.Device) }
+        ensures honesty { D.honest self.new.journal.disk ↔ D.honest self.old.journal.disk }
+    {
+        self.make_room(entries, whole)?;
+        self.append(entries)
     }
 }

@@ -7,12 +7,30 @@
 #[cfg(test)]
 mod batches;
 #[cfg(test)]
+mod calls;
+#[cfg(test)]
+mod cases;
+#[cfg(test)]
 mod checkpoints;
 #[cfg(test)]
 mod damage;
 #[cfg(test)]
+mod device_calls;
+#[cfg(test)]
+mod fail_once_each;
+#[cfg(test)]
+mod formats;
+#[cfg(test)]
+mod fuse_each;
+#[cfg(test)]
 mod gates;
+#[cfg(test)]
+mod lies;
 #[cfg(test)]
 mod migration;
 #[cfg(test)]
+mod sizes;
+#[cfg(test)]
 mod stores;
+#[cfg(test)]
+mod tally;

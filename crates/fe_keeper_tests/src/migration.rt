@@ -5,7 +5,7 @@ use crate::stores::{
     place_of, reads, write,
 };
 use fe_disk::{Fuse, MemoryDisk, Torn};
-use fe_keeper::{Format, Keeper, open};
+use fe_keeper::{Format, Keeper};
 use fe_state::Answer;
 use std::alloc::Global;
 use std::process::Abort;
@@ -36,7 +36,7 @@ fn migrates(keeper: &mut Keeper<Fuse<MemoryDisk>>) -> bool {
 
 // The disk after so many device calls of an opening and a migration, and whether all of them were made.
 fn migrated(rt: &impl Abort, alloc: Global, calls: u64) -> (MemoryDisk, bool) {
-    match open(alloc, Fuse::new(old(rt, alloc), calls)) {
+    match Keeper::open(alloc, Fuse::new(old(rt, alloc), calls)) {
         Ok(keeper) => {
             let mut keeper = keeper;
             let done = migrates(&mut keeper);

@@ -1,8 +1,8 @@
 //! Stores of both formats, and batches for them.
 
 use fe_disk::{Disk, MemoryDisk};
-use fe_journal::{Journal, format_in};
-use fe_keeper::{Fault, Format, Keeper, format, open};
+use fe_journal::Journal;
+use fe_keeper::{Fault, Format, Keeper};
 use fe_state::{Answer, BATCH_ENTRIES, Batch, Entry, Name, Request};
 use fe_words::Tag;
 use std::alloc::Global;
@@ -22,7 +22,7 @@ pub fn new_disk(rt: &impl Abort, alloc: Global) -> MemoryDisk {
 }
 
 pub fn new_store(rt: &impl Abort, alloc: Global) -> Keeper<MemoryDisk> {
-    format(alloc, new_disk(rt, alloc))
+    Keeper::format(alloc, new_disk(rt, alloc))
         .ok()
         .expect(rt, "formatted")
 }
@@ -37,14 +37,14 @@ pub const CREATED_RECORD: &[u8] =
 /// A new store of format 1.
 pub fn old_store(rt: &impl Abort, alloc: Global) -> Journal<MemoryDisk> {
     let disk = new_disk(rt, alloc);
-    format_in(alloc, Format::One, disk)
+    Journal::format_in(alloc, Format::One, disk)
         .ok()
         .expect(rt, "formatted")
 }
 
 /// Appends a group of these bytes.
 pub fn append_bytes(rt: &impl Abort, journal: &mut Journal<MemoryDisk>, payload: &[u8]) {
-    assert!(rt; journal.format().allows_payload(payload.len()));
+    assert!(rt; journal.store_format().allows_payload(payload.len()));
     assert!(rt; payload.len() <= journal.room() as usize);
     assert!(rt; journal.append_group(payload).is_ok());
 }
@@ -91,7 +91,7 @@ pub fn append<D: Disk>(rt: &impl Abort, alloc: Global, keeper: &mut Keeper<D>, e
 }
 
 pub fn opened(rt: &impl Abort, alloc: Global, disk: MemoryDisk) -> Keeper<MemoryDisk> {
-    open(alloc, disk).ok().expect(rt, "opened")
+    Keeper::open(alloc, disk).ok().expect(rt, "opened")
 }
 
 /// The place of the state that a store is opened with.
@@ -104,7 +104,7 @@ pub fn place_of(rt: &impl Abort, alloc: Global, disk: MemoryDisk) -> u64 {
 
 /// Why a store is not opened, if it is not.
 pub fn refusal(alloc: Global, disk: MemoryDisk) -> Option<Fault> {
-    match open(alloc, disk) {
+    match Keeper::open(alloc, disk) {
         Ok(keeper) => {
             drop(keeper);
             None

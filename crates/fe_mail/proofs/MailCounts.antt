@@ -3,7 +3,7 @@ use Rattle.std.proofs.Common.{◌≡◌, ℕ, ◌+◌, List, [], ◌∷◌, ◌+
 use Rattle.std.specs.Option.{option_map_or}
 use Rattle.std.specs.Ordering.{nat_cmp}
 use Rattle.std.specs.FinMap.{FinMap, empty, get, insert, remove}
-use Rattle.fe_state.proofs.TableLemmas.{entries-empty, remove_absent}
+use Rattle.fe_table.proofs.TableLemmas.{entries-empty, remove_absent}
 use Rattle.fe_state.proofs.Totals.{total_added, total_removed, total_replaced}
 use Rattle.fe_mail.specs.Connections.{first_connection, mails_on, mails_in, with_session, with_mails}
 use Rattle.fe_mail.specs.declared.connection.Connection.{Connection}

@@ -1,5 +1,5 @@
 pub mod Books
-pub mod BooksFields
 pub mod Connections
 pub mod Mail
 pub mod Refusal
+pub mod within

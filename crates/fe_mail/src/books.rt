@@ -26,7 +26,7 @@ pub struct Books {
 
 impl Model for Books {
     ghost use Rattle.fe_mail.specs.Books.{Books, books_code, AddUp};
-    ghost use Rattle.fe_mail.specs.BooksFields.{books_of};
+    ghost use Rattle.fe_mail.specs.within.BooksFields.{books_of};
 
     ghost Value = { Books };
 

@@ -8,7 +8,7 @@ use Rattle.std.proofs.lemmas.Map.Keys.{IsDistinct-cons}
 use Rattle.std.proofs.lemmas.Map.Made.{AllPairs-from_IsDistinct}
 use Rattle.std.proofs.lemmas.Bool.Decides.{Decides-eqb}
 use Rattle.fe_pool.specs.Pool.{first_or, without}
-use Rattle.fe_pool.specs.Runs.{IsAmong, AllDifferent}
+use Rattle.fe_pool.specs.within.Runs.{IsAmong, AllDifferent}
 
 -- a node stands in a list or does not
 pub among_cases : (n : ℕ) (xs : List ℕ) → IsAmong n xs ⊎ (IsAmong n xs → ⊥)

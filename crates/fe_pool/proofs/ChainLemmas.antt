@@ -8,7 +8,7 @@ use Rattle.fe_pool.specs.declared.family.Family.{Family}
 use Rattle.fe_pool.specs.declared.neighbours.Neighbours.{Neighbours}
 use Rattle.fe_pool.specs.Pool.{first_or, list_from, lists_of, list_of, without, IsChain, IsOff, KeepsOtherChains, KeepsOtherNodes, KeepsOtherFamily}
 use Rattle.fe_pool.specs.Columns.{Columns, Link, link_at, links_of, with_links, IsLinked}
-use Rattle.fe_pool.specs.Runs.{IsAmong, IsWhole, lists, with_next, with_previous, IsPool, contents}
+use Rattle.fe_pool.specs.within.Runs.{IsAmong, IsWhole, lists, with_next, with_previous, IsPool, contents}
 use Rattle.fe_pool.proofs.AmongLemmas.{among-append_left, among-append_right, among-append_cases, different-middle, without-middle}
 use Rattle.fe_pool.proofs.RunLemmas.{run-linked, whole-different, whole-length}
 use Rattle.fe_pool.proofs.ListLemmas.{Relinks, list_from_is_whole}

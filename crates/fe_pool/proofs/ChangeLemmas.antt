@@ -5,7 +5,7 @@ use Rattle.std.proofs.lemmas.List.{get_or-set_same, get_or-set_other}
 use Rattle.fe_pool.specs.declared.neighbours.Neighbours.{Neighbours}
 use Rattle.fe_pool.specs.Pool.{first_or}
 use Rattle.fe_pool.specs.Columns.{Link, link_at}
-use Rattle.fe_pool.specs.Runs.{IsAmong, AllDifferent, IsRun, IsWhole, with_next, with_previous}
+use Rattle.fe_pool.specs.within.Runs.{IsAmong, AllDifferent, IsRun, IsWhole, with_next, with_previous}
 use Rattle.fe_pool.proofs.AmongLemmas.{among-append_left, among-append_right, among-append_cases, last-among, different-middle, different-parts, different-left, different-right}
 use Rattle.fe_pool.proofs.RunLemmas.{run-agree, run-left, run-right, run-join, run-linked, linked-below, whole-different, run-with_next, run-with_previous, with_next-other, with_previous-other}
 use Rattle.fe_pool.proofs.ListLemmas.{Relinks}

@@ -3,7 +3,7 @@ use Rattle.std.proofs.Common.{◌≡◌, ◌≢◌, ℕ, zero, suc, ◌-◌, ◌
 use Rattle.std.proofs.lemmas.Bool.{cases_eq}
 use Rattle.std.proofs.lemmas.List.{get_or-set_same, get_or-set_other, get_or_append_left, get_or_at, length-replicate, ext_get_or}
 use Rattle.fe_pool.specs.Columns.{Columns, IsLoose, place_before, before_each}
-use Rattle.fe_pool.specs.Runs.{IsAmong, AllDifferent, AllListed, lists, IsFreeRun, IsPool}
+use Rattle.fe_pool.specs.within.Runs.{IsAmong, AllDifferent, AllListed, lists, IsFreeRun, IsPool}
 use Rattle.fe_pool.proofs.ListLemmas.{length-lists, lists-none}
 use Rattle.fe_pool.proofs.PoolLemmas.{pool-first}
 

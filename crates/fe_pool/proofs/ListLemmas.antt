@@ -7,7 +7,7 @@ use Rattle.std.proofs.lemmas.List.FromFn.{get_or-map-range_with_len}
 use Rattle.fe_pool.specs.declared.neighbours.Neighbours.{Neighbours}
 use Rattle.fe_pool.specs.Pool.{first_or, list_from}
 use Rattle.fe_pool.specs.Columns.{Link, link_at}
-use Rattle.fe_pool.specs.Runs.{IsAmong, IsWhole, AllListed, previous_of, list_begun, lists}
+use Rattle.fe_pool.specs.within.Runs.{IsAmong, IsWhole, AllListed, previous_of, list_begun, lists}
 use Rattle.fe_pool.proofs.AmongLemmas.{among_cases}
 use Rattle.fe_pool.proofs.RunLemmas.{run-agree, run-linked, linked-below, whole-first, whole-share, whole-same, whole-length, run_from-run}
 

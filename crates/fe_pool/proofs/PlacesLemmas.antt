@@ -9,7 +9,7 @@ use Rattle.fe_pool.specs.declared.places.Entry.{Entry}
 use Rattle.fe_pool.specs.declared.places.Place.{Place}
 use Rattle.fe_pool.specs.declared.places.Place.TheVariants.{Free, Taken}
 use Rattle.fe_pool.specs.Columns.{Columns, Link, with_links, links_of}
-use Rattle.fe_pool.specs.Places.{item_of, follower_of, word_link_of, session_link_of, columns_of, with_link}
+use Rattle.fe_pool.specs.within.Places.{item_of, follower_of, word_link_of, session_link_of, columns_of, with_link}
 
 -- a column at a node that was read
 pub column : {A B : Type 0} (f : A → B) (xs : List A) (n : ℕ) (x : A) (e : B) → n < length xs → x ≡ get_or xs n x → get_or (map f xs) n e ≡ f x

@@ -7,7 +7,7 @@ use Rattle.fe_pool.specs.declared.family.Family.TheVariants.{OfWord, OfSession}
 use Rattle.fe_pool.specs.declared.neighbours.Neighbours.{Neighbours}
 use Rattle.fe_pool.specs.Pool.{first_or, list_from, lists_of, IsOnOne, IsOn, IsOff, IsFree, AreSound, IsSound, IsNext}
 use Rattle.fe_pool.specs.Columns.{Columns, Link, link_at, links_of, IsLoose}
-use Rattle.fe_pool.specs.Runs.{IsAmong, IsWhole, AllListed, lists, next_of, IsFreeRun, IsPool, contents}
+use Rattle.fe_pool.specs.within.Runs.{IsAmong, IsWhole, AllListed, lists, next_of, IsFreeRun, IsPool, contents}
 use Rattle.fe_pool.proofs.AmongLemmas.{among-Contains, Contains-among, all_pairs}
 use Rattle.fe_pool.proofs.RunLemmas.{whole-different, whole-share, linked-below, run-right}
 use Rattle.fe_pool.proofs.ListLemmas.{IsListAt, list_at, length-lists, linked_is_on, on_is_linked, list_from_is_whole}

@@ -7,7 +7,7 @@ use Rattle.fe_pool.specs.declared.family.Family.TheVariants.{OfWord, OfSession}
 use Rattle.fe_pool.specs.declared.neighbours.Neighbours.{Neighbours}
 use Rattle.fe_pool.specs.Pool.{Contents, first_or, list_from, lists_of, list_of, IsChain, IsOnOne, IsOff, KeepsOtherChains, KeepsOtherNodes, KeepsOtherFamily}
 use Rattle.fe_pool.specs.Columns.{Columns, Link, link_at, links_of, with_links}
-use Rattle.fe_pool.specs.Runs.{IsAmong, AllListed, lists, IsPool, contents}
+use Rattle.fe_pool.specs.within.Runs.{IsAmong, AllListed, lists, IsPool, contents}
 use Rattle.fe_pool.proofs.ListLemmas.{Relinks, relinks-listed, relinks-list, linked-relinks, relinks-on, on-relinks, list_from-whole, list_from_is_whole, on_is_linked}
 use Rattle.fe_pool.proofs.PoolLemmas.{on_among, among_on, link_cases}
 

@@ -7,7 +7,7 @@ use Rattle.fe_pool.specs.declared.family.Family.{Family}
 use Rattle.fe_pool.specs.declared.neighbours.Neighbours.{Neighbours}
 use Rattle.fe_pool.specs.Pool.{Contents, first_or, list_of, without, IsChain, IsOff, IsSound, KeepsOtherChains, KeepsOtherNodes, KeepsOtherFamily}
 use Rattle.fe_pool.specs.Columns.{Columns, link_at, links_of, with_links, IsLinked}
-use Rattle.fe_pool.specs.Runs.{previous_of, next_of, with_next, with_previous, IsPool, contents}
+use Rattle.fe_pool.specs.within.Runs.{previous_of, next_of, with_next, with_previous, IsPool, contents}
 use Rattle.fe_pool.proofs.AmongLemmas.{among-split, among-Contains, last-some, last_or-append}
 use Rattle.fe_pool.proofs.PoolLemmas.{pool-sound}
 use Rattle.fe_pool.proofs.ChainLemmas.{IsChanged, is-pool, is-list, is-chain, is-others, is-nodes, is-off, is-family, is-items, items-step, push-changed, split-link, unlink-changed, unlink-previous, unlink-next, unlink-taken, unlink-without, unlink-gone, unlink-count}

@@ -6,7 +6,7 @@ use Rattle.std.proofs.lemmas.List.{get_or-set_same, get_or-set_other, get_or_pas
 use Rattle.fe_pool.specs.declared.neighbours.Neighbours.{Neighbours}
 use Rattle.fe_pool.specs.Pool.{first_or}
 use Rattle.fe_pool.specs.Columns.{Link, link_at}
-use Rattle.fe_pool.specs.Runs.{IsAmong, AllDifferent, IsRun, IsWhole, previous_of, next_of, run_from, with_next, with_previous}
+use Rattle.fe_pool.specs.within.Runs.{IsAmong, AllDifferent, IsRun, IsWhole, previous_of, next_of, run_from, with_next, with_previous}
 use Rattle.fe_pool.proofs.AmongLemmas.{first_or-append, last-among, last-some, length-le_bound}
 
 -- a node with neighbours is one of the vector

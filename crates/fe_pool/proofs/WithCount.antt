@@ -4,7 +4,7 @@ use Rattle.std.proofs.lemmas.List.{map-append}
 use Rattle.fe_pool.specs.declared.places.Place.{Place}
 use Rattle.fe_pool.specs.declared.places.Place.TheVariants.{Free}
 use Rattle.fe_pool.specs.Columns.{Columns, before_each, place_before}
-use Rattle.fe_pool.specs.Places.{item_of, follower_of, word_link_of, session_link_of, columns_of}
+use Rattle.fe_pool.specs.within.Places.{item_of, follower_of, word_link_of, session_link_of, columns_of}
 
 -- so many free nodes stand in the columns, and `before` is the last of them
 pub record IsMade {T : Type 0} (c : Columns T) (count : ℕ) (before : Option ℕ) : Type 0 where

@@ -1,4 +1,3 @@
 pub mod Columns
-pub mod Places
 pub mod Pool
-pub mod Runs
+pub mod within

@@ -1,7 +1,7 @@
 ghost use Rattle.std.specs.Prelude.{◌≡◌, ◌↔◌, IsTrue, ℕ, ◌<◌, ◌^◌, IfOk, IsSome, Some, None, length, slice_index_or, slice_set, replicate, Option};
 ghost use Rattle.std.specs.Option.{ForSome};
 ghost use Rattle.fe_pool.specs.Columns.{links_of, with_links, link_at, before_each, IsLoose, IsLinked};
-ghost use Rattle.fe_pool.specs.Runs.{with_next, with_previous};
+ghost use Rattle.fe_pool.specs.within.Runs.{with_next, with_previous};
 
 use crate::family::Family;
 use crate::neighbours::Neighbours;
@@ -26,7 +26,7 @@ struct Entry<T> {
 }
 
 impl<T> Entry<T> {
-    ghost use Rattle.fe_pool.specs.Places.{with_link};
+    ghost use Rattle.fe_pool.specs.within.Places.{with_link};
 
     fn set_link(&mut self, family: Family, to: Option<Neighbours>)
         ensures { self.new ≡ with_link self.old family to }
@@ -51,7 +51,7 @@ impl<T> Model for Places<T> {
 
     ghost coded = { columns_code T.code };
 
-    ghost use Rattle.fe_pool.specs.Places.{columns_of};
+    ghost use Rattle.fe_pool.specs.within.Places.{columns_of};
 
     ghost view = { λ p. columns_of p.places.items };
 }

@@ -25,7 +25,7 @@ impl<T> Model for Pool<T> {
 
     ghost coded = { contents_code T.code };
 
-    ghost use Rattle.fe_pool.specs.Runs.{contents, IsPool};
+    ghost use Rattle.fe_pool.specs.within.Runs.{contents, IsPool};
 
     ghost view = { λ p. contents p.places };
 

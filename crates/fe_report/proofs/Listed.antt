@@ -1,43 +1,25 @@
 -- A finite map that is made of the entries of another, each turned into an entry of its own: what it has at a key.
 use Rattle.std.proofs.Common.{◌≡◌, ℕ, zero, suc, slice_get, Bool, true, false, cond, List, [], ◌∷◌, map, Some, None, IsSome, is_some, true≢false, refl, sym, ap, subst, ◌∙◌, T, ◌&&◌}
 use Rattle.std.specs.Option.{unwrap_or}
-use Rattle.std.specs.Ordering.{eq_by_cmp, is_eq, is_lt}
+use Rattle.std.specs.Ordering.{eq_by_cmp, is_eq}
 use Rattle.std.specs.declared.cmp.Ordering.{Ordering}
 use Rattle.std.specs.declared.cmp.Ordering.TheVariants.{Less, Equal, Greater}
-use Rattle.std.specs.Cmp.{IsTotalOrder, tied_itself}
+use Rattle.std.specs.Cmp.{IsTotalOrder}
 use Rattle.std.specs.FinMap.{FinMap, IsAntisymmetric, find, get, entries, from_entries, is_sorted, get-entries, get-from_entries, entries_sorted}
 use Rattle.std.specs.FinMap.Entries.{below_all}
-
-first : (a b : Bool) → T (a && b) → T a
-first true b p = tt
-first false b p = p
-
-second : (a b : Bool) → T (a && b) → T b
-second true b p = p
-second false b p = absurd p
-
-not_tied : (r : Ordering) → T (is_lt r) → is_eq r ≡ false
-not_tied Less p = refl
-not_tied Equal p = absurd p
-not_tied Greater p = absurd p
+use Rattle.fe_seats.proofs.KeyLemmas.{hit, find_below}
+use Rattle.fe_table.proofs.TableLemmas.{first, second}
 
 pub tied : (r : Ordering) → is_eq r ≡ true → r ≡ Equal
 tied Less p = absurd (true≢false (sym p))
 tied Equal p = refl
 tied Greater p = absurd (true≢false (sym p))
 
-pub hit : {K : Type 0} {R : K → K → Ordering} → IsTotalOrder R → (a b : K) → a ≡ b → eq_by_cmp R a b ≡ true
-hit {R = R} o a b e = ap (eq_by_cmp R a) (sym e) ∙ ap is_eq (tied_itself o a)
-
 pub same_value : {A : Type 0} (x y : A) → Some x ≡ Some y → x ≡ y
 same_value x y e = ap (λ o. unwrap_or o x) e
 
 pub not_none : {A : Type 0} {B : Type 0} (x : A) → None ≡ Some x → B
 not_none x e = absurd (true≢false (ap is_some (sym e)))
-
-find_below : {K X : Type 0} (R : K → K → Ordering) (q : K) (es : List (K × X)) → T (below_all R q es) → find R q es ≡ None
-find_below R q [] h = refl
-find_below R q (e ∷ es) h = ap (λ b. cond b (Some e.1) (find R q es)) (not_tied (R q e.0) (first _ _ h)) ∙ find_below R q es (second _ _ h)
 
 -- an entry of the later ones is one of all, where the keys rise
 later : {K X : Type 0} {R : K → K → Ordering} → IsAntisymmetric R → (e d : K × X) (es : List (K × X)) → T (below_all R e.0 es) → find R d.0 es ≡ Some d.1 → find R d.0 (e ∷ es) ≡ Some d.1

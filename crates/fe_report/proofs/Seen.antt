@@ -8,7 +8,7 @@ use Rattle.fe_waits.specs.Waiting.{Waiter}
 use Rattle.fe_state.specs.Sessions.{Session, IsInWindow}
 use Rattle.fe_state.specs.SessionEffect.{IsUsable}
 use Rattle.fe_state.proofs.Maps.{get_beside, same_or_other}
-use Rattle.fe_state.proofs.TableCopyLemmas.{made, made-next}
+use Rattle.fe_table.proofs.TableCopyLemmas.{made, made-next}
 use Rattle.fe_service.specs.ServiceState.{ServiceState, IsService}
 use Rattle.fe_report.specs.Report.{Spot, by_word, by_session}
 use Rattle.fe_report.proofs.Listed.{same_value}

@@ -3,7 +3,7 @@ ghost use Rattle.std.specs.Option.{option_map};
 ghost use Rattle.std.specs.BTreeMap.{btree_map_len};
 ghost use Rattle.std.specs.FinMap.{get, entries};
 ghost use Rattle.fe_report.specs.Report.{by_word, by_session, do_all_wait, attached_seats};
-ghost use Rattle.fe_report.specs.Rows.{ArePart, HasSession, KeepsKeys};
+ghost use Rattle.fe_report.specs.within.Rows.{ArePart, HasSession, KeepsKeys};
 
 use fe_front::Front;
 use fe_words::Op;

@@ -11,7 +11,7 @@ use Rattle.fe_waits.specs.Waiting.{Waiting}
 use Rattle.fe_waits.proofs.MemberLemmas.{none_some, some_same}
 use Rattle.fe_seats.specs.declared.place.Place.{Place}
 use Rattle.fe_seats.specs.Seating.{NoneOfSession}
-use Rattle.fe_seats.specs.Inner.{owner_at, slot_in, by_session, slots_below, AreFree, AreSeats}
+use Rattle.fe_seats.specs.within.Inner.{owner_at, slot_in, by_session, slots_below, AreFree, AreSeats}
 use Rattle.fe_seats.proofs.OwnerLemmas.{Agree, AreOwned, seen, some_is, none_or_some, get-by_session, get-of_owner}
 use Rattle.fe_seats.proofs.SeatLemmas.{no_slot, slot-insert_here, slot-insert_other, slot-remove_here, slot-remove_other, len-insert_new, len-insert_old, len-remove_old}
 

@@ -7,7 +7,8 @@ use Rattle.std.specs.declared.cmp.Ordering.TheVariants.{Less, Equal, Greater}
 use Rattle.std.specs.Cmp.{IsTotalOrder, tied_itself}
 use Rattle.std.specs.FinMap.{FinMap, IsAntisymmetric, find, get, len, entries, from_entries, is_sorted, get-entries, get-from_entries, entries_sorted, len-empty, len-entries, len-insert}
 use Rattle.std.specs.FinMap.Entries.{below_all}
-use Rattle.fe_seats.specs.Inner.{rekeyed}
+use Rattle.fe_table.proofs.TableLemmas.{first, second}
+use Rattle.fe_seats.specs.within.Inner.{rekeyed}
 
 -- ---- tests of keys
 
@@ -44,20 +45,13 @@ option_map-cond f false x o = refl
 one_more : (n : ℕ) → n + 1 ≡ suc n
 one_more n = omega arith
 
-first : (a b : Bool) → T (a && b) → T a
-first true b p = tt
-first false b p = p
-
-second : (a b : Bool) → T (a && b) → T b
-second true b p = p
-second false b p = absurd p
-
 not_tied : (r : Ordering) → T (is_lt r) → is_eq r ≡ false
 not_tied Less p = refl
 not_tied Equal p = absurd p
 not_tied Greater p = absurd p
 
-find_below : {K X : Type 0} (R : K → K → Ordering) (q : K) (es : List (K × X)) → T (below_all R q es) → find R q es ≡ None
+-- a key that is below all is not there
+pub find_below : {K X : Type 0} (R : K → K → Ordering) (q : K) (es : List (K × X)) → T (below_all R q es) → find R q es ≡ None
 find_below R q [] h = refl
 find_below R q (e ∷ es) h = ap (λ b. cond b (Some e.1) (find R q es)) (not_tied (R q e.0) (first _ _ h)) ∙ find_below R q es (second _ _ h)
 

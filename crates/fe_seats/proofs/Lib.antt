@@ -1,5 +1,5 @@
 mod KeptLemmas
-mod KeyLemmas
+pub mod KeyLemmas
 mod OwnerLemmas
 mod SeatLemmas
 pub mod SessionLemmas

@@ -10,7 +10,7 @@ use Rattle.fe_waits.specs.Pair.{pair_cmp, pair_cmp_total, pair_cmp-IsAntisymmetr
 use Rattle.fe_waits.specs.Waiting.{Waiter}
 use Rattle.fe_waits.proofs.MemberLemmas.{key_cases, none_some, some_same, get-insert_here, get-insert_other, get-remove_here, get-remove_other}
 use Rattle.fe_seats.specs.declared.place.Place.{Place}
-use Rattle.fe_seats.specs.Inner.{owner_at, owner_of, slot_in, session_key, by_session}
+use Rattle.fe_seats.specs.within.Inner.{owner_at, owner_of, slot_in, session_key, by_session}
 use Rattle.fe_seats.proofs.KeyLemmas.{same_test, miss, get-rekeyed, get-rekeyed_none, len-rekeyed}
 
 -- places and owners say the same

@@ -11,7 +11,7 @@ use Rattle.fe_seats.specs.declared.place.Place.{Place}
 use Rattle.fe_seats.specs.declared.seat.Seat.{Seat}
 use Rattle.fe_waits.specs.Waiting.{Waiting}
 use Rattle.fe_seats.specs.Seating.{with_holder, with_closing}
-use Rattle.fe_seats.specs.Inner.{slot_in, seats_of, seating_of}
+use Rattle.fe_seats.specs.within.Inner.{slot_in, seats_of, seating_of}
 use Rattle.fe_seats.proofs.KeyLemmas.{get-rekeyed, len-rekeyed}
 
 abbrev seat_of : Place → Seat

@@ -12,7 +12,7 @@ use Rattle.fe_waits.proofs.MemberLemmas.{none_some, some_same, of_slot-none, wit
 use Rattle.fe_seats.specs.declared.place.Place.{Place}
 use Rattle.fe_seats.specs.declared.turn.Turn.{Turn}
 use Rattle.fe_seats.specs.Seating.{key_of, waiter_of, turn_of, turn_at, count_of, without_session, IsNodeOn, IsWithinLimits}
-use Rattle.fe_seats.specs.Inner.{owner_at, owner_of, slot_in, by_session, seating_of, turn_from, turns_from, AreSeats}
+use Rattle.fe_seats.specs.within.Inner.{owner_at, owner_of, slot_in, by_session, seating_of, turn_from, turns_from, AreSeats}
 use Rattle.fe_seats.proofs.OwnerLemmas.{Agree, AreOwned, some_is, none_or_some, owner_is, get-in_slot, get-unseated, get-of_owner, len-by_session, owned-kept, by_session-kept}
 use Rattle.fe_seats.proofs.SeatLemmas.{len-seats, has_seat}
 

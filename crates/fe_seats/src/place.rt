@@ -1,8 +1,8 @@
 ghost use Rattle.std.specs.Prelude.{◌≡◌};
-ghost use Rattle.fe_seats.specs.Inner.{slot_in};
+ghost use Rattle.fe_seats.specs.within.Inner.{slot_in};
 
 use crate::seat::Seat;
-use fe_state::Table;
+use fe_table::Table;
 
 /// How many sessions may have a seat.
 pub(crate) const SEATS: usize = 64;

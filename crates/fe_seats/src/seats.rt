@@ -8,7 +8,7 @@ use crate::seat::Seat;
 use crate::slots::{all_slots, owner};
 use crate::turn::Turn;
 use fe_pool::Node;
-use fe_state::Table;
+use fe_table::Table;
 use fe_waits::Waits;
 use fe_words::Op;
 use std::alloc::{AllocError, Global};
@@ -36,7 +36,7 @@ impl Model for Seats {
 
     ghost coded = { seating_code };
 
-    ghost use Rattle.fe_seats.specs.Inner.{AreSeats, seating_of};
+    ghost use Rattle.fe_seats.specs.within.Inner.{AreSeats, seating_of};
 
     ghost view = { λ s. seating_of s.waits s.places s.owners.items };
 

@@ -1,5 +1,5 @@
 ghost use Rattle.std.specs.Prelude.{◌≡◌, ◌≤◌, IsSome, Some, IfOk, vec_capacity};
-ghost use Rattle.fe_seats.specs.Inner.{owner_at, slots_below};
+ghost use Rattle.fe_seats.specs.within.Inner.{owner_at, slots_below};
 
 use std::alloc::{AllocError, Global};
 

@@ -5,7 +5,7 @@ use Rattle.std.proofs.lemmas.List.{length-append, take-append-drop}
 use Rattle.fe_wire.specs.Spelling.{reply_spelling, ReplyFits}
 use Rattle.fe_wire.specs.declared.server_message.ServerMessage.{ServerMessage}
 use Rattle.fe_desk.specs.Frames.{AreReplies}
-use Rattle.fe_server.specs.Frames.{frame_at}
+use Rattle.fe_server.specs.within.Frames.{frame_at}
 use Rattle.fe_server.proofs.FrameLemmas.{reply_first, reply_some, pair_of}
 
 left : (front all : List ServerMessage) (more : List ℕ) → AllByRecursion ReplyFits front → AllByRecursion ReplyFits all → flat_map reply_spelling front ++ more ≡ flat_map reply_spelling all → AreReplies more

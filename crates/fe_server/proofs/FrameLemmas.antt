@@ -10,9 +10,9 @@ use Rattle.fe_wire.specs.declared.server_message.ServerMessage.{ServerMessage}
 use Rattle.fe_wire.specs.declared.server_message.ServerMessage.TheVariants as server
 use Rattle.fe_wire.specs.Spelling.{frame, reply_spelling, ReplyFits, HasRefusalCode}
 use Rattle.fe_wire.specs.Stream.{length_field}
-use Rattle.fe_wire.specs.Codes.{answer_code, answer_number, answer_length}
+use Rattle.fe_codes.specs.Codes.{answer_code, answer_number, answer_length}
 use Rattle.fe_wire.proofs.FieldLaws.{wide32}
-use Rattle.fe_server.specs.Frames.{frame_at}
+use Rattle.fe_server.specs.within.Frames.{frame_at}
 
 -- a refusal that fits has a code
 pub fits_coded : (m : ServerMessage) → ReplyFits m → HasRefusalCode m

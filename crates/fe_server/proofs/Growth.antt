@@ -1,7 +1,6 @@
 -- Over the steps of a desk, each client is written more and more.
 use Rattle.std.proofs.Common.{◌≡◌, ℕ, zero, suc, Bool, true, false, true≢false, List, [], ◌∷◌, ◌++◌, map, Option, Some, None, refl, sym, ap, ◌∙◌, subst, append_assoc, append-nil, nat_eq, if◌then◌else◌}
-use Rattle.std.proofs.lemmas.Option.{same_Some}
-use Rattle.std.specs.Prelude.{MatchBool, is_some, slice_get}
+use Rattle.std.specs.Prelude.{MatchBool, is_some}
 use Rattle.fe_wire.specs.Stream.{Decoding}
 use Rattle.fe_wire.specs.declared.client_message.ClientMessage.{ClientMessage}
 use Rattle.fe_front.specs.Front.{FrontState, is_connected, has_room}
@@ -10,10 +9,10 @@ use Rattle.fe_desk.specs.declared.handed.Handed.TheVariants.{Nothing, Cut, Store
 use Rattle.fe_desk.specs.declared.step.Step.{Step}
 use Rattle.fe_desk.specs.declared.step.Step.TheVariants as step
 use Rattle.fe_desk.specs.Mails.{emptied_box}
-use Rattle.fe_desk.specs.Standing.{Client, Standing, unwritten, told, all_told, emptied, settled}
+use Rattle.fe_desk.specs.Standing.{Client, Standing, unwritten, told, all_told, emptied, discharged}
 use Rattle.fe_desk.specs.Storing.{cut, stored, stored_from, posted, posted_from, cleared, made, with_room, begun_room, roomy, is_making}
 use Rattle.fe_desk.specs.Taking.{TakesOne, TakesAll}
-use Rattle.fe_desk.specs.Steps.{find, on_client, with_left, with_decoder, new_client, clients_with, unmade, Connects, gone, TakesPiece, TakesFrom, TakesBytes, after_frame, Acts, DeskStep}
+use Rattle.fe_desk.specs.Steps.{find, on_client, with_left, with_decoder, new_client, clients_with, unmade, Connects, gone, TakesPiece, TakesFrom, TakesBytes, after_frame, Acts, DeskStep, DeskRun}
 use Rattle.fe_server.specs.Ready.{AreWritten}
 
 -- Each client is written what it was written before and perhaps more, no reply waits, and new clients come behind.
@@ -169,7 +168,7 @@ pub record Grows (s t : Standing) : Type 0 where
 
 pub stepped : (s : Standing) (x : Step) (t : Standing) → s.owes ≡ false → AreWritten s.clients → DeskStep s x t → Grows s t
 stepped s x t none w e =
-    let now : settled s ≡ s = ap (λ (b : Bool). if b then emptied s else s) none in
+    let now : discharged s ≡ s = ap (λ (b : Bool). if b then emptied s else s) none in
     let acts : Acts s x e.last = subst (λ (u : Standing). Acts u x e.last) now e.acts in
     let all : Extends e.last.clients (emptied e.last).clients = all_told-extends e.last.front e.last.clients in
     record {
@@ -177,9 +176,10 @@ stepped s x t none w e =
       extends = subst (λ (u : Standing). Extends s.clients u.clients) (sym e.after) (both s.clients e.last.clients (emptied e.last).clients (acted s x e.last w acts) all);
     }
 
--- a client that stands at a place stands there later, with what it was written at the front
-pub later : (cs ds : List Client) (i : ℕ) (w : List ℕ) → Extends cs ds → slice_get (map (λ (c : Client). c.written) cs) i ≡ Some w → (more : List ℕ) × (slice_get (map (λ (c : Client). c.written) ds) i ≡ Some (w ++ more))
-later [] ds i w e is = absurd (true≢false (sym (ap (λ (o : Option (List ℕ)). is_some o) is)))
-later (c ∷ cs) [] i w e is = absurd e
-later (c ∷ cs) (d ∷ ds) zero w e is = (e.1.0, ap (λ (v : List ℕ). Some v) (e.1.1) ∙ ap (λ (o : List ℕ). Some (o ++ e.1.0)) (same_Some _ _ is))
-later (c ∷ cs) (d ∷ ds) (suc i) w e is = later cs ds i w e.2 is
+-- steps, one after another, do
+pub ran : (steps : List Step) (s t : Standing) → s.owes ≡ false → AreWritten s.clients → DeskRun s steps t → Grows s t
+ran [] s t none w e = record { owes = ap (λ (u : Standing). u.owes) e ∙ none; extends = stays s.clients t.clients w (ap (λ (u : Standing). u.clients) e) }
+ran (x ∷ xs) s t none w e =
+    let one = stepped s x e.0 none w e.1 in
+    let others = ran xs e.0 t one.owes (extended s.clients e.0.clients one.extends) e.2 in
+    record { owes = others.owes; extends = both s.clients e.0.clients t.clients one.extends others.extends }

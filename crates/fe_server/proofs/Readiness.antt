@@ -6,8 +6,9 @@ use Rattle.fe_state.specs.History.{after_groups}
 use Rattle.fe_state.specs.declared.entry.Entry.{Entry}
 use Rattle.fe_keeper.specs.Laws.{StandsForOne}
 use Rattle.fe_keeper.specs.Stands.{StandsFor, EachStandsFor}
+use Rattle.fe_keeper.specs.Prefix.{LeavesPrefix}
 use Rattle.fe_keeper.specs.declared.fault.Fault.TheVariants as store
-use Rattle.fe_desk.specs.Crash.{DeskState, Advances, IsFrom, IsFine, LeavesPrefix, disk_of}
+use Rattle.fe_desk.specs.Crash.{DeskState, Advances, IsFrom, IsFine, disk_of}
 use Rattle.fe_desk.specs.Standing.{Client, Standing, IsFirstStanding}
 use Rattle.fe_desk.specs.Steps.{DeskStep}
 use Rattle.fe_desk.specs.declared.step.Step.{Step}
@@ -47,6 +48,7 @@ ready_after old new x ready step more stands synced fine =
       begun = ready.begun;
       from = from;
       stands = λ image may. each_stands new ready.begun from (synced fine.works) image (stands honest ready.begun from image may);
+      synced = synced fine.works;
       owes = grown.owes;
       written = extended old.standing.clients new.standing.clients grown.extends;
     }
@@ -58,6 +60,7 @@ ready_first d s honest works first is synced stands = record {
   begun = s;
   from = first_from s d is first.groups synced;
   stands = λ image may. subst (λ (t : ServerState). StandsFor image t) (sym is) (stands image may);
+  synced = synced ∙ sym (ap length first.groups);
   owes = first.owes;
   written = subst AreWritten (sym first.clients) tt;
 }

@@ -2,8 +2,14 @@ pub mod Fault
 pub mod Words
 pub mod Requests
 pub mod Line
-pub mod Frames
+pub mod Lines
 pub mod Printed
 pub mod RefusalNames
+pub mod Told
 pub mod Ready
+pub mod Schedule
 pub mod Runs
+pub mod CommandLine
+pub mod Look
+pub mod Settings
+pub mod within

@@ -1,11 +1,12 @@
 -- The lines of schedules.
-use Rattle.std.specs.Prelude.{ℕ, ◌&&◌, length, List, [], ◌∷◌, codes, Option, Some, None, nat_lt, nat_le, ◌==◌, if◌then◌else◌}
+use Rattle.std.specs.Prelude.{ℕ, length, List, [], ◌∷◌, codes, Option, Some, None, nat_lt, ◌==◌, if◌then◌else◌}
 use Rattle.std.specs.Option.{option_map_or}
 use Rattle.std.specs.Str.{bytes_eq}
 use Rattle.fe_wire.specs.Spelling.{Fits}
 use Rattle.fe_wire.specs.declared.client_message.ClientMessage.{ClientMessage}
 use Rattle.fe_wire.specs.declared.client_message.ClientMessage.TheVariants as message
-use Rattle.fe_server.specs.Words.{◌>>=◌, words_at, number_of}
+use Rattle.fe_codes.specs.Binding.{◌>>=◌}
+use Rattle.fe_server.specs.Words.{words_at, number_of}
 use Rattle.fe_server.specs.Requests.{request_in}
 use Rattle.fe_server.specs.declared.line.Line.{Line}
 use Rattle.fe_server.specs.declared.line.Line.TheVariants.{Message, Gone, Hold, Flush, Stop, Check}

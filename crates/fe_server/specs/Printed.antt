@@ -1,6 +1,8 @@
 -- Replies as text.
-use Rattle.std.specs.Prelude.{◌≡◌, ⊤, ℕ, List, [], ◌++◌, codes, ◌==◌, if◌then◌else◌}
+use Rattle.std.specs.Prelude.{ℕ, List, ◌++◌, codes, ◌==◌, if◌then◌else◌}
 use Rattle.std.specs.Fmt.{decimal}
+use Rattle.std.specs.List.{flat_map}
+use Rattle.std.specs.Str.Lines.{lines}
 use Rattle.fe_state.specs.declared.answer.Answer.{Answer}
 use Rattle.fe_state.specs.declared.answer.Answer.TheVariants.{Value, Done, Array, NoArray, BadIndex, NameTaken, ArrayLimit, WordLimit, BadName, BadLength, NotNow}
 use Rattle.fe_wire.specs.declared.server_message.ServerMessage.{ServerMessage}
@@ -33,7 +35,11 @@ refusal_text code =
     else if code == 9 then codes "spent"
     else codes "not-waiting"
 
--- The line for a reply to a connection, with its line feed. That of a report is not said here.
+-- a line of a report
+abbrev pub report_line : ℕ → List ℕ → List ℕ
+report_line conn line = codes "c" ++ (decimal conn ++ (codes " " ++ (line ++ codes "\n")))
+
+-- The line for a reply to a connection, with its line feed, or of a report a line for each of its lines.
 unfoldable pub printed : ℕ → ServerMessage → List ℕ
 printed conn (server.Welcome session floor) =
     codes "c" ++ (decimal conn ++ (codes " welcome " ++ (decimal session ++ (codes " " ++ (decimal floor ++ codes "\n")))))
@@ -47,9 +53,4 @@ printed conn (server.Settled floor) =
     codes "c" ++ (decimal conn ++ (codes " settled " ++ (decimal floor ++ codes "\n")))
 printed conn (server.Goodbye session) =
     codes "c" ++ (decimal conn ++ (codes " goodbye " ++ (decimal session ++ codes "\n")))
-printed conn (server.Report text) = []
-
--- the text grows by the line for a reply; what a report prints is not said here
-abbrev pub Prints : ℕ → ServerMessage → List ℕ → List ℕ → Type 0
-Prints conn (server.Report text) before after = ⊤
-Prints conn reply before after = after ≡ before ++ printed conn reply
+printed conn (server.Report text) = flat_map (report_line conn) (lines text)

@@ -6,8 +6,9 @@ use Rattle.fe_words.specs.declared.op.Op.{Op}
 use Rattle.fe_words.specs.declared.op.Op.TheVariants.{ReadFe, ReadFf, ReadXx, WriteEf, WriteFf, WriteXf, Purge, IntFetchAdd}
 use Rattle.fe_state.specs.declared.request.Request.{Request}
 use Rattle.fe_state.specs.declared.request.Request.TheVariants.{Create, Find, Remove, Access}
-use Rattle.fe_wire.specs.Codes.{operand_of}
-use Rattle.fe_server.specs.Words.{◌>>=◌, words_at, number_of, small_number_of, name_in, tag_named}
+use Rattle.fe_codes.specs.Codes.{operand_of}
+use Rattle.fe_codes.specs.Binding.{◌>>=◌}
+use Rattle.fe_server.specs.Words.{words_at, number_of, small_number_of, name_in, tag_named}
 
 -- the operation of that name, if it has no operand
 unfoldable pub op_named : List ℕ → Option Op

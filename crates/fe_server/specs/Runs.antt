@@ -1,53 +1,184 @@
--- What is always true of a run between two lines.
-use Rattle.std.specs.Prelude.{◌≡◌, ◌<◌, ◌≤◌, ◌-◌, ◌^◌, All, Bool, true, false, MatchBool, [], ◌∷◌, length, map}
+-- What is always true of a run, and what its parts do.
+use Rattle.std.specs.Prelude.{◌≡◌, ◌≢◌, ℕ, ◌+◌, ◌-◌, ◌^◌, ◌<◌, ◌≤◌, Bool, List, [], ◌∷◌, ◌++◌, length, map, take, Option, None, Some, string_bytes}
+use Rattle.std.specs.Io.KnownBytes.{Appends, Keeps, Consumes, IsAtEnd}
 use Rattle.fe_disk.specs.Memory.{MemoryState}
-use Rattle.fe_desk.specs.Crash.{DeskState}
-use Rattle.fe_desk.specs.Standing.{IsFirstStanding}
-use Rattle.fe_desk.specs.Steps.{DeskStep, DeskRun}
-use Rattle.fe_desk.specs.declared.step.Step.TheVariants as step
-use Rattle.fe_server.specs.Ready.{IsReady, IsView, Receives}
+use Rattle.fe_desk.specs.Crash.{DeskState, IsFrom}
+use Rattle.fe_desk.specs.Frames.{AreReplies}
+use Rattle.fe_desk.specs.Messages.{outputs}
+use Rattle.fe_desk.specs.Standing.{Standing, IsFirstStanding}
+use Rattle.fe_desk.specs.declared.step.Step.{Step}
+use Rattle.fe_wire.specs.declared.server_message.ServerMessage.{ServerMessage}
+use Rattle.fe_server.specs.Ready.{IsReady, Moves}
+use Rattle.fe_server.specs.Line.{parsed}
+use Rattle.fe_server.specs.Lines.{lines_of, HasNoFeed}
+use Rattle.fe_server.specs.Schedule.{Stage, AreStepsOf, holds_after, endings, writings, RunsLine, RunsBytes, Prints, RunsLines, IsStart, StartsStray, EndsAt}
+use Rattle.fe_server.specs.Told.{PrintsSince, IsTold, told_to}
+use Rattle.fe_server.specs.declared.fault.Fault.{Fault}
+use Rattle.fe_server.specs.declared.fault.Fault.TheVariants as fault
 use Rattle.fe_server.specs.declared.line.Line.{Line}
 use Rattle.fe_server.specs.declared.line.Line.TheVariants as line
 use Rattle.fe_server.specs.declared.machine.Machine.{Machine}
 use Rattle.fe_server.specs.declared.run.Run.{Run}
+use Rattle.fe_server.specs.declared.told.Told.{Told}
+
+-- ---- what is printed of what is written
+
+-- these counts are of whole replies at the front of what is written
+abbrev pub ArePrinted : List ℕ → List (List ℕ) → Type 0
+ArePrinted [] ws = Unit {0}
+ArePrinted (n ∷ ns) [] = ⊥
+ArePrinted (n ∷ ns) (w ∷ ws) = (n ≤ length w) × AreReplies (take n w) × ArePrinted ns ws
+
+-- so many bytes of each
+abbrev pub fronts : List ℕ → List (List ℕ) → List (List ℕ)
+fronts [] ws = []
+fronts (n ∷ ns) [] = []
+fronts (n ∷ ns) (w ∷ ws) = take n w ∷ fronts ns ws
+
+abbrev pub lengths : Standing → List ℕ
+lengths s = map (λ w. length w) (writings s)
+
+-- what was told behind a front of what is written to a connection number
+pub record ToldMore (front : List ℕ) (conn : ℕ) (written : List ℕ) (before after : List Told) : Type 0 where
+  pub replies : List ServerMessage
+  pub are : IsTold front written replies
+  pub is : after ≡ before ++ map (told_to conn) replies
+
+-- the text grows by what was told since so much was printed
+pub record PrintsMore (counts : List ℕ) (s : Standing) (before after : List ℕ) : Type 0 where
+  pub more : List ℕ
+  pub prints : PrintsSince (fronts counts (writings s)) (outputs s) more
+  pub is : after ≡ before ++ more
+
+-- ---- a machine
 
 -- the desk is between two steps, and what is printed is a front of what it wrote
 pub record IsMachine (m : Machine) : Type 0 where
   pub ready : IsReady m.desk
-  pub views : All (IsView (map (λ c. c.written) m.desk.standing.clients)) m.views.items
+  pub printed : ArePrinted m.printed.items (writings m.desk.standing)
 
--- and the line that has begun may still be one of the syntax
+-- where the steps of a line begin
+abbrev pub BeginsAt : Line → DeskState MemoryState → DeskState MemoryState → Type 0
+BeginsAt line.Stop d e = IsFirstStanding d.keeper.state e.standing × IsFrom d.keeper.state e
+BeginsAt other d e = e ≡ d
+
+abbrev pub printed_after : Line → List ℕ → List ℕ
+printed_after line.Stop counts = []
+printed_after other counts = counts
+
+-- the machine took the steps of a line
+pub record ActsOn (m : Machine) (l : Line) (n : Machine) : Type 0 where
+  pub mid : DeskState MemoryState
+  pub begins : BeginsAt l m.desk mid
+  pub steps : List Step
+  pub are : AreStepsOf l steps
+  pub moves : Moves mid steps n.desk
+  pub printed : n.printed.items ≡ printed_after l m.printed.items
+
+-- ---- a run
+
+-- All that was written is printed, and the line that has begun may still be one of the syntax.
 pub record IsRun (r : Run) : Type 0 where
   pub machine : IsMachine r.machine
+  pub printed : r.machine.printed.items ≡ lengths r.machine.desk.standing
   pub few : length r.begun.items ≤ 99
   pub count : r.lines < 2 ^ 64 - 1
 
--- ---- what a line does
-
--- Of a message its frame comes, and of a connection that goes its going; a stop keeps what was stored and no more; a
--- checkpoint is begun and finished.
-abbrev pub ActsOn : DeskState MemoryState → Line → DeskState MemoryState → Type 0
-ActsOn d (line.Message conn message) e = Receives d.standing conn message e.standing
-ActsOn d (line.Gone conn) e = DeskStep d.standing (step.Gone conn) e.standing
-ActsOn d line.Hold e = e ≡ d
-ActsOn d line.Flush e = e ≡ d
-ActsOn d line.Stop e = (e.keeper.state ≡ d.keeper.state) × IsFirstStanding d.keeper.state e.standing
-ActsOn d line.Check e = DeskRun d.standing (step.CheckBegin ∷ step.CheckFinish ∷ []) e.standing
-
--- whether the run is on hold after a line
-abbrev pub holds_after : Line → Bool → Bool
-holds_after line.Hold was = true
-holds_after line.Flush was = false
-holds_after line.Stop was = false
-holds_after other was = was
-
--- what is pending is cut, stored and posted, but on hold
-abbrev pub Commits : Bool → DeskState MemoryState → DeskState MemoryState → Type 0
-Commits held d e = MatchBool held (e ≡ d) (DeskRun d.standing (step.Cut ∷ step.Append ∷ step.Post ∷ []) e.standing)
-
--- a line does what it says, and then what is pending is stored and posted
-pub record RunsLine (r : Run) (l : Line) (s : Run) : Type 0 where
+-- a line does what it says, and then what is pending is stored and posted; what is told is printed
+pub record RanLine (r : Run) (l : Line) (s : Run) : Type 0 where
   pub mid : DeskState MemoryState
-  pub acts : ActsOn r.machine.desk l mid
+  pub begins : BeginsAt l r.machine.desk mid
+  pub steps : List Step
+  pub are : AreStepsOf l steps
+  pub moves : Moves mid (steps ++ endings s.is_holding) s.machine.desk
   pub holding : s.is_holding ≡ holds_after l r.is_holding
-  pub commits : Commits s.is_holding mid s.machine.desk
+  pub prints : PrintsMore (printed_after l r.machine.printed.items) s.machine.desk.standing (string_bytes r.text) (string_bytes s.text)
+
+-- the run stands there
+pub record IsAt (r : Run) (s : Stage) : Type 0 where
+  pub standing : s.standing ≡ r.machine.desk.standing
+  pub from : IsFrom s.begun r.machine.desk
+  pub holding : s.is_holding ≡ r.is_holding
+
+-- ---- lines
+
+-- The line of these bytes ran from wherever the run stood.
+pub record RanBytes (r : Run) (bytes : List ℕ) (s : Run) : Type 0 where
+  pub more : List ℕ
+  pub runs : (at : Stage) → IsAt r at → (next : Stage) × IsAt s next × RunsBytes at bytes next more
+  pub text : string_bytes s.text ≡ string_bytes r.text ++ more
+  pub begun : s.begun.items ≡ []
+  pub lines : s.lines ≡ r.lines + 1
+
+-- the bytes say this line, or none where they are empty
+abbrev pub SaysLine : List ℕ → Option Line → Type 0
+SaysLine bytes None = bytes ≡ []
+SaysLine bytes (Some said) = (bytes ≢ []) × (parsed bytes ≡ Some said)
+
+-- a line of these bytes is told by its number only where it is outside the syntax
+abbrev pub IsFaultOf : ℕ → List ℕ → Fault → Type 0
+IsFaultOf number bytes (fault.Line told) = (told ≡ number) × (bytes ≢ []) × (parsed bytes ≡ None)
+IsFaultOf number bytes fault.Input = Unit {0}
+IsFaultOf number bytes fault.Memory = Unit {0}
+IsFaultOf number bytes fault.Device = Unit {0}
+IsFaultOf number bytes (fault.Size size) = ⊥
+IsFaultOf number bytes fault.Unformatted = ⊥
+IsFaultOf number bytes (fault.Damaged offset) = ⊥
+IsFaultOf number bytes (fault.Setting key) = ⊥
+IsFaultOf number bytes fault.UnknownKey = ⊥
+IsFaultOf number bytes fault.NotToml = ⊥
+IsFaultOf number bytes fault.Strange = ⊥
+
+-- the same of a line that is longer than any of the syntax
+abbrev pub IsTooLong : ℕ → List ℕ → Fault → Type 0
+IsTooLong number bytes (fault.Line told) = (told ≡ number) × (99 < length bytes)
+IsTooLong number bytes fault.Input = ⊥
+IsTooLong number bytes fault.Memory = Unit {0}
+IsTooLong number bytes fault.Device = ⊥
+IsTooLong number bytes (fault.Size size) = ⊥
+IsTooLong number bytes fault.Unformatted = ⊥
+IsTooLong number bytes (fault.Damaged offset) = ⊥
+IsTooLong number bytes (fault.Setting key) = ⊥
+IsTooLong number bytes fault.UnknownKey = ⊥
+IsTooLong number bytes fault.NotToml = ⊥
+IsTooLong number bytes fault.Strange = ⊥
+
+-- ---- pieces
+
+-- Of these bytes whole lines ran and the front of one is kept; what the lines print is written, but for what is kept of it.
+pub record SoFar (read : List ℕ) (before now : Option (List ℕ)) (r : Run) : Type 0 where
+  pub lines : List (List ℕ)
+  pub splits : (others : List ℕ) → lines_of (read ++ others) ≡ lines ++ lines_of (r.begun.items ++ others)
+  pub no_feed : HasNoFeed r.begun.items
+  pub counts : r.lines ≡ length lines
+  pub start : Stage
+  pub starts : IsStart start
+  pub here : Stage
+  pub is : IsAt r here
+  pub text : List ℕ
+  pub runs : RunsLines start lines here (text ++ string_bytes r.text)
+  pub written : Appends before now text
+
+-- All of these bytes ran as lines; this text of what they print is not written.
+pub record Whole (input : List ℕ) (before now : Option (List ℕ)) (kept : List ℕ) : Type 0 where
+  pub lines : List (List ℕ)
+  pub all : lines_of input ≡ lines
+  pub text : List ℕ
+  pub prints : Prints lines (text ++ kept)
+  pub written : Appends before now text
+
+-- A run over these bytes ended at a fault. Of what its lines print this text is not written, and perhaps more behind it.
+pub record Ended (end : Fault) (input : List ℕ) (before now : Option (List ℕ)) (kept : List ℕ) : Type 0 where
+  pub lines : List (List ℕ)
+  pub left : List (List ℕ)
+  pub more : List ℕ
+  pub all : lines_of input ≡ lines ++ left
+  pub ends : EndsAt end lines left more
+  pub text : List ℕ
+  pub prints : Prints lines ((text ++ kept) ++ more)
+  pub written : Appends before now text
+
+-- what a read gave of the bytes that are left, if it was not interrupted
+abbrev pub ReadsSome : Option (List ℕ) → Option (List ℕ) → List ℕ → Option ℕ → Type 0
+ReadsSome old new piece None = Keeps old new
+ReadsSome old new piece (Some count) = (count ≤ length piece) × Consumes old new (take count piece) × (count ≡ 0 → 0 < length piece → IsAtEnd new)

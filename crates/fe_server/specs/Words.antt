@@ -6,11 +6,7 @@ use Rattle.std.specs.Str.{bytes_eq}
 use Rattle.std.specs.Str.Parse.{digits_value}
 use Rattle.fe_words.specs.declared.word.Tag.{Tag}
 use Rattle.fe_words.specs.declared.word.Tag.TheVariants.{Full, Empty}
-
-infixl 10 ◌>>=◌
-abbrev pub ◌>>=◌ : {A B : Type 0} → Option A → (A → Option B) → Option B
-(Some x) >>= f = f x
-None >>= f = None
+use Rattle.fe_codes.specs.Binding.{◌>>=◌}
 
 -- The word before the first space, and what stands behind that space. Nothing where there is no space.
 unfoldable pub words_at : List ℕ → Option (List ℕ × List ℕ)

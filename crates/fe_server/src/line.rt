@@ -3,6 +3,7 @@
 ghost use Rattle.std.specs.Prelude.{◌≡◌, IfSome};
 ghost use Rattle.fe_server.specs.Line.{parsed, conn_of, control_in, plain_in, numbered_in, told_in, LineFits};
 ghost use Rattle.fe_wire.specs.Spelling.{Fits};
+ghost use Rattle.fe_server.specs.Schedule.{holds_after};
 
 use crate::request::request_in;
 use crate::word::{number_of, says, word_at};
@@ -29,6 +30,19 @@ pub enum Line {
     Stop,
     /// A whole checkpoint is made.
     Check,
+}
+
+impl Line {
+    /// Whether a schedule is on hold after the line.
+    pub(crate) fn holds_after(&self, was: bool) -> bool
+        ensures { result ≡ holds_after self.now was }
+    {
+        match self {
+            Line::Hold => true,
+            Line::Flush | Line::Stop => false,
+            Line::Message { .. } | Line::Gone { .. } | Line::Check => was,
+        }
+    }
 }
 
 /// The number of the connection of that name, `c1` to `c999`.

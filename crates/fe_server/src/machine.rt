@@ -1,21 +1,25 @@
 //! What a schedule runs on: a desk over a store in memory, and what of its output is printed.
 
-ghost use Rattle.std.specs.Prelude.{◌≡◌, ◌<◌, [], ◌∷◌, All, length, OnOk, IfOk, IfErr};
+ghost use Rattle.std.specs.Prelude.{◌≡◌, [], ◌∷◌, string_bytes, OnOk, IfOk, IfErr};
 ghost use Rattle.fe_wire.specs.Spelling.{Fits};
 ghost use Rattle.fe_desk.specs.Standing.{IsFirstStanding};
-ghost use Rattle.fe_desk.specs.Crash.{disk_of};
-ghost use Rattle.fe_desk.specs.Steps.{DeskStep, DeskRun};
-ghost use Rattle.fe_desk.specs.declared.step.Step.TheVariants as step;
+ghost use Rattle.fe_desk.specs.Crash.{IsFrom, disk_of};
+ghost use Rattle.fe_state.specs.State.{first_state};
 ghost use Rattle.fe_server.specs.Fault.{IsOfDesk};
-ghost use Rattle.fe_server.specs.Ready.{IsView, Receives, StandsSynced, writings};
-ghost use Rattle.fe_server.specs.Runs.{IsMachine};
+ghost use Rattle.fe_server.specs.Line.{LineFits};
+ghost use Rattle.fe_server.specs.Ready.{Moves, StandsSynced};
+ghost use Rattle.fe_server.specs.Schedule.{endings};
+ghost use Rattle.fe_server.specs.Runs.{IsMachine, ActsOn, PrintsMore, lengths};
 
 use crate::fault::Fault;
+use crate::line::Line;
+use crate::printing::print_told;
+use crate::reading::{mark_all, read_all};
 use crate::serving::{new_desk, stopped, take};
-use crate::view::View;
-use fe_desk::{Desk, Port, Step};
+use crate::told::{Told, sort};
+use fe_desk::{Desk, Step};
 use fe_disk::MemoryDisk;
-use fe_wire::{ClientMessage, ServerMessage, put_message};
+use fe_wire::{ClientMessage, put_message};
 use std::alloc::Global;
 use std::mem;
 
@@ -23,8 +27,8 @@ use std::mem;
 #[derive(Drop)]
 pub(crate) struct Machine {
     desk: Desk<MemoryDisk>,
-    /// What of each port is printed, in ascending order of the connection's number.
-    views: Vec<View>,
+    /// How many of the bytes written to each connection number are printed. Numbers behind these are new.
+    printed: Vec<usize>,
     /// The frame of the message at hand.
     frame: Vec<u8>,
     alloc: Global,
@@ -34,23 +38,43 @@ impl Machine {
     /// A machine with a new store and no connection.
     pub fn new(alloc: Global) -> Result<Machine, Fault>
         ensures machine { IfOk result IsMachine }
+        ensures first { IfOk result (λ machine. IsFirstStanding first_state machine.desk.standing) }
+        ensures from { IfOk result (λ machine. IsFrom first_state machine.desk) }
+        ensures printed { IfOk result (λ machine. machine.printed.items ≡ []) }
         ensures err { IfErr result IsOfDesk }
     {
         let desk = new_desk(alloc)?;
         Ok(Machine {
             desk,
-            views: Vec::new(alloc),
+            printed: Vec::new(alloc),
             frame: Vec::new(alloc),
             alloc,
         })
     }
 
+    /// Does what a line says, but for what is pending.
+    pub fn act(&mut self, line: &Line) -> Result<(), Fault>
+        requires machine { IsMachine self.old }
+        requires fits { LineFits line.now }
+        ensures machine { OnOk result (IsMachine self.new) }
+        ensures acts { OnOk result (ActsOn self.old line.now self.new) }
+        ensures err { IfErr result IsOfDesk }
+    {
+        match line {
+            Line::Message { conn, message } => self.receive(*conn, message),
+            Line::Gone { conn } => self.drop_connection(*conn),
+            Line::Hold | Line::Flush => Ok(()),
+            Line::Stop => self.stop(),
+            Line::Check => self.check(),
+        }
+    }
+
     /// A message of a connection comes as a frame. The connection is made where it is not there.
-    pub fn receive(&mut self, conn: u64, message: &ClientMessage) -> Result<(), Fault>
+    fn receive(&mut self, conn: u64, message: &ClientMessage) -> Result<(), Fault>
         requires machine { IsMachine self.old }
         requires fits { Fits message.now }
         ensures machine { OnOk result (IsMachine self.new) }
-        ensures received { OnOk result (Receives self.old.desk.standing conn message.now self.new.desk.standing) }
+        ensures acts { OnOk result (ActsOn self.old (Line.Message conn message.now) self.new) }
         ensures err { IfErr result IsOfDesk }
     {
         self.step(&Step::Connect { conn })?;
@@ -68,32 +92,36 @@ impl Machine {
     }
 
     /// The connection goes.
-    pub fn drop_connection(&mut self, conn: u64) -> Result<(), Fault>
+    fn drop_connection(&mut self, conn: u64) -> Result<(), Fault>
         requires { IsMachine self.old }
         ensures machine { OnOk result (IsMachine self.new) }
-        ensures gone { OnOk result (DeskStep self.old.desk.standing (step.Gone conn) self.new.desk.standing) }
+        ensures acts { OnOk result (ActsOn self.old (Line.Gone conn) self.new) }
         ensures err { IfErr result IsOfDesk }
     {
         self.step(&Step::Gone { conn })
     }
 
-    /// What is pending is stored and posted.
-    pub fn commit(&mut self) -> Result<(), Fault>
+    /// What is pending is stored and posted, but on hold.
+    pub fn commit(&mut self, is_holding: bool) -> Result<(), Fault>
         requires { IsMachine self.old }
         ensures machine { OnOk result (IsMachine self.new) }
-        ensures committed { OnOk result (DeskRun self.old.desk.standing (step.Cut ∷ step.Append ∷ step.Post ∷ []) self.new.desk.standing) }
+        ensures moved { OnOk result (Moves self.old.desk (endings is_holding) self.new.desk) }
+        ensures printed { self.new.printed.items ≡ self.old.printed.items }
         ensures err { IfErr result IsOfDesk }
     {
+        if is_holding {
+            return Ok(());
+        }
         self.step(&Step::Cut)?;
         self.step(&Step::Append)?;
         self.step(&Step::Post)
     }
 
     /// Makes a whole checkpoint, where there is something that the last one does not hold.
-    pub fn check(&mut self) -> Result<(), Fault>
+    fn check(&mut self) -> Result<(), Fault>
         requires { IsMachine self.old }
         ensures machine { OnOk result (IsMachine self.new) }
-        ensures checked { OnOk result (DeskRun self.old.desk.standing (step.CheckBegin ∷ step.CheckFinish ∷ []) self.new.desk.standing) }
+        ensures acts { OnOk result (ActsOn self.old Line.Check self.new) }
         ensures err { IfErr result IsOfDesk }
     {
         self.step(&Step::CheckBegin)?;
@@ -101,99 +129,49 @@ impl Machine {
     }
 
     /// Stops, and opens the store again as it was at its last sync. No connection is there then, and nothing waits.
-    pub fn stop(&mut self) -> Result<(), Fault>
+    fn stop(&mut self) -> Result<(), Fault>
         requires { IsMachine self.old }
         ensures machine { OnOk result (IsMachine self.new) }
         // All that was stored is there, and nothing else.
         ensures synced { OnOk result (StandsSynced (disk_of self.old.desk) self.new.desk.keeper.state) }
         ensures kept { OnOk result (self.new.desk.keeper.state ≡ self.old.desk.keeper.state) }
-        ensures first { OnOk result (IsFirstStanding self.old.desk.keeper.state self.new.desk.standing) }
+        ensures acts { OnOk result (ActsOn self.old Line.Stop self.new) }
         ensures err { IfErr result IsOfDesk }
     {
         // A desk of its own stands there until the store is opened.
         let between = new_desk(self.alloc)?;
         let desk = mem::replace(&mut self.desk, between);
-        self.views.clear();
+        self.printed.clear();
         self.desk = stopped(self.alloc, desk)?;
         Ok(())
     }
 
-    /// Prints what was written to each connection since the last time.
-    pub fn print(
-        &mut self,
-        text: &mut String,
-        replies: &mut Vec<ServerMessage>,
-    ) -> Result<(), Fault>
+    /// Prints what each connection was told since the last time.
+    pub fn print(&mut self, text: &mut String, told: &mut Vec<Told>) -> Result<(), Fault>
         requires { IsMachine self.old }
         ensures machine { OnOk result (IsMachine self.new) }
         ensures desk { self.new.desk ≡ self.old.desk }
+        ensures printed { OnOk result (self.new.printed.items ≡ lengths self.old.desk.standing) }
+        ensures text { OnOk result (PrintsMore self.old.printed.items self.old.desk.standing (string_bytes text.old) (string_bytes text.new)) }
         ensures err { IfErr result (λ fault. fault ≡ Fault.Memory) }
     {
         let ports = self.desk.trace().ports.as_slice();
-        view_all(&mut self.views, ports)?;
-        print_all(self.alloc, &mut self.views, ports, text, replies)
+        read_all(self.alloc, ports, self.printed.as_slice(), told)?;
+        sort(told)?;
+        match print_told(text, told.as_slice()) {
+            Ok(()) => mark_all(ports, &mut self.printed),
+            Err(_) => Err(Fault::Memory),
+        }
     }
 
     /// Takes a step.
     fn step(&mut self, step: &Step) -> Result<(), Fault>
         requires { IsMachine self.old }
         ensures machine { OnOk result (IsMachine self.new) }
-        ensures stepped { OnOk result (DeskStep self.old.desk.standing step.now self.new.desk.standing) }
+        ensures moved { OnOk result (Moves self.old.desk (step.now ∷ []) self.new.desk) }
+        ensures printed { self.new.printed.items ≡ self.old.printed.items }
         ensures err { IfErr result IsOfDesk }
     {
         take(&mut self.desk, step)
     }
-}
-
-/// Adds a view of each port that has none. The first ports have those that are there.
-fn view_all(views: &mut Vec<View>, ports: &[Port]) -> Result<(), Fault>
-    requires { All (IsView (writings ports.now)) views.old.items }
-    ensures views { OnOk result (All (IsView (writings ports.now)) views.new.items) }
-    ensures err { IfErr result (λ fault. fault ≡ Fault.Memory) }
-{
-    for at in views.len()..ports.len() {
-        add_view(views, ports, at)?;
-    }
-    Ok(())
-}
-
-/// Adds a view of a port, at its place by the connection's number.
-fn add_view(views: &mut Vec<View>, ports: &[Port], at: usize) -> Result<(), Fault>
-    requires at { at < length ports.now }
-    requires views { All (IsView (writings ports.now)) views.old.items }
-    ensures views { OnOk result (All (IsView (writings ports.now)) views.new.items) }
-    ensures err { IfErr result (λ fault. fault ≡ Fault.Memory) }
-{
-    let conn = ports[at].conn;
-    let place = match views.binary_search_by_key(&conn, |view| view.conn) {
-        Ok(place) => place,
-        Err(place) => place,
-    };
-    let view = View {
-        conn,
-        at,
-        printed: 0,
-    };
-    match views.insert(place, view) {
-        Ok(()) => Ok(()),
-        Err(_) => Err(Fault::Memory),
-    }
-}
-
-/// Prints of each port what was written to it since the last time.
-fn print_all(
-    alloc: Global,
-    views: &mut Vec<View>,
-    ports: &[Port],
-    text: &mut String,
-    replies: &mut Vec<ServerMessage>,
-) -> Result<(), Fault>
-    requires { All (IsView (writings ports.now)) views.old.items }
-    ensures views { OnOk result (All (IsView (writings ports.now)) views.new.items) }
-    ensures err { IfErr result (λ fault. fault ≡ Fault.Memory) }
-{
-    for k in 0..views.len() {
-        views[k].print(alloc, ports, text, replies)?;
-    }
-    Ok(())
 }

@@ -1,16 +1,20 @@
 //! A run of a schedule: its lines as they come in pieces, and what they print.
 
-ghost use Rattle.std.specs.Prelude.{◌≡◌, ◌≢◌, ◌+◌, ◌++◌, [], ◌∷◌, None, IfOk, IfErr, IfNone, IfSome, OnOk};
-ghost use Rattle.fe_server.specs.Fault.{IsNamed, IsOfDesk, IsOutside, NamesLine};
-ghost use Rattle.fe_server.specs.Line.{parsed, LineFits};
-ghost use Rattle.fe_server.specs.Runs.{IsRun, ActsOn, Commits, RunsLine, holds_after};
+ghost use Rattle.std.specs.Prelude.{◌≡◌, ◌+◌, ◌++◌, ℕ, List, Option, [], ◌∷◌, string_bytes, IfOk, IfErr, IfSome, OnOk, OnErr, MatchResult};
+ghost use Rattle.fe_server.specs.Fault.{IsOfDesk};
+ghost use Rattle.fe_server.specs.Line.{LineFits};
+ghost use Rattle.fe_server.specs.Lines.{HasNoFeed};
+ghost use Rattle.fe_server.specs.Schedule.{IsStart, Stage};
+ghost use Rattle.fe_server.specs.Runs.{IsRun, IsAt, RanLine, RanBytes, SaysLine, IsFaultOf, IsTooLong, SoFar, Whole, Ended};
 
 use crate::fault::Fault;
-use crate::line::{LONGEST, Line, parse};
+use crate::input::{first_line, line_in};
+use crate::line::{LONGEST, Line};
 use crate::machine::Machine;
-use crate::stream::{stream_fault, write_text};
+use crate::stream::{stream_fault, write_out};
+use crate::told::Told;
 use fe_state::Request;
-use fe_wire::{ClientMessage, ServerMessage};
+use fe_wire::ClientMessage;
 use std::alloc::Global;
 use std::io::Write;
 
@@ -28,15 +32,20 @@ pub(crate) struct Run {
     begun: Vec<u8>,
     /// What is printed and not yet written.
     text: String,
-    /// The replies to one connection, between uses empty or left over.
-    replies: Vec<ServerMessage>,
+    /// What the line at hand prints.
+    line: String,
+    /// What it tells.
+    told: Vec<Told>,
 }
 
 impl Run {
     /// A run before its first line.
     pub fn new(alloc: Global) -> Result<Run, Fault>
         ensures run { IfOk result IsRun }
+        ensures start { IfOk result (λ run. (at : Stage) × IsStart at × IsAt run at) }
         ensures lines { IfOk result (λ run. run.lines ≡ 0) }
+        ensures begun { IfOk result (λ run. run.begun.items ≡ []) }
+        ensures text { IfOk result (λ run. string_bytes run.text ≡ []) }
         ensures err { IfErr result IsOfDesk }
     {
         let machine = Machine::new(alloc)?;
@@ -46,7 +55,8 @@ impl Run {
             lines: 0,
             begun: Vec::new(alloc),
             text: String::new(alloc),
-            replies: Vec::new(alloc),
+            line: String::new(alloc),
+            told: Vec::new(alloc),
         })
     }
 
@@ -54,7 +64,9 @@ impl Run {
     pub fn take_piece<W: Write>(&mut self, piece: &[u8], writer: &mut W) -> Result<(), Fault>
         requires { IsRun self.old }
         ensures run { OnOk result (IsRun self.new) }
-        ensures err { IfErr result IsNamed }
+        ensures taken { (read : List ℕ) (before : Option (List ℕ)) → SoFar read before (W.contents writer.old) self.old
+            → MatchResult result (λ _. SoFar (read ++ piece.now) before (W.contents writer.new) self.new)
+            (λ end. (others : List ℕ) → Ended end ((read ++ piece.now) ++ others) before (W.contents writer.new) []) }
     {
         let ended = self.run_lines(piece, writer);
         write_out(&mut self.text, writer)?;
@@ -64,22 +76,24 @@ impl Run {
     /// Runs a last line without a line feed, and writes what it prints.
     pub fn finish<W: Write>(&mut self, writer: &mut W) -> Result<(), Fault>
         requires { IsRun self.old }
-        ensures err { IfErr result IsNamed }
+        ensures { (read : List ℕ) (before : Option (List ℕ)) → SoFar read before (W.contents writer.old) self.old
+            → MatchResult result (λ _. Whole read before (W.contents writer.new) []) (λ end. Ended end read before (W.contents writer.new) []) }
     {
-        let ended = if self.begun.is_empty() {
-            Ok(())
-        } else {
-            self.end_line(&[])
-        };
+        let ended = self.end_last();
         write_out(&mut self.text, writer)?;
         ended?;
-        writer.flush().map_err(stream_fault)
+        match writer.flush() {
+            Ok(()) => Ok(()),
+            Err(error) => Err(stream_fault(error)),
+        }
     }
 
     fn run_lines<W: Write>(&mut self, piece: &[u8], writer: &mut W) -> Result<(), Fault>
         requires { IsRun self.old }
         ensures run { OnOk result (IsRun self.new) }
-        ensures err { IfErr result IsNamed }
+        ensures taken { (read : List ℕ) (before : Option (List ℕ)) → SoFar read before (W.contents writer.old) self.old
+            → MatchResult result (λ _. SoFar (read ++ piece.now) before (W.contents writer.new) self.new)
+            (λ end. (others : List ℕ) → Ended end ((read ++ piece.now) ++ others) before (W.contents writer.new) (string_bytes self.new.text)) }
     {
         let mut rest = piece;
         while let Some((line, behind)) = first_line(rest) {
@@ -89,11 +103,13 @@ impl Run {
         self.begin_line(rest)
     }
 
-    /// Runs the line that ends with these bytes, and writes what is printed where that is much.
+    /// Runs the line that ends with these bytes and a line feed, and writes what is printed where that is much.
     fn run_whole<W: Write>(&mut self, bytes: &[u8], writer: &mut W) -> Result<(), Fault>
         requires { IsRun self.old }
         ensures run { OnOk result (IsRun self.new) }
-        ensures err { IfErr result IsNamed }
+        ensures taken { (read : List ℕ) (before : Option (List ℕ)) → SoFar read before (W.contents writer.old) self.old → HasNoFeed bytes.now
+            → MatchResult result (λ _. SoFar (read ++ (bytes.now ++ 10 ∷ [])) before (W.contents writer.new) self.new)
+            (λ end. (others : List ℕ) → Ended end ((read ++ (bytes.now ++ 10 ∷ [])) ++ others) before (W.contents writer.new) (string_bytes self.new.text)) }
     {
         self.end_line(bytes)?;
         if self.text.len() < FULL {
@@ -106,26 +122,40 @@ impl Run {
     fn begin_line(&mut self, bytes: &[u8]) -> Result<(), Fault>
         requires { IsRun self.old }
         ensures run { OnOk result (IsRun self.new) }
-        ensures lines { self.new.lines ≡ self.old.lines }
+        ensures same { self.new ≡ record self.old { begun = self.new.begun } }
         ensures begun { OnOk result (self.new.begun.items ≡ self.old.begun.items ++ bytes.now) }
-        // A line that is longer than any of the syntax is told by its number.
-        ensures err { IfErr result (NamesLine (self.old.lines + 1)) }
+        ensures err { IfErr result (IsTooLong (self.old.lines + 1) (self.old.begun.items ++ bytes.now)) }
     {
         if bytes.len() > LONGEST - self.begun.len() {
             return Err(Fault::Line(self.lines + 1));
         }
-        self.begun
-            .extend_from_slice(bytes)
-            .map_err(|_| Fault::Memory)
+        match self.begun.extend_from_slice(bytes) {
+            Ok(()) => Ok(()),
+            Err(_) => Err(Fault::Memory),
+        }
+    }
+
+    /// Runs the line that has begun, if there is one.
+    fn end_last(&mut self) -> Result<(), Fault>
+        requires { IsRun self.old }
+        ensures { (read : List ℕ) (before now : Option (List ℕ)) → SoFar read before now self.old
+            → MatchResult result (λ _. Whole read before now (string_bytes self.new.text)) (λ end. Ended end read before now (string_bytes self.new.text)) }
+    {
+        let begun = self.begun.as_slice();
+        if begun.is_empty() {
+            return Ok(());
+        }
+        self.end_line(&[])
     }
 
     /// Runs the line that ends with these bytes.
     fn end_line(&mut self, bytes: &[u8]) -> Result<(), Fault>
         requires { IsRun self.old }
         ensures run { OnOk result (IsRun self.new) }
-        // A line outside the syntax is told by its number, and each other line counts.
-        ensures lines { OnOk result (self.new.lines ≡ self.old.lines + 1) }
-        ensures err { IfErr result (NamesLine (self.old.lines + 1)) }
+        ensures ran { OnOk result (RanBytes self.old (self.old.begun.items ++ bytes.now) self.new) }
+        ensures text { OnErr result (string_bytes self.new.text ≡ string_bytes self.old.text) }
+        // A line outside the syntax is told by its number.
+        ensures err { IfErr result (IsFaultOf (self.old.lines + 1) (self.old.begun.items ++ bytes.now)) }
     {
         let _named: (Option<Request>, Option<ClientMessage>) = (None, None);
         if self.lines == u64::MAX - 1 {
@@ -143,9 +173,11 @@ impl Run {
     fn whole_line(&mut self, bytes: &[u8]) -> Result<Option<Line>, Fault>
         requires { IsRun self.old }
         ensures run { OnOk result (IsRun self.new) }
-        ensures lines { self.new.lines ≡ self.old.lines }
+        ensures same { self.new ≡ record self.old { begun = self.new.begun } }
+        ensures begun { OnOk result (self.new.begun.items ≡ []) }
+        ensures said { IfOk result (SaysLine (self.old.begun.items ++ bytes.now)) }
         ensures fits { IfOk result (λ line. IfSome line LineFits) }
-        ensures err { IfErr result (NamesLine (self.old.lines + 1)) }
+        ensures err { IfErr result (IsFaultOf (self.old.lines + 1) (self.old.begun.items ++ bytes.now)) }
     {
         let _named: (Option<Request>, Option<ClientMessage>) = (None, None);
         let stray = Fault::Line(self.lines + 1);
@@ -158,85 +190,25 @@ impl Run {
         line.ok_or(stray)
     }
 
-    /// Runs a line, and prints what it gives.
+    /// Runs a line, and prints what it tells.
     fn run_line(&mut self, line: &Line) -> Result<(), Fault>
         requires run { IsRun self.old }
         requires fits { LineFits line.now }
         ensures run { OnOk result (IsRun self.new) }
+        ensures ran { OnOk result (RanLine self.old line.now self.new) }
         ensures lines { self.new.lines ≡ self.old.lines }
-        ensures runs { OnOk result (RunsLine self.old line.now self.new) }
+        ensures begun { self.new.begun ≡ self.old.begun }
+        ensures text { OnErr result (string_bytes self.new.text ≡ string_bytes self.old.text) }
         ensures err { IfErr result IsOfDesk }
     {
-        self.act(line)?;
-        self.commit()?;
-        self.machine.print(&mut self.text, &mut self.replies)
-    }
-
-    /// Does what the line says.
-    fn act(&mut self, line: &Line) -> Result<(), Fault>
-        requires run { IsRun self.old }
-        requires fits { LineFits line.now }
-        ensures run { OnOk result (IsRun self.new) }
-        ensures lines { self.new.lines ≡ self.old.lines }
-        ensures acts { OnOk result (ActsOn self.old.machine.desk line.now self.new.machine.desk) }
-        ensures holding { OnOk result (self.new.is_holding ≡ holds_after line.now self.old.is_holding) }
-        ensures err { IfErr result IsOfDesk }
-    {
-        match line {
-            Line::Message { conn, message } => self.machine.receive(*conn, message)?,
-            Line::Gone { conn } => self.machine.drop_connection(*conn)?,
-            Line::Hold => self.is_holding = true,
-            Line::Flush => self.is_holding = false,
-            Line::Stop => {
-                self.machine.stop()?;
-                self.is_holding = false;
-            }
-            Line::Check => self.machine.check()?,
+        self.machine.act(line)?;
+        self.is_holding = line.holds_after(self.is_holding);
+        self.machine.commit(self.is_holding)?;
+        self.line.clear();
+        self.machine.print(&mut self.line, &mut self.told)?;
+        match self.text.push_str(self.line.as_str()) {
+            Ok(()) => Ok(()),
+            Err(_) => Err(Fault::Memory),
         }
-        Ok(())
     }
-
-    /// What is pending is stored and posted, but on hold.
-    fn commit(&mut self) -> Result<(), Fault>
-        requires { IsRun self.old }
-        ensures run { OnOk result (IsRun self.new) }
-        ensures lines { self.new.lines ≡ self.old.lines }
-        ensures holding { self.new.is_holding ≡ self.old.is_holding }
-        ensures committed { OnOk result (Commits self.old.is_holding self.old.machine.desk self.new.machine.desk) }
-        ensures err { IfErr result IsOfDesk }
-    {
-        if self.is_holding {
-            return Ok(());
-        }
-        self.machine.commit()
-    }
-}
-
-/// Writes what is printed.
-fn write_out<W: Write>(text: &mut String, writer: &mut W) -> Result<(), Fault>
-    ensures { IfErr result IsOutside }
-{
-    write_text(writer, text.as_bytes())?;
-    text.clear();
-    Ok(())
-}
-
-/// The bytes in front of the first line feed, and those behind it, if there is one.
-fn first_line(bytes: &[u8]) -> Option<(&[u8], &[u8])>
-    ensures parts { IfSome result (λ p. bytes.entry.now ≡ p.0.now ++ 10 ∷ p.1.now) }
-{
-    let at = bytes.iter().position(|byte| *byte == b'\n')?;
-    Some((&bytes[..at], &bytes[at + 1..]))
-}
-
-/// The line that the bytes say, or none in an empty line. `None` outside the syntax.
-fn line_in(bytes: &[u8]) -> Option<Option<Line>>
-    ensures stray { IfNone result ((bytes.now ≢ []) × (parsed bytes.now ≡ None)) }
-    ensures fits { IfSome result (λ line. IfSome line LineFits) }
-{
-    if bytes.is_empty() {
-        return Some(None);
-    }
-    let line = parse(bytes)?;
-    Some(Some(line))
 }

@@ -1,8 +1,10 @@
 //! Runs a schedule (`docs/schedules.md`).
 
-ghost use Rattle.std.specs.Prelude.{◌≡◌, ◌≤◌, length, vec_len, IfOk, IfErr, IfSome};
-ghost use Rattle.fe_server.specs.Fault.{IsNamed, IsOutside};
-ghost use Rattle.fe_server.specs.Runs.{IsRun};
+ghost use Rattle.std.specs.Prelude.{◌≡◌, ◌<◌, [], length, take, vec_len, IfOk, IfErr, OnOk};
+ghost use Rattle.std.specs.Io.KnownBytes.{Keeps};
+ghost use Rattle.fe_server.specs.Fault.{IsOutside};
+ghost use Rattle.fe_server.specs.Schedule.{RunsAll, RunsUntil};
+ghost use Rattle.fe_server.specs.Runs.{IsRun, SoFar, ReadsSome};
 
 use crate::fault::Fault;
 use crate::run::Run;
@@ -25,8 +27,10 @@ pub fn run_schedule<R: Read, W: Write>(
     reader: &mut R,
     writer: &mut W,
 ) -> Result<(), Fault>
-    // A strange answer of a layer below never comes.
-    ensures { IfErr result IsNamed }
+    // Every line of the input ran, and what is written is what they print.
+    ensures ok { OnOk result (RunsAll (R.remaining reader.old) (W.contents writer.old) (W.contents writer.new)) }
+    // At a fault what is written is a front of what lines at the front of the input print. A strange answer never comes.
+    ensures fault { IfErr result (λ end. RunsUntil end (R.remaining reader.old) (W.contents writer.old) (W.contents writer.new)) }
 {
     let mut piece = buffer(alloc, PIECE)?;
     let mut run = Run::new(alloc)?;
@@ -48,8 +52,11 @@ fn run_all<R: Read, W: Write>(
     reader: &mut R,
     writer: &mut W,
 ) -> Result<(), Fault>
-    requires { IsRun run.old }
-    ensures { IfErr result IsNamed }
+    requires run { IsRun run.old }
+    requires begins { SoFar [] (W.contents writer.old) (W.contents writer.old) run.old }
+    requires room { 0 < length piece.old }
+    ensures ok { OnOk result (RunsAll (R.remaining reader.old) (W.contents writer.old) (W.contents writer.new)) }
+    ensures fault { IfErr result (λ end. RunsUntil end (R.remaining reader.old) (W.contents writer.old) (W.contents writer.new)) }
 {
     for _ in 0..READS {
         match read_once(reader, piece)? {
@@ -63,8 +70,9 @@ fn run_all<R: Read, W: Write>(
 
 /// How many bytes a read gave, 0 at the end. `None` where it was interrupted.
 fn read_once<R: Read>(reader: &mut R, piece: &mut [u8]) -> Result<Option<usize>, Fault>
-    ensures within { IfOk result (λ read. IfSome read (λ count. count ≤ length piece.new)) }
+    ensures reads { IfOk result (ReadsSome (R.remaining reader.old) (R.remaining reader.new) piece.new) }
     ensures len { length piece.new ≡ length piece.old }
+    ensures stays { IfErr result (λ _. Keeps (R.remaining reader.old) (R.remaining reader.new)) }
     ensures err { IfErr result IsOutside }
 {
     match reader.read(piece) {

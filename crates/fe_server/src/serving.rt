@@ -1,15 +1,14 @@
 //! What lines have a desk over a store in memory do.
 
-ghost use Rattle.std.specs.Prelude.{◌≡◌, IfOk, IfErr, OnOk};
+ghost use Rattle.std.specs.Prelude.{◌≡◌, [], ◌∷◌, IfOk, IfErr, OnOk};
 ghost use Rattle.fe_state.specs.State.{first_state};
-ghost use Rattle.fe_desk.specs.Crash.{disk_of};
+ghost use Rattle.fe_desk.specs.Crash.{IsFrom, disk_of};
 ghost use Rattle.fe_desk.specs.Standing.{IsFirstStanding};
-ghost use Rattle.fe_desk.specs.Steps.{DeskStep};
 ghost use Rattle.fe_server.specs.Fault.{IsOfDesk, fault_of};
-ghost use Rattle.fe_server.specs.Ready.{IsReady, StandsSynced};
+ghost use Rattle.fe_server.specs.Ready.{IsReady, Moves, StandsSynced};
 
 use crate::fault::Fault;
-use fe_desk::{Desk, DeskFault, Step, format, open};
+use fe_desk::{Desk, DeskFault, Step};
 use fe_disk::{MemoryDisk, Torn};
 use fe_keeper::{Fault as StoreFault, images_stand_for_one};
 use std::alloc::Global;
@@ -21,12 +20,13 @@ const STORE: usize = 4_202_496;
 pub(crate) fn new_desk(alloc: Global) -> Result<Desk<MemoryDisk>, Fault>
     ensures ready { IfOk result IsReady }
     ensures first { IfOk result (λ desk. IsFirstStanding first_state desk.standing) }
+    ensures from { IfOk result (IsFrom first_state) }
     ensures err { IfErr result IsOfDesk }
 {
     let Ok(disk) = MemoryDisk::new(alloc, STORE) else {
         return Err(Fault::Memory);
     };
-    match format(alloc, disk) {
+    match Desk::format(alloc, disk) {
         Ok(desk) => Ok(desk),
         Err((fault, _)) => Err(fault_of(fault)),
     }
@@ -36,7 +36,7 @@ pub(crate) fn new_desk(alloc: Global) -> Result<Desk<MemoryDisk>, Fault>
 pub(crate) fn take(desk: &mut Desk<MemoryDisk>, step: &Step) -> Result<(), Fault>
     requires { IsReady desk.old }
     ensures ready { OnOk result (IsReady desk.new) }
-    ensures stepped { OnOk result (DeskStep desk.old.standing step.now desk.new.standing) }
+    ensures moved { OnOk result (Moves desk.old (step.now ∷ []) desk.new) }
     ensures err { IfErr result IsOfDesk }
 {
     match desk.step(step) {
@@ -53,13 +53,14 @@ pub(crate) fn stopped(alloc: Global, desk: Desk<MemoryDisk>) -> Result<Desk<Memo
     ensures synced { IfOk result (λ again. StandsSynced (disk_of desk) again.keeper.state) }
     ensures kept { IfOk result (λ again. again.keeper.state ≡ desk.keeper.state) }
     ensures first { IfOk result (λ again. IsFirstStanding desk.keeper.state again.standing) }
+    ensures from { IfOk result (IsFrom desk.keeper.state) }
     ensures err { IfErr result IsOfDesk }
 {
     images_stand_for_one();
     let Ok(left) = desk.into_disk().stopped(Torn::Lost) else {
         return Err(Fault::Memory);
     };
-    match open(alloc, left) {
+    match Desk::open(alloc, left) {
         Ok(again) => Ok(again),
         Err((fault, _)) => Err(fault_of(fault)),
     }

@@ -1,6 +1,6 @@
 //! Text to a stream.
 
-ghost use Rattle.std.specs.Prelude.{ℕ, take, IfErr, OnOk};
+ghost use Rattle.std.specs.Prelude.{◌≡◌, ℕ, [], string_bytes, take, IfErr, OnOk};
 ghost use Rattle.std.specs.Io.KnownBytes.{Appends};
 ghost use Rattle.fe_server.specs.Fault.{IsOutside};
 
@@ -43,4 +43,16 @@ pub(crate) fn write_text<W: Write>(writer: &mut W, text: &[u8]) -> Result<(), Fa
         }
     }
     Err(Fault::Input)
+}
+
+/// Writes the text, of which nothing is left then. Where the writer fails, a front of it is written.
+pub(crate) fn write_out<W: Write>(text: &mut String, writer: &mut W) -> Result<(), Fault>
+    ensures ok { OnOk result (Appends (W.contents writer.old) (W.contents writer.new) (string_bytes text.old)) }
+    ensures front { (count : ℕ) × Appends (W.contents writer.old) (W.contents writer.new) (take count (string_bytes text.old)) }
+    ensures cleared { string_bytes text.new ≡ [] }
+    ensures err { IfErr result IsOutside }
+{
+    let written = write_text(writer, text.as_bytes());
+    text.clear();
+    written
 }

@@ -16,7 +16,7 @@ use Rattle.fe_state.specs.declared.entry.Entry.TheVariants.{Finished}
 use Rattle.fe_service.specs.Service.{Waiters, AreUsable, IsQuiet, IsTurn, AreTurns, without_turn, without_turns}
 use Rattle.fe_service.specs.ServiceState.{ServiceState, IsService, is_open, service_of}
 use Rattle.fe_service.specs.Events.{IsFree, HasRoom, Completes}
-use Rattle.fe_service.specs.Parts.{IsQuietAt, TakesTurns}
+use Rattle.fe_service.specs.within.Parts.{IsQuietAt, TakesTurns}
 use Rattle.fe_service.specs.declared.parts.Parts.{Parts}
 use Rattle.fe_service.proofs.Quiet.{own_beside}
 use Rattle.fe_service.proofs.Turns.{finished_usable}

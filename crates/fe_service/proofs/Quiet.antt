@@ -17,7 +17,7 @@ use Rattle.fe_state.specs.declared.answer.Answer.{Answer}
 use Rattle.fe_state.specs.declared.request.Request.{Request}
 use Rattle.fe_state.specs.declared.entry.Entry.TheVariants.{Finished}
 use Rattle.fe_service.specs.Service.{Waiters, IsQuiet}
-use Rattle.fe_service.specs.Parts.{IsQuietAt, WaitAtTag}
+use Rattle.fe_service.specs.within.Parts.{IsQuietAt, WaitAtTag}
 use Rattle.fe_service.proofs.Replies.{waits_there, other_waits, waits_by_tag}
 
 -- a request that finished leaves the words quiet that it is not about

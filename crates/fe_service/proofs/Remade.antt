@@ -5,7 +5,7 @@ use Rattle.std.specs.Option.{option_map}
 use Rattle.std.specs.Ordering.{nat_cmp}
 use Rattle.std.specs.FinMap.{FinMap, empty, get, insert, len, entries, get-empty, len-empty}
 use Rattle.fe_state.proofs.Maps.{get_inserted, get_beside, same_or_other}
-use Rattle.fe_state.proofs.TableCopyLemmas.{made, get-made, made-next, len-insert_absent}
+use Rattle.fe_table.proofs.TableCopyLemmas.{made, get-made, made-next, len-insert_absent}
 
 module _ {X Y : Type 0} (m : FinMap nat_cmp X) (f : X → Y) (n : FinMap nat_cmp Y) where
   -- it has the entries before a place

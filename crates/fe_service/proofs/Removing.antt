@@ -10,7 +10,7 @@ use Rattle.fe_state.specs.declared.request.Request.TheVariants.{Remove}
 use Rattle.fe_state.specs.declared.entry.Entry.{Entry}
 use Rattle.fe_state.specs.declared.entry.Entry.TheVariants.{Finished}
 use Rattle.fe_service.specs.Service.{request_of, IsQuiet}
-use Rattle.fe_service.specs.Parts.{IsQuietAt, WaitAtTag, TakesTurns}
+use Rattle.fe_service.specs.within.Parts.{IsQuietAt, WaitAtTag, TakesTurns}
 use Rattle.fe_service.specs.declared.parts.Parts.{Parts}
 use Rattle.fe_service.proofs.Quiet.{tag_in, waits_at_tag, waits_below, none_on_absent}
 use Rattle.fe_service.proofs.Completing.{IsEntered, entered_quiet_at}

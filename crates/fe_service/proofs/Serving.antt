@@ -10,7 +10,7 @@ use Rattle.fe_state.specs.OtherWords.{IsOwnWord}
 use Rattle.fe_state.specs.State.{ServerState, reply, after, after_all, directory_of}
 use Rattle.fe_state.specs.declared.entry.Entry.{Entry}
 use Rattle.fe_service.specs.Service.{Waiters, AreUsable, request_of, IsTurn, AreTurns, without_turn, without_turns}
-use Rattle.fe_service.specs.Parts.{IsQuietAt, WaitAtTag, IsAtRest, TakesTurn, TakesTurns}
+use Rattle.fe_service.specs.within.Parts.{IsQuietAt, WaitAtTag, IsAtRest, TakesTurn, TakesTurns}
 use Rattle.fe_service.specs.declared.parts.Parts.{Parts}
 use Rattle.fe_service.proofs.Replies.{waits_there, there_waits, other_waits, waits_by_tag, one_tag}
 use Rattle.fe_service.proofs.Lengths.{turns_lengths}

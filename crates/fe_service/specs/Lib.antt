@@ -1,5 +1,5 @@
 pub mod Events
 pub mod Laws
-pub mod Parts
 pub mod Service
 pub mod ServiceState
+pub mod within

@@ -7,7 +7,7 @@ ghost use Rattle.fe_state.specs.State.{IsLegal, MakesArray, after};
 ghost use Rattle.fe_state.specs.declared.entry.Entry.{Entry};
 ghost use Rattle.fe_seats.specs.Seating.{waiter_of, IsWithinLimits};
 ghost use Rattle.fe_service.specs.Service.{AreUsable, request_of};
-ghost use Rattle.fe_service.specs.Parts.{IsQuietAt, WaitAtTag, IsAtRest, TakesTurn, TakesTurns};
+ghost use Rattle.fe_service.specs.within.Parts.{IsQuietAt, WaitAtTag, IsAtRest, TakesTurn, TakesTurns};
 
 use fe_seats::{Seats, Turn};
 use fe_state::{Entries, Entry, Request, State};

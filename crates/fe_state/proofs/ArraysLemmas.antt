@@ -8,8 +8,8 @@ use Rattle.std.specs.FinMap.Entries.{is_some-find}
 use Rattle.std.specs.List.{list_any}
 use Rattle.std.specs.Ordering.{nat_cmp}
 use Rattle.indexmap.specs.IndexSet.{insert_key}
-use Rattle.fe_state.specs.Table.{IsAt}
-use Rattle.fe_state.proofs.TableCopyLemmas.{take-push, find-take}
+use Rattle.fe_table.specs.Table.{IsAt}
+use Rattle.fe_table.proofs.TableCopyLemmas.{take-push, find-take}
 
 is_none : {X : Type 0} (o : Option X) → is_some o ≡ false → o ≡ None
 is_none None h = refl

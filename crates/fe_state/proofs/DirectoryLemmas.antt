@@ -18,6 +18,7 @@ use Rattle.fe_words.specs.declared.word.Word.{Word}
 use Rattle.fe_state.proofs.Maps.{get_inserted, get_beside, get_removed, get_left, same_or_other}
 use Rattle.fe_state.proofs.Empty.{empty_directory, no_words}
 use Rattle.fe_state.proofs.Limits.{array_in, creation_passed, remove_kept, size_of, unnamed}
+use Rattle.fe_table.proofs.TableLemmas.{first, second}
 use Rattle.fe_state.proofs.Totals.{total_added, total_removed, total_replaced}
 use Rattle.fe_state.specs.Directory.{Directory, IsDirectory, IsArray, answer_in, creation, word_count, word_in}
 use Rattle.fe_state.specs.Effect.{with_word, put_word}
@@ -84,14 +85,6 @@ below_found x q a (e ∷ es) h is = by (nat_cmp x e.0) (nat_cmp q e.0) refl refl
     by Less Greater p r b f rest = rest b f
     by Equal t p r b f rest = absurd b
     by Greater t p r b f rest = absurd b
-
-second : (a b : Bool) → T (a && b) → T b
-second true b p = p
-second false b p = absurd p
-
-first : (a b : Bool) → T (a && b) → T a
-first true b p = tt
-first false b p = p
 
 not_equal : (b : Bool) (P : Type 0) → ((b ≡ true) → P) → ¬ P → b ≡ false
 not_equal true P f g = absurd (g (f refl))

@@ -1,5 +1,6 @@
 pub mod ArraysLemmas
 pub mod DirectoryLemmas
+pub mod DroppedLemmas
 pub mod Empty
 pub mod Histories
 pub mod LegalLimits
@@ -10,9 +11,6 @@ pub mod Maps
 pub mod OtherWordLemmas
 pub mod SessionLemmas
 pub mod Spent
-pub mod TableCopyLemmas
-pub mod TableLemmas
-pub mod TablePlaces
 pub mod Totals
 pub mod Undone
 pub mod Worked

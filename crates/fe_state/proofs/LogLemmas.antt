@@ -2,16 +2,16 @@
 use Rattle.std.proofs.Common.{◌≡◌, List, [], ◌∷◌, length, Option, Some, None, refl, arith}
 use Rattle.std.specs.Prelude.{slice_get}
 use Rattle.std.specs.Option.{option_map}
-use Rattle.fe_state.specs.Sessions.{Session}
+use Rattle.fe_state.specs.declared.dropped.Dropped.{Dropped}
 use Rattle.fe_state.specs.State.{ServerState}
 use Rattle.fe_state.specs.UndoLog.{before_all, MayFollow, MayFollowAll}
 use Rattle.fe_state.specs.declared.change.Change.{Change}
 use Rattle.fe_state.specs.declared.undo.Undo.{Undo}
 
 -- the latest of entries may be undone
-pub latest_follows : (undos : List Undo) (aside : List Session) (s : ServerState) (u : Undo) → MayFollowAll undos aside s → slice_get undos 0 ≡ Some u → MayFollow u aside s
-latest_follows [] aside s u h is = absurd (cc)
-latest_follows (v ∷ us) aside s u h is =
+pub latest_follows : (undos : List Undo) (dropped : List Dropped) (s : ServerState) (u : Undo) → MayFollowAll undos dropped s → slice_get undos 0 ≡ Some u → MayFollow u dropped s
+latest_follows [] dropped s u h is = absurd (cc)
+latest_follows (v ∷ us) dropped s u h is =
     let same : v ≡ u = cc in
     rw (← same) h.0
 
@@ -21,6 +21,6 @@ latest_change None u change is there = absurd (cc)
 latest_change (Some v) u change is there = cc
 
 -- with no entries the state is that at the beginning
-pub before_all-none : (undos : List Undo) (aside : List Session) (s : ServerState) → length undos ≡ 0 → before_all undos aside s ≡ s
-before_all-none [] aside s none = refl
-before_all-none (u ∷ us) aside s none = absurd (omega arith)
+pub before_all-none : (undos : List Undo) (dropped : List Dropped) (s : ServerState) → length undos ≡ 0 → before_all undos dropped s ≡ s
+before_all-none [] dropped s none = refl
+before_all-none (u ∷ us) dropped s none = absurd (omega arith)

@@ -8,9 +8,10 @@ use Rattle.std.specs.Ordering.{nat_cmp}
 use Rattle.std.specs.FinMap.{FinMap, empty, get, insert, remove, retain_keys, len, contains_key, same_map, get-empty, len-empty, len-remove, nat_cmp-IsAntisymmetric}
 use Rattle.std.specs.Cmp.{nat_cmp_total}
 use Rattle.fe_state.specs.declared.kept.Kept.{Kept}
-use Rattle.fe_state.specs.Sessions.{Session, IsInWindow, raised, keeping}
+use Rattle.fe_state.specs.DroppedAnswers.{MayLower}
+use Rattle.fe_state.specs.Sessions.{Session, IsInWindow, MayRise, raised, keeping}
 use Rattle.fe_state.specs.SessionEffect.{IsUsable}
-use Rattle.fe_state.specs.Window.{cell_of, with_cell, held, window_of}
+use Rattle.fe_state.specs.within.Window.{cell_of, with_cell, held, window_of}
 use Rattle.fe_state.proofs.Maps.{get_inserted, get_beside, get_removed, get_left, same_or_other, get_retained}
 
 -- two maps by numbers that answer alike are one
@@ -160,6 +161,9 @@ raised_next m floor =
 same_cell : (q : ℕ) → 32 ≤ q → q % 32 ≡ (q - 32) % 32
 same_cell q high = omega arith
 
+next_cell : (q : ℕ) → q % 32 ≡ (q + 32) % 32
+next_cell q = omega arith
+
 -- the same cells are those of a window further up, once nothing is kept below its floor
 pub window_moved : {X : Type 0} (cells : List (Option X)) (old new : ℕ) → old ≤ new → new ≤ old + 32 → ((q : ℕ) → q < new → get (window_of cells old) q ≡ None) → window_of cells new ≡ window_of cells old
 window_moved cells old new low high none =
@@ -197,6 +201,25 @@ few_between {X} (suc n) floor m within =
       | inr other ↦ let w = within q x (sym (get_left m k q other) ∙ is) in (w.0, omega arith)
     ] in
     omega (arith, shorter (contains_key m k) (len m) (len (remove m k)) (len-remove nat_cmp_total m k), few_between n floor (remove m k) rest)
+
+-- nor do they change for a window further down, where nothing is kept beyond it
+pub window_lowered : {X : Type 0} (cells : List (Option X)) (low high : ℕ) → low ≤ high → high ≤ low + 32 → ((q : ℕ) (x : X) → get (window_of cells high) q ≡ Some x → q < low + 32)
+    → window_of cells low ≡ window_of cells high
+window_lowered cells low high up near within = sym (window_moved cells low high up near none)
+  where
+    none : (q : ℕ) → q < high → get (window_of cells low) q ≡ None
+    none q below = elim (cases_lt q low) [
+      | inl out ↦ window_outside cells low q (inl out)
+      | inr in_low ↦
+          let cell : get (window_of cells low) q ≡ get (window_of cells high) (q + 32) =
+          window_inside cells low q (record { not_below = in_low; not_beyond = omega arith })
+          ∙ ap (λ (i : ℕ). slice_index_or cells i None) (next_cell q)
+          ∙ sym (window_inside cells high (q + 32) (record { not_below = omega arith; not_beyond = omega arith })) in
+          elim (none_or_some (get (window_of cells high) (q + 32))) [
+            | inl no_one ↦ cell ∙ no_one
+            | inr some ↦ let near_low = within (q + 32) some.0 some.1 in absurd (omega arith)
+          ]
+    ]
 
 -- in a window there are 32 numbers at the most
 pub few_in_window : {X : Type 0} (floor : ℕ) (m : FinMap nat_cmp X) → ((q : ℕ) (x : X) → get m q ≡ Some x → IsInWindow floor q) → len m ≤ 32
@@ -247,6 +270,39 @@ module _ (cells : List (Option Kept)) (floor : ℕ) (s : Session) (is : session_
       let moved : window_of cells new ≡ window_of cells floor =
       window_moved cells floor new (omega arith) (omega arith) (λ q below. ap (λ (m : FinMap nat_cmp Kept). get m q) left ∙ raised_below old.kept new q below) in
       ap (λ (m : FinMap nat_cmp Kept). let t : Session = record { floor = new; kept = m } in t) (moved ∙ left)
+
+  -- once nothing is kept beyond the window of a lower floor, the cells are those of the lowered session
+  pub kept_lowered : (new : ℕ) → MayLower s new → window_of cells new ≡ s.kept
+  kept_lowered = subst (λ (x : Session). (new : ℕ) → MayLower x new → window_of cells new ≡ x.kept) is (λ new h. window_lowered cells new floor h.no_higher h.within_window h.in_window)
+
+-- what is kept above a floor was kept
+pub kept_above : {X : Type 0} (m : FinMap nat_cmp X) (floor q : ℕ) (x : X) → get (retain_keys m (nat_le floor)) q ≡ Some x → get m q ≡ Some x
+kept_above m floor q x is =
+    elim (cases_lt q floor) [
+      | inl low ↦ let none = raised_below m floor q low in cc
+      | inr high ↦ sym (raised_above m floor q high) ∙ is
+    ]
+
+-- a session that was raised may be lowered again
+pub lowers_again : (old mid : Session) (floor : ℕ) → MayRise old.floor floor → 1 ≤ mid.floor → mid.floor ≡ old.floor → mid.kept ≡ retain_keys old.kept (nat_le floor)
+    → ((n : ℕ) (k : Kept) → get mid.kept n ≡ Some k → IsInWindow mid.floor n) → MayLower (raised old floor) old.floor
+lowers_again old mid floor rise least same dropped within = record {
+  least = omega (arith, least, same);
+  no_higher = rise.no_lower;
+  within_window = rise.within_window;
+  in_window = λ q k is. let w = within q k (ap (λ (m : FinMap nat_cmp Kept). get m q) dropped ∙ is) in omega (arith, w.not_beyond, same);
+}
+
+-- above its window a session keeps nothing
+pub none_above : (s : Session) → ((n : ℕ) (k : Kept) → get s.kept n ≡ Some k → IsInWindow s.floor n) → retain_keys s.kept (nat_le (s.floor + 32)) ≡ empty
+none_above s within =
+    same_numbers _ _ (λ q. elim (none_or_some (get (retain_keys s.kept (nat_le (s.floor + 32))) q)) [
+      | inl no_one ↦ no_one ∙ sym (get-empty nat_cmp q)
+      | inr some ↦ elim (cases_lt q (s.floor + 32)) [
+        | inl low ↦ raised_below s.kept (s.floor + 32) q low ∙ sym (get-empty nat_cmp q)
+        | inr high ↦ let w = within q some.0 (kept_above s.kept (s.floor + 32) q some.0 some.1) in absurd (omega (arith, w.not_beyond))
+      ]
+    ])
 
 -- a number of the window is usable where a look-up finds nothing
 pub usable_when : (s : Session) (number : ℕ) (none : Bool) (here : Option Kept) → IsInWindow s.floor number → get s.kept number ≡ here → is_some here ≡ not none → (IsTrue none) ↔ (IsUsable s number)

@@ -9,6 +9,7 @@ use Rattle.std.specs.FinMap.{FinMap, get, insert, remove, len, same_map, nat_cmp
 use Rattle.fe_state.proofs.Maps.{get_inserted, get_beside, get_removed, get_left, same_or_other}
 use Rattle.fe_state.specs.Sessions.{Session, keeping, put_session}
 use Rattle.fe_state.specs.UndoLog.{put_back, forgetting}
+use Rattle.fe_state.specs.declared.dropped.Dropped.{Dropped}
 use Rattle.fe_state.specs.declared.kept.Kept.{Kept}
 use Rattle.fe_state.specs.declared.undo.SessionChange.TheVariants as change
 
@@ -64,8 +65,8 @@ forgotten : (x : Session) (n : ℕ) (k : Kept) → get x.kept n ≡ None → for
 forgotten x n k none = λ i. record { floor = x.floor; kept = remove-insert x.kept n k none i }
 
 -- what the sessions are once an answer that was kept is forgotten
-pub put_back-keeping : (m : FinMap nat_cmp Session) (aside : List Session) (s n : ℕ) (x : Session) (k : Kept) → get m s ≡ Some x → get x.kept n ≡ None → put_back (change.Kept n) aside (insert m s (keeping x n k)) s ≡ m
-put_back-keeping m aside s n x k is none =
+pub put_back-keeping : (m : FinMap nat_cmp Session) (dropped : List Dropped) (s n : ℕ) (x : Session) (k : Kept) → get m s ≡ Some x → get x.kept n ≡ None → put_back (change.Kept n) dropped (insert m s (keeping x n k)) s ≡ m
+put_back-keeping m dropped s n x k is none =
     ap (λ here. put_session (insert m s (keeping x n k)) s (option_map (forgetting n) here)) (get_inserted m s (keeping x n k))
     ∙ ap (insert (insert m s (keeping x n k)) s) (forgotten x n k none)
     ∙ insert-insert m s x (keeping x n k) is

@@ -1,7 +1,7 @@
-pub mod Arrays
 pub mod ArraysLends
 pub mod Change
 pub mod Directory
+pub mod DroppedAnswers
 pub mod Effect
 pub mod Examples
 pub mod Format
@@ -12,8 +12,6 @@ pub mod Padding
 pub mod SessionEffect
 pub mod Sessions
 pub mod State
-pub mod Table
-pub mod TableLends
 pub mod Total
 pub mod UndoLog
-pub mod Window
+pub mod within

@@ -1,6 +1,6 @@
-use crate::copied::Copied;
 use crate::name::Name;
 use crate::words::Words;
+use fe_table::Copied;
 use std::alloc::{AllocError, Global};
 
 /// An array: its name, and its words.

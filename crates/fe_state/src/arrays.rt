@@ -3,13 +3,12 @@ ghost use Rattle.std.specs.Option.{option_map};
 ghost use Rattle.std.specs.FinMap as map;
 ghost use Rattle.std.specs.Borrow.{sem};
 ghost use Rattle.indexmap.specs.IndexSet.{index_set_len, spare};
-ghost use Rattle.fe_state.specs.Arrays.{IsIndex};
+ghost use Rattle.fe_state.specs.within.Arrays.{IsIndex};
 ghost use Rattle.fe_state.specs.ArraysLends.{lends_array};
-ghost use Rattle.fe_state.specs.Table.{shown_entry};
+ghost use Rattle.fe_table.specs.Table.{shown_entry};
 
 use crate::array::Array;
-use crate::copied::Copied;
-use crate::table::Table;
+use fe_table::{Copied, Table};
 use indexmap::IndexSet;
 use std::alloc::{AllocError, Global};
 use std::marker::Model;
@@ -34,7 +33,7 @@ impl Model for Arrays {
     ghost use Rattle.std.specs.Coded.{coded_ℕ};
     ghost use Rattle.fe_state.specs.declared.array.Array as declared;
     ghost use Rattle.fe_state.specs.contracts.array.Array.{the_row};
-    ghost use Rattle.fe_state.specs.Arrays.{IsIndex};
+    ghost use Rattle.fe_state.specs.within.Arrays.{IsIndex};
 
     ghost Value = { FinMap nat_cmp declared.Array };
 

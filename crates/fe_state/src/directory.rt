@@ -6,16 +6,16 @@ ghost use Rattle.fe_words.specs.Table.{table};
 ghost use Rattle.fe_state.specs.Directory.{first_directory, named, creation, accessed, access, at_once, answer_of, answer_in, word_in, words_in};
 ghost use Rattle.fe_state.specs.Effect.{created, new_array, put_word, operated_on, performed, CreatesArray};
 ghost use Rattle.fe_state.specs.Change.{restored, CanRestore, MayCome, shown};
-ghost use Rattle.fe_state.specs.Table.{shown_entry};
+ghost use Rattle.fe_table.specs.Table.{shown_entry};
 
 use crate::answer::Answer;
 use crate::array::Array;
 use crate::arrays::{ARRAYS, Arrays};
 use crate::change::Change;
-use crate::copied::Copied;
 use crate::name::Name;
 use crate::request::Request;
 use crate::words::Words;
+use fe_table::Copied;
 use fe_words::{Op, Reply, Tag, Word};
 use std::alloc::{AllocError, Global};
 use std::marker::Model;

@@ -1,10 +1,13 @@
-ghost use Rattle.std.specs.Prelude.{◌≡◌, ◌↔◌, ℕ, ◌-◌, ◌%◌, ◌^◌, ◌≤◌, IsTrue};
+ghost use Rattle.std.specs.Prelude.{◌≡◌, ◌↔◌, ℕ, ◌+◌, ◌-◌, ◌%◌, ◌^◌, ◌≤◌, ◌<◌, ◌++◌, Some, IsTrue, nat_le, vec_len, vec_capacity};
 ghost use Rattle.std.specs.FinMap as map;
 ghost use Rattle.fe_state.specs.declared.kept.Kept.{Kept};
 ghost use Rattle.fe_state.specs.Sessions.{first_session, IsInWindow, MayRise, raised, keeping};
 ghost use Rattle.fe_state.specs.SessionEffect.{IsUsable};
+ghost use Rattle.fe_state.specs.DroppedAnswers.{answer_at, WereDropped, MayLower};
 
+use crate::dropped::Dropped;
 use crate::kept::Kept;
+use crate::request::Request;
 use std::marker::Model;
 
 /// How many numbers a session may use, from its floor on.
@@ -21,7 +24,7 @@ pub struct Session {
 
 impl Model for Session {
     ghost use Rattle.fe_state.specs.Sessions.{Session, session_code};
-    ghost use Rattle.fe_state.specs.Window.{window_of, IsRing};
+    ghost use Rattle.fe_state.specs.within.Window.{window_of, IsRing};
 
     ghost Value = { Session };
 
@@ -116,6 +119,61 @@ impl Session {
             self.forget(number);
         }
         self.floor = floor;
+    }
+
+    /// Raises the floor as `raise`, and puts what is dropped behind `dropped`, which has room for 32 more.
+    pub(crate) fn settle(&mut self, floor: u64, dropped: &mut Vec<Dropped>)
+        requires rise { MayRise self.old.floor floor }
+        requires room { vec_len dropped.old + 32 ≤ vec_capacity dropped.old }
+        ensures raised { self.new ≡ raised self.old floor }
+        ensures lowered { MayLower self.new self.old.floor }
+        ensures dropped { WereDropped self.old.floor floor self.old.kept self.new.kept dropped.old.items dropped.new.items }
+        ensures len { vec_len dropped.old ≤ vec_len dropped.new }
+        ensures capacity { vec_capacity dropped.new ≡ vec_capacity dropped.old }
+    {
+        self.drop_below(floor, dropped);
+        self.floor = floor;
+    }
+
+    /// Lowers the floor again, by 32 at the most. What is kept stays.
+    pub(crate) fn lower(&mut self, floor: u64)
+        requires { MayLower self.old floor }
+        ensures floor { self.new.floor ≡ floor }
+        ensures kept { self.new.kept ≡ self.old.kept }
+    {
+        self.floor = floor;
+    }
+
+    /// Drops what is kept below a number, and puts it behind `dropped`, which has room for 32 more. The floor stays.
+    pub(crate) fn drop_below(&mut self, end: u64, dropped: &mut Vec<Dropped>)
+        requires least { self.old.floor ≤ end }
+        requires most { end ≤ self.old.floor + 32 }
+        requires room { vec_len dropped.old + 32 ≤ vec_capacity dropped.old }
+        ensures floor { self.new.floor ≡ self.old.floor }
+        ensures kept { self.new.kept ≡ map.retain_keys self.old.kept (nat_le end) }
+        ensures in_window { (n : ℕ) (k : Kept) → map.get self.old.kept n ≡ Some k → IsInWindow self.old.floor n }
+        ensures dropped { WereDropped self.old.floor end self.old.kept self.new.kept dropped.old.items dropped.new.items }
+        ensures len { vec_len dropped.old ≤ vec_len dropped.new }
+        ensures capacity { vec_capacity dropped.new ≡ vec_capacity dropped.old }
+    {
+        for number in self.floor..end {
+            self.drop_one(number, dropped);
+        }
+    }
+
+    // Drops what is kept for a number, if anything is.
+    fn drop_one(&mut self, number: u64, dropped: &mut Vec<Dropped>)
+        requires room { vec_len dropped.old < vec_capacity dropped.old }
+        ensures floor { self.new.floor ≡ self.old.floor }
+        ensures kept { self.new.kept ≡ map.remove self.old.kept number }
+        ensures dropped { dropped.new.items ≡ dropped.old.items ++ answer_at number (map.get self.old.kept number) }
+        ensures capacity { vec_capacity dropped.new ≡ vec_capacity dropped.old }
+    {
+        let _named: Option<Request> = None;
+        if let Some(kept) = self.kept(number) {
+            self.forget(number);
+            dropped.push_reserved(Dropped { number, kept });
+        }
     }
 
     /// The same session once more. It takes no memory.

@@ -1,20 +1,20 @@
-ghost use Rattle.std.specs.Prelude.{◌≡◌, ◌↔◌, ◌≤◌, ◌<◌, length, IsTrue, IsSome, IsSomeAnd, None};
+ghost use Rattle.std.specs.Prelude.{◌≡◌, ◌↔◌, ◌≤◌, ◌<◌, length, take, IsTrue, IsSome, IsSomeAnd, None};
 ghost use Rattle.std.specs.Bool.{OnTrue, OnFalse};
 ghost use Rattle.std.specs.Option.{option_map};
 ghost use Rattle.std.specs.FinMap.{get, insert, remove, len};
 ghost use Rattle.fe_state.specs.Sessions.{MayRise, first_session, raised, keeping, put_session, opened};
 ghost use Rattle.fe_state.specs.SessionEffect.{MayAttach, IsUsable, SessionsAllow, sessions_after};
+ghost use Rattle.fe_state.specs.DroppedAnswers.{keeping_all, kept_again, AreDropped, MayLower, MayReopen};
 ghost use Rattle.fe_state.specs.UndoLog.{put_back, CanPutBack, Remembers};
 
 use crate::change::Change;
-use crate::copied::Copied;
 use crate::entry::Entry;
 use crate::kept::Kept;
 use crate::request::Request;
 use crate::session::Session;
-use crate::table::Table;
 use crate::undo::{SessionChange, Undo};
 use crate::undo_log::UndoLog;
+use fe_table::{Copied, Table};
 use std::alloc::{AllocError, Global};
 
 /// How many sessions there are at most.
@@ -119,8 +119,8 @@ fn close(sessions: &mut Sessions, session: u64, change: Change, log: &mut UndoLo
     ensures after { sessions.new ≡ remove sessions.old session }
     ensures remembered { Remembers change log.old log.new sessions.old sessions.new }
 {
-    let before = sessions.remove(session).unwrap();
-    log.put_aside(session, before, change);
+    log.close(session, sessions.get_mut(session), change);
+    drop_session(sessions, session);
 }
 
 #[inline(never)]
@@ -130,9 +130,7 @@ fn settle(sessions: &mut Sessions, session: u64, floor: u64, change: Change, log
     ensures after { sessions.new ≡ put_session sessions.old session (option_map (λ s. raised s floor) (get sessions.old session)) }
     ensures remembered { Remembers change log.old log.new sessions.old sessions.new }
 {
-    let here = sessions.get_mut(session);
-    log.put_aside(session, here.copied(), change);
-    here.raise(floor);
+    log.settle(session, sessions.get_mut(session), floor, change);
 }
 
 fn finish(
@@ -224,32 +222,51 @@ fn drop_session(sessions: &mut Sessions, session: u64)
     let _ = sessions.remove(session);
 }
 
-#[inline(never)]
-fn bring_back(sessions: &mut Sessions, session: u64, before: &Session)
-    requires { get sessions.old session ≡ None → len sessions.old < 64 }
-    ensures { sessions.new ≡ insert sessions.old session before.now }
+// Keeps the latest of the answers that were dropped again.
+fn keep_again(here: &mut Session, log: &UndoLog, answers: usize)
+    requires { AreDropped here.old.floor answers log.now.dropped }
+    ensures floor { here.new.floor ≡ here.old.floor }
+    ensures kept { here.new.kept ≡ keeping_all here.old.kept (take answers log.now.dropped) }
 {
-    let copy = before.copied();
-    if sessions.get(session).is_some() {
-        let _ = sessions.replace(session, copy);
-    } else {
-        sessions.insert(session, copy);
+    for place in 0..answers {
+        let dropped = log.dropped_at(place);
+        here.keep(dropped.number, dropped.kept);
     }
+}
+
+// Opens a session that was closed, with the floor and the answers that it had.
+#[inline(never)]
+fn reopen(sessions: &mut Sessions, session: u64, floor: u64, log: &UndoLog, answers: usize)
+    requires { MayReopen floor answers log.now.dropped sessions.old session }
+    ensures { sessions.new ≡ insert sessions.old session (kept_again first_session floor answers log.now.dropped) }
+{
+    let mut before = Session::starting(floor);
+    keep_again(&mut before, log, answers);
+    sessions.insert(session, before);
+}
+
+#[inline(never)]
+fn unsettle(here: &mut Session, floor: u64, log: &UndoLog, answers: usize)
+    requires lower { MayLower here.old floor }
+    requires dropped { AreDropped floor answers log.now.dropped }
+    ensures { here.new ≡ kept_again here.old floor answers log.now.dropped }
+{
+    here.lower(floor);
+    keep_again(here, log, answers);
 }
 
 /// Brings the sessions before the latest entry of a log back.
 pub fn restore(sessions: &mut Sessions, undo: &Undo, log: &UndoLog)
-    requires { CanPutBack undo.now.session_change log.now.aside sessions.old undo.now.session }
-    ensures { sessions.new ≡ put_back undo.now.session_change log.now.aside sessions.old undo.now.session }
+    requires { CanPutBack undo.now.session_change log.now.dropped sessions.old undo.now.session }
+    ensures { sessions.new ≡ put_back undo.now.session_change log.now.dropped sessions.old undo.now.session }
 {
     let session = undo.session;
     match undo.session_change {
         SessionChange::Same => {}
         SessionChange::Opened => drop_session(sessions, session),
-        SessionChange::PutAside => {
-            if let Some(before) = log.latest_aside() {
-                bring_back(sessions, session, before);
-            }
+        SessionChange::Closed { floor, answers } => reopen(sessions, session, floor, log, answers),
+        SessionChange::Settled { floor, answers } => {
+            unsettle(sessions.get_mut(session), floor, log, answers);
         }
         SessionChange::Kept(number) => sessions.get_mut(session).forget(number),
     }

@@ -1,6 +1,9 @@
+ghost use Rattle.std.specs.Prelude.{◌≡◌};
+ghost use Rattle.fe_state.specs.UndoLog.{answers_of};
+
 use crate::change::Change;
 
-/// What an entry changed of the state. Where that is a whole session, the log has it put aside.
+/// What an entry changed of the state. The answers that it dropped stand in the log.
 #[derive(Debug, Drop)]
 pub struct Undo {
     pub session: u64,
@@ -14,8 +17,24 @@ pub enum SessionChange {
     Same,
     /// The session is new.
     Opened,
-    /// The session was as the log has it, the latest of those put aside.
-    PutAside,
+    /// The session is gone. It had this floor, and so many answers.
+    Closed { floor: u64, answers: usize },
+    /// The floor was this one, and so many answers were kept below the new one.
+    Settled { floor: u64, answers: usize },
     /// The number has an answer that is new.
     Kept(u64),
+}
+
+impl SessionChange {
+    /// How many answers were dropped.
+    pub fn answers(&self) -> usize
+        ensures { result ≡ answers_of self.now }
+    {
+        match self {
+            SessionChange::Closed { answers, .. } | SessionChange::Settled { answers, .. } => {
+                *answers
+            }
+            _ => 0,
+        }
+    }
 }

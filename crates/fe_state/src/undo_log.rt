@@ -1,23 +1,30 @@
-ghost use Rattle.std.specs.Prelude.{◌≡◌, ◌<◌, ◌↔◌, ◌∷◌, length, slice_get, IfOk, IsTrue, Some, option_copied};
+ghost use Rattle.std.specs.Prelude.{◌≡◌, ◌-◌, ◌^◌, ◌<◌, ◌≤◌, ◌↔◌, ◌∷◌, length, slice_get, IfOk, IsTrue, Some, option_copied};
 ghost use Rattle.std.specs.Option.{option_map};
-ghost use Rattle.fe_state.specs.UndoLog.{empty_log, shortened};
+ghost use Rattle.std.specs.FinMap.{empty};
+ghost use Rattle.fe_state.specs.DroppedAnswers.{MayLower};
+ghost use Rattle.fe_state.specs.Sessions.{MayRise, raised};
+ghost use Rattle.fe_state.specs.UndoLog.{empty_log, shortened, answers_of, HasDropped};
 
 use crate::change::Change;
+use crate::dropped::Dropped;
 use crate::request::Request;
-use crate::session::Session;
+use crate::session::{Session, WINDOW};
 use crate::undo::{SessionChange, Undo};
 use std::alloc::{AllocError, Global};
 use std::marker::Model;
 
+/// How many answers an entry drops at most.
+const MOST_DROPPED: usize = 32;
+
 /// What entries changed, so that they can be undone from the latest to the first.
 ///
-/// It makes its room when it is made. A session that was settled or closed is put aside whole, in a
-/// part that the other entries never touch.
+/// It makes its room when it is made. The answers that a session lost when it was settled or closed stand
+/// in a part that the other entries never touch.
 #[derive(Debug, Drop)]
 pub struct UndoLog {
     room: usize,
     undos: Vec<Undo>,
-    aside: Vec<Session>,
+    dropped: Vec<Dropped>,
 }
 
 impl Model for UndoLog {
@@ -28,9 +35,9 @@ impl Model for UndoLog {
 
     ghost coded = { log_code };
 
-    ghost view = { λ a. log_of a.room a.undos.items a.aside.items };
+    ghost view = { λ a. log_of a.room a.undos.items a.dropped.items };
 
-    ghost invariant = { λ a. HasMemory (log_of a.room a.undos.items a.aside.items) (vec_capacity a.undos) (vec_capacity a.aside) };
+    ghost invariant = { λ a. HasMemory (log_of a.room a.undos.items a.dropped.items) (vec_capacity a.undos) (vec_capacity a.dropped) };
 }
 
 impl UndoLog {
@@ -38,10 +45,11 @@ impl UndoLog {
     pub fn with_room(alloc: Global, entries: usize) -> Result<UndoLog, AllocError>
         ensures { IfOk result (λ log. log ≡ empty_log entries) }
     {
+        let answers = entries.checked_mul(MOST_DROPPED).ok_or(AllocError)?;
         Ok(UndoLog {
             room: entries,
             undos: Vec::with_capacity(alloc, entries)?,
-            aside: Vec::with_capacity(alloc, entries)?,
+            dropped: Vec::with_capacity(alloc, answers)?,
         })
     }
 
@@ -64,42 +72,75 @@ impl UndoLog {
         ensures { self.new ≡ empty_log self.old.room }
     {
         self.undos.clear();
-        self.aside.clear();
+        self.dropped.clear();
     }
 
-    /// What the latest entry changed, apart from a session put aside.
+    /// What the latest entry changed, apart from the answers that it dropped.
     pub(crate) fn latest(&self) -> Option<&Undo>
         ensures { option_copied result ≡ slice_get self.now.undos 0 }
     {
         self.undos.last()
     }
 
-    /// The session that was put aside last.
-    pub(crate) fn latest_aside(&self) -> Option<&Session>
-        ensures { option_copied result ≡ slice_get self.now.aside 0 }
+    /// An answer that was dropped, by its place, from the latest on.
+    pub(crate) fn dropped_at(&self, place: usize) -> &Dropped
+        requires { place < length self.now.dropped }
+        ensures { Some result.now ≡ slice_get self.now.dropped place }
     {
-        self.aside.last()
+        &self.dropped[self.dropped.len() - 1 - place]
     }
 
-    /// Adds an entry whose session is not put aside. It takes no memory.
+    /// Adds an entry that drops no answer. It takes no memory.
     pub(crate) fn add(&mut self, undo: Undo)
-        requires { length self.old.undos < self.old.room }
-        ensures { self.new ≡ record { room = self.old.room; undos = undo ∷ self.old.undos; aside = self.old.aside } }
+        requires room { length self.old.undos < self.old.room }
+        requires none { answers_of undo.session_change ≡ 0 }
+        ensures { self.new ≡ record { room = self.old.room; undos = undo ∷ self.old.undos; dropped = self.old.dropped } }
     {
         let _named: Option<Request> = None;
-        let _ = self.undos.push(undo);
+        self.undos.push_reserved(undo);
     }
 
-    /// Adds an entry of a session that was so before it. It takes no memory.
-    pub(crate) fn put_aside(&mut self, session: u64, before: Session, change: Change)
-        requires { length self.old.undos < self.old.room }
-        ensures { self.new ≡ record { room = self.old.room; undos = (record { session = session; session_change = SessionChange.PutAside; change = change }) ∷ self.old.undos; aside = before ∷ self.old.aside } }
+    /// Settles a session, and adds the entry that does so. It takes no memory.
+    pub(crate) fn settle(&mut self, session: u64, here: &mut Session, floor: u64, change: Change)
+        requires room { length self.old.undos < self.old.room }
+        requires rise { MayRise here.old.floor floor }
+        ensures settled { here.new ≡ raised here.old floor }
+        ensures lowered { MayLower here.new here.old.floor }
+        ensures remembered { HasDropped session (SessionChange.Settled here.old.floor) change self.old self.new here.old here.new }
     {
-        let _named: Option<Request> = None;
-        let _ = self.aside.push(before);
-        let _ = self.undos.push(Undo {
+        let before = here.floor();
+        let first = self.dropped.len();
+        here.settle(floor, &mut self.dropped);
+        let session_change = SessionChange::Settled {
+            floor: before,
+            answers: self.dropped.len() - first,
+        };
+        self.undos.push_reserved(Undo {
             session,
-            session_change: SessionChange::PutAside,
+            session_change,
+            change,
+        });
+    }
+
+    /// Drops all answers of a session that is closed, and adds the entry that closes it. It takes no memory.
+    pub(crate) fn close(&mut self, session: u64, here: &mut Session, change: Change)
+        requires room { length self.old.undos < self.old.room }
+        ensures floor { here.new.floor ≡ here.old.floor }
+        ensures least { 1 ≤ here.old.floor }
+        ensures most { here.old.floor ≤ 2 ^ 63 - 32 }
+        ensures emptied { here.new.kept ≡ empty }
+        ensures remembered { HasDropped session (SessionChange.Closed here.old.floor) change self.old self.new here.old here.new }
+    {
+        let before = here.floor();
+        let first = self.dropped.len();
+        here.drop_below(before + WINDOW, &mut self.dropped);
+        let session_change = SessionChange::Closed {
+            floor: before,
+            answers: self.dropped.len() - first,
+        };
+        self.undos.push_reserved(Undo {
+            session,
+            session_change,
             change,
         });
     }
@@ -115,9 +156,8 @@ impl UndoLog {
             change,
             ..
         } = self.undos.pop().unwrap();
-        if matches!(session_change, SessionChange::PutAside) {
-            let _ = self.aside.pop();
-        }
+        let left = self.dropped.len().saturating_sub(session_change.answers());
+        self.dropped.truncate(left);
         change
     }
 }

@@ -1,7 +1,7 @@
 ghost use Rattle.std.specs.Prelude.{◌≡◌, ◌<◌, replicate, length, slice_get, slice_set, IfOk};
 ghost use Rattle.fe_words.specs.Table.{word};
 
-use crate::copied::Copied;
+use fe_table::Copied;
 use fe_words::{Tag, Word};
 use std::alloc::{AllocError, Global};
 use std::marker::Model;

@@ -1,6 +1,10 @@
-//! What a stop leaves of a disk in memory, and a fuse at each call.
+//! What a stop leaves of a disk in memory, a fuse at each call, and the other disks.
+mod file;
 mod fuse;
+mod held;
+mod liar;
 mod memory;
+mod once;
 mod plain;
 
 use fe_disk::{DeviceFault, Disk};

@@ -7,7 +7,7 @@ mod stops;
 mod torn_gates;
 
 use fe_disk::{DeviceFault, Disk, MemoryDisk};
-use fe_journal::{Format, Found, Journal, find, format_in};
+use fe_journal::{Format, Found, Journal};
 use pieces::Piece;
 use std::alloc::Global;
 use std::process::Abort;
@@ -52,11 +52,13 @@ fn is_held(found: Found<MemoryDisk>, held: &Held) -> bool {
 
 fn new_store(rt: &impl Abort, alloc: Global, format: Format) -> Journal<MemoryDisk> {
     let disk = MemoryDisk::new(alloc, 4_202_496).ok().expect(rt, "a disk");
-    format_in(alloc, format, disk).ok().expect(rt, "formatted")
+    Journal::format_in(alloc, format, disk)
+        .ok()
+        .expect(rt, "formatted")
 }
 
 fn found(rt: &impl Abort, alloc: Global, disk: MemoryDisk) -> Found<MemoryDisk> {
-    find(alloc, disk).ok().expect(rt, "found")
+    Journal::find(alloc, disk).ok().expect(rt, "found")
 }
 
 // Writes in the bytes of a disk that has them.

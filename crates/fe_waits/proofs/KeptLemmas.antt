@@ -14,8 +14,8 @@ use Rattle.fe_pool.proofs.AmongLemmas.{among-Contains}
 use Rattle.fe_waits.specs.declared.row.Row.{Row}
 use Rattle.fe_waits.specs.Pair.{pair_cmp}
 use Rattle.fe_waits.specs.Waiting.{Waiter, key_of, waiter_of, of_slot, count_of, IsWord, IsNodeOn, NoneOnWord, NoneOnArray, IsWithinLimits}
-use Rattle.fe_waits.specs.Words.{chain_at, lengths}
-use Rattle.fe_waits.specs.Inner.{members_of, row_in, AreListed, IsKept, IsNodeOfSlot, length_of, word_of, waiting_of, empty_chain}
+use Rattle.fe_waits.specs.within.Words.{chain_at, lengths}
+use Rattle.fe_waits.specs.within.Inner.{members_of, row_in, AreListed, IsKept, IsNodeOfSlot, length_of, word_of, waiting_of, empty_chain}
 use Rattle.fe_waits.proofs.ListedLemmas.{contains-first, listed-replaced}
 use Rattle.fe_waits.proofs.MemberLemmas.{none_some, some_same, members-node, members-row, members-empty, of_slot-none}
 use Rattle.fe_waits.proofs.WordLemmas.{slice_get-below, slice_get-some, slice_get-replicate, chain-there, chain_of, chain-word, len-lengths, len-added, len-dropped, get-insert_here, get-insert_other, get-remove_here, get-remove_other}

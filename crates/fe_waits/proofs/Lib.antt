@@ -1,4 +1,3 @@
-pub mod EntryLemmas
 pub mod AddLemmas
 pub mod FinishLemmas
 pub mod KeptLemmas

@@ -6,10 +6,10 @@ use Rattle.std.proofs.lemmas.Bool.{cases_eq, ne_eqb, eq-eqb}
 use Rattle.fe_pool.specs.declared.chain.Chain.{Chain}
 use Rattle.fe_pool.specs.declared.family.Family.{Family}
 use Rattle.fe_pool.specs.Pool.{Contents, IsChain, IsApart, KeepsOtherChains, list_of, list_from, lists_of, first_or, without}
-use Rattle.fe_pool.specs.Runs.{IsAmong}
+use Rattle.fe_pool.specs.within.Runs.{IsAmong}
 use Rattle.fe_pool.proofs.AmongLemmas.{among-append_left, among-append_right, among-append_cases, Contains-among, among-Contains}
 use Rattle.fe_waits.specs.declared.row.Row.{Row}
-use Rattle.fe_waits.specs.Inner.{AreListed, row_in, empty_chain}
+use Rattle.fe_waits.specs.within.Inner.{AreListed, row_in, empty_chain}
 use Rattle.fe_waits.proofs.MemberLemmas.{none_some, some_same}
 
 -- ---- lists and places

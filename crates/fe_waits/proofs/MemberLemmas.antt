@@ -10,7 +10,7 @@ use Rattle.std.proofs.lemmas.Bool.{cases_eq, ne_eqb, eq-eqb}
 use Rattle.fe_waits.specs.declared.row.Row.{Row}
 use Rattle.fe_waits.specs.Pair.{pair_cmp, pair_cmp_total, pair_cmp-IsAntisymmetric}
 use Rattle.fe_waits.specs.Waiting.{Waiter, key_of, waiter_of, of_slot, count_of, without_slot}
-use Rattle.fe_waits.specs.Inner.{members_of, row_in, AreDifferent}
+use Rattle.fe_waits.specs.within.Inner.{members_of, row_in, AreDifferent}
 
 -- ---- keys that are pairs
 

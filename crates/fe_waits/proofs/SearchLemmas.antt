@@ -7,11 +7,11 @@ use Rattle.std.specs.FinMap.{FinMap, get}
 use Rattle.fe_pool.specs.declared.chain.Chain.{Chain}
 use Rattle.fe_pool.specs.declared.family.Family.TheVariants.{OfSession}
 use Rattle.fe_pool.specs.Pool.{Contents, first_or, list_of, IsOn, IsNext}
-use Rattle.fe_pool.specs.Runs.{IsAmong}
+use Rattle.fe_pool.specs.within.Runs.{IsAmong}
 use Rattle.fe_pool.proofs.AmongLemmas.{among-append_right, among-append_cases, Contains-among, among-Contains}
 use Rattle.fe_waits.specs.declared.row.Row.{Row}
 use Rattle.fe_waits.specs.Waiting.{Waiter, key_of, waiter_of, row_at}
-use Rattle.fe_waits.specs.Inner.{members_of, row_in, IsKept}
+use Rattle.fe_waits.specs.within.Inner.{members_of, row_in, IsKept}
 use Rattle.fe_waits.proofs.MemberLemmas.{none_some, some_same, members-node, members-row}
 
 -- so many nodes of the slot's list are seen, none of them of the number, and this is the next

@@ -1,4 +1,3 @@
-pub mod Inner
 pub mod Pair
 pub mod Waiting
-pub mod Words
+pub mod within

@@ -1,5 +1,5 @@
 ghost use Rattle.std.specs.Prelude.{◌≡◌, ◌<◌, replicate, length, Some, slice_get, slice_set, IfOk};
-ghost use Rattle.fe_waits.specs.Inner.{empty_chain};
+ghost use Rattle.fe_waits.specs.within.Inner.{empty_chain};
 
 use fe_pool::Chain;
 use std::alloc::{AllocError, Global};

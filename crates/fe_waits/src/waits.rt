@@ -1,7 +1,7 @@
 ghost use Rattle.std.specs.Prelude.{◌≡◌, ◌≢◌, ◌↔◌, ◌<◌, Some, None, IfOk, OnErr, IfSome, IsSome, IsNone, IfNone};
 ghost use Rattle.std.specs.FinMap as map;
 ghost use Rattle.fe_waits.specs.Waiting.{key_of, waiter_of, row_of, row_at, of_slot, count_of, without_slot, IsWord, IsNodeOn, NoneOnWord, NoneOnArray, IsWithinLimits};
-ghost use Rattle.fe_waits.specs.Inner.{IsNodeOfSlot};
+ghost use Rattle.fe_waits.specs.within.Inner.{IsNodeOfSlot};
 
 use crate::chains::Chains;
 use crate::row::Row;
@@ -36,7 +36,7 @@ impl Model for Waits {
 
     ghost coded = { waiting_code };
 
-    ghost use Rattle.fe_waits.specs.Inner.{IsKept, waiting_of};
+    ghost use Rattle.fe_waits.specs.within.Inner.{IsKept, waiting_of};
 
     ghost view = { λ w. waiting_of w.pool w.words };
 

@@ -1,9 +1,10 @@
-ghost use Rattle.std.specs.Prelude.{◌≡◌, ◌<◌, ◌≤◌, IfOk, IfErr, Some, None, IsSome};
+ghost use Rattle.std.specs.Prelude.{◌≡◌, ◌<◌, IfOk, Some, None, IsSome};
 ghost use Rattle.std.specs.FinMap as map;
-ghost use Rattle.fe_waits.specs.Words.{chain_at, with_chain, IsAt, IsGapFor};
+ghost use Rattle.fe_waits.specs.within.Words.{chain_at, with_chain};
 
 use crate::chains::Chains;
 use fe_pool::Chain;
+use fe_table::Table;
 use std::alloc::{AllocError, Global};
 use std::marker::Model;
 
@@ -13,11 +14,11 @@ pub(crate) const ARRAYS: usize = 64;
 /// The chain of each word of the added arrays. An array is found by halving at most 64 ids.
 #[derive(Drop)]
 pub(crate) struct Words {
-    arrays: Vec<(u64, Chains)>,
+    arrays: Table<Chains, ARRAYS>,
 }
 
 impl Model for Words {
-    ghost use Rattle.std.specs.Prelude.{List, vec_capacity};
+    ghost use Rattle.std.specs.Prelude.{List};
     ghost use Rattle.std.specs.FinMap as map;
     ghost use Rattle.std.specs.Ordering.{nat_cmp};
     ghost use Rattle.std.specs.Coded.{coded_ℕ, coded_list};
@@ -28,11 +29,7 @@ impl Model for Words {
 
     ghost coded = { map.code coded_ℕ (coded_list chain_row.coded) };
 
-    ghost use Rattle.fe_waits.specs.Words.{AreEntries};
-
-    ghost view = { λ w. map.from_sorted w.arrays.items };
-
-    ghost invariant = { λ w. AreEntries w.arrays.items (vec_capacity w.arrays) };
+    ghost view = { λ w. w.arrays };
 }
 
 impl Words {
@@ -40,7 +37,7 @@ impl Words {
     pub(crate) fn new(alloc: Global) -> Result<Words, AllocError>
         ensures empty { IfOk result (λ words. words ≡ map.empty) }
     {
-        let arrays = Vec::with_capacity(alloc, ARRAYS)?;
+        let arrays = Table::new(alloc)?;
         Ok(Words { arrays })
     }
 
@@ -49,8 +46,8 @@ impl Words {
         requires word { IsSome (chain_at self.now (array, index)) }
         ensures { chain_at self.now (array, index) ≡ Some result }
     {
-        let place = self.search(array).unwrap();
-        self.arrays[place].1.at(index as usize)
+        let chains = self.arrays.get(array).unwrap();
+        chains.at(index as usize)
     }
 
     // Puts another chain in the place of that of a word that is there.
@@ -58,9 +55,7 @@ impl Words {
         requires word { IsSome (chain_at self.old (array, index)) }
         ensures { self.new ≡ with_chain self.old array index chain }
     {
-        let place = self.search(array).unwrap();
-        let entry = &mut self.arrays[place];
-        entry.1.set(index as usize, chain);
+        self.arrays.get_mut(array).set(index as usize, chain);
     }
 
     // Adds a new array with these chains.
@@ -69,24 +64,13 @@ impl Words {
         requires room { map.len self.old < 64 }
         ensures { self.new ≡ map.insert self.old array chains }
     {
-        let place = self.search(array).unwrap_err();
-        self.arrays.insert(place, (array, chains)).unwrap();
+        self.arrays.insert(array, chains);
     }
 
     // Takes an array out, with its chains.
     pub(crate) fn remove(&mut self, array: u64)
         ensures { self.new ≡ map.remove self.old array }
     {
-        if let Ok(place) = self.search(array) {
-            self.arrays.remove(place);
-        }
-    }
-
-    // Where the array is, or where it would go.
-    fn search(&self, array: u64) -> Result<usize, usize>
-        ensures found { IfOk result (IsAt (map.entries self.now) array) }
-        ensures absent { IfErr result (IsGapFor (map.entries self.now) array) }
-    {
-        self.arrays.binary_search_by_key(&array, |entry| entry.0)
+        let _ = self.arrays.remove(array);
     }
 }

@@ -1,40 +1,16 @@
 -- A field that is read is the field that was written, and what was written is read again.
-use Rattle.std.proofs.Common.{◌≡◌, ℕ, zero, suc, ◌+◌, ◌-◌, ◌^◌, ◌<◌, ◌≤◌, Bool, true, false, cond, ltb, leb, eqb, ◌&&◌, List, [], ◌∷◌, ◌++◌, length, get_or, take, drop, replicate, Option, Some, None, refl, sym, ap, subst, ◌∙◌, arith, inl, inr}
-use Rattle.std.specs.Prelude.{IfSome}
+use Rattle.std.proofs.Common.{◌≡◌, ℕ, zero, suc, ◌+◌, ◌-◌, ◌^◌, ◌<◌, ◌≤◌, Bool, true, false, cond, ltb, leb, eqb, ◌&&◌, List, [], ◌∷◌, ◌++◌, length, take, drop, replicate, Option, Some, None, refl, sym, ap, subst, ◌∙◌, arith, inl, inr}
 use Rattle.std.specs.Int.{Width, w32, w64, byte_len, from_be_bytes, to_be_bytes}
-use Rattle.std.proofs.lemmas.Bool.{cases_lt, ltb-false, lt-ltb, le-ltb, leb-true, le-leb, eqb-true, and_parts, cond_both}
+use Rattle.std.proofs.lemmas.Bool.{cases_lt, ltb-false, lt-ltb, le-ltb, leb-true, le-leb, eqb-true, and_parts}
 use Rattle.std.proofs.lemmas.Option.{cond_some}
-use Rattle.std.proofs.lemmas.List.{take_at, drop_at, take-append-drop, length-append, length-take, length-take-le, length-drop, length-replicate, get_or-drop, get_or-take, get_or_past}
+use Rattle.std.proofs.lemmas.List.{take_at, drop_at, take-append-drop, length-append, length-take, length-take-le, length-drop, length-replicate}
 use Rattle.std.proofs.lemmas.Nat.{be_bytes_4, be_bytes_8, from_be_bytes-to_be_bytes_4, from_be_bytes-to_be_bytes_8}
-use Rattle.fe_words.specs.declared.word.Tag.{Tag}
-use Rattle.fe_words.specs.declared.word.Tag.TheVariants.{Full, Empty}
-use Rattle.fe_words.specs.declared.op.Op.{Op}
-use Rattle.fe_words.specs.declared.op.Op.TheVariants.{ReadFe, ReadFf, ReadXx, WriteEf, WriteFf, WriteXf, Purge, IntFetchAdd}
 use Rattle.fe_wire.specs.Spelling.{is_long, name_room, name_field}
-use Rattle.fe_wire.specs.Codes.{tag_code, op_code, operand_of}
-use Rattle.fe_wire.specs.Reading.{◌>>=◌, number_at, byte_at, bytes_at, are_zero, least_name, name_of, name_at, number_of, two_numbers_of, tag_of, op_of, ended}
-
-abbrev pub IsBytes : List ℕ → Type 0
-IsBytes bytes = (i : ℕ) → get_or bytes i 0 < 256
-
-pub IsBytes-drop : (n : ℕ) (bytes : List ℕ) → IsBytes bytes → IsBytes (drop n bytes)
-IsBytes-drop n bytes h i = rw get_or-drop (h (n + i))
-
-pub IsBytes-take : (n : ℕ) (bytes : List ℕ) → IsBytes bytes → IsBytes (take n bytes)
-IsBytes-take n bytes h i =
-    elim (cases_lt i n) [
-      | inl lt ↦ rw (get_or-take n bytes i 0 lt) (h i)
-      | inr le ↦ rw (get_or_past (take n bytes) i 0 (omega (arith, length-take n bytes))) (omega arith)
-    ]
-
--- the value of a step that gave one
-pub bind_some : {A B : Type 0} (o : Option A) (f : A → Option B) (y : B) → (o >>= f) ≡ Some y → (x : A) × (o ≡ Some x) × (f x ≡ Some y)
-bind_some (Some x) f y e = (x, refl, e)
-bind_some None f y e = absurd cc
-
--- a step that gives a value goes on from it
-pub bind_at : {A B : Type 0} (o : Option A) (f : A → Option B) (x : A) → o ≡ Some x → (o >>= f) ≡ f x
-bind_at o f x e = ap (λ (t : Option _). t >>= f) e
+use Rattle.fe_codes.specs.Bytes.{IsBytes}
+use Rattle.fe_codes.specs.Binding.{◌>>=◌}
+use Rattle.fe_codes.proofs.BindingLaws.{bind_some, bind_at}
+use Rattle.fe_codes.proofs.Splits.{IsBytes-drop, IsBytes-take, Splits}
+use Rattle.fe_wire.specs.Reading.{next_number, next_byte, next_bytes, are_zero, least_name, name_of, next_name, number_of, two_numbers_of, ended}
 
 -- a test that did not fail
 pub guard_some : {A : Type 0} (b : Bool) (x y : A) → cond b None (Some x) ≡ Some y → (b ≡ false) × (x ≡ y)
@@ -44,11 +20,6 @@ guard_some false x y e = (refl, cc)
 pub ended_takes : {A : Type 0} (rest : List ℕ) (x y : A) → ended rest x ≡ Some y → (rest ≡ []) × (x ≡ y)
 ended_takes [] x y e = (refl, cc)
 ended_takes (b ∷ rest) x y e = absurd cc
-
--- what a reader took from the front
-pub record Takes (bytes text rest : List ℕ) : Type 0 where
-  pub parts : bytes ≡ text ++ rest
-  pub rest_fits : IsBytes rest
 
 -- ---- numbers
 
@@ -74,7 +45,7 @@ wide64 = record {
   below = λ bytes fits. omega (arith, fits 0, fits 1, fits 2, fits 3, fits 4, fits 5, fits 6, fits 7);
 }
 
-pub number_takes : (w : Width) (limit : ℕ) (wide : IsWide w limit) (bytes : List ℕ) (n : ℕ) (rest : List ℕ) → IsBytes bytes → number_at w bytes ≡ Some (n, rest) → Takes bytes (to_be_bytes w n) rest × (n < limit)
+pub number_takes : (w : Width) (limit : ℕ) (wide : IsWide w limit) (bytes : List ℕ) (n : ℕ) (rest : List ℕ) → IsBytes bytes → next_number w bytes ≡ Some (n, rest) → Splits bytes (to_be_bytes w n) rest × (n < limit)
 number_takes w limit wide bytes n rest fits e =
     let g = guard_some (ltb (length bytes) (byte_len w)) (from_be_bytes w (take (byte_len w) bytes), drop (byte_len w) bytes) (n, rest) e in
     let long : byte_len w ≤ length bytes = ltb-false _ _ g.0 in
@@ -83,7 +54,7 @@ number_takes w limit wide bytes n rest fits e =
     let front : to_be_bytes w n ≡ take (byte_len w) bytes = rw (← n-is) (wide.back (take (byte_len w) bytes) (omega (arith, length-take (byte_len w) bytes)) (IsBytes-take (byte_len w) bytes fits)) in
     (record { parts = rw (front, ← rest-is) (sym (take-append-drop (byte_len w) bytes)); rest_fits = rw (← rest-is) (IsBytes-drop (byte_len w) bytes fits) }, rw (← n-is) (wide.below (take (byte_len w) bytes) (IsBytes-take (byte_len w) bytes fits)))
 
-pub number_again : (w : Width) (limit : ℕ) (wide : IsWide w limit) (n : ℕ) (rest : List ℕ) → n < limit → number_at w (to_be_bytes w n ++ rest) ≡ Some (n, rest)
+pub number_again : (w : Width) (limit : ℕ) (wide : IsWide w limit) (n : ℕ) (rest : List ℕ) → n < limit → next_number w (to_be_bytes w n ++ rest) ≡ Some (n, rest)
 number_again w limit wide n rest lt =
     let len = wide.len n in
     let long : ltb (length (to_be_bytes w n ++ rest)) (byte_len w) ≡ false = le-ltb _ _ (omega (arith, length-append (to_be_bytes w n) rest)) in
@@ -91,7 +62,7 @@ number_again w limit wide n rest lt =
 
 -- ---- bytes
 
-pub byte_takes : (bytes : List ℕ) (b : ℕ) (rest : List ℕ) → IsBytes bytes → byte_at bytes ≡ Some (b, rest) → Takes bytes (b ∷ []) rest
+pub byte_takes : (bytes : List ℕ) (b : ℕ) (rest : List ℕ) → IsBytes bytes → next_byte bytes ≡ Some (b, rest) → Splits bytes (b ∷ []) rest
 byte_takes [] b rest fits e = absurd cc
 byte_takes (c ∷ bytes) b rest fits e =
     let same : (c, bytes) ≡ (b, rest) = cc in
@@ -99,7 +70,7 @@ byte_takes (c ∷ bytes) b rest fits e =
     let rest-is : bytes ≡ rest = ap (λ (p : ℕ × List ℕ). p.1) same in
     record { parts = rw (head-is, rest-is) refl; rest_fits = subst IsBytes rest-is (λ i. fits (suc i)) }
 
-pub bytes_takes : (n : ℕ) (bytes cells rest : List ℕ) → IsBytes bytes → bytes_at n bytes ≡ Some (cells, rest) → Takes bytes cells rest × (length cells ≡ n)
+pub bytes_takes : (n : ℕ) (bytes cells rest : List ℕ) → IsBytes bytes → next_bytes n bytes ≡ Some (cells, rest) → Splits bytes cells rest × (length cells ≡ n)
 bytes_takes n bytes cells rest fits e =
     let g = guard_some (ltb (length bytes) n) (take n bytes, drop n bytes) (cells, rest) e in
     let long : n ≤ length bytes = ltb-false _ _ g.0 in
@@ -107,7 +78,7 @@ bytes_takes n bytes cells rest fits e =
     let rest-is : drop n bytes ≡ rest = ap (λ (p : List ℕ × List ℕ). p.1) g.1 in
     (record { parts = rw (← cells-is, ← rest-is) (sym (take-append-drop n bytes)); rest_fits = rw (← rest-is) (IsBytes-drop n bytes fits) }, rw (← cells-is) (length-take-le n bytes long))
 
-pub bytes_again : (n : ℕ) (cells rest : List ℕ) → length cells ≡ n → bytes_at n (cells ++ rest) ≡ Some (cells, rest)
+pub bytes_again : (n : ℕ) (cells rest : List ℕ) → length cells ≡ n → next_bytes n (cells ++ rest) ≡ Some (cells, rest)
 bytes_again n cells rest len =
     let long : ltb (length (cells ++ rest)) n ≡ false = le-ltb _ _ (omega (arith, length-append cells rest)) in
     rw (long, take_at cells rest n len, drop_at cells rest n len) refl
@@ -183,12 +154,12 @@ abbrev celled : Bool → ℕ → List ℕ × List ℕ → Option (List ℕ × Li
 celled long count cells = name_of long count cells.0 >>= kept_rest cells.1
 
 abbrev counted : Bool → ℕ × List ℕ → Option (List ℕ × List ℕ)
-counted long count = bytes_at (name_room long) count.1 >>= celled long count.0
+counted long count = next_bytes (name_room long) count.1 >>= celled long count.0
 
-pub name_at_takes : (long : Bool) (bytes name rest : List ℕ) → IsBytes bytes → name_at long bytes ≡ Some (name, rest) → Takes bytes (name_field name) rest × (is_long name ≡ long) × (length name ≤ 32)
-name_at_takes long bytes name rest fits e =
-    let a = bind_some (byte_at bytes) (counted long) (name, rest) e in
-    let b = bind_some (bytes_at (name_room long) a.0.1) (celled long a.0.0) (name, rest) a.2 in
+pub next_name_takes : (long : Bool) (bytes name rest : List ℕ) → IsBytes bytes → next_name long bytes ≡ Some (name, rest) → Splits bytes (name_field name) rest × (is_long name ≡ long) × (length name ≤ 32)
+next_name_takes long bytes name rest fits e =
+    let a = bind_some (next_byte bytes) (counted long) (name, rest) e in
+    let b = bind_some (next_bytes (name_room long) a.0.1) (celled long a.0.0) (name, rest) a.2 in
     let c = bind_some (name_of long a.0.0 b.0.0) (kept_rest b.0.1) (name, rest) b.2 in
     let t0 = byte_takes bytes a.0.0 a.0.1 fits a.1 in
     let t1 = bytes_takes (name_room long) a.0.1 b.0.0 b.0.1 t0.rest_fits b.1 in
@@ -201,9 +172,9 @@ name_at_takes long bytes name rest fits e =
     let short : length c.0 ≤ 32 = omega (arith, room, t2.3) in
     (record { parts = text ∙ ap (λ (t : List ℕ). name_field t ++ b.0.1) name-is ∙ ap (λ (r : List ℕ). name_field name ++ r) rest-is; rest_fits = subst IsBytes rest-is t1.0.rest_fits }, subst (λ (t : List ℕ). is_long t ≡ long) name-is t2.1, subst (λ (t : List ℕ). length t ≤ 32) name-is short)
 
-pub name_at_again : (name rest : List ℕ) → length name ≤ 32 → name_at (is_long name) (name_field name ++ rest) ≡ Some (name, rest)
-name_at_again name rest le =
-    bind_at (bytes_at (name_room (is_long name)) (cells_of name ++ rest)) (celled (is_long name) (length name)) (cells_of name, rest) (bytes_again (name_room (is_long name)) (cells_of name) rest (length-cells_of name le))
+pub next_name_again : (name rest : List ℕ) → length name ≤ 32 → next_name (is_long name) (name_field name ++ rest) ≡ Some (name, rest)
+next_name_again name rest le =
+    bind_at (next_bytes (name_room (is_long name)) (cells_of name ++ rest)) (celled (is_long name) (length name)) (cells_of name, rest) (bytes_again (name_room (is_long name)) (cells_of name) rest (length-cells_of name le))
     ∙ bind_at (name_of (is_long name) (length name) (cells_of name)) (kept_rest rest) name (name_again name le)
 
 -- ---- whole bodies of numbers
@@ -213,28 +184,28 @@ ended_number number = ended number.1 number.0
 
 pub number_of_takes : (body : List ℕ) (n : ℕ) → IsBytes body → number_of body ≡ Some n → (body ≡ to_be_bytes w64 n) × (n < 2 ^ 64)
 number_of_takes body n fits e =
-    let a = bind_some (number_at w64 body) ended_number n e in
+    let a = bind_some (next_number w64 body) ended_number n e in
     let t = number_takes w64 (2 ^ 64) wide64 body a.0.0 a.0.1 fits a.1 in
     let d = ended_takes a.0.1 a.0.0 n a.2 in
     let whole : body ≡ to_be_bytes w64 a.0.0 = t.0.parts ∙ ap (λ (r : List ℕ). to_be_bytes w64 a.0.0 ++ r) d.0 in
     (whole ∙ ap (to_be_bytes w64) d.1, subst (λ (k : ℕ). k < 2 ^ 64) d.1 t.1)
 
 pub number_of_again : (n : ℕ) → n < 2 ^ 64 → number_of (to_be_bytes w64 n) ≡ Some n
-number_of_again n lt = bind_at (number_at w64 (to_be_bytes w64 n)) ended_number (n, []) (number_again w64 (2 ^ 64) wide64 n [] lt)
+number_of_again n lt = bind_at (next_number w64 (to_be_bytes w64 n)) ended_number (n, []) (number_again w64 (2 ^ 64) wide64 n [] lt)
 
 abbrev ended_pair : ℕ → ℕ × List ℕ → Option (ℕ × ℕ)
 ended_pair first second = ended second.1 (first, second.0)
 
 abbrev paired : ℕ × List ℕ → Option (ℕ × ℕ)
-paired first = number_at w64 first.1 >>= ended_pair first.0
+paired first = next_number w64 first.1 >>= ended_pair first.0
 
 abbrev pub two_numbers : ℕ → ℕ → List ℕ
 two_numbers a b = to_be_bytes w64 a ++ to_be_bytes w64 b
 
 pub two_numbers_of_takes : (body : List ℕ) (n k : ℕ) → IsBytes body → two_numbers_of body ≡ Some (n, k) → (body ≡ two_numbers n k) × (n < 2 ^ 64) × (k < 2 ^ 64)
 two_numbers_of_takes body n k fits e =
-    let a = bind_some (number_at w64 body) paired (n, k) e in
-    let b = bind_some (number_at w64 a.0.1) (ended_pair a.0.0) (n, k) a.2 in
+    let a = bind_some (next_number w64 body) paired (n, k) e in
+    let b = bind_some (next_number w64 a.0.1) (ended_pair a.0.0) (n, k) a.2 in
     let t0 = number_takes w64 (2 ^ 64) wide64 body a.0.0 a.0.1 fits a.1 in
     let t1 = number_takes w64 (2 ^ 64) wide64 a.0.1 b.0.0 b.0.1 t0.0.rest_fits b.1 in
     let d = ended_takes b.0.1 (a.0.0, b.0.0) (n, k) b.2 in
@@ -247,56 +218,5 @@ two_numbers_of_takes body n k fits e =
 pub two_numbers_of_again : (n k : ℕ) → n < 2 ^ 64 → k < 2 ^ 64 → two_numbers_of (two_numbers n k) ≡ Some (n, k)
 two_numbers_of_again n k n_fits k_fits =
     let last : List ℕ = to_be_bytes w64 k in
-    bind_at (number_at w64 (two_numbers n k)) paired (n, last) (number_again w64 (2 ^ 64) wide64 n last n_fits)
-    ∙ bind_at (number_at w64 last) (ended_pair n) (k, []) (number_again w64 (2 ^ 64) wide64 k [] k_fits)
-
--- ---- tags and operations
-
--- what holds of the value that a reader gave
-pub some_at : {A : Type 0} (P : A → Type 0) (o : Option A) (x : A) → o ≡ Some x → IfSome o P → P x
-some_at P o x e h = subst (λ (t : Option _). IfSome t P) e h
-
--- a row of a table of codes
-pub row : {A : Type 0} (P : A → Type 0) (code n : ℕ) (x y : Option A) → (code ≡ n → IfSome x P) → IfSome y P → IfSome (cond (eqb code n) x y) P
-row P code n x y here below = cond_both (eqb code n) x y (λ o. IfSome o P) (λ e. here (eqb-true code n e)) (λ _. below)
-
-tag_row : (code : ℕ) → IfSome (tag_of code) (λ tag. tag_code tag ≡ code)
-unfolding tag_of
-tag_row code =
-    let P : Tag → Type 0 = λ tag. tag_code tag ≡ code in
-    row P code 0 _ _ (λ e. sym e) (row P code 1 _ _ (λ e. sym e) tt)
-
-pub tag_takes : (code : ℕ) (tag : Tag) → tag_of code ≡ Some tag → tag_code tag ≡ code
-tag_takes code tag e = some_at (λ t. tag_code t ≡ code) (tag_of code) tag e (tag_row code)
-
-op_row : (code operand : ℕ) → IfSome (op_of code operand) (λ op. (op_code op ≡ code) × (operand_of op ≡ operand))
-unfolding op_of
-op_row code operand =
-    let P : Op → Type 0 = λ op. (op_code op ≡ code) × (operand_of op ≡ operand) in
-    row P code 16 _ _ (λ e. row P operand 0 _ _ (λ z. (sym e, sym z)) tt)
-    (row P code 17 _ _ (λ e. row P operand 0 _ _ (λ z. (sym e, sym z)) tt)
-    (row P code 18 _ _ (λ e. row P operand 0 _ _ (λ z. (sym e, sym z)) tt)
-    (row P code 19 _ _ (λ e. (sym e, refl))
-    (row P code 20 _ _ (λ e. (sym e, refl))
-    (row P code 21 _ _ (λ e. (sym e, refl))
-    (row P code 22 _ _ (λ e. row P operand 0 _ _ (λ z. (sym e, sym z)) tt)
-    (row P code 23 _ _ (λ e. (sym e, refl)) tt)))))))
-
-pub op_takes : (code operand : ℕ) (op : Op) → op_of code operand ≡ Some op → (op_code op ≡ code) × (operand_of op ≡ operand)
-op_takes code operand op e = some_at (λ o. (op_code o ≡ code) × (operand_of o ≡ operand)) (op_of code operand) op e (op_row code operand)
-
-pub tag_again : (tag : Tag) → tag_of (tag_code tag) ≡ Some tag
-unfolding tag_of
-tag_again Empty = refl
-tag_again Full = refl
-
-pub op_again : (op : Op) → op_of (op_code op) (operand_of op) ≡ Some op
-unfolding op_of
-op_again ReadFe = refl
-op_again ReadFf = refl
-op_again ReadXx = refl
-op_again (WriteEf operand) = refl
-op_again (WriteFf operand) = refl
-op_again (WriteXf operand) = refl
-op_again Purge = refl
-op_again (IntFetchAdd operand) = refl
+    bind_at (next_number w64 (two_numbers n k)) paired (n, last) (number_again w64 (2 ^ 64) wide64 n last n_fits)
+    ∙ bind_at (next_number w64 last) (ended_pair n) (k, []) (number_again w64 (2 ^ 64) wide64 k [] k_fits)

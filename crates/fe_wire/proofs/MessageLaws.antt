@@ -12,11 +12,16 @@ use Rattle.fe_wire.specs.declared.version.Version.{Version}
 use Rattle.fe_wire.specs.declared.version.Version.TheVariants.{One, Two}
 use Rattle.fe_wire.specs.declared.client_message.ClientMessage.{ClientMessage}
 use Rattle.fe_wire.specs.declared.client_message.ClientMessage.TheVariants.{Attach, Call, Cancel, Settle, Bye, Report}
-use Rattle.fe_wire.specs.Codes.{tag_code, op_code, operand_of}
+use Rattle.fe_codes.specs.Codes.{tag_code, op_code, operand_of}
+use Rattle.fe_codes.specs.Reading.{tag_of, op_of}
 use Rattle.fe_wire.specs.Spelling.{frame, is_long, name_room, name_field, create_kind, find_kind, access_kind, spelling, Fits, IsIn}
 use Rattle.fe_wire.specs.Stream.{first_lengths, length_of_kind, kind_field}
-use Rattle.fe_wire.specs.Reading.{◌>>=◌, number_at, byte_at, name_at, tag_of, op_of, ended, number_of, two_numbers_of, made_of, made_of_two, create_of, find_of, access_of, plain_of, message_of}
-use Rattle.fe_wire.proofs.FieldLaws.{IsBytes, bind_some, bind_at, ended_takes, wide32, wide64, number_takes, number_again, byte_takes, cells_of, length-cells_of, room_le, name_at_takes, name_at_again, number_of_takes, number_of_again, two_numbers, two_numbers_of_takes, two_numbers_of_again, tag_takes, tag_again, op_takes, op_again, row, some_at}
+use Rattle.fe_codes.specs.Binding.{◌>>=◌}
+use Rattle.fe_wire.specs.Reading.{next_number, next_byte, next_name, ended, number_of, two_numbers_of, made_of, made_of_two, create_of, find_of, access_of, plain_of, message_of}
+use Rattle.fe_codes.proofs.BindingLaws.{bind_some, bind_at}
+use Rattle.fe_codes.specs.Bytes.{IsBytes}
+use Rattle.fe_wire.proofs.FieldLaws.{ended_takes, wide32, wide64, number_takes, number_again, byte_takes, cells_of, length-cells_of, room_le, next_name_takes, next_name_again, number_of_takes, number_of_again, two_numbers, two_numbers_of_takes, two_numbers_of_again}
+use Rattle.fe_codes.proofs.CodeLaws.{tag_takes, tag_again, op_takes, op_again, row, some_at}
 
 abbrev pub IsMessageOf : ℕ → List ℕ → ClientMessage → Type 0
 IsMessageOf kind body m = Fits m × (spelling m ≡ frame kind body)
@@ -30,13 +35,13 @@ abbrev coded : ℕ → List ℕ → ℕ → ℕ × List ℕ → Option ClientMes
 coded number name size code = tag_of code.0 >>= tagged number name size code.1
 
 abbrev sized : ℕ → List ℕ → ℕ × List ℕ → Option ClientMessage
-sized number name size = byte_at size.1 >>= coded number name size.0
+sized number name size = next_byte size.1 >>= coded number name size.0
 
 abbrev named : ℕ → List ℕ × List ℕ → Option ClientMessage
-named number name = number_at w32 name.1 >>= sized number name.0
+named number name = next_number w32 name.1 >>= sized number name.0
 
 abbrev numbered : Bool → ℕ × List ℕ → Option ClientMessage
-numbered long number = name_at long number.1 >>= named number.0
+numbered long number = next_name long number.1 >>= named number.0
 
 abbrev create_body : ℕ → List ℕ → ℕ → Tag → List ℕ
 create_body number name size tag = to_be_bytes w64 number ++ (name_field name ++ (to_be_bytes w32 size ++ tag_code tag ∷ []))
@@ -50,14 +55,14 @@ create_spelling number name size tag = ap (frame (create_kind (is_long name))) (
 create_takes : (long : Bool) (body : List ℕ) (m : ClientMessage) → IsBytes body → create_of long body ≡ Some m → IsMessageOf (create_kind long) body m
 unfolding create_of
 create_takes long body m fits e =
-    let a = bind_some (number_at w64 body) (numbered long) m e in
-    let b = bind_some (name_at long a.0.1) (named a.0.0) m a.2 in
-    let f = bind_some (number_at w32 b.0.1) (sized a.0.0 b.0.0) m b.2 in
-    let g = bind_some (byte_at f.0.1) (coded a.0.0 b.0.0 f.0.0) m f.2 in
+    let a = bind_some (next_number w64 body) (numbered long) m e in
+    let b = bind_some (next_name long a.0.1) (named a.0.0) m a.2 in
+    let f = bind_some (next_number w32 b.0.1) (sized a.0.0 b.0.0) m b.2 in
+    let g = bind_some (next_byte f.0.1) (coded a.0.0 b.0.0 f.0.0) m f.2 in
     let h = bind_some (tag_of g.0.0) (tagged a.0.0 b.0.0 f.0.0 g.0.1) m g.2 in
     let k = ended_takes g.0.1 (Call a.0.0 (Create b.0.0 f.0.0 h.0)) m h.2 in
     let t0 = number_takes w64 (2 ^ 64) wide64 body a.0.0 a.0.1 fits a.1 in
-    let t1 = name_at_takes long a.0.1 b.0.0 b.0.1 t0.0.rest_fits b.1 in
+    let t1 = next_name_takes long a.0.1 b.0.0 b.0.1 t0.0.rest_fits b.1 in
     let t2 = number_takes w32 (2 ^ 32) wide32 b.0.1 f.0.0 f.0.1 t1.0.rest_fits f.1 in
     let t3 = byte_takes f.0.1 g.0.0 g.0.1 t2.0.rest_fits g.1 in
     let t4 = tag_takes g.0.0 h.0 h.1 in
@@ -73,9 +78,9 @@ unfolding create_of
 create_again number name size tag fits =
     let last : List ℕ = tag_code tag ∷ [] in
     let end : List ℕ = to_be_bytes w32 size ++ last in
-    bind_at (number_at w64 (to_be_bytes w64 number ++ (name_field name ++ end))) (numbered (is_long name)) (number, name_field name ++ end) (number_again w64 (2 ^ 64) wide64 number (name_field name ++ end) fits.0)
-    ∙ bind_at (name_at (is_long name) (name_field name ++ end)) (named number) (name, end) (name_at_again name end fits.1)
-    ∙ bind_at (number_at w32 end) (sized number name) (size, last) (number_again w32 (2 ^ 32) wide32 size last fits.2)
+    bind_at (next_number w64 (to_be_bytes w64 number ++ (name_field name ++ end))) (numbered (is_long name)) (number, name_field name ++ end) (number_again w64 (2 ^ 64) wide64 number (name_field name ++ end) fits.0)
+    ∙ bind_at (next_name (is_long name) (name_field name ++ end)) (named number) (name, end) (next_name_again name end fits.1)
+    ∙ bind_at (next_number w32 end) (sized number name) (size, last) (number_again w32 (2 ^ 32) wide32 size last fits.2)
     ∙ bind_at (tag_of (tag_code tag)) (tagged number name size []) tag (tag_again tag)
 
 -- ---- find
@@ -84,7 +89,7 @@ abbrev found_name : ℕ → List ℕ × List ℕ → Option ClientMessage
 found_name number name = ended name.1 (Call number (Find name.0))
 
 abbrev finding : Bool → ℕ × List ℕ → Option ClientMessage
-finding long number = name_at long number.1 >>= found_name number.0
+finding long number = next_name long number.1 >>= found_name number.0
 
 abbrev find_body : ℕ → List ℕ → List ℕ
 find_body number name = to_be_bytes w64 number ++ name_field name
@@ -92,11 +97,11 @@ find_body number name = to_be_bytes w64 number ++ name_field name
 find_takes : (long : Bool) (body : List ℕ) (m : ClientMessage) → IsBytes body → find_of long body ≡ Some m → IsMessageOf (find_kind long) body m
 unfolding find_of
 find_takes long body m fits e =
-    let a = bind_some (number_at w64 body) (finding long) m e in
-    let b = bind_some (name_at long a.0.1) (found_name a.0.0) m a.2 in
+    let a = bind_some (next_number w64 body) (finding long) m e in
+    let b = bind_some (next_name long a.0.1) (found_name a.0.0) m a.2 in
     let k = ended_takes b.0.1 (Call a.0.0 (Find b.0.0)) m b.2 in
     let t0 = number_takes w64 (2 ^ 64) wide64 body a.0.0 a.0.1 fits a.1 in
-    let t1 = name_at_takes long a.0.1 b.0.0 b.0.1 t0.0.rest_fits b.1 in
+    let t1 = next_name_takes long a.0.1 b.0.0 b.0.1 t0.0.rest_fits b.1 in
     let field : a.0.1 ≡ name_field b.0.0 = t1.0.parts ∙ ap (λ (r : List ℕ). name_field b.0.0 ++ r) k.0 ∙ append-nil (name_field b.0.0) in
     let whole : body ≡ find_body a.0.0 b.0.0 = t0.0.parts ∙ ap (λ (r : List ℕ). to_be_bytes w64 a.0.0 ++ r) field in
     let spelled : spelling (Call a.0.0 (Find b.0.0)) ≡ frame (find_kind long) body = ap (λ (l : Bool). frame (find_kind l) (find_body a.0.0 b.0.0)) t1.1 ∙ ap (frame (find_kind long)) (sym whole) in
@@ -105,9 +110,9 @@ find_takes long body m fits e =
 find_again : (number : ℕ) (name : List ℕ) → Fits (Call number (Find name)) → find_of (is_long name) (find_body number name) ≡ Some (Call number (Find name))
 unfolding find_of
 find_again number name fits =
-    bind_at (number_at w64 (find_body number name)) (finding (is_long name)) (number, name_field name) (number_again w64 (2 ^ 64) wide64 number (name_field name) fits.0)
-    ∙ ap (λ (t : List ℕ). name_at (is_long name) t >>= found_name number) (sym (append-nil (name_field name)))
-    ∙ bind_at (name_at (is_long name) (name_field name ++ [])) (found_name number) (name, []) (name_at_again name [] fits.1)
+    bind_at (next_number w64 (find_body number name)) (finding (is_long name)) (number, name_field name) (number_again w64 (2 ^ 64) wide64 number (name_field name) fits.0)
+    ∙ ap (λ (t : List ℕ). next_name (is_long name) t >>= found_name number) (sym (append-nil (name_field name)))
+    ∙ bind_at (next_name (is_long name) (name_field name ++ [])) (found_name number) (name, []) (next_name_again name [] fits.1)
 
 -- ---- access
 
@@ -118,16 +123,16 @@ abbrev with_operand : Bool → ℕ → ℕ → ℕ → ℕ → ℕ × List ℕ �
 with_operand no_wait number code array index operand = op_of code operand.0 >>= operated no_wait number array index operand.1
 
 abbrev indexed : Bool → ℕ → ℕ → ℕ → ℕ × List ℕ → Option ClientMessage
-indexed no_wait number code array index = number_at w64 index.1 >>= with_operand no_wait number code array index.0
+indexed no_wait number code array index = next_number w64 index.1 >>= with_operand no_wait number code array index.0
 
 abbrev placed : Bool → ℕ → ℕ → ℕ × List ℕ → Option ClientMessage
-placed no_wait number code array = number_at w32 array.1 >>= indexed no_wait number code array.0
+placed no_wait number code array = next_number w32 array.1 >>= indexed no_wait number code array.0
 
 abbrev asked : Bool → ℕ → ℕ × List ℕ → Option ClientMessage
-asked no_wait number code = number_at w64 code.1 >>= placed no_wait number code.0
+asked no_wait number code = next_number w64 code.1 >>= placed no_wait number code.0
 
 abbrev called : Bool → ℕ × List ℕ → Option ClientMessage
-called no_wait number = byte_at number.1 >>= asked no_wait number.0
+called no_wait number = next_byte number.1 >>= asked no_wait number.0
 
 abbrev access_body : ℕ → ℕ → ℕ → Op → List ℕ
 access_body number array index op = to_be_bytes w64 number ++ op_code op ∷ (to_be_bytes w64 array ++ (to_be_bytes w32 index ++ to_be_bytes w64 (operand_of op)))
@@ -135,11 +140,11 @@ access_body number array index op = to_be_bytes w64 number ++ op_code op ∷ (to
 access_takes : (no_wait : Bool) (body : List ℕ) (m : ClientMessage) → IsBytes body → access_of no_wait body ≡ Some m → IsMessageOf (access_kind no_wait) body m
 unfolding access_of
 access_takes no_wait body m fits e =
-    let a = bind_some (number_at w64 body) (called no_wait) m e in
-    let b = bind_some (byte_at a.0.1) (asked no_wait a.0.0) m a.2 in
-    let c = bind_some (number_at w64 b.0.1) (placed no_wait a.0.0 b.0.0) m b.2 in
-    let d = bind_some (number_at w32 c.0.1) (indexed no_wait a.0.0 b.0.0 c.0.0) m c.2 in
-    let f = bind_some (number_at w64 d.0.1) (with_operand no_wait a.0.0 b.0.0 c.0.0 d.0.0) m d.2 in
+    let a = bind_some (next_number w64 body) (called no_wait) m e in
+    let b = bind_some (next_byte a.0.1) (asked no_wait a.0.0) m a.2 in
+    let c = bind_some (next_number w64 b.0.1) (placed no_wait a.0.0 b.0.0) m b.2 in
+    let d = bind_some (next_number w32 c.0.1) (indexed no_wait a.0.0 b.0.0 c.0.0) m c.2 in
+    let f = bind_some (next_number w64 d.0.1) (with_operand no_wait a.0.0 b.0.0 c.0.0 d.0.0) m d.2 in
     let g = bind_some (op_of b.0.0 f.0.0) (operated no_wait a.0.0 c.0.0 d.0.0 f.0.1) m f.2 in
     let k = ended_takes f.0.1 (Call a.0.0 (Access c.0.0 d.0.0 g.0 no_wait)) m g.2 in
     let t0 = number_takes w64 (2 ^ 64) wide64 body a.0.0 a.0.1 fits a.1 in
@@ -162,10 +167,10 @@ access_again number array index op no_wait fits =
     let last : List ℕ = to_be_bytes w64 (operand_of op) in
     let end : List ℕ = to_be_bytes w32 index ++ last in
     let middle : List ℕ = to_be_bytes w64 array ++ end in
-    bind_at (number_at w64 (to_be_bytes w64 number ++ op_code op ∷ middle)) (called no_wait) (number, op_code op ∷ middle) (number_again w64 (2 ^ 64) wide64 number (op_code op ∷ middle) fits.0)
-    ∙ bind_at (number_at w64 middle) (placed no_wait number (op_code op)) (array, end) (number_again w64 (2 ^ 64) wide64 array end fits.1)
-    ∙ bind_at (number_at w32 end) (indexed no_wait number (op_code op) array) (index, last) (number_again w32 (2 ^ 32) wide32 index last fits.2)
-    ∙ bind_at (number_at w64 last) (with_operand no_wait number (op_code op) array index) (operand_of op, []) (number_again w64 (2 ^ 64) wide64 (operand_of op) [] fits.3)
+    bind_at (next_number w64 (to_be_bytes w64 number ++ op_code op ∷ middle)) (called no_wait) (number, op_code op ∷ middle) (number_again w64 (2 ^ 64) wide64 number (op_code op ∷ middle) fits.0)
+    ∙ bind_at (next_number w64 middle) (placed no_wait number (op_code op)) (array, end) (number_again w64 (2 ^ 64) wide64 array end fits.1)
+    ∙ bind_at (next_number w32 end) (indexed no_wait number (op_code op) array) (index, last) (number_again w32 (2 ^ 32) wide32 index last fits.2)
+    ∙ bind_at (next_number w64 last) (with_operand no_wait number (op_code op) array index) (operand_of op, []) (number_again w64 (2 ^ 64) wide64 (operand_of op) [] fits.3)
     ∙ bind_at (op_of (op_code op) (operand_of op)) (operated no_wait number array index []) op (op_again op)
 
 -- ---- bodies of numbers

@@ -7,54 +7,20 @@ use Rattle.std.proofs.lemmas.Option.{cond_some}
 use Rattle.std.specs.Str.{IsUtf8, is_utf8}
 use Rattle.std.proofs.lemmas.Str.{IsUtf8-from_is_utf8, is_utf8-from_IsUtf8}
 use Rattle.fe_state.specs.declared.answer.Answer.{Answer}
-use Rattle.fe_state.specs.declared.answer.Answer.TheVariants as answers
 use Rattle.fe_wire.specs.declared.server_message.ServerMessage.{ServerMessage}
 use Rattle.fe_wire.specs.declared.server_message.ServerMessage.TheVariants.{Welcome, Answer as Answered, Withdrawn, Settled, Goodbye, Refused, Report}
-use Rattle.fe_wire.specs.Codes.{answer_code, answer_number, answer_length}
+use Rattle.fe_codes.specs.Codes.{answer_code, answer_number, answer_length}
+use Rattle.fe_codes.specs.Reading.{answer_of}
 use Rattle.fe_wire.specs.Spelling.{frame, reply_spelling, ReplyFits, IsReport}
-use Rattle.fe_wire.specs.Reading.{◌>>=◌, number_at, byte_at, answer_of, ended, number_of, two_numbers_of, made_of, made_of_two, answered_of, refused_of, report_of, reply_of, parts_of}
-use Rattle.fe_wire.proofs.FieldLaws.{IsBytes, bind_some, bind_at, ended_takes, wide32, wide64, number_takes, number_again, byte_takes, number_of_takes, number_of_again, two_numbers, two_numbers_of_takes, two_numbers_of_again, row, some_at}
+use Rattle.fe_codes.specs.Binding.{◌>>=◌}
+use Rattle.fe_wire.specs.Reading.{next_number, next_byte, ended, number_of, two_numbers_of, made_of, made_of_two, answered_of, refused_of, report_of, reply_of_kind, parts_of}
+use Rattle.fe_codes.proofs.BindingLaws.{bind_some, bind_at}
+use Rattle.fe_codes.specs.Bytes.{IsBytes}
+use Rattle.fe_wire.proofs.FieldLaws.{ended_takes, wide32, wide64, number_takes, number_again, byte_takes, number_of_takes, number_of_again, two_numbers, two_numbers_of_takes, two_numbers_of_again}
+use Rattle.fe_codes.proofs.CodeLaws.{answer_takes, answer_again, row, some_at}
 
 abbrev pub IsReplyOf : ℕ → List ℕ → ServerMessage → Type 0
 IsReplyOf kind body m = ReplyFits m × (reply_spelling m ≡ frame kind body)
-
--- ---- answers
-
-abbrev IsRow : ℕ → ℕ → ℕ → Answer → Type 0
-IsRow code number size a = (answer_code a ≡ code) × (answer_number a ≡ number) × (answer_length a ≡ size)
-
-answer_row : (code number size : ℕ) → IfSome (answer_of code number size) (IsRow code number size)
-unfolding answer_of
-answer_row code number size =
-    let P : Answer → Type 0 = IsRow code number size in
-    row P code 1 _ _ (λ e. row P size 0 _ _ (λ z. (sym e, refl, sym z)) tt)
-    (row P code 2 _ _ (λ e. row P number 0 _ _ (λ y. row P size 0 _ _ (λ z. (sym e, sym y, sym z)) tt) tt)
-    (row P code 3 _ _ (λ e. (sym e, refl, refl))
-    (row P code 4 _ _ (λ e. row P number 0 _ _ (λ y. row P size 0 _ _ (λ z. (sym e, sym y, sym z)) tt) tt)
-    (row P code 5 _ _ (λ e. row P number 0 _ _ (λ y. row P size 0 _ _ (λ z. (sym e, sym y, sym z)) tt) tt)
-    (row P code 6 _ _ (λ e. row P number 0 _ _ (λ y. row P size 0 _ _ (λ z. (sym e, sym y, sym z)) tt) tt)
-    (row P code 7 _ _ (λ e. row P number 0 _ _ (λ y. row P size 0 _ _ (λ z. (sym e, sym y, sym z)) tt) tt)
-    (row P code 8 _ _ (λ e. row P number 0 _ _ (λ y. row P size 0 _ _ (λ z. (sym e, sym y, sym z)) tt) tt)
-    (row P code 9 _ _ (λ e. row P number 0 _ _ (λ y. row P size 0 _ _ (λ z. (sym e, sym y, sym z)) tt) tt)
-    (row P code 10 _ _ (λ e. row P number 0 _ _ (λ y. row P size 0 _ _ (λ z. (sym e, sym y, sym z)) tt) tt)
-    (row P code 11 _ _ (λ e. row P number 0 _ _ (λ y. row P size 0 _ _ (λ z. (sym e, sym y, sym z)) tt) tt) tt))))))))))
-
-answer_takes : (code number size : ℕ) (a : Answer) → answer_of code number size ≡ Some a → IsRow code number size a
-answer_takes code number size a e = some_at (IsRow code number size) (answer_of code number size) a e (answer_row code number size)
-
-answer_again : (a : Answer) → answer_of (answer_code a) (answer_number a) (answer_length a) ≡ Some a
-unfolding answer_of
-answer_again (answers.Value value) = refl
-answer_again answers.Done = refl
-answer_again (answers.Array id size) = refl
-answer_again answers.NoArray = refl
-answer_again answers.BadIndex = refl
-answer_again answers.NameTaken = refl
-answer_again answers.ArrayLimit = refl
-answer_again answers.WordLimit = refl
-answer_again answers.BadName = refl
-answer_again answers.BadLength = refl
-answer_again answers.NotNow = refl
 
 -- ---- answer
 
@@ -65,13 +31,13 @@ abbrev sized : ℕ → ℕ → ℕ → ℕ × List ℕ → Option ServerMessage
 sized number code value size = answer_of code value size.0 >>= answered number size.1
 
 abbrev valued : ℕ → ℕ → ℕ × List ℕ → Option ServerMessage
-valued number code value = number_at w32 value.1 >>= sized number code value.0
+valued number code value = next_number w32 value.1 >>= sized number code value.0
 
 abbrev coded : ℕ → ℕ × List ℕ → Option ServerMessage
-coded number code = number_at w64 code.1 >>= valued number code.0
+coded number code = next_number w64 code.1 >>= valued number code.0
 
 abbrev numbered : ℕ × List ℕ → Option ServerMessage
-numbered number = byte_at number.1 >>= coded number.0
+numbered number = next_byte number.1 >>= coded number.0
 
 abbrev answer_body : ℕ → Answer → List ℕ
 answer_body number answer = to_be_bytes w64 number ++ answer_code answer ∷ (to_be_bytes w64 (answer_number answer) ++ to_be_bytes w32 (answer_length answer))
@@ -79,10 +45,10 @@ answer_body number answer = to_be_bytes w64 number ++ answer_code answer ∷ (to
 answered_takes : (body : List ℕ) (m : ServerMessage) → IsBytes body → answered_of body ≡ Some m → IsReplyOf 66 body m
 unfolding answered_of
 answered_takes body m fits e =
-    let a = bind_some (number_at w64 body) numbered m e in
-    let b = bind_some (byte_at a.0.1) (coded a.0.0) m a.2 in
-    let c = bind_some (number_at w64 b.0.1) (valued a.0.0 b.0.0) m b.2 in
-    let d = bind_some (number_at w32 c.0.1) (sized a.0.0 b.0.0 c.0.0) m c.2 in
+    let a = bind_some (next_number w64 body) numbered m e in
+    let b = bind_some (next_byte a.0.1) (coded a.0.0) m a.2 in
+    let c = bind_some (next_number w64 b.0.1) (valued a.0.0 b.0.0) m b.2 in
+    let d = bind_some (next_number w32 c.0.1) (sized a.0.0 b.0.0 c.0.0) m c.2 in
     let f = bind_some (answer_of b.0.0 c.0.0 d.0.0) (answered a.0.0 d.0.1) m d.2 in
     let k = ended_takes d.0.1 (Answered a.0.0 f.0) m f.2 in
     let t0 = number_takes w64 (2 ^ 64) wide64 body a.0.0 a.0.1 fits a.1 in
@@ -101,9 +67,9 @@ unfolding answered_of
 answered_again number answer fits =
     let last : List ℕ = to_be_bytes w32 (answer_length answer) in
     let middle : List ℕ = to_be_bytes w64 (answer_number answer) ++ last in
-    bind_at (number_at w64 (to_be_bytes w64 number ++ answer_code answer ∷ middle)) numbered (number, answer_code answer ∷ middle) (number_again w64 (2 ^ 64) wide64 number (answer_code answer ∷ middle) fits.0)
-    ∙ bind_at (number_at w64 middle) (valued number (answer_code answer)) (answer_number answer, last) (number_again w64 (2 ^ 64) wide64 (answer_number answer) last fits.1)
-    ∙ bind_at (number_at w32 last) (sized number (answer_code answer) (answer_number answer)) (answer_length answer, []) (number_again w32 (2 ^ 32) wide32 (answer_length answer) [] fits.2)
+    bind_at (next_number w64 (to_be_bytes w64 number ++ answer_code answer ∷ middle)) numbered (number, answer_code answer ∷ middle) (number_again w64 (2 ^ 64) wide64 number (answer_code answer ∷ middle) fits.0)
+    ∙ bind_at (next_number w64 middle) (valued number (answer_code answer)) (answer_number answer, last) (number_again w64 (2 ^ 64) wide64 (answer_number answer) last fits.1)
+    ∙ bind_at (next_number w32 last) (sized number (answer_code answer) (answer_number answer)) (answer_length answer, []) (number_again w32 (2 ^ 32) wide32 (answer_length answer) [] fits.2)
     ∙ bind_at (answer_of (answer_code answer) (answer_number answer) (answer_length answer)) (answered number []) answer (answer_again answer)
 
 -- ---- refused
@@ -112,7 +78,7 @@ abbrev refused : ℕ → ℕ × List ℕ → Option ServerMessage
 refused number code = cond (ltb code.0 1) None (cond (ltb 10 code.0) None (ended code.1 (Refused number code.0)))
 
 abbrev refusing : ℕ × List ℕ → Option ServerMessage
-refusing number = byte_at number.1 >>= refused number.0
+refusing number = next_byte number.1 >>= refused number.0
 
 guarded : {A : Type 0} (b : Bool) (o : Option A) (y : A) → cond b None o ≡ Some y → (b ≡ false) × (o ≡ Some y)
 guarded true o y e = absurd cc
@@ -121,8 +87,8 @@ guarded false o y e = (refl, e)
 refused_takes : (body : List ℕ) (m : ServerMessage) → IsBytes body → refused_of body ≡ Some m → IsReplyOf 70 body m
 unfolding refused_of
 refused_takes body m fits e =
-    let a = bind_some (number_at w64 body) refusing m e in
-    let b = bind_some (byte_at a.0.1) (refused a.0.0) m a.2 in
+    let a = bind_some (next_number w64 body) refusing m e in
+    let b = bind_some (next_byte a.0.1) (refused a.0.0) m a.2 in
     let low = guarded (ltb b.0.0 1) (cond (ltb 10 b.0.0) None (ended b.0.1 (Refused a.0.0 b.0.0))) m b.2 in
     let high = guarded (ltb 10 b.0.0) (ended b.0.1 (Refused a.0.0 b.0.0)) m low.1 in
     let k = ended_takes b.0.1 (Refused a.0.0 b.0.0) m high.1 in
@@ -136,7 +102,7 @@ refused_again : (number code : ℕ) → ReplyFits (Refused number code) → refu
 unfolding refused_of
 refused_again number code fits =
     let rest : cond (ltb code 1) None (cond (ltb 10 code) None (Some (Refused number code))) ≡ Some (Refused number code) = rw (le-ltb code 1 fits.1, le-ltb 10 code fits.2) refl in
-    bind_at (number_at w64 (to_be_bytes w64 number ++ code ∷ [])) refusing (number, code ∷ []) (number_again w64 (2 ^ 64) wide64 number (code ∷ []) fits.0)
+    bind_at (next_number w64 (to_be_bytes w64 number ++ code ∷ [])) refusing (number, code ∷ []) (number_again w64 (2 ^ 64) wide64 number (code ∷ []) fits.0)
     ∙ rest
 
 -- ---- bodies of numbers
@@ -171,8 +137,8 @@ if_each P None h = tt
 given : (kind k : ℕ) (body : List ℕ) (o : Option ServerMessage) → ((x : ServerMessage) → o ≡ Some x → IsReplyOf k body x) → kind ≡ k → IfSome o (IsReplyOf kind body)
 given kind k body o h same = if_each (IsReplyOf kind body) o (λ x is. subst (λ (n : ℕ). IsReplyOf n body x) (sym same) (h x is))
 
-reply_row : (kind : ℕ) (body : List ℕ) → IsBytes body → IfSome (reply_of kind body) (IsReplyOf kind body)
-unfolding reply_of
+reply_row : (kind : ℕ) (body : List ℕ) → IsBytes body → IfSome (reply_of_kind kind body) (IsReplyOf kind body)
+unfolding reply_of_kind
 reply_row kind body fits =
     let P : ServerMessage → Type 0 = IsReplyOf kind body in
     row P kind 65 _ _ (given kind 65 body (made_of_two (λ session floor. Welcome session floor) body) (λ x is. welcome_takes body x fits is))
@@ -182,19 +148,19 @@ reply_row kind body fits =
     (row P kind 69 _ _ (given kind 69 body (made_of (λ session. Goodbye session) body) (λ x is. made_takes 69 (λ session. Goodbye session) (λ n lt. lt) (λ n. refl) body x fits is))
     (row P kind 70 _ _ (given kind 70 body (refused_of body) (λ x is. refused_takes body x fits is)) tt)))))
 
-reply_takes : (kind : ℕ) (body : List ℕ) (m : ServerMessage) → IsBytes body → reply_of kind body ≡ Some m → IsReplyOf kind body m
-reply_takes kind body m fits e = some_at (IsReplyOf kind body) (reply_of kind body) m e (reply_row kind body fits)
+reply_takes : (kind : ℕ) (body : List ℕ) (m : ServerMessage) → IsBytes body → reply_of_kind kind body ≡ Some m → IsReplyOf kind body m
+reply_takes kind body m fits e = some_at (IsReplyOf kind body) (reply_of_kind kind body) m e (reply_row kind body fits)
 
 -- ---- any kind
 
 -- what a frame of this kind with this body spells, a report too
 abbrev pub any_reply_of : ℕ → List ℕ → Option ServerMessage
-any_reply_of kind body = cond (eqb kind 71) (report_of body) (reply_of kind body)
+any_reply_of kind body = cond (eqb kind 71) (report_of body) (reply_of_kind kind body)
 
 pub report_kind : (kind : ℕ) (body : List ℕ) → kind ≡ 71 → any_reply_of kind body ≡ report_of body
 report_kind kind body e = rw (eq-eqb kind 71 e) refl
 
-pub other_kind : (kind : ℕ) (body : List ℕ) → kind ≢ 71 → any_reply_of kind body ≡ reply_of kind body
+pub other_kind : (kind : ℕ) (body : List ℕ) → kind ≢ 71 → any_reply_of kind body ≡ reply_of_kind kind body
 other_kind kind body ne = rw (ne_eqb kind 71 ne) refl
 
 report_takes : (body : List ℕ) (m : ServerMessage) → report_of body ≡ Some m → IsReplyOf 71 body m
@@ -206,7 +172,7 @@ report_takes body m e =
 
 any_takes : (kind : ℕ) (body : List ℕ) (m : ServerMessage) → IsBytes body → any_reply_of kind body ≡ Some m → IsReplyOf kind body m
 any_takes kind body m fits e =
-    some_at (IsReplyOf kind body) (any_reply_of kind body) m e (row (IsReplyOf kind body) kind 71 (report_of body) (reply_of kind body) (given kind 71 body (report_of body) (λ x is. report_takes body x is)) (reply_row kind body fits))
+    some_at (IsReplyOf kind body) (any_reply_of kind body) m e (row (IsReplyOf kind body) kind 71 (report_of body) (reply_of_kind kind body) (given kind 71 body (report_of body) (λ x is. report_takes body x is)) (reply_row kind body fits))
 
 by_test : {A : Type 0} (a b : Bool) (x : A) → (b ≡ true → ⊥) → cond (a && b) (Some x) None ≡ None
 by_test a true x none = absurd (none refl)
@@ -229,7 +195,7 @@ record IsReadReply (m : ServerMessage) : Type 0 where
   short : length body + 1 < 2 ^ 32
 
 reply_again : (m : ServerMessage) → ReplyFits m → IsReadReply m
-unfolding reply_of
+unfolding reply_of_kind
 reply_again (Welcome session floor) fits = record { kind = 65; body = two_numbers session floor; spelled = refl; read = welcome_again session floor fits.0 fits.1; short = lit< tt }
 reply_again (Answered number answer) fits = record { kind = 66; body = answer_body number answer; spelled = refl; read = answered_again number answer fits; short = lit< tt }
 reply_again (Withdrawn number) fits = record { kind = 67; body = to_be_bytes w64 number; spelled = refl; read = made_again (λ n. Withdrawn n) number fits; short = lit< tt }
@@ -245,13 +211,13 @@ chosen true o y e = (refl, e)
 chosen false o y e = absurd cc
 
 abbrev lengthed : ℕ × List ℕ → Option (ℕ × List ℕ)
-lengthed size = cond (eqb size.0 (length size.1)) (byte_at size.1) None
+lengthed size = cond (eqb size.0 (length size.1)) (next_byte size.1) None
 
 parts_takes : (bytes : List ℕ) (kind : ℕ) (body : List ℕ) → IsBytes bytes → parts_of bytes ≡ Some (kind, body) → (bytes ≡ frame kind body) × IsBytes body
 unfolding parts_of
 parts_takes bytes kind body fits e =
-    let a = bind_some (number_at w32 bytes) lengthed (kind, body) e in
-    let g = chosen (eqb a.0.0 (length a.0.1)) (byte_at a.0.1) (kind, body) a.2 in
+    let a = bind_some (next_number w32 bytes) lengthed (kind, body) e in
+    let g = chosen (eqb a.0.0 (length a.0.1)) (next_byte a.0.1) (kind, body) a.2 in
     let t0 = number_takes w32 (2 ^ 32) wide32 bytes a.0.0 a.0.1 fits a.1 in
     let t1 = byte_takes a.0.1 kind body t0.0.rest_fits g.1 in
     let long : a.0.0 ≡ length body + 1 = eqb-true a.0.0 (length a.0.1) g.0 ∙ ap length t1.parts ∙ omega arith in
@@ -262,7 +228,7 @@ unfolding parts_of
 parts_again kind body short =
     let rest : List ℕ = kind ∷ body in
     let long : eqb (length body + 1) (length rest) ≡ true = eq-eqb _ _ (omega arith) in
-    bind_at (number_at w32 (frame kind body)) lengthed (length body + 1, rest) (number_again w32 (2 ^ 32) wide32 (length body + 1) rest short)
+    bind_at (next_number w32 (frame kind body)) lengthed (length body + 1, rest) (number_again w32 (2 ^ 32) wide32 (length body + 1) rest short)
     ∙ ap (λ (b : Bool). cond b (Some (kind, body)) None) long
 
 -- the reply that the bytes spell, all of them

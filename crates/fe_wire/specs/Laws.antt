@@ -1,5 +1,6 @@
 -- Laws of streams, which public functions name.
-use Rattle.std.specs.Prelude.{◌≡◌, ℕ, ◌<◌, List, ◌++◌, slice_index}
+use Rattle.std.specs.Prelude.{◌≡◌, ℕ, List, ◌++◌}
+use Rattle.fe_codes.specs.Bytes.{IsBytes}
 use Rattle.fe_wire.specs.declared.client_message.ClientMessage.{ClientMessage}
 use Rattle.fe_wire.specs.Spelling.{spelling, Fits}
 use Rattle.fe_wire.specs.declared.version.Version.{Version}
@@ -18,10 +19,6 @@ HasOneOutcome = (start : ℕ) (stream : List ℕ) (a b : List ClientMessage) (x 
 -- No message's frame begins another's, and no two messages have one frame.
 abbrev pub HasOneSpelling : Type 0
 HasOneSpelling = (a b : ClientMessage) (x y : List ℕ) → Fits a → Fits b → spelling a ++ x ≡ spelling b ++ y → (a ≡ b) × (x ≡ y)
-
--- the list is one of bytes
-abbrev pub IsBytes : List ℕ → Type 0
-IsBytes bytes = (i : ℕ) → slice_index bytes i < 256
 
 -- what the stream is read as
 pub record HasReading (version : Version) (stream : List ℕ) : Type 0 where

@@ -1,4 +1,3 @@
-pub mod Codes
 pub mod Spelling
 pub mod Stream
 pub mod Reading

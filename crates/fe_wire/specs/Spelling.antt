@@ -9,7 +9,7 @@ use Rattle.fe_wire.specs.declared.client_message.ClientMessage.{ClientMessage}
 use Rattle.fe_wire.specs.declared.client_message.ClientMessage.TheVariants.{Attach, Call, Cancel, Settle, Bye, Report}
 use Rattle.fe_wire.specs.declared.server_message.ServerMessage.{ServerMessage}
 use Rattle.fe_wire.specs.declared.server_message.ServerMessage.TheVariants as server
-use Rattle.fe_wire.specs.Codes.{tag_code, op_code, operand_of, answer_code, answer_number, answer_length}
+use Rattle.fe_codes.specs.Codes.{tag_code, op_code, operand_of, answer_code, answer_number, answer_length}
 
 -- a frame: how many bytes follow the length, the kind, and the body
 abbrev pub frame : ℕ → List ℕ → List ℕ

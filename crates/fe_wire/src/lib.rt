@@ -2,12 +2,12 @@
 #![tactic(auto)]
 
 mod client_message;
-mod codes;
 mod decoder;
 mod fed;
 mod fields;
 mod frame;
 mod head;
+mod kinds;
 mod laws;
 mod message_frames;
 mod messages;

@@ -4,9 +4,10 @@ ghost use Rattle.std.specs.Prelude.{◌≡◌};
 ghost use Rattle.fe_wire.specs.Spelling.{spelling, Fits};
 
 use crate::client_message::ClientMessage;
-use crate::codes::{access_kind, create_kind, find_kind, op_code, operand_of, tag_code};
 use crate::fields::name_room;
 use crate::frame::{Frame, is_long};
+use crate::kinds::{access_kind, create_kind, find_kind};
+use fe_codes::{op_code, operand_of, tag_code};
 use fe_state::{Name, Request};
 use fe_words::{Op, Tag};
 

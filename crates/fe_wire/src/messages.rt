@@ -5,21 +5,21 @@ ghost use Rattle.fe_wire.specs.Reading.{create_of, find_of, access_of, plain_of,
 
 use crate::client_message::ClientMessage;
 use crate::fields::{
-    byte_at, bytes_at, ended, name_of, name_room, number_of, op_of, tag_of, two_numbers_of, u32_at,
-    u64_at,
+    ended, name_of, name_room, next_byte, next_bytes, next_u32, next_u64, number_of, two_numbers_of,
 };
+use fe_codes::{op_of, tag_of};
 use fe_state::Request;
 
 #[tactic(auto, unfolding(crate::specs::Reading::create_of))]
 fn create_of(is_long: bool, body: &[u8]) -> Option<ClientMessage>
     ensures { result ≡ create_of is_long body.now }
 {
-    let (number, rest) = u64_at(body)?;
-    let (count, rest) = byte_at(rest)?;
-    let (cells, rest) = bytes_at(usize::from(name_room(is_long)), rest)?;
+    let (number, rest) = next_u64(body)?;
+    let (count, rest) = next_byte(rest)?;
+    let (cells, rest) = next_bytes(usize::from(name_room(is_long)), rest)?;
     let name = name_of(is_long, count, cells)?;
-    let (length, rest) = u32_at(rest)?;
-    let (code, rest) = byte_at(rest)?;
+    let (length, rest) = next_u32(rest)?;
+    let (code, rest) = next_byte(rest)?;
     let tag = tag_of(code)?;
     let request = Request::Create { name, length, tag };
     ended(rest, ClientMessage::Call { number, request })
@@ -29,9 +29,9 @@ fn create_of(is_long: bool, body: &[u8]) -> Option<ClientMessage>
 fn find_of(is_long: bool, body: &[u8]) -> Option<ClientMessage>
     ensures { result ≡ find_of is_long body.now }
 {
-    let (number, rest) = u64_at(body)?;
-    let (count, rest) = byte_at(rest)?;
-    let (cells, rest) = bytes_at(usize::from(name_room(is_long)), rest)?;
+    let (number, rest) = next_u64(body)?;
+    let (count, rest) = next_byte(rest)?;
+    let (cells, rest) = next_bytes(usize::from(name_room(is_long)), rest)?;
     let name = name_of(is_long, count, cells)?;
     let request = Request::Find { name };
     ended(rest, ClientMessage::Call { number, request })
@@ -41,11 +41,11 @@ fn find_of(is_long: bool, body: &[u8]) -> Option<ClientMessage>
 fn access_of(no_wait: bool, body: &[u8]) -> Option<ClientMessage>
     ensures { result ≡ access_of no_wait body.now }
 {
-    let (number, rest) = u64_at(body)?;
-    let (code, rest) = byte_at(rest)?;
-    let (array, rest) = u64_at(rest)?;
-    let (index, rest) = u32_at(rest)?;
-    let (operand, rest) = u64_at(rest)?;
+    let (number, rest) = next_u64(body)?;
+    let (code, rest) = next_byte(rest)?;
+    let (array, rest) = next_u64(rest)?;
+    let (index, rest) = next_u32(rest)?;
+    let (operand, rest) = next_u64(rest)?;
     let op = op_of(code, operand)?;
     let request = Request::Access {
         array,

@@ -4,10 +4,10 @@ ghost use Rattle.std.specs.Prelude.{◌≡◌, ◌+◌, ◌<◌, ◌++◌, lengt
 ghost use Rattle.fe_wire.specs.Spelling.{spelling, reply_spelling, Fits, ReplyFits, HasRefusalCode};
 
 use crate::client_message::ClientMessage;
-use crate::codes::{answer_code, answer_length, answer_number};
 use crate::frame::Frame;
 use crate::message_frames::message_frame;
 use crate::server_message::ServerMessage;
+use fe_codes::{answer_code, answer_length, answer_number};
 use fe_mail::ReportText;
 use fe_state::Answer;
 use std::alloc::AllocError;

@@ -2,11 +2,12 @@
 
 ghost use Rattle.std.specs.Prelude.{◌≡◌, Some, IfOk, IfSome, OnErr};
 ghost use Rattle.fe_wire.specs.Spelling.{reply_spelling, ReplyFits, IsReport};
-ghost use Rattle.fe_wire.specs.Reading.{Gives, answered_of, refused_of, report_of, reply_of, parts_of};
+ghost use Rattle.fe_wire.specs.Reading.{Gives, answered_of, refused_of, report_of, reply_of_kind, parts_of};
 ghost use Rattle.fe_wire.specs.declared.server_message.ServerMessage.{ServerMessage as Reply};
 
-use crate::fields::{answer_of, byte_at, ended, number_of, two_numbers_of, u32_at, u64_at};
+use crate::fields::{ended, next_byte, next_u32, next_u64, number_of, two_numbers_of};
 use crate::server_message::ServerMessage;
+use fe_codes::answer_of;
 use fe_mail::{REPORT_BYTES, ReportText};
 use std::alloc::{AllocError, Global};
 
@@ -17,10 +18,10 @@ const REPORT: u8 = 71;
 fn answered_of(body: &[u8]) -> Option<ServerMessage>
     ensures { result ≡ answered_of body.now }
 {
-    let (number, rest) = u64_at(body)?;
-    let (code, rest) = byte_at(rest)?;
-    let (value, rest) = u64_at(rest)?;
-    let (length, rest) = u32_at(rest)?;
+    let (number, rest) = next_u64(body)?;
+    let (code, rest) = next_byte(rest)?;
+    let (value, rest) = next_u64(rest)?;
+    let (length, rest) = next_u32(rest)?;
     let answer = answer_of(code, value, length)?;
     ended(rest, ServerMessage::Answer { number, answer })
 }
@@ -29,8 +30,8 @@ fn answered_of(body: &[u8]) -> Option<ServerMessage>
 fn refused_of(body: &[u8]) -> Option<ServerMessage>
     ensures { result ≡ refused_of body.now }
 {
-    let (number, rest) = u64_at(body)?;
-    let (code, rest) = byte_at(rest)?;
+    let (number, rest) = next_u64(body)?;
+    let (code, rest) = next_byte(rest)?;
     if code < 1 || code > 10 {
         return None;
     }
@@ -38,9 +39,9 @@ fn refused_of(body: &[u8]) -> Option<ServerMessage>
 }
 
 /// The reply that a frame of this kind with this body spells, where it is no report.
-#[tactic(auto, unfolding(crate::specs::Reading::reply_of))]
-fn reply_of(kind: u8, body: &[u8]) -> Option<ServerMessage>
-    ensures { result ≡ reply_of kind body.now }
+#[tactic(auto, unfolding(crate::specs::Reading::reply_of_kind))]
+fn reply_of_kind(kind: u8, body: &[u8]) -> Option<ServerMessage>
+    ensures { result ≡ reply_of_kind kind body.now }
 {
     match kind {
         65 => {
@@ -85,9 +86,9 @@ fn report_of(alloc: Global, body: &[u8]) -> Result<Option<ServerMessage>, AllocE
 fn parts_of(frame: &[u8]) -> Option<(u8, &[u8])>
     ensures { Gives (λ x. (x.0, x.1.now)) result (parts_of frame.now) }
 {
-    let (length, rest) = u32_at(frame)?;
+    let (length, rest) = next_u32(frame)?;
     if length as usize == rest.len() {
-        byte_at(rest)
+        next_byte(rest)
     } else {
         None
     }
@@ -109,5 +110,5 @@ pub fn read_reply(alloc: Global, frame: &[u8]) -> Result<Option<ServerMessage>, 
     if kind == REPORT {
         return report_of(alloc, body);
     }
-    Ok(reply_of(kind, body))
+    Ok(reply_of_kind(kind, body))
 }

@@ -3,7 +3,7 @@
 // granted, each call has to do it at once.
 use super::{NEW, found, is_held};
 use fe_disk::{Disk, MemoryDisk};
-use fe_journal::{Found, StoreFault, find, format};
+use fe_journal::{Found, Journal, StoreFault};
 use std::alloc::Global;
 use std::process::Abort;
 use std::test::Fail;
@@ -18,17 +18,20 @@ fn wants_memory(fault: StoreFault, disk: &MemoryDisk) -> bool {
 }
 
 fn formatted(rt: &impl Abort, alloc: Global, disk: MemoryDisk) -> MemoryDisk {
-    match format(alloc, disk) {
+    match Journal::format(alloc, disk) {
         Ok(journal) => journal.into_disk(),
         Err((fault, disk)) => {
             assert!(rt; wants_memory(fault, &disk));
-            format(alloc, disk).ok().expect(rt, "formatted").into_disk()
+            Journal::format(alloc, disk)
+                .ok()
+                .expect(rt, "formatted")
+                .into_disk()
         }
     }
 }
 
 fn found_again(rt: &impl Abort, alloc: Global, disk: MemoryDisk) -> Found<MemoryDisk> {
-    match find(alloc, disk) {
+    match Journal::find(alloc, disk) {
         Ok(found) => found,
         Err((fault, disk)) => {
             assert!(rt; wants_memory(fault, &disk));

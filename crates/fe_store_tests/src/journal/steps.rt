@@ -22,7 +22,7 @@ pub fn make<D: Disk>(rt: &impl Abort, journal: &mut Journal<D>, step: &Step) -> 
 }
 
 pub fn append<D: Disk>(rt: &impl Abort, journal: &mut Journal<D>, payload: &[u8]) -> bool {
-    assert!(rt; journal.format().allows_payload(payload.len()));
+    assert!(rt; journal.store_format().allows_payload(payload.len()));
     assert!(rt; payload.len() <= journal.room() as usize);
     journal.append_group(payload).is_ok()
 }

@@ -3,7 +3,7 @@ use super::pieces::Piece;
 use super::steps::{Step, make};
 use super::{Held, NEW, found, is_held, new_store};
 use fe_disk::{Disk, Fuse, MemoryDisk, Torn};
-use fe_journal::{Format, Found, Journal, find};
+use fe_journal::{Format, Found, Journal};
 use std::alloc::Global;
 use std::process::Abort;
 
@@ -140,7 +140,7 @@ fn disk_after(rt: &impl Abort, alloc: Global, calls: u64) -> MemoryDisk {
         mut journal,
         image,
         groups,
-    } = find(alloc, fuse).ok().expect(rt, "opened");
+    } = Journal::find(alloc, fuse).ok().expect(rt, "opened");
     drop(image);
     drop(groups);
     run(rt, &mut journal);

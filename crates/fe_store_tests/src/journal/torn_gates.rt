@@ -4,7 +4,7 @@ use super::pieces::Piece;
 use super::steps::append;
 use super::{Held, is_held, new_store, write};
 use fe_disk::MemoryDisk;
-use fe_journal::{Format, StoreFault, find};
+use fe_journal::{Format, Journal, StoreFault};
 use std::alloc::Global;
 use std::process::Abort;
 
@@ -82,7 +82,7 @@ fn disk_of(rt: &impl Abort, alloc: Global, case: &Case) -> MemoryDisk {
 }
 
 fn is_found(alloc: Global, disk: MemoryDisk, want: &Result<Held, StoreFault>) -> bool {
-    match find(alloc, disk) {
+    match Journal::find(alloc, disk) {
         Ok(found) => match want {
             Ok(held) => is_held(found, held),
             Err(_) => {

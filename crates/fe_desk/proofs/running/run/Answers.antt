@@ -1,9 +1,11 @@
-use Rattle.std.proofs.Common.{◌≡◌, ℕ, List, sym, subst, ◌≤◌, length, arith}
+use Rattle.std.proofs.Common.{◌≡◌, ℕ, List, map, refl, sym, ap, subst, ◌∙◌, ◌≤◌, length, arith}
 use Rattle.fe_disk.specs.Disk.{LeavesOnly}
 use Rattle.fe_disk.proofs.Moments.{weaker}
 use Rattle.fe_state.specs.History.{IsHistory}
 use Rattle.fe_state.specs.declared.entry.Entry.{Entry}
-use Rattle.fe_desk.specs.Crash.{IsFrom, LeavesPrefix, disk_of}
+use Rattle.fe_keeper.specs.Prefix.{LeavesPrefix}
+use Rattle.fe_desk.specs.Crash.{IsFrom, disk_of}
+use Rattle.fe_desk.specs.Runs.{CountsEnd}
 use Rattle.fe_desk.specs.Traces.{groups_of}
 use Rattle.fe_desk.proofs.Openings.{first_from, stands_at}
 use Rattle.fe_desk.proofs.Runnings.{stands_begun, run_moments, run_of}
@@ -15,18 +17,51 @@ returns-in-Err-clause-any_moment g c = λ honest s each.
     weaker g.D.Disk.moment g.D.Disk.left_since c.args.disk c.in-Err.disk (g.D.Disk.may_leave c.args.disk) (LeavesPrefix s groups 0)
     (λ image may. stands_begun s groups image (each image may)) (c.in-Err.ensures.reads honest).run
 
+pub returns-in-Err-clause-stands : goal.returns-in-Err-clause-stands
+returns-in-Err-clause-stands g c = λ honest s each image may.
+    let groups = groups_of c.new.result in
+    subst (λ (n : ℕ). LeavesPrefix s groups n image) (sym c.new.ensures.synced) (stands_begun s groups image (each image ((c.in-Err.ensures.reads honest).adds_none image may)))
+
 pub take_steps-fault-requires-clause-stands : goal.take_steps-fault-requires-clause-stands
 take_steps-fault-requires-clause-stands g c = λ honest begun from image may.
     let d = c.in-Ok.desk in
     let few : d.synced ≤ length d.standing.groups = omega (arith, c.in-Ok.ensures.first.1) in
     stands_at begun d image from few (c.in-Ok.ensures.stands (c.in-Ok.ensures.honesty.0 honest) image may)
 
+pub returns-in-Err-clause-ran : goal.returns-in-Err-clause-ran
+returns-in-Err-clause-ran g c =
+    let refused = c.in-Err.ensures in
+    record {
+      is_fault = refused.faults;
+      told = refused.told;
+      refused = refused.refused;
+      unformatted = refused.unformatted;
+      device = refused.device;
+      groups = ap (λ gs. map (λ g. g.items) gs) c.new.ensures.groups;
+      written = ap (λ ps. map (λ p. (p.conn, p.written)) ps) c.new.ensures.ports;
+      synced = c.new.ensures.synced;
+    }
+
 pub returns-clause-ran : goal.returns-clause-ran
 returns-clause-ran g c =
     let first = c.in-Ok.desk in
     let last = c.take_steps-fault.new.desk in
-    run_of g.D.Disk.honest g.D.Disk.seen c.args.disk c.args.steps.now first.keeper.state first.standing last.standing c.into_parts-trace.result.0 last.synced c.take_steps-fault.result c.in-Ok.ensures.opened c.in-Ok.ensures.first.0 c.into_parts-trace.ensures.trace c.take_steps-fault.ensures.taken
-    c.take_steps-fault.ensures.stored
+    let parts = c.into_parts-trace in
+    let fault = c.take_steps-fault.result in
+    let failures = g.D.Disk.failures in
+    let opened = c.in-Ok.ensures in
+    let counts : CountsEnd fault (failures c.args.disk) (failures parts.result.1) =
+    subst (λ (n : ℕ). CountsEnd fault n (failures parts.result.1)) opened.still
+    (subst (λ d. CountsEnd fault (failures (disk_of first)) (failures d)) (sym parts.ensures.disk) c.take_steps-fault.ensures.counts) in
+    run_of g.D.Disk.honest g.D.Disk.seen failures c.args.disk c.args.steps.now first last parts.result.0 parts.result.1 fault
+    (record {
+      opened = opened.opened;
+      begins = opened.first.0;
+      history = (c.take_steps-fault.ensures.advances.from first.keeper.state (first_from first.keeper.state first refl opened.first.0.groups opened.first.1)).history;
+      trace = parts.ensures.trace;
+      disk_is = parts.ensures.disk;
+    })
+    c.take_steps-fault.ensures.taken counts
 
 pub returns-clause-history : goal.returns-clause-history
 returns-clause-history g c = λ honest s each.
@@ -48,7 +83,7 @@ returns-clause-any_moment g c = λ honest s each.
     (run_moments g.D.Disk.honest g.D.Disk.may_leave g.D.Disk.moment g.D.Disk.left_since c.args.disk first last s each (c.in-Ok.ensures.reads honest).run (c.in-Ok.ensures.honesty.1 honest) c.in-Ok.ensures.works from c.take_steps-fault.ensures.advances))
 
 pub returns-clause-stands : goal.returns-clause-stands
-returns-clause-stands g c = λ honest s each opened image may.
+returns-clause-stands g c = λ honest s each image may.
     let first = c.in-Ok.desk in
     let last = c.take_steps-fault.new.desk in
     let seen = g.D.Disk.seen c.args.disk in
@@ -58,3 +93,6 @@ returns-clause-stands g c = λ honest s each opened image may.
     subst (λ (n : ℕ). LeavesPrefix s (groups_of c.into_parts-trace.result.0) n image) (sym c.into_parts-trace.ensures.trace.synced_is)
     (subst (λ (gs : List (List Entry)). LeavesPrefix s gs last.synced image) (sym c.into_parts-trace.ensures.trace.groups)
     (c.into_parts-trace.ensures.stands (run.honesty.1 (c.in-Ok.ensures.honesty.1 honest)) s (run.from s from) image (subst (λ d. g.D.Disk.may_leave d image) c.into_parts-trace.ensures.disk may)))
+
+pub returns-clause-size : goal.returns-clause-size
+returns-clause-size g c = c.into_parts-trace.ensures.size ∙ sym c.in-Ok.ensures.sized

@@ -1,9 +1,13 @@
-use Rattle.std.proofs.Common.{◌<◌, ◌∙◌, ap, map, length, rules}
+use Rattle.std.proofs.Common.{◌<◌, ◌∙◌, ap, map, length, refl, rules}
 use Rattle.fe_desk.specs.Standing.{Client}
-use Rattle.fe_desk.specs.Desk.{client_of}
+use Rattle.fe_desk.specs.within.Desk.{client_of}
 use Rattle.fe_desk.specs.declared.port.Port.{Port}
-use Rattle.fe_desk.proofs.Emptying.{both, all_alike, port_told, port_later, on_any_err}
+use Rattle.fe_desk.proofs.Emptying.{itself, both, none_told, all_alike, port_told, port_later, on_any_err}
+use Rattle.fe_desk.proofs.Quiets.{port_waits}
 use Rattle.fe_desk.proofs.telling.empty_boxes.Goals as goal
+
+pub loop-at-init : goal.loop-at-init
+loop-at-init c = record { told = none_told c.args.front.now (map client_of c.args.ports.now.items); numbers = refl; len = refl; keeps = itself c.args.front.now }
 
 pub loop-at-preserved : goal.loop-at-preserved
 loop-at-preserved c =
@@ -24,3 +28,8 @@ pub returns-in_err-take_mails-clause-numbers : goal.returns-in_err-take_mails-cl
 returns-in_err-take_mails-clause-numbers c =
     let within : c.loop-at.at < length c.loop-at.ports.items = search rules in
     all_alike (λ (p : Port). p.conn) c.loop-at.ports.items c.loop-at.at c.index_mut.result.now c.take_mails.new.self within c.index_mut.ensures.value c.in_err-take_mails.ensures.later.conn ∙ c.loop-at.invariant.numbers
+
+pub returns-in_err-take_mails-clause-waits : goal.returns-in_err-take_mails-clause-waits
+returns-in_err-take_mails-clause-waits c =
+    let within : c.loop-at.at < length c.loop-at.ports.items = search rules in
+    on_any_err c.from_residual.result (port_waits c.loop-at.ports.items c.loop-at.at c.take_mails.new.self within c.in_err-take_mails.ensures.waits)

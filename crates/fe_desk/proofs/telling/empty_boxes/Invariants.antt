@@ -1,7 +1,7 @@
 use Rattle.std.proofs.Common.{◌≡◌, map, take, drop}
 use Rattle.std.specs.Prelude.{vec_len}
-use Rattle.fe_desk.specs.Desk.{client_of}
-use Rattle.fe_desk.specs.Keeping.{KeepsFront}
+use Rattle.fe_desk.specs.within.Desk.{client_of}
+use Rattle.fe_desk.specs.within.Keeping.{KeepsFront}
 use Rattle.fe_desk.proofs.Emptying.{IsToldSoFar}
 use Rattle.fe_desk.proofs.telling.empty_boxes.Given as goal
 

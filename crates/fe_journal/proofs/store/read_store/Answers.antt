@@ -2,7 +2,7 @@ use Rattle.std.proofs.Common.{ℕ, List, sym, ◌∙◌, subst}
 use Rattle.std.proofs.lemmas.Result.{IfOk-weaker}
 use Rattle.std.specs.Prelude.{IfOk, IfErr}
 use Rattle.fe_disk.specs.Disk.{LeavesJust}
-use Rattle.fe_journal.specs.Damage.{Tells}
+use Rattle.fe_journal.specs.Damage.{TellsFound}
 use Rattle.fe_journal.specs.Store.{IsStore, IsWhole}
 use Rattle.fe_journal.proofs.Readings.{counted, still_after}
 use Rattle.fe_journal.proofs.store.read_store.Goals as goal
@@ -13,7 +13,7 @@ returns-clause-store g c = λ honest.
 
 pub returns-clause-faults : goal.returns-clause-faults
 returns-clause-faults g c = λ honest.
-    subst (λ (l : List ℕ). IfErr c.read_synced.result (λ fault. Tells fault l)) (c.sync.ensures.same honest) (c.read_synced.ensures.faults (c.sync.ensures.honesty.1 honest))
+    subst (λ (l : List ℕ). IfErr c.read_synced.result (λ fault. TellsFound fault l)) (c.sync.ensures.same honest) (c.read_synced.ensures.faults (c.sync.ensures.honesty.1 honest))
 
 pub returns-clause-settled : goal.returns-clause-settled
 returns-clause-settled g c = λ honest.

@@ -1,7 +1,7 @@
 use Rattle.std.proofs.Common.{◌≡◌, ℕ, List, length, Some, Err, sym, ◌∙◌, ap, subst}
 use Rattle.std.proofs.lemmas.Result.{err_from_is_err_and}
 use Rattle.fe_disk.specs.Disk.{Rises}
-use Rattle.fe_journal.specs.Damage.{Tells}
+use Rattle.fe_journal.specs.Damage.{TellsFound}
 use Rattle.fe_journal.specs.Store.{CountsAs, IsSlotRead}
 use Rattle.fe_journal.specs.declared.fault.StoreFault.{StoreFault}
 use Rattle.fe_journal.specs.declared.fault.StoreFault.TheVariants.{NoMemory}
@@ -38,7 +38,7 @@ returns-in_err-parts-clause-faults g c = λ honest.
     let same = (c.read_sound.ensures.reads honest).same in
     let honest_1 = c.read_sound.ensures.honesty.1 honest in
     let counts = subst (λ (l : List ℕ). CountsAs l (Some (c.in_ok-slot.slot, c.in_ok-slot.header))) (sym same) (c.in_ok-slot.ensures.counts honest) in
-    let told = subst (λ (l : List ℕ). Tells c.in_err-parts.field-0.0 l) same (c.in_err-parts.ensures.faults honest_1 counts) in
+    let told = subst (λ (l : List ℕ). TellsFound c.in_err-parts.field-0.0 l) same (c.in_err-parts.ensures.faults honest_1 counts) in
     let p = err_from_is_err_and c.from_residual-in_err-parts.result c.from_residual-in_err-parts.ensures.1 in
     rw (p.1, p.2) told
 
@@ -78,7 +78,7 @@ pub returns-in_err-buffer-clause-faults : goal.returns-in_err-buffer-clause-faul
 returns-in_err-buffer-clause-faults g c = λ honest.
     let seen = g.D.Disk.seen c.args.disk.now in
     let sized : length seen ≡ g.D.Disk.size c.args.disk.now = (g.met.D.Disk.seen_is_image c.args.disk.now honest).whole in
-    let formatted : Tells NoMemory seen = formatted_by seen c.in_ok-slot.slot c.in_ok-slot.header (sized ∙ c.requires.device) (c.in_ok-slot.ensures.counts honest) in
+    let formatted : TellsFound NoMemory seen = formatted_by seen c.in_ok-slot.slot c.in_ok-slot.header (sized ∙ c.requires.device) (c.in_ok-slot.ensures.counts honest) in
     let p = err_from_is_err_and c.from_residual-in_err-buffer.result c.from_residual-in_err-buffer.ensures.1 in
     rw (p.1, p.2) formatted
 

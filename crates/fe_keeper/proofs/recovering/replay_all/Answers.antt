@@ -1,7 +1,7 @@
 use Rattle.std.proofs.Common.{◌≡◌, ℕ, ◌+◌, List, Bool, true, Err, subst}
 use Rattle.std.proofs.lemmas.Result.{err_from_is_err_and}
 use Rattle.fe_journal.specs.Cursor.{Lists}
-use Rattle.fe_keeper.specs.Replaying.{IsNext}
+use Rattle.fe_keeper.specs.within.Replaying.{IsNext}
 use Rattle.fe_keeper.specs.declared.fault.Fault.TheVariants.{Damaged}
 use Rattle.fe_keeper.proofs.Going.{going_begins, going_on, going_ends, listing_on}
 use Rattle.fe_keeper.proofs.recovering.replay_all.Goals as goal

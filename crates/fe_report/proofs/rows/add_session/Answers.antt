@@ -5,7 +5,7 @@ use Rattle.std.specs.FinMap.{get, find}
 use Rattle.fe_words.specs.declared.op.Op.{Op}
 use Rattle.fe_state.proofs.Maps.{same_or_other}
 use Rattle.fe_report.specs.Report.{Spot, spot_cmp, by_word}
-use Rattle.fe_report.specs.Rows.{ArePart}
+use Rattle.fe_report.specs.within.Rows.{ArePart}
 use Rattle.fe_report.proofs.Parts.{more, still_there, now_there}
 use Rattle.fe_report.proofs.Seen.{word_in_window}
 use Rattle.fe_report.proofs.Spots.{spot_cmp_total, spot_cmp-IsAntisymmetric}

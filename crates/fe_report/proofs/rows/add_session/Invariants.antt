@@ -1,7 +1,7 @@
 use Rattle.std.proofs.Common.{◌≡◌, ◌<◌, IsSome}
 use Rattle.std.specs.FinMap.{get, find}
 use Rattle.fe_report.specs.Report.{Spot, spot_cmp, by_word}
-use Rattle.fe_report.specs.Rows.{ArePart, KeepsKeys}
+use Rattle.fe_report.specs.within.Rows.{ArePart, KeepsKeys}
 use Rattle.fe_report.proofs.rows.add_session.Given as goal
 
 abbrev pub invariant-loop-number : goal.invariant-loop-number

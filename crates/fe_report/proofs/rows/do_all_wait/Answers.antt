@@ -1,8 +1,8 @@
 use Rattle.std.proofs.Common.{◌≡◌, ◌<◌, ◌||◌, ◌&&◌, ◌==◌, not, ℕ, inl, inr, true, true≢false, IsSome, sym, ap, subst, ◌∙◌, arith}
 use Rattle.std.specs.Option.{option_map}
 use Rattle.std.specs.FinMap.{get}
-use Rattle.fe_state.specs.Table.{shown_entry}
-use Rattle.fe_state.proofs.TableCopyLemmas.{made_all, shown_there}
+use Rattle.fe_table.specs.Table.{shown_entry}
+use Rattle.fe_table.proofs.TableCopyLemmas.{made_all, shown_there}
 use Rattle.fe_seats.specs.Seating.{count_of}
 use Rattle.fe_front.specs.Front.{is_attached}
 use Rattle.fe_report.proofs.AllWait.{or_either, or_left, or_right, and_first, and_second, and_both, same_zero, zero_same, attached_there, all_wait}

@@ -3,11 +3,11 @@ use Rattle.std.specs.Cmp.{nat_cmp_total}
 use Rattle.std.specs.Option.{option_map}
 use Rattle.std.specs.Ordering.{nat_cmp}
 use Rattle.std.specs.FinMap.{get, find, nat_cmp-IsAntisymmetric}
-use Rattle.fe_state.specs.Table.{shown_entry}
-use Rattle.fe_state.proofs.TableCopyLemmas.{made_all, shown_there}
+use Rattle.fe_table.specs.Table.{shown_entry}
+use Rattle.fe_table.proofs.TableCopyLemmas.{made_all, shown_there}
 use Rattle.fe_seats.specs.Seating.{count_of}
 use Rattle.fe_report.specs.Report.{by_session}
-use Rattle.fe_report.specs.Rows.{ArePart}
+use Rattle.fe_report.specs.within.Rows.{ArePart}
 use Rattle.fe_report.proofs.Parts.{no_part, more, still_there, now_there, whole, one_more_at_most}
 use Rattle.fe_report.proofs.Seen.{none_seen, one_more_seen, counted_session_there}
 use Rattle.fe_report.proofs.Waiters.{get-by_session, count-counted}

@@ -1,9 +1,9 @@
 use Rattle.std.proofs.Common.{◌≤◌, ℕ, IsSome, length}
 use Rattle.std.specs.Ordering.{nat_cmp}
 use Rattle.std.specs.FinMap.{get, find}
-use Rattle.fe_state.proofs.TableCopyLemmas.{made}
+use Rattle.fe_table.proofs.TableCopyLemmas.{made}
 use Rattle.fe_report.specs.Report.{by_session}
-use Rattle.fe_report.specs.Rows.{ArePart}
+use Rattle.fe_report.specs.within.Rows.{ArePart}
 use Rattle.fe_report.proofs.rows.rows_by_session.Given as goal
 
 abbrev pub invariant-loop-k : goal.invariant-loop-k

@@ -2,11 +2,11 @@ use Rattle.std.proofs.Common.{◌≡◌, ◌<◌, inl, inr, Some, IsSome, length
 use Rattle.std.specs.Cmp.{nat_cmp_total}
 use Rattle.std.specs.Option.{option_map}
 use Rattle.std.specs.FinMap.{get, find, entries, len-entries, nat_cmp-IsAntisymmetric}
-use Rattle.fe_state.specs.Table.{shown_entry}
-use Rattle.fe_state.proofs.TableCopyLemmas.{made_all, shown_there}
+use Rattle.fe_table.specs.Table.{shown_entry}
+use Rattle.fe_table.proofs.TableCopyLemmas.{made_all, shown_there}
 use Rattle.fe_seats.specs.Seating.{count_of}
 use Rattle.fe_report.specs.Report.{spot_cmp, by_word}
-use Rattle.fe_report.specs.Rows.{ArePart}
+use Rattle.fe_report.specs.within.Rows.{ArePart}
 use Rattle.fe_report.proofs.Listed.{get-at}
 use Rattle.fe_report.proofs.Parts.{no_part, whole}
 use Rattle.fe_report.proofs.Seen.{none_seen, one_more_seen, word_session_there}

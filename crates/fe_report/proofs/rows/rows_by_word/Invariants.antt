@@ -1,8 +1,8 @@
 use Rattle.std.proofs.Common.{IsSome}
 use Rattle.std.specs.FinMap.{get, find}
-use Rattle.fe_state.proofs.TableCopyLemmas.{made}
+use Rattle.fe_table.proofs.TableCopyLemmas.{made}
 use Rattle.fe_report.specs.Report.{Spot, spot_cmp, by_word}
-use Rattle.fe_report.specs.Rows.{ArePart}
+use Rattle.fe_report.specs.within.Rows.{ArePart}
 use Rattle.fe_report.proofs.rows.rows_by_word.Given as goal
 
 abbrev pub invariant-loop-k : goal.invariant-loop-k

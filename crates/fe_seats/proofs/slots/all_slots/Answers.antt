@@ -1,5 +1,5 @@
 use Rattle.std.proofs.Common.{◌≡◌, [], ◌∷◌, ◌++◌, ap, ◌∙◌, arith}
-use Rattle.fe_seats.specs.Inner.{slots_below}
+use Rattle.fe_seats.specs.within.Inner.{slots_below}
 use Rattle.fe_seats.proofs.KeptLemmas.{slots_below-zero, slots_below-more}
 use Rattle.fe_seats.proofs.slots.all_slots.Goals as goal
 

@@ -1,6 +1,6 @@
 use Rattle.std.proofs.Common.{◌≡◌, ◌≤◌}
 use Rattle.std.specs.Prelude.{vec_capacity}
-use Rattle.fe_seats.specs.Inner.{slots_below}
+use Rattle.fe_seats.specs.within.Inner.{slots_below}
 use Rattle.fe_seats.proofs.slots.all_slots.Given as goal
 
 abbrev pub invariant-loop-slot : goal.invariant-loop-slot

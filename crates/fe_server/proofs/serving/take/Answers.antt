@@ -1,3 +1,4 @@
+use Rattle.std.proofs.Common.{refl}
 use Rattle.fe_server.proofs.Readiness.{ready_after}
 use Rattle.fe_server.proofs.serving.take.Goals as goal
 
@@ -5,3 +6,6 @@ pub returns-in-Ok-clause-ready : goal.returns-in-Ok-clause-ready
 returns-in-Ok-clause-ready c =
     let d = c.in-Ok.ensures in
     ready_after c.args.desk.now c.step.new.self c.args.step.now c.requires d.stepped d.advances d.stands d.synced (d.fine c.requires.works)
+
+pub returns-in-Ok-clause-moved : goal.returns-in-Ok-clause-moved
+returns-in-Ok-clause-moved c = record { runs = (c.step.new.self.standing, c.in-Ok.ensures.stepped, refl); from = c.in-Ok.ensures.advances.from }

@@ -2,9 +2,9 @@ use Rattle.std.proofs.Common.{◌≤◌, ◌<◌, ◌+◌, ℕ, length, refl, sy
 use Rattle.std.specs.Option.{option_map}
 use Rattle.std.specs.FinMap.{get, len, insert}
 use Rattle.fe_state.specs.Directory.{words_in}
-use Rattle.fe_state.specs.Table.{shown_entry}
+use Rattle.fe_table.specs.Table.{shown_entry}
 use Rattle.fe_state.specs.declared.array.Array.{Array}
-use Rattle.fe_state.proofs.TableCopyLemmas.{made_all, shown_there}
+use Rattle.fe_table.proofs.TableCopyLemmas.{made_all, shown_there}
 use Rattle.fe_service.proofs.Remade.{tied_first, first_len, tied_new, tied_len, tied_next}
 use Rattle.fe_service.proofs.beginning.add_arrays.Goals as goal
 

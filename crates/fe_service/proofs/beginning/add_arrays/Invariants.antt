@@ -1,6 +1,6 @@
 use Rattle.std.proofs.Common.{◌≡◌, ◌≤◌, ℕ}
 use Rattle.std.specs.FinMap.{get, len}
-use Rattle.fe_state.proofs.TableCopyLemmas.{made}
+use Rattle.fe_table.proofs.TableCopyLemmas.{made}
 use Rattle.fe_state.specs.Directory.{words_in}
 use Rattle.fe_service.proofs.beginning.add_arrays.Given as goal
 

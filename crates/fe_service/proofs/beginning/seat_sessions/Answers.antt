@@ -1,8 +1,8 @@
 use Rattle.std.proofs.Common.{◌≤◌, ◌<◌, ◌+◌, refl, sym, ap, subst, ◌∙◌, arith}
 use Rattle.std.specs.Option.{option_map}
 use Rattle.std.specs.FinMap.{get, len}
-use Rattle.fe_state.specs.Table.{shown_entry}
-use Rattle.fe_state.proofs.TableCopyLemmas.{made_all, shown_there}
+use Rattle.fe_table.specs.Table.{shown_entry}
+use Rattle.fe_table.proofs.TableCopyLemmas.{made_all, shown_there}
 use Rattle.fe_seats.specs.Seating.{free_seat}
 use Rattle.fe_service.proofs.Remade.{tied_first, first_len, tied_new, tied_len, tied_next}
 use Rattle.fe_service.proofs.beginning.seat_sessions.Goals as goal

@@ -1,7 +1,7 @@
 use Rattle.std.proofs.Common.{◌≡◌, ◌≤◌, ℕ}
 use Rattle.std.specs.Option.{option_map}
 use Rattle.std.specs.FinMap.{get, len}
-use Rattle.fe_state.proofs.TableCopyLemmas.{made}
+use Rattle.fe_table.proofs.TableCopyLemmas.{made}
 use Rattle.fe_seats.specs.Seating.{free_seat}
 use Rattle.fe_service.proofs.beginning.seat_sessions.Given as goal
 

@@ -3,7 +3,7 @@ use Rattle.std.specs.FinMap.{entries, len-entries}
 use Rattle.indexmap.specs.IndexSet.{insert_key}
 use Rattle.std.specs.Prelude.{nat_eq}
 use Rattle.fe_state.proofs.ArraysLemmas.{ids_next, length-take_keys}
-use Rattle.fe_state.proofs.TableCopyLemmas.{shown_there, take-past}
+use Rattle.fe_table.proofs.TableCopyLemmas.{shown_there, take-past}
 use Rattle.fe_state.proofs.arrays.index.Goals as goal
 
 pub unwrap-id-requires : goal.unwrap-id-requires

@@ -1,17 +1,30 @@
-use Rattle.std.proofs.Common.{refl, sym, ◌∙◌}
-use Rattle.fe_state.proofs.Undone.{insert-remove, len_removed}
+use Rattle.std.proofs.Common.{◌≡◌, ap, ◌∙◌, length}
+use Rattle.std.proofs.Math.Seq.{drop-append_seam}
 use Rattle.fe_state.specs.declared.undo.SessionChange.TheVariants as change
+use Rattle.fe_state.proofs.DroppedLemmas.{put_back-closed, remove-changed}
+use Rattle.fe_state.proofs.Maps.{get_removed}
+use Rattle.fe_state.proofs.Undone.{len_removed}
 use Rattle.fe_state.proofs.sessions.close.Goals as goal
+
+pub returns-clause-after : goal.returns-clause-after
+returns-clause-after c = c.drop_session.ensures ∙ remove-changed c.args.sessions.now c.args.session c.close.new.here
 
 pub returns-clause-remembered : goal.returns-clause-remembered
 returns-clause-remembered c =
-    let there = sym c.remove.ensures.value ∙ c.unwrap-before.ensures in
-    rw (c.put_aside.ensures, c.remove.ensures.removed) (record {
+    let h = c.close.ensures.remembered in
+    let there = c.get_mut.ensures.value in
+    rw (c.drop_session.ensures, remove-changed c.args.sessions.now c.args.session c.close.new.here) (record {
       session = c.args.session;
-      session_change = change.PutAside;
-      undos = refl;
-      aside = refl;
-      room = refl;
-      undoable = λ _. len_removed c.args.sessions.now c.args.session c.unwrap-before.result 64 there c.requires.few;
-      undone = insert-remove c.args.sessions.now c.args.session c.unwrap-before.result there;
+      session_change = change.Closed c.get_mut.result.now.floor (length h.answers);
+      undos = h.undos;
+      dropped = rw h.dropped (drop-append_seam h.answers c.args.log.now.dropped);
+      room = h.room;
+      undoable = record {
+        least = c.close.ensures.least;
+        most = c.close.ensures.most;
+        answers_there = h.in_window;
+        free = get_removed c.args.sessions.now c.args.session;
+        few = len_removed c.args.sessions.now c.args.session c.get_mut.result.now 64 there c.requires.few;
+      };
+      undone = put_back-closed c.args.sessions.now c.args.session c.get_mut.result.now c.close.new.here h.answers c.args.log.now.dropped _ there h.dropped c.close.ensures.emptied h.again;
     })

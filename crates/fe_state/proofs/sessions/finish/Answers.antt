@@ -10,10 +10,10 @@ returns-clause-remembered c = rw c.add.ensures (record {
   session = c.args.session;
   session_change = change.Kept c.args.number;
   undos = refl;
-  aside = refl;
+  dropped = refl;
   room = refl;
   undoable = rw (get_inserted c.args.sessions.now c.args.session c.keep.new.self) refl;
   undone = rw c.keep.ensures
-      (put_back-keeping c.args.sessions.now c.args.log.now.aside c.args.session c.args.number c.get_mut.result.now c.args.kept c.get_mut.ensures.value
+      (put_back-keeping c.args.sessions.now c.args.log.now.dropped c.args.session c.args.number c.get_mut.result.now c.args.kept c.get_mut.ensures.value
       (at_some (λ x. IsUsable x c.args.number) _ _ c.requires.usable c.get_mut.ensures.value).not_kept);
 })

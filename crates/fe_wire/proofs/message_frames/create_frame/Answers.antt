@@ -1,6 +1,6 @@
 use Rattle.std.proofs.Common.{◌≡◌, ◌+◌, [], ◌∷◌, ◌++◌, refl, ◌∙◌}
 use Rattle.std.specs.Int.{w32, w64, to_be_bytes}
-use Rattle.fe_wire.specs.Codes.{tag_code}
+use Rattle.fe_codes.specs.Codes.{tag_code}
 use Rattle.fe_wire.specs.Spelling.{is_long, name_room, name_field, create_kind}
 use Rattle.fe_wire.proofs.MessageLaws.{create_built}
 use Rattle.fe_wire.proofs.message_frames.create_frame.Goals as goal

@@ -2,8 +2,10 @@ use Rattle.std.proofs.Common.{◌≡◌, ℕ, List, Option, Some, None, sym, ap,
 use Rattle.std.specs.Prelude.{Result, Ok, Err, IfOk, OnErr, IfSome}
 use Rattle.fe_wire.specs.declared.server_message.ServerMessage.{ServerMessage}
 use Rattle.fe_wire.specs.Spelling.{reply_spelling, ReplyFits}
-use Rattle.fe_wire.specs.Reading.{◌>>=◌, report_of, parts_of}
-use Rattle.fe_wire.proofs.FieldLaws.{IsBytes, bind_at}
+use Rattle.fe_codes.specs.Binding.{◌>>=◌}
+use Rattle.fe_wire.specs.Reading.{report_of, parts_of}
+use Rattle.fe_codes.proofs.BindingLaws.{bind_at}
+use Rattle.fe_codes.specs.Bytes.{IsBytes}
 use Rattle.fe_wire.proofs.ReplyLaws.{any_kind, reply_at, reply_at_takes, reply_at_again, report_at, report_kind, other_kind}
 use Rattle.fe_wire.proofs.replies.read_reply.Goals as goal
 
@@ -46,10 +48,10 @@ pub returns-clause-found : goal.returns-clause-found
 returns-clause-found c =
     let bytes : List ℕ = c.args.frame.now in
     let is = bind_at (parts_of bytes) any_kind (c.in-Some.kind, c.in-Some.body.now) c.in-Some.ensures ∙ other_kind c.in-Some.kind c.in-Some.body.now c.if-kind-eq-REPORT.false in
-    found bytes c.reply_of.result (λ i. omega (arith, c.type_inv.frame i)) (c.reply_of.ensures ∙ sym is)
+    found bytes c.reply_of_kind.result (λ i. omega (arith, c.type_inv.frame i)) (c.reply_of_kind.ensures ∙ sym is)
 
 pub returns-clause-only : goal.returns-clause-only
 returns-clause-only c = λ m fits same.
     let bytes : List ℕ = c.args.frame.now in
     let is = bind_at (parts_of bytes) any_kind (c.in-Some.kind, c.in-Some.body.now) c.in-Some.ensures ∙ other_kind c.in-Some.kind c.in-Some.body.now c.if-kind-eq-REPORT.false in
-    c.reply_of.ensures ∙ sym is ∙ reply_at_again bytes m fits same
+    c.reply_of_kind.ensures ∙ sym is ∙ reply_at_again bytes m fits same

@@ -1,7 +1,7 @@
 use Rattle.std.proofs.Common.{false, true≢false, None, refl, sym, ap, map}
 use Rattle.fe_desk.specs.declared.handed.Handed.TheVariants.{Nothing}
 use Rattle.fe_desk.specs.declared.parts.Parts.{Parts}
-use Rattle.fe_desk.specs.Desk.{client_of, desk_of}
+use Rattle.fe_desk.specs.within.Desk.{client_of, desk_of}
 use Rattle.fe_desk.proofs.Openings.{first_desk}
 use Rattle.fe_desk.proofs.desk.Desk.over.Goals as goal
 

@@ -1,8 +1,9 @@
 use Rattle.std.proofs.Common.{ap, map}
-use Rattle.fe_desk.specs.Desk.{standing_of, desk_of}
+use Rattle.fe_desk.specs.within.Desk.{standing_of, desk_of}
 use Rattle.fe_desk.proofs.Advancing.{advances_as}
 use Rattle.fe_desk.proofs.Feeding.{bytes_fed}
 use Rattle.fe_desk.proofs.StepParts.{bytes_again, connected_groups, gone_groups}
+use Rattle.fe_desk.proofs.Ending.{lacks_bytes, fine_short}
 use Rattle.fe_desk.proofs.parts.Parts.act.Goals as goal
 
 pub returns-in-Connect-clause-advances : goal.returns-in-Connect-clause-advances
@@ -38,3 +39,8 @@ pub returns-in-Bytes-clause-fed : goal.returns-in-Bytes-clause-fed
 returns-in-Bytes-clause-fed g c = λ fed asked.
     bytes_fed fed (standing_of c.args.self.now) c.in-Bytes.conn c.in-Bytes.piece c.as_slice.result.now c.args.step.now (standing_of c.bytes.new.self) c.in-Bytes.is c.as_slice.ensures.value
     (c.bytes.ensures.fed fed asked)
+
+pub returns-in-Bytes-clause-lacks : goal.returns-in-Bytes-clause-lacks
+returns-in-Bytes-clause-lacks g c = λ fed asked.
+    lacks_bytes fed c.args.step.now c.in-Bytes.conn c.in-Bytes.piece c.as_slice.result.now (desk_of c.args.self.now) (desk_of c.bytes.new.self) c.in-Bytes.is c.as_slice.ensures.value
+    (c.bytes.ensures.stops fed asked) (c.bytes.ensures.grows (fine_short c.bytes.result fed asked c.bytes.ensures.fault).works)

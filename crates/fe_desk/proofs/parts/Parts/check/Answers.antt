@@ -1,5 +1,5 @@
 use Rattle.std.proofs.Common.{refl}
-use Rattle.fe_desk.specs.Desk.{desk_of}
+use Rattle.fe_desk.specs.within.Desk.{desk_of}
 use Rattle.fe_desk.proofs.Advancing.{advances_itself}
 use Rattle.fe_desk.proofs.Untouched.{untouched}
 use Rattle.fe_desk.proofs.Making.{desk_checked, advances_checked}
@@ -70,8 +70,10 @@ returns-in_default g c =
     record {
       desk = c.requires.desk;
       standing = refl;
-      checked = untouched c.args.step.now c.args.self.now.keeper c.in_default.not-CheckBegin c.in_default.not-CheckStep c.in_default.not-CheckFinish;
+      checked = untouched c.args.step.now (desk_of c.args.self.now) c.in_default.not-CheckBegin c.in_default.not-CheckStep c.in_default.not-CheckFinish;
       advances = advances_itself g.D.Disk.honest g.D.Disk.may_leave g.D.Disk.moment g.D.Disk.left_since g.met.D.Disk.only_now (desk_of c.args.self.now) c.requires.desk;
       fine = record { works = c.requires.works; still = refl };
       fault = tt;
+      lacks = λ is. absurd (cc is);
+      breaks = λ is. absurd (cc is);
     }

@@ -1,6 +1,6 @@
 use Rattle.std.proofs.Common.{◌≡◌, refl, rules}
 use Rattle.fe_front.specs.Steps.{connected}
-use Rattle.fe_desk.specs.Desk.{standing_of}
+use Rattle.fe_desk.specs.within.Desk.{standing_of}
 use Rattle.fe_desk.proofs.Connecting.{joins_again}
 use Rattle.fe_desk.proofs.parts.Parts.connect_again.Goals as goal
 

@@ -1,7 +1,7 @@
 use Rattle.std.proofs.Common.{refl}
 use Rattle.fe_desk.specs.declared.parts.Parts.{Parts}
 use Rattle.fe_desk.proofs.Quiets.{all_quiet}
-use Rattle.fe_desk.proofs.StepParts.{emptied_desk, all_written, some_written, none_boxed}
+use Rattle.fe_desk.proofs.StepParts.{emptied_desk, all_written, some_written, written_more, none_boxed}
 use Rattle.fe_desk.proofs.parts.Parts.empty.Goals as goal
 
 pub returns-clause-desk : goal.returns-clause-desk
@@ -31,3 +31,10 @@ returns-clause-quiet g c =
     let boxes = c.empty_boxes-outcome in
     let q : Parts g.row.D.Denot = record p { front = boxes.new.front; trace = record p.trace { ports = boxes.new.ports }; owes = c.is_err-self.result } in
     all_quiet p q boxes.result (none_boxed p q boxes.result c.requires.desk.known boxes.ensures.front boxes.ensures.emptied) boxes.ensures.told c.is_err-self.ensures.value
+
+pub returns-clause-extends : goal.returns-clause-extends
+returns-clause-extends g c =
+    let p = c.args.self.now in
+    let boxes = c.empty_boxes-outcome in
+    let q : Parts g.row.D.Denot = record p { front = boxes.new.front; trace = record p.trace { ports = boxes.new.ports }; owes = c.is_err-self.result } in
+    written_more p q boxes.result boxes.ensures.told boxes.ensures.later

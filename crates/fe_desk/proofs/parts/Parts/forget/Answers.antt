@@ -1,5 +1,5 @@
 use Rattle.std.proofs.Common.{refl}
-use Rattle.fe_desk.specs.Desk.{standing_of}
+use Rattle.fe_desk.specs.within.Desk.{standing_of}
 use Rattle.fe_desk.proofs.Connecting.{left_forgotten, nothing_forgotten}
 use Rattle.fe_desk.proofs.parts.Parts.forget.Goals as goal
 

@@ -1,5 +1,5 @@
 use Rattle.std.proofs.Common.{◌∙◌, ap}
-use Rattle.fe_desk.specs.Desk.{standing_of}
+use Rattle.fe_desk.specs.within.Desk.{standing_of}
 use Rattle.fe_desk.specs.Standing.{Standing}
 use Rattle.fe_desk.specs.Steps.{unmade}
 use Rattle.fe_desk.specs.declared.trace.Trace.{Trace}

@@ -1,8 +1,8 @@
 use Rattle.std.proofs.Common.{refl, sym, subst}
 use Rattle.fe_desk.specs.declared.handed.Handed.{Handed}
-use Rattle.fe_desk.specs.Desk.{IsHanded, desk_of, standing_of}
+use Rattle.fe_desk.specs.within.Desk.{IsHanded, desk_of, standing_of}
 use Rattle.fe_desk.proofs.Advancing.{desk_as}
-use Rattle.fe_desk.proofs.Coming.{none-posted}
+use Rattle.fe_front.proofs.Coming.{none-posted}
 use Rattle.fe_desk.proofs.Groups.{posts, tied_posted}
 use Rattle.fe_desk.proofs.parts.Parts.post.Goals as goal
 

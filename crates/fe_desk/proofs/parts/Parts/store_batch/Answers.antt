@@ -3,15 +3,16 @@ use Rattle.std.specs.Prelude.{map}
 use Rattle.std.proofs.lemmas.List.{length-map}
 use Rattle.fe_state.specs.State.{after_all}
 use Rattle.fe_state.specs.declared.batch.Batch.{Batch}
-use Rattle.fe_keeper.specs.Keeper.{StoreState}
+use Rattle.fe_keeper.specs.Keeper.{KeeperState, StoreState}
 use Rattle.fe_keeper.specs.declared.fault.Fault.{Fault}
 use Rattle.fe_keeper.specs.declared.fault.Fault.TheVariants.{Device}
 use Rattle.fe_desk.specs.declared.handed.Handed.TheVariants.{Cut}
 use Rattle.fe_desk.specs.Storing.{handing}
-use Rattle.fe_desk.specs.Crash.{Tells, with_handed}
-use Rattle.fe_desk.specs.Desk.{desk_of, standing_of, IsTied}
-use Rattle.fe_desk.proofs.Advancing.{advances_itself, advances_as}
-use Rattle.fe_desk.proofs.Groups.{legal_both, tied_stored, tied_cut, pushed, unpushed, popped, appends_working, advances_group, begins_there, no_mismatch, only_device, desk_stored, desk_torn, desk_kept, advances_kept}
+use Rattle.fe_desk.specs.Crash.{TellsCall, with_handed}
+use Rattle.fe_desk.specs.within.Desk.{desk_of, standing_of, IsAhead}
+use Rattle.fe_desk.proofs.Advancing.{advances_itself, advances_as, desk_as}
+use Rattle.fe_desk.proofs.Growing.{stores_none, stores_one, handed_back}
+use Rattle.fe_desk.proofs.Groups.{legal_both, tied_stored, tied_cut, pushed, unpushed, popped, appends_working, advances_group, begins_there, no_mismatch, only_device, desk_stored, desk_torn}
 use Rattle.fe_desk.proofs.parts.Parts.store_batch.Goals as goal
 
 pub returns-in_default-clause-advances : goal.returns-in_default-clause-advances
@@ -32,7 +33,7 @@ returns-in-Ok-append-clause-desk g c =
     let back : c.in-Ok-append.batch ≡ batch = c.in-Ok-append.ensures.returned in
     let replica : new.state ≡ after_all old.keeper.state batch.entries = c.in-Ok-append.ensures.state in
     let next : new.state ≡ after_all old.keeper.state c.in-Ok-append.batch.entries = replica ∙ ap (λ (b : Batch). after_all old.keeper.state b.entries) (sym back) in
-    let tied = subst (λ (b : Batch). IsTied (handing (standing_of old) (Cut b)) old.keeper.state) (sym back) c.requires.desk.tied in
+    let tied = subst (λ (b : Batch). IsAhead (handing (standing_of old) (Cut b)) old.keeper.state) (sym back) c.requires.desk.tied in
     let works : new.store.has_failed ≡ false =
     ap (λ (s : StoreState g.row.D.Denot). s.has_failed) c.in-Ok-append.ensures.store ∙ appends_working old.keeper.store batch.entries ∙ c.requires.works in
     desk_stored g.D.Disk.honest g.D.Disk.may_leave g.D.Disk.moment g.D.Disk.left_since _
@@ -52,26 +53,43 @@ returns-in-Ok-append-clause-advances g c =
     (c.requires.desk.all c.requires.works) c.requires.desk.tied.handed.1 (legal_both old.keeper.state batch.entries old.front.service.pending c.requires.desk.tied.legal).0
     (inr (stored, replica)) c.append.ensures.any_moment c.append.ensures.honesty
 
-pub returns-in-NoMemory-clause-desk : goal.returns-in-NoMemory-clause-desk
-returns-in-NoMemory-clause-desk g c =
+pub returns-in-Ok-append-clause-grows : goal.returns-in-Ok-append-clause-grows
+returns-in-Ok-append-clause-grows g c = λ works.
+    let old = c.args.self.now in
+    stores_one (desk_of old) _ c.args.batch.entries
+    (pushed (λ g. g.items) old.trace.groups.items c.push.new.self.items c.in-Ok.group c.args.batch.entries c.push.result c.is_err.result c.push.ensures.items c.is_err.ensures.value c.if-is_err.false
+    (c.in-Ok.ensures ∙ c.as_slice.ensures.entries))
+    c.in-Ok-append.ensures.state c.in-Ok-append.ensures.store
+
+pub returns-in-NoMemory : goal.returns-in-NoMemory
+returns-in-NoMemory g c =
     let old = c.args.self.now in
     let batch = c.args.batch in
     let new = c.append.new.self in
     let back : c.in-Err.batch ≡ batch = c.in-Err.ensures.given_back in
+    let kept : new ≡ old.keeper = c.in-Err.ensures.short c.in-NoMemory.is in
     let replica : new.state ≡ old.keeper.state = c.in-Err.ensures.err in
-    desk_kept g.D.Disk.honest g.D.Disk.may_leave g.D.Disk.moment g.D.Disk.left_since g.met.D.Disk.counts_now (with_handed (desk_of old) (Cut batch)) _ c.requires.desk c.requires.works
-    (popped (λ g. g.items) old.trace.groups.items c.push.new.self.items c.pop.new.self.items _ _ c.push.result c.is_err.result c.push.ensures.items c.is_err.ensures.value c.if-is_err.false
-    c.push.new.self.ok.0 c.pop.ensures.rest)
-    refl replica (c.in-Err.ensures.short c.in-NoMemory.is) c.append.ensures.honesty
-    (tied_cut (standing_of old) (map (λ g. g.items) c.pop.new.self.items) old.keeper.state new.state batch c.in-Err.batch back replica c.requires.desk.tied) c.requires.desk.known
-
-pub returns-in-NoMemory-clause-advances : goal.returns-in-NoMemory-clause-advances
-returns-in-NoMemory-clause-advances g c =
-    let old = c.args.self.now in
-    advances_kept g.D.Disk.honest g.D.Disk.may_leave g.D.Disk.moment g.D.Disk.left_since (with_handed (desk_of old) (Cut c.args.batch)) _
-    (popped (λ g. g.items) old.trace.groups.items c.push.new.self.items c.pop.new.self.items _ _ c.push.result c.is_err.result c.push.ensures.items c.is_err.ensures.value c.if-is_err.false
-    c.push.new.self.ok.0 c.pop.ensures.rest)
-    refl c.in-Err.ensures.err c.requires.desk.few (c.in-Err.ensures.short c.in-NoMemory.is) c.append.ensures.honesty
+    let groups : map (λ g. g.items) c.pop.new.self.items ≡ map (λ g. g.items) old.trace.groups.items =
+    popped (λ g. g.items) old.trace.groups.items c.push.new.self.items c.pop.new.self.items _ _ c.push.result c.is_err.result c.push.ensures.items c.is_err.ensures.value c.if-is_err.false
+    c.push.new.self.ok.0 c.pop.ensures.rest in
+    record {
+      desk =
+          desk_as g.D.Disk.honest g.D.Disk.may_leave (with_handed (desk_of old) (Cut batch)) _ c.requires.desk (record { keeper = kept; groups = groups; synced = refl })
+          (tied_cut (standing_of old) (map (λ g. g.items) c.pop.new.self.items) old.keeper.state new.state batch c.in-Err.batch back replica c.requires.desk.tied) c.requires.desk.known;
+      stored = tt;
+      memory = λ is. handed_back (with_handed (desk_of old) (Cut batch)) c.in-Err.batch batch _ _ back groups kept;
+      owes = refl;
+      ports = refl;
+      advances =
+          advances_as g.D.Disk.honest g.D.Disk.may_leave g.D.Disk.moment g.D.Disk.left_since g.met.D.Disk.only_now (with_handed (desk_of old) (Cut batch)) _ c.requires.desk
+          (record { keeper = kept; groups = groups; synced = refl });
+      fine = tt;
+      fault =
+          rw c.in-NoMemory.is
+          (record { works = ap (λ (k : KeeperState g.row.D.Denot). k.store.has_failed) kept ∙ c.requires.works; still = ap (λ (k : KeeperState g.row.D.Denot). g.D.Disk.failures k.store.disk) kept });
+      torn = λ is. absurd (cc (c.in-NoMemory.is, is));
+      grows = λ works. stores_none (desk_of old) _ (record { keeper = kept; groups = groups; synced = refl });
+    }
 
 pub returns-in_default-fault : goal.returns-in_default-fault
 returns-in_default-fault g c =
@@ -104,5 +122,11 @@ returns-in_default-fault g c =
           advances_group g.D.Disk.honest g.D.Disk.may_leave g.D.Disk.moment g.D.Disk.left_since (with_handed (desk_of old) (Cut batch)) _ batch.entries groups all tied.handed.1 legal
           (inl (refl, replica)) c.append.ensures.any_moment c.append.ensures.honesty;
       fine = tt;
-      fault = subst (λ (fault : Fault). Tells g.D.Disk.failures (desk_of old) (desk_of (record old { keeper = new; trace = record old.trace { groups = c.push.new.self } })) fault) (sym device) (record { failed = told.1; rises = told.0 });
+      fault = subst (λ (fault : Fault). TellsCall g.D.Disk.failures (desk_of old) (desk_of (record old { keeper = new; trace = record old.trace { groups = c.push.new.self } })) fault) (sym device) (record { failed = told.1; rises = told.0 });
+      torn = λ is. record {
+        at_hand = record { batch = batch; handed = refl };
+        standing = ap (λ (b : Batch). record (handing (standing_of old) (Cut b)) { groups = map (λ g. g.items) c.push.new.self.items }) back ∙ ap (λ gs. record (handing (standing_of old) (Cut batch)) { groups = gs }) groups;
+        synced = all;
+      };
+      grows = λ works. absurd (cc (told.1, works));
     }

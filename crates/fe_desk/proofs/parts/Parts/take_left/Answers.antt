@@ -3,11 +3,13 @@ use Rattle.std.proofs.lemmas.List.{length-map}
 use Rattle.std.proofs.lemmas.Result.{err_from_is_err_and}
 use Rattle.fe_keeper.specs.declared.fault.Fault.TheVariants as keeper
 use Rattle.fe_desk.specs.Standing.{Client, Standing}
-use Rattle.fe_desk.specs.Desk.{client_of, desk_of, standing_of}
+use Rattle.fe_desk.specs.within.Desk.{client_of, desk_of, standing_of}
 use Rattle.fe_desk.proofs.Places.{found_there}
 use Rattle.fe_desk.specs.Steps.{find}
 use Rattle.fe_desk.proofs.Reading.{left_among}
 use Rattle.fe_desk.proofs.Leftovers.{going_first, going_on, going_stops, taken_still, taken_all, clients_then, rest_then, place_as, tells_after, told_on, some_left, none_left_here, fewer_left, same_clients}
+use Rattle.fe_desk.proofs.Growing.{stores_both}
+use Rattle.fe_desk.proofs.Stops.{first_stops, first_tears}
 use Rattle.fe_desk.proofs.parts.Parts.take_left.Goals as goal
 
 pub loop-self-init : goal.loop-self-init
@@ -73,7 +75,7 @@ loop-self-preserved g c =
     going_on g.D.Disk.honest g.D.Disk.may_leave g.D.Disk.moment g.D.Disk.left_since g.D.Disk.failures c.args.conn c.args.at
     (desk_of c.args.self.now) (desk_of c.loop-self.self) (desk_of c.make_room.new.self) (desk_of c.take_next.new.self)
     (found_there (map client_of c.args.self.now.trace.ports.items) c.args.conn c.args.at c.requires.place) c.loop-self.invariant
-    (record { made = c.in_ok-make_room.ensures.made; owes = c.make_room.ensures.owes; advances = c.make_room.ensures.advances; fine = c.in_ok-make_room.ensures.fine })
+    (record { made = c.in_ok-make_room.ensures.made; owes = c.make_room.ensures.owes; advances = c.make_room.ensures.advances; fine = c.in_ok-make_room.ensures.fine; grows = c.make_room.ensures.grows c.in_ok-make_room.ensures.fine.works })
     c.take_next.ensures.next (record { keeper = c.take_next.ensures.keeper; groups = ap (λ (u : Standing). u.groups) c.take_next.ensures.next.after; synced = c.take_next.ensures.synced })
     c.take_next.ensures.desk
 
@@ -94,3 +96,27 @@ returns-in_err-make_room-clause-rest g c =
 
 pub returns-clause-rest : goal.returns-clause-rest
 returns-clause-rest g c = c.loop-self.invariant.taken.rest
+
+pub returns-in_err-make_room-clause-stops : goal.returns-in_err-make_room-clause-stops
+returns-in_err-make_room-clause-stops g c = λ asked.
+    let p = err_from_is_err_and c.from_residual.result c.from_residual.ensures.1 in
+    let told = told_on c.from_residual.result c.make_room.result p.0 c.in_err-make_room.field-0.0 keeper.NoMemory p.1 p.2 c.in_err-make_room.was asked in
+    let ports = c.loop-self.self.trace.ports.items in
+    let stops = c.make_room.ensures.stops told in
+    first_stops c.args.conn (standing_of c.args.self.now) (standing_of c.loop-self.self) (standing_of c.make_room.new.self)
+    (some_left ports c.args.conn c.args.at c.index.result.now _ c.loop-self.invariant.place c.index.ensures c.has_left.ensures c.loop-self-test.true)
+    (same_clients _ _ c.make_room.ensures.ports) stops.0 stops.1 c.loop-self.invariant.taken
+
+pub returns-in_err-make_room-clause-torn : goal.returns-in_err-make_room-clause-torn
+returns-in_err-make_room-clause-torn g c = λ asked.
+    let p = err_from_is_err_and c.from_residual.result c.from_residual.ensures.1 in
+    let told = told_on c.from_residual.result c.make_room.result p.0 c.in_err-make_room.field-0.0 keeper.Device p.1 p.2 c.in_err-make_room.was asked in
+    let ports = c.loop-self.self.trace.ports.items in
+    let torn = c.make_room.ensures.torn told in
+    first_tears c.args.conn (standing_of c.args.self.now) (standing_of c.loop-self.self) torn.0 (desk_of c.make_room.new.self)
+    (some_left ports c.args.conn c.args.at c.index.result.now _ c.loop-self.invariant.place c.index.ensures c.has_left.ensures c.loop-self-test.true)
+    (same_clients _ _ c.make_room.ensures.ports) torn.1 c.loop-self.invariant.taken torn.2
+
+pub returns-in_err-make_room-clause-grows : goal.returns-in_err-make_room-clause-grows
+returns-in_err-make_room-clause-grows g c = λ works.
+    stores_both (desk_of c.args.self.now) (desk_of c.loop-self.self) (desk_of c.make_room.new.self) c.loop-self.invariant.grows (c.make_room.ensures.grows works)

@@ -1,6 +1,6 @@
 use Rattle.std.proofs.Common.{length}
 use Rattle.fe_desk.specs.Messages.{left_of}
-use Rattle.fe_desk.specs.Desk.{desk_of, standing_of}
+use Rattle.fe_desk.specs.within.Desk.{desk_of, standing_of}
 use Rattle.fe_desk.proofs.Leftovers.{Going}
 use Rattle.fe_desk.proofs.parts.Parts.take_left.Given as goal
 

@@ -1,8 +1,23 @@
-use Rattle.std.proofs.Common.{◌∙◌, ap}
+use Rattle.std.proofs.Common.{sym, ◌∙◌, ap, subst}
 use Rattle.fe_desk.specs.Standing.{Client}
-use Rattle.fe_desk.specs.Desk.{client_of}
-use Rattle.fe_desk.proofs.Emptying.{next_written, next_waits, next_keeps, next_empty, fewer_after, on_any_err}
+use Rattle.fe_desk.specs.within.Desk.{client_of}
+use Rattle.fe_desk.specs.within.Keeping.{IsToldLater}
+use Rattle.fe_desk.proofs.Emptying.{itself, empty_itself, later_itself, waiting_written, next_written, next_waits, next_keeps, next_empty, fewer_after, on_any_err}
 use Rattle.fe_desk.proofs.port.Port.take_mails.Goals as goal
+
+pub loop-mail-init : goal.loop-mail-init
+loop-mail-init c = record {
+  reply = ap (λ (x : Client). x.reply) c.in_ok-write_waiting.ensures.written;
+  later = waiting_written c.args.front.now (client_of c.args.self.now) (client_of c.write_waiting.new.self) c.in_ok-write_waiting.ensures.written;
+  keeps = itself c.args.front.now;
+  empty = empty_itself c.args.front.now;
+}
+
+pub returns-in_err-write_waiting-clause-later : goal.returns-in_err-write_waiting-clause-later
+returns-in_err-write_waiting-clause-later c =
+    let f = c.args.front.now in
+    let d = client_of c.args.self.now in
+    on_any_err c.from_residual.result (subst (λ (x : Client). IsToldLater f d f x) (sym c.in_err-write_waiting.ensures.err) (later_itself f d))
 
 pub loop-mail-smaller : goal.loop-mail-smaller
 loop-mail-smaller c =

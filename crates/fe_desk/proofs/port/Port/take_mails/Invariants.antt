@@ -1,7 +1,7 @@
 use Rattle.std.proofs.Common.{◌≡◌, None, length}
 use Rattle.fe_mail.specs.Connections.{mails_on}
-use Rattle.fe_desk.specs.Desk.{client_of}
-use Rattle.fe_desk.specs.Keeping.{KeepsFront, KeepsEmpty, IsToldLater}
+use Rattle.fe_desk.specs.within.Desk.{client_of}
+use Rattle.fe_desk.specs.within.Keeping.{KeepsFront, KeepsEmpty, IsToldLater}
 use Rattle.fe_desk.proofs.port.Port.take_mails.Given as goal
 
 -- no reply waits, and to write what is left comes to the same as to write all at the beginning

@@ -3,7 +3,7 @@ use Rattle.fe_mail.specs.Connections.{session_on}
 use Rattle.fe_seats.specs.Seating.{holder_of}
 use Rattle.fe_service.specs.Events.{MaySit}
 use Rattle.fe_front.specs.Front.{is_connected}
-use Rattle.fe_front.specs.Tables.{front_of}
+use Rattle.fe_front.specs.within.Tables.{front_of}
 use Rattle.fe_front.proofs.Sitting.{released-free, released-connected, released-sit, freed-free, freed-connected, freed-holder, freed-sit, attaches}
 use Rattle.fe_front.proofs.tables.Tables.attach.Goals as goal
 

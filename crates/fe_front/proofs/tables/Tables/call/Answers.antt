@@ -1,5 +1,5 @@
 use Rattle.std.proofs.Common.{◌≡◌, [], Some, sym, ap, ◌∙◌}
-use Rattle.fe_front.specs.Tables.{front_of}
+use Rattle.fe_front.specs.within.Tables.{front_of}
 use Rattle.fe_front.proofs.Admitted.{addresses, own_there, free_number}
 use Rattle.fe_front.proofs.Repeating.{called_again, if_ok}
 use Rattle.fe_front.proofs.tables.Tables.call.Goals as goal

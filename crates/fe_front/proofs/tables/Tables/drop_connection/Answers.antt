@@ -1,6 +1,6 @@
 use Rattle.std.proofs.Common.{ap, ◌∙◌}
 use Rattle.fe_mail.specs.Connections.{session_on}
-use Rattle.fe_front.specs.Tables.{front_of}
+use Rattle.fe_front.specs.within.Tables.{front_of}
 use Rattle.fe_front.proofs.Sitting.{departed-free}
 use Rattle.fe_front.proofs.tables.Tables.drop_connection.Goals as goal
 

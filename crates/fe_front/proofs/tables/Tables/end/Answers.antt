@@ -3,7 +3,7 @@ use Rattle.std.specs.FinMap.{len}
 use Rattle.fe_seats.specs.Seating.{holder_of}
 use Rattle.fe_mail.specs.Books.{Balances}
 use Rattle.fe_mail.specs.Connections.{mails_in}
-use Rattle.fe_front.specs.Tables.{front_of}
+use Rattle.fe_front.specs.within.Tables.{front_of}
 use Rattle.fe_front.proofs.Agreement.{Agree, agree-left}
 use Rattle.fe_front.proofs.Sitting.{freed-holder}
 use Rattle.fe_front.proofs.Ties.{quiet_sound}

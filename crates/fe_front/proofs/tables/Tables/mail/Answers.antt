@@ -3,7 +3,7 @@ use Rattle.std.specs.FinMap.{len}
 use Rattle.fe_mail.specs.Books.{Balances}
 use Rattle.fe_mail.specs.Connections.{mails_in, mails_on}
 use Rattle.fe_mail.proofs.MailCounts.{mails_in-put}
-use Rattle.fe_front.specs.Tables.{AreSound}
+use Rattle.fe_front.specs.within.Tables.{AreSound}
 use Rattle.fe_front.proofs.Agreement.{Agree, agree-boxed}
 use Rattle.fe_front.proofs.Ties.{quiet_sound}
 use Rattle.fe_front.proofs.tables.Tables.mail.Goals.{in-Ok, in-Err}

@@ -3,7 +3,7 @@ use Rattle.std.specs.Prelude.{IfSome}
 use Rattle.fe_state.specs.declared.batch.Batch.{Batch}
 use Rattle.fe_front.specs.Front.{FrontState, out_length}
 use Rattle.fe_front.specs.Posting.{IsOut}
-use Rattle.fe_front.specs.Tables.{front_of}
+use Rattle.fe_front.specs.within.Tables.{front_of}
 use Rattle.fe_front.specs.declared.out.Out.{Out}
 use Rattle.fe_front.proofs.Keeping.{posted_all-keeps}
 use Rattle.fe_front.proofs.tables.Tables.post.Goals as goal

@@ -1,6 +1,6 @@
 use Rattle.std.proofs.Common.{◌+◌, drop, sym, ap, ◌∙◌, arith}
 use Rattle.fe_front.specs.Posting.{posted_all}
-use Rattle.fe_front.specs.Tables.{front_of}
+use Rattle.fe_front.specs.within.Tables.{front_of}
 use Rattle.fe_front.proofs.Posted.{posted_one, posted_none}
 use Rattle.fe_front.proofs.tables.Tables.post_all.Goals as goal
 

@@ -1,6 +1,6 @@
 use Rattle.std.proofs.Common.{◌≡◌, ◌+◌, drop}
 use Rattle.fe_front.specs.Posting.{posted_all}
-use Rattle.fe_front.specs.Tables.{front_of, AreSound}
+use Rattle.fe_front.specs.within.Tables.{front_of, AreSound}
 use Rattle.fe_front.proofs.tables.Tables.post_all.Given as goal
 
 -- the entries that are left, posted from here on, leave what all leave

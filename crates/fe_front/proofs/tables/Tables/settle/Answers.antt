@@ -1,5 +1,5 @@
 use Rattle.std.proofs.Common.{sym, ◌∙◌}
-use Rattle.fe_front.specs.Tables.{front_of}
+use Rattle.fe_front.specs.within.Tables.{front_of}
 use Rattle.fe_front.proofs.Admitted.{settles, own_there, may_settle_to}
 use Rattle.fe_front.proofs.tables.Tables.settle.Goals as goal
 

@@ -1,4 +1,4 @@
-use Rattle.std.proofs.Common.{rules, ◌≡◌, ◌∙◌, sym, subst}
+use Rattle.std.proofs.Common.{◌≡◌, ◌∙◌, sym, subst}
 use Rattle.std.specs.Prelude.{false}
 use Rattle.fe_disk.specs.Disk.{LeavesOnly}
 use Rattle.fe_keeper.specs.Keeper.{KeeperState}

@@ -1,18 +1,17 @@
-use Rattle.std.proofs.Common.{◌≡◌, ◌+◌, length, ap, arith}
+use Rattle.std.proofs.Common.{◌≡◌, ap, arith}
 use Rattle.fe_state.specs.State.{ServerState}
 use Rattle.fe_state.specs.UndoLog.{rewound}
 use Rattle.fe_replica.proofs.Following.{place_after}
 use Rattle.fe_replica.proofs.Numbered.{legal_can_be_put}
-use Rattle.fe_keeper.specs.Keeper.{StoreState}
 use Rattle.fe_keeper.proofs.parts.Parts.put.Goals as goal
 
-pub append-outcome-requires-clause-each : goal.append-outcome-requires-clause-each
-append-outcome-requires-clause-each g c =
+pub put-outcome-requires-clause-each : goal.put-outcome-requires-clause-each
+put-outcome-requires-clause-each g c =
     let before : ServerState = rewound c.args.self.now.log c.args.self.now.state in
     legal_can_be_put before c.args.entries.now c.requires.limits c.requires.taken.legal
 
-pub append-outcome-requires-clause-place : goal.append-outcome-requires-clause-place
-append-outcome-requires-clause-place g c =
+pub put-outcome-requires-clause-place : goal.put-outcome-requires-clause-place
+put-outcome-requires-clause-place g c =
     let before : ServerState = rewound c.args.self.now.log c.args.self.now.state in
     let now = place_after before c.args.entries.now in
     let there : c.args.self.now.state.place ≡ _ = ap (λ (s : ServerState). s.place) c.requires.taken.state_is in
@@ -23,5 +22,4 @@ returns-in-Ok-clause-place g c =
     let before : ServerState = rewound c.args.self.now.log c.args.self.now.state in
     let now = place_after before c.args.entries.now in
     let there : c.args.self.now.state.place ≡ _ = ap (λ (s : ServerState). s.place) c.requires.taken.state_is in
-    let stored : c.append-outcome.new.self.place ≡ c.args.self.now.store.place + length c.args.entries.now = ap (λ (s : StoreState g.row.D.Denot). s.place) c.in-Ok.ensures.value in
-    omega (arith, now, there, c.requires.place, stored)
+    omega (arith, now, there, c.requires.place, c.in-Ok.ensures.place)

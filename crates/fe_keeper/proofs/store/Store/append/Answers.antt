@@ -3,7 +3,7 @@ use Rattle.std.specs.List.{AllByRecursion}
 use Rattle.fe_codec.specs.Record.{CanPut}
 use Rattle.fe_format.specs.Layout.{IsPayloadLength}
 use Rattle.fe_format.specs.declared.format.Format.{Format}
-use Rattle.fe_keeper.specs.Upholds.{store_of}
+use Rattle.fe_keeper.specs.within.Upholds.{store_of}
 use Rattle.fe_keeper.specs.declared.store.Store.{Store}
 use Rattle.fe_keeper.proofs.Appending.{put_in, fits_parts, room_to_catch_up, batch_group, group_size, batch_is_payload, append_leaves, append_upholds, sound_then, value_then}
 use Rattle.fe_keeper.proofs.store.Store.append.Goals as goal
@@ -12,20 +12,20 @@ pub spell-requires-clause-each : goal.spell-requires-clause-each
 spell-requires-clause-each g c =
     let old = c.args.self.now in
     let entries = c.args.entries.now in
-    subst (λ (f : Format). AllByRecursion (CanPut f) entries) (sym c.format.ensures) (put_in old.journal.format entries (fits_parts (store_of old) entries c.requires.fits).spellable c.requires.each)
+    subst (λ (f : Format). AllByRecursion (CanPut f) entries) (sym c.store_format-format.ensures) (put_in old.journal.format entries (fits_parts (store_of old) entries c.requires.fits).spellable c.requires.each)
 
 pub append_group-requires-clause-allowed : goal.append_group-requires-clause-allowed
 append_group-requires-clause-allowed g c =
     let format = c.args.self.now.journal.format in
     let entries = c.args.entries.now in
-    let is = batch_group c.format.result format entries c.deref.result.now c.spell.new.group.items c.deref.ensures.value c.spell.ensures.spelled c.spell.ensures.fits c.format.ensures c.requires.some c.requires.few in
+    let is = batch_group c.store_format-format.result format entries c.deref.result.now c.spell.new.group.items c.deref.ensures.value c.spell.ensures.spelled c.spell.ensures.fits c.store_format-format.ensures c.requires.some c.requires.few in
     subst (IsPayloadLength format) (sym (group_size format entries c.deref.result.now is)) (batch_is_payload format (length entries) c.requires.some c.requires.few)
 
 pub append_group-requires-clause-fits : goal.append_group-requires-clause-fits
 append_group-requires-clause-fits g c =
     let old = c.args.self.now in
     let entries = c.args.entries.now in
-    let is = batch_group c.format.result old.journal.format entries c.deref.result.now c.spell.new.group.items c.deref.ensures.value c.spell.ensures.spelled c.spell.ensures.fits c.format.ensures c.requires.some c.requires.few in
+    let is = batch_group c.store_format-format.result old.journal.format entries c.deref.result.now c.spell.new.group.items c.deref.ensures.value c.spell.ensures.spelled c.spell.ensures.fits c.store_format-format.ensures c.requires.some c.requires.few in
     let size = group_size old.journal.format entries c.deref.result.now is in
     let parts = fits_parts (store_of old) entries c.requires.fits in
     omega (arith, size, parts.room)
@@ -40,7 +40,7 @@ pub returns-in_err-append_group-clause-any_moment : goal.returns-in_err-append_g
 returns-in_err-append_group-clause-any_moment g c = λ honest s upheld legal.
     let old = c.args.self.now in
     let entries = c.args.entries.now in
-    let is = batch_group c.format.result old.journal.format entries c.deref.result.now c.spell.new.group.items c.deref.ensures.value c.spell.ensures.spelled c.spell.ensures.fits c.format.ensures c.requires.some c.requires.few in
+    let is = batch_group c.store_format-format.result old.journal.format entries c.deref.result.now c.spell.new.group.items c.deref.ensures.value c.spell.ensures.spelled c.spell.ensures.fits c.store_format-format.ensures c.requires.some c.requires.few in
     append_leaves g.D.Disk.moment g.D.Disk.left_since g.D.Disk.seen g.D.Disk.may_leave old c.append_group.new.self.disk s entries c.deref.result.now upheld is legal (c.append_group.ensures.any_moment honest)
 
 pub returns-clause-sound : goal.returns-clause-sound
@@ -53,7 +53,7 @@ pub returns-clause-any_moment : goal.returns-clause-any_moment
 returns-clause-any_moment g c = λ honest s upheld legal.
     let old = c.args.self.now in
     let entries = c.args.entries.now in
-    let is = batch_group c.format.result old.journal.format entries c.deref.result.now c.spell.new.group.items c.deref.ensures.value c.spell.ensures.spelled c.spell.ensures.fits c.format.ensures c.requires.some c.requires.few in
+    let is = batch_group c.store_format-format.result old.journal.format entries c.deref.result.now c.spell.new.group.items c.deref.ensures.value c.spell.ensures.spelled c.spell.ensures.fits c.store_format-format.ensures c.requires.some c.requires.few in
     append_leaves g.D.Disk.moment g.D.Disk.left_since g.D.Disk.seen g.D.Disk.may_leave old c.append_group.new.self.disk s entries c.deref.result.now upheld is legal (c.append_group.ensures.any_moment honest)
 
 pub returns-clause-upheld : goal.returns-clause-upheld
@@ -61,7 +61,7 @@ returns-clause-upheld g c = λ honest s upheld legal.
     let old = c.args.self.now in
     let entries = c.args.entries.now in
     let new : Store g.row.D.Denot = record { journal = c.append_group.new.self; group = c.spell.new.group; place = old.place + length entries; checkpoint = c.catch_up.new.checkpoint } in
-    let is = batch_group c.format.result old.journal.format entries c.deref.result.now c.spell.new.group.items c.deref.ensures.value c.spell.ensures.spelled c.spell.ensures.fits c.format.ensures c.requires.some c.requires.few in
+    let is = batch_group c.store_format-format.result old.journal.format entries c.deref.result.now c.spell.new.group.items c.deref.ensures.value c.spell.ensures.spelled c.spell.ensures.fits c.store_format-format.ensures c.requires.some c.requires.few in
     append_upholds g.D.Disk.moment g.D.Disk.left_since g.D.Disk.seen g.D.Disk.may_leave old new s entries c.deref.result.now upheld is legal (c.in_ok-append_group.ensures.appended honest) c.catch_up.ensures
 
 pub returns-clause-value : goal.returns-clause-value
@@ -69,5 +69,5 @@ returns-clause-value g c =
     let old = c.args.self.now in
     let entries = c.args.entries.now in
     let new : Store g.row.D.Denot = record { journal = c.append_group.new.self; group = c.spell.new.group; place = old.place + length entries; checkpoint = c.catch_up.new.checkpoint } in
-    let is = batch_group c.format.result old.journal.format entries c.deref.result.now c.spell.new.group.items c.deref.ensures.value c.spell.ensures.spelled c.spell.ensures.fits c.format.ensures c.requires.some c.requires.few in
+    let is = batch_group c.store_format-format.result old.journal.format entries c.deref.result.now c.spell.new.group.items c.deref.ensures.value c.spell.ensures.spelled c.spell.ensures.fits c.store_format-format.ensures c.requires.some c.requires.few in
     value_then old new entries c.append_group.new.self.disk (length c.deref.result.now) c.in_ok-append_group.ensures.value (group_size old.journal.format entries c.deref.result.now is) refl c.catch_up.ensures

@@ -1,4 +1,4 @@
-use Rattle.fe_keeper.specs.Upholds.{store_of}
+use Rattle.fe_keeper.specs.within.Upholds.{store_of}
 use Rattle.fe_keeper.proofs.Rests.{IsWriting, bytes_left}
 use Rattle.fe_keeper.proofs.store.Store.write_rest.Given as goal
 

@@ -1,4 +1,4 @@
-use Rattle.fe_pool.specs.Places.{columns_of}
+use Rattle.fe_pool.specs.within.Places.{columns_of}
 use Rattle.fe_pool.proofs.WithCount.{IsMade}
 use Rattle.fe_pool.proofs.places.Places.with_count.Given as goal
 

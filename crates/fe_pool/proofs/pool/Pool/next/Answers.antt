@@ -1,5 +1,5 @@
 use Rattle.std.proofs.Common.{sym, ap, ◌∙◌}
-use Rattle.fe_pool.specs.Runs.{next_of}
+use Rattle.fe_pool.specs.within.Runs.{next_of}
 use Rattle.fe_pool.proofs.PoolLemmas.{on-below, on-linked, pool-next}
 use Rattle.fe_pool.proofs.pool.Pool.next.Goals as goal
 

@@ -1,5 +1,5 @@
 use Rattle.std.proofs.Common.{◌≡◌, Some, ap, ◌∙◌, sym}
-use Rattle.fe_pool.specs.Runs.{lists}
+use Rattle.fe_pool.specs.within.Runs.{lists}
 use Rattle.fe_pool.specs.Columns.{place_before}
 use Rattle.fe_pool.proofs.PoolLemmas.{pool-sound}
 use Rattle.fe_pool.proofs.FreeLemmas.{pool-made, lists-replicate, place_before-none, place_before-some}

@@ -1,5 +1,5 @@
 use Rattle.std.proofs.Common.{is_some, ap, sym, ◌∙◌}
-use Rattle.fe_seats.specs.Inner.{by_session}
+use Rattle.fe_seats.specs.within.Inner.{by_session}
 use Rattle.fe_seats.proofs.KeptLemmas.{slot-below, kept-waits}
 use Rattle.fe_seats.proofs.OwnerLemmas.{get-in_slot, owned-insert, by_session-insert}
 use Rattle.fe_seats.proofs.SeatLemmas.{has_place, has_slot}

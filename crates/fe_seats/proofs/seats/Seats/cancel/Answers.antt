@@ -1,5 +1,5 @@
 use Rattle.std.proofs.Common.{ap, sym, ◌∙◌}
-use Rattle.fe_seats.specs.Inner.{by_session}
+use Rattle.fe_seats.specs.within.Inner.{by_session}
 use Rattle.fe_seats.proofs.KeptLemmas.{slot-below, kept-waits}
 use Rattle.fe_waits.proofs.MemberLemmas.{remove_absent}
 use Rattle.fe_seats.proofs.OwnerLemmas.{get-unseated, owned-remove, by_session-remove}

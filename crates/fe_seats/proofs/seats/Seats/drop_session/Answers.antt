@@ -1,5 +1,5 @@
 use Rattle.std.proofs.Common.{not, ap, sym, ◌∙◌}
-use Rattle.fe_seats.specs.Inner.{by_session}
+use Rattle.fe_seats.specs.within.Inner.{by_session}
 use Rattle.fe_seats.proofs.KeptLemmas.{slot-below, kept-waits}
 use Rattle.fe_seats.proofs.OwnerLemmas.{owned-kept}
 use Rattle.fe_seats.proofs.TurnLemmas.{count-in_slot, count-unseated, without-in_slot, without-unseated}

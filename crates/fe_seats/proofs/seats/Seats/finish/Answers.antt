@@ -1,5 +1,5 @@
 use Rattle.std.proofs.Common.{ap, ◌∙◌}
-use Rattle.fe_seats.specs.Inner.{by_session}
+use Rattle.fe_seats.specs.within.Inner.{by_session}
 use Rattle.fe_seats.proofs.KeptLemmas.{kept-waits}
 use Rattle.fe_seats.proofs.OwnerLemmas.{get-of_owner, owned-remove, by_session-remove}
 use Rattle.fe_seats.proofs.seats.Seats.finish.Goals as goal

@@ -1,5 +1,5 @@
 use Rattle.std.proofs.Common.{is_some, ap, sym, ◌∙◌, arith}
-use Rattle.fe_seats.specs.Inner.{seats_of}
+use Rattle.fe_seats.specs.within.Inner.{seats_of}
 use Rattle.fe_seats.proofs.KeptLemmas.{leave-below, leave-room, kept-leave, waiting-leave}
 use Rattle.fe_seats.proofs.SeatLemmas.{has_place, seats-remove}
 use Rattle.fe_seats.proofs.seats.Seats.leave.Goals as goal

@@ -1,5 +1,5 @@
 use Rattle.std.proofs.Common.{ap, ◌∙◌, rules}
-use Rattle.fe_seats.specs.Inner.{by_session, seats_of}
+use Rattle.fe_seats.specs.within.Inner.{by_session, seats_of}
 use Rattle.fe_seats.proofs.KeptLemmas.{kept-new}
 use Rattle.fe_seats.proofs.OwnerLemmas.{by_session-empty}
 use Rattle.fe_seats.proofs.SeatLemmas.{seats-empty}

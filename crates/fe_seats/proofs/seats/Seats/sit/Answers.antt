@@ -1,6 +1,6 @@
 use Rattle.std.proofs.Common.{refl, ap, ◌∙◌, arith}
 use Rattle.fe_seats.specs.Seating.{free_seat}
-use Rattle.fe_seats.specs.Inner.{seats_of}
+use Rattle.fe_seats.specs.within.Inner.{seats_of}
 use Rattle.fe_seats.proofs.KeptLemmas.{sit-below, kept-sit, waiting-sit}
 use Rattle.fe_seats.proofs.SeatLemmas.{no_place, len-seats, seats-insert}
 use Rattle.fe_seats.proofs.seats.Seats.sit.Goals as goal

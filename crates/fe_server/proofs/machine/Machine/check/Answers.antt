@@ -1,7 +1,17 @@
-use Rattle.std.proofs.Common.{refl}
-use Rattle.fe_server.proofs.Views.{then_ok}
+use Rattle.std.proofs.Common.{[], ◌∷◌, refl, rules}
+use Rattle.fe_desk.specs.declared.step.Step.TheVariants as step
+use Rattle.fe_server.proofs.Moving.{then_ok, moves_both}
 use Rattle.fe_server.proofs.machine.Machine.check.Goals as goal
 
-pub returns-clause-checked : goal.returns-clause-checked
-returns-clause-checked c =
-    then_ok c.step-2.result (λ last. (c.step.new.self.desk.standing, c.in_ok-step.ensures.stepped, (c.step-2.new.self.desk.standing, last, refl))) c.step-2.ensures.stepped
+pub returns-clause-acts : goal.returns-clause-acts
+returns-clause-acts c =
+    then_ok c.step-2.result
+    (λ m. record {
+      mid = c.args.self.now.desk;
+      begins = refl;
+      steps = step.CheckBegin ∷ step.CheckFinish ∷ [];
+      are = refl;
+      moves = moves_both c.args.self.now.desk c.step.new.self.desk c.step-2.new.self.desk (step.CheckBegin ∷ []) (step.CheckFinish ∷ []) c.in_ok-step.ensures.moved m;
+      printed = search rules;
+    })
+    c.step-2.ensures.moved

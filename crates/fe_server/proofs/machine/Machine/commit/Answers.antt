@@ -1,9 +1,20 @@
-use Rattle.std.proofs.Common.{refl}
-use Rattle.fe_server.proofs.Views.{then_ok}
+use Rattle.std.proofs.Common.{Bool, [], ◌∷◌, ◌++◌, sym, subst}
+use Rattle.fe_desk.specs.declared.step.Step.TheVariants as step
+use Rattle.fe_server.specs.Ready.{Moves}
+use Rattle.fe_server.specs.Schedule.{endings}
+use Rattle.fe_server.proofs.Moving.{then_ok, moves_none, moves_both}
 use Rattle.fe_server.proofs.machine.Machine.commit.Goals as goal
 
-pub returns-clause-committed : goal.returns-clause-committed
-returns-clause-committed c =
+pub returns-then-is_holding-clause-moved : goal.returns-then-is_holding-clause-moved
+returns-then-is_holding-clause-moved c =
+    let d = c.args.self.now.desk in
+    subst (λ (b : Bool). Moves d (endings b) d) (sym c.if-is_holding.true) (moves_none d)
+
+pub returns-clause-moved : goal.returns-clause-moved
+returns-clause-moved c =
+    let d = c.args.self.now.desk in
+    let e = c.step-3.new.self.desk in
+    let two = moves_both d c.step.new.self.desk c.step-2.new.self.desk (step.Cut ∷ []) (step.Append ∷ []) c.in_ok-step.ensures.moved c.in_ok-step-2.ensures.moved in
     then_ok c.step-3.result
-    (λ last. (c.step.new.self.desk.standing, c.in_ok-step.ensures.stepped, (c.step-2.new.self.desk.standing, c.in_ok-step-2.ensures.stepped, (c.step-3.new.self.desk.standing, last, refl))))
-    c.step-3.ensures.stepped
+    (λ m. subst (λ (b : Bool). Moves d (endings b) e) (sym c.if-is_holding.false) (moves_both d c.step-2.new.self.desk e (step.Cut ∷ step.Append ∷ []) (step.Post ∷ []) two m))
+    c.step-3.ensures.moved

@@ -1,8 +1,8 @@
-use Rattle.std.specs.Prelude.{map}
-use Rattle.fe_desk.specs.Standing.{Client}
-use Rattle.fe_server.proofs.Views.{no_views}
+use Rattle.std.proofs.Common.{List, ℕ, sym, subst}
+use Rattle.fe_server.specs.Runs.{ArePrinted}
+use Rattle.fe_server.specs.Schedule.{writings}
 use Rattle.fe_server.proofs.machine.Machine.new.Goals as goal
 
 pub returns-clause-machine : goal.returns-clause-machine
 returns-clause-machine c =
-    record { ready = c.in_ok-desk.ensures.ready; views = no_views (map (λ (x : Client). x.written) c.in_ok-desk.desk.standing.clients) c.new.result.items c.new.ensures.items }
+    record { ready = c.in_ok-desk.ensures.ready; printed = subst (λ (ns : List ℕ). ArePrinted ns (writings c.in_ok-desk.desk.standing)) (sym c.new.ensures.items) tt }

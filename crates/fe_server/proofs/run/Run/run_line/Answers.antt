@@ -1,20 +1,36 @@
-use Rattle.std.proofs.Common.{Bool, sym, ◌∙◌, subst}
+use Rattle.std.proofs.Common.{◌≡◌, List, ℕ, ◌++◌, sym, ap, subst, ◌∙◌, string_bytes, rules}
 use Rattle.fe_disk.specs.Memory.{MemoryState}
 use Rattle.fe_desk.specs.Crash.{DeskState}
-use Rattle.fe_server.specs.Runs.{Commits, RunsLine}
-use Rattle.fe_server.proofs.Views.{always}
+use Rattle.fe_desk.specs.Messages.{outputs}
+use Rattle.fe_server.specs.Ready.{Moves}
+use Rattle.fe_server.specs.Runs.{fronts, printed_after}
+use Rattle.fe_server.specs.Schedule.{writings, endings}
+use Rattle.fe_server.specs.Told.{PrintsSince}
+use Rattle.fe_server.proofs.Moving.{moves_both}
 use Rattle.fe_server.proofs.run.Run.run_line.Goals as goal
 
-pub returns-clause-runs : goal.returns-clause-runs
-returns-clause-runs c =
-    let before = c.act.new.self in
-    let held = c.in_ok-commit.ensures.holding in
-    let commits : Commits before.is_holding before.machine.desk c.print.new.self.desk =
-    subst (λ (d : DeskState MemoryState). Commits before.is_holding before.machine.desk d) (sym c.print.ensures.desk) c.in_ok-commit.ensures.committed in
-    always c.print.result
-    (record {
-      mid = before.machine.desk;
-      acts = c.in_ok-act.ensures.acts;
-      holding = held ∙ c.in_ok-act.ensures.holding;
-      commits = subst (λ (b : Bool). Commits b before.machine.desk c.print.new.self.desk) (sym held) commits;
-    })
+pub returns-in-Ok-clause-ran : goal.returns-in-Ok-clause-ran
+returns-in-Ok-clause-ran c =
+    let r = c.args.self.now in
+    let l = c.args.line.now in
+    let a = c.in_ok-act.ensures.acts in
+    let e = c.commit.new.self.desk in
+    let p = c.in_ok-print.ensures.text in
+    let held = endings c.holds_after-self.result in
+    let counts : c.commit.new.self.printed.items ≡ printed_after l r.machine.printed.items = c.commit.ensures.printed ∙ a.printed in
+    let line : string_bytes c.print.new.text ≡ p.more = p.is ∙ ap (λ (x : List ℕ). x ++ p.more) c.clear.ensures.bytes in
+    let pushed : string_bytes c.push_str.new.self ≡ string_bytes r.text ++ string_bytes c.print.new.text = search rules in
+    record {
+      mid = a.mid;
+      begins = a.begins;
+      steps = a.steps;
+      are = a.are;
+      moves = subst (λ (d : DeskState MemoryState). Moves a.mid (a.steps ++ held) d) (sym c.print.ensures.desk) (moves_both a.mid c.act.new.self.desk e a.steps held a.moves c.in_ok-commit.ensures.moved);
+      holding = c.holds_after-self.ensures;
+      prints = record {
+        more = p.more;
+        prints = subst (λ (d : DeskState MemoryState). PrintsSince (fronts (printed_after l r.machine.printed.items) (writings d.standing)) (outputs d.standing) p.more) (sym c.print.ensures.desk)
+            (subst (λ (ns : List ℕ). PrintsSince (fronts ns (writings e.standing)) (outputs e.standing) p.more) counts p.prints);
+        is = pushed ∙ ap (λ (x : List ℕ). string_bytes r.text ++ x) line;
+      };
+    }

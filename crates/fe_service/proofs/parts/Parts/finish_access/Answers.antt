@@ -3,7 +3,7 @@ use Rattle.std.specs.Prelude.{is_some}
 use Rattle.std.specs.FinMap.{get, len}
 use Rattle.fe_state.specs.Directory.{word_in, words_in}
 use Rattle.fe_state.specs.declared.request.Request.TheVariants.{Access}
-use Rattle.fe_service.specs.Parts.{WaitAtTag}
+use Rattle.fe_service.specs.within.Parts.{WaitAtTag}
 use Rattle.fe_service.proofs.Lengths.{operated_lengths}
 use Rattle.fe_service.proofs.Quiet.{quiet_tag, none_there, word_below, some_word, no_word, quiet_unless_there, quiet_there_and}
 use Rattle.fe_service.proofs.Completing.{IsEntered, entered_usable, entered_service, entered_completes, entered_quiet_at, quiet_everywhere}

@@ -1,7 +1,7 @@
 use Rattle.std.proofs.Common.{◌++◌, inl, inr, length-append, sym, ap, subst, ◌∙◌, arith}
 use Rattle.std.specs.FinMap.{get}
 use Rattle.fe_state.proofs.Maps.{same_or_other}
-use Rattle.fe_service.specs.Parts.{IsQuietAt, WaitAtTag}
+use Rattle.fe_service.specs.within.Parts.{IsQuietAt, WaitAtTag}
 use Rattle.fe_service.proofs.Serving.{taken_join, taken_usable, taken_len, taken_places, taken_room, taken_within, fewer_at_tag}
 use Rattle.fe_service.proofs.parts.Parts.serve_array.Goals as goal
 

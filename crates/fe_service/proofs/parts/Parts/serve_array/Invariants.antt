@@ -1,7 +1,7 @@
 use Rattle.std.proofs.Common.{◌≡◌, ◌≢◌, ◌<◌, ℕ, List, length}
 use Rattle.fe_words.specs.declared.word.Tag.{Tag}
 use Rattle.fe_state.specs.declared.entry.Entry.{Entry}
-use Rattle.fe_service.specs.Parts.{IsQuietAt, WaitAtTag, TakesTurns}
+use Rattle.fe_service.specs.within.Parts.{IsQuietAt, WaitAtTag, TakesTurns}
 use Rattle.fe_service.proofs.parts.Parts.serve_array.Given as goal
 
 abbrev pub invariant-loop-index : goal.invariant-loop-index

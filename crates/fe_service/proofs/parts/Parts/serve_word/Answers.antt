@@ -3,7 +3,7 @@ use Rattle.std.specs.FinMap.{get, len}
 use Rattle.fe_waits.specs.Waiting.{IsWord}
 use Rattle.fe_state.specs.State.{after}
 use Rattle.fe_service.specs.Service.{AreUsable}
-use Rattle.fe_service.specs.Parts.{IsQuietAt}
+use Rattle.fe_service.specs.within.Parts.{IsQuietAt}
 use Rattle.fe_service.proofs.Turns.{turn_usable}
 use Rattle.fe_service.proofs.Serving.{taken_then, turn_len, turn_within, turn_beside}
 use Rattle.fe_service.proofs.parts.Parts.serve_word.Goals as goal

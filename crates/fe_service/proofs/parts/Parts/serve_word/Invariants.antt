@@ -3,7 +3,7 @@ use Rattle.std.specs.FinMap.{get, len}
 use Rattle.fe_waits.specs.Waiting.{Waiter, IsWord}
 use Rattle.fe_state.specs.declared.entry.Entry.{Entry}
 use Rattle.fe_service.specs.Service.{AreUsable}
-use Rattle.fe_service.specs.Parts.{IsQuietAt, TakesTurns}
+use Rattle.fe_service.specs.within.Parts.{IsQuietAt, TakesTurns}
 use Rattle.fe_service.proofs.parts.Parts.serve_word.Given as goal
 
 abbrev pub invariant-loop-count : goal.invariant-loop-count

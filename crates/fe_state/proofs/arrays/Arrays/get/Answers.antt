@@ -1,8 +1,8 @@
 use Rattle.std.proofs.Common.{sym, arith}
 use Rattle.std.specs.FinMap.{len-entries}
 use Rattle.fe_state.proofs.ArraysLemmas.{get_missed, at_place}
-use Rattle.fe_state.proofs.TableCopyLemmas.{shown_there}
-use Rattle.fe_state.proofs.TablePlaces.{get_here}
+use Rattle.fe_table.proofs.TableCopyLemmas.{shown_there}
+use Rattle.fe_table.proofs.TablePlaces.{get_here}
 use Rattle.fe_state.proofs.arrays.Arrays.get.Goals as goal
 
 pub returns-in_err-place : goal.returns-in_err-place

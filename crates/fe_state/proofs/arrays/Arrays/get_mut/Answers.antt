@@ -1,7 +1,7 @@
 use Rattle.std.proofs.Common.{refl, sym, ◌∙◌, arith, rules}
 use Rattle.std.specs.FinMap.{len-entries}
 use Rattle.fe_state.proofs.ArraysLemmas.{set_finds, at_place}
-use Rattle.fe_state.proofs.TablePlaces.{put_here, get_lent}
+use Rattle.fe_table.proofs.TablePlaces.{put_here, get_lent}
 use Rattle.fe_state.proofs.arrays.Arrays.get_mut.Goals as goal
 
 pub unwrap-place-requires : goal.unwrap-place-requires

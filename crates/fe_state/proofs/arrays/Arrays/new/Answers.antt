@@ -1,5 +1,5 @@
 use Rattle.std.proofs.Common.{refl, arith}
-use Rattle.fe_state.proofs.TableLemmas.{entries-empty}
+use Rattle.fe_table.proofs.TableLemmas.{entries-empty}
 use Rattle.fe_state.proofs.arrays.Arrays.new.Goals as goal
 
 pub invariant_of-result : goal.invariant_of-result

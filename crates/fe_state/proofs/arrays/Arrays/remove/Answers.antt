@@ -1,5 +1,5 @@
 use Rattle.std.proofs.Common.{sym}
-use Rattle.fe_state.proofs.TableLemmas.{remove_absent}
+use Rattle.fe_table.proofs.TableLemmas.{remove_absent}
 use Rattle.fe_state.proofs.arrays.Arrays.remove.Goals as goal
 
 pub invariant_of-self : goal.invariant_of-self

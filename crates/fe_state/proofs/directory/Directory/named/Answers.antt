@@ -3,7 +3,7 @@ use Rattle.fe_state.proofs.DirectoryLemmas.{there_within, found_at, passed_at, n
 use Rattle.std.specs.Option.{option_map}
 use Rattle.std.specs.Str.{bytes_eq}
 use Rattle.std.specs.FinMap.{entries, len-entries}
-use Rattle.fe_state.specs.Table.{shown_entry}
+use Rattle.fe_table.specs.Table.{shown_entry}
 use Rattle.fe_state.proofs.directory.Directory.named.Goals as goal
 
 pub unwrap-id-requires : goal.unwrap-id-requires

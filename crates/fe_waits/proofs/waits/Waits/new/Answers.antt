@@ -1,6 +1,6 @@
 use Rattle.std.proofs.Common.{ap, ◌∙◌}
-use Rattle.fe_waits.specs.Words.{lengths}
-use Rattle.fe_waits.specs.Inner.{members_of}
+use Rattle.fe_waits.specs.within.Words.{lengths}
+use Rattle.fe_waits.specs.within.Inner.{members_of}
 use Rattle.fe_waits.proofs.KeptLemmas.{kept-new}
 use Rattle.fe_waits.proofs.MemberLemmas.{members-empty}
 use Rattle.fe_waits.proofs.WordLemmas.{lengths-empty}

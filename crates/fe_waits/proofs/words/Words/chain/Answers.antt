@@ -1,24 +1,25 @@
-use Rattle.std.proofs.Common.{refl, ◌∙◌, arith}
-use Rattle.std.specs.FinMap.{entries, entries_sorted}
-use Rattle.fe_waits.proofs.EntryLemmas.{place_below, get_found, search_finds, from_sorted-entries}
+use Rattle.std.proofs.Common.{◌≡◌, List, Option, Some, None, IsSome, refl, ap, sym, ◌∙◌}
+use Rattle.std.specs.Borrow.{Bor}
+use Rattle.std.specs.FinMap.{FinMap, get}
+use Rattle.std.specs.Option.{option_copied}
+use Rattle.std.specs.Ordering.{nat_cmp}
+use Rattle.fe_pool.specs.declared.chain.Chain.{Chain}
 use Rattle.fe_waits.proofs.WordLemmas.{chain-array, chain_of, chain-below}
 use Rattle.fe_waits.proofs.words.Words.chain.Goals as goal
 
-pub unwrap-place-requires : goal.unwrap-place-requires
-unwrap-place-requires c =
-    search_finds (entries c.args.self.now) c.args.self.now (entries_sorted c.args.self.now) (from_sorted-entries _ _ refl) _ _ c.search.ensures.absent (chain-array _ _ _ c.requires.word)
+some_copied : {X : Type 0} (r : Option (Bor X)) → IsSome (option_copied r) → IsSome r
+some_copied None h = h
+some_copied (Some x) h = refl
 
-pub index-requires : goal.index-requires
-index-requires c =
-    let found = rw c.unwrap-place.ensures at c.search.ensures.found in
-    omega (arith, place_below _ _ c.self.invariant.ascending c.self.view_is _ _ found, c.self.inside.arrays.ok.0)
+pub unwrap-chains-requires : goal.unwrap-chains-requires
+unwrap-chains-requires c =
+    let seen : option_copied c.get.result ≡ get c.args.self.now c.args.array = c.get.ensures.value ∙ ap (λ (m : FinMap nat_cmp (List Chain)). get m c.args.array) c.self.view_is in
+    some_copied c.get.result (rw seen (chain-array _ _ _ c.requires.word))
 
 pub at-requires : goal.at-requires
 at-requires c =
-    let found = rw c.unwrap-place.ensures at c.search.ensures.found in
-    chain-below _ _ _ _ c.requires.word (get_found _ _ c.self.invariant.ascending c.self.view_is _ _ _ c.index.ensures found)
+    chain-below _ _ _ _ c.requires.word (ap (λ (m : FinMap nat_cmp (List Chain)). get m c.args.array) (sym c.self.view_is) ∙ sym c.get.ensures.value ∙ ap option_copied c.unwrap-chains.ensures)
 
 pub returns : goal.returns
 returns c =
-    let found = rw c.unwrap-place.ensures at c.search.ensures.found in
-    chain_of _ _ _ _ (get_found _ _ c.self.invariant.ascending c.self.view_is _ _ _ c.index.ensures found) ∙ c.at.ensures
+    chain_of _ _ _ _ (ap (λ (m : FinMap nat_cmp (List Chain)). get m c.args.array) (sym c.self.view_is) ∙ sym c.get.ensures.value ∙ ap option_copied c.unwrap-chains.ensures) ∙ c.at.ensures

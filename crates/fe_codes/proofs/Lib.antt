@@ -1,0 +1,3 @@
+pub mod BindingLaws
+pub mod Splits
+pub mod CodeLaws

@@ -1,0 +1,5 @@
+pub mod Bytes
+pub mod Binding
+pub mod Codes
+pub mod Reading
+pub mod Laws

@@ -1,0 +1,18 @@
+//! Codes are read as what they stand for, and as nothing else.
+
+ghost use Rattle.fe_codes.specs.Laws.{TagsAreTheirCodes, OpsAreTheirCodes, AnswersAreTheirCodes};
+
+/// A code is read as a tag exactly where it is the code of that tag.
+pub fn tags_are_their_codes()
+    ensures { TagsAreTheirCodes }
+{}
+
+/// A code and an operand are read as an operation exactly where they are its own.
+pub fn ops_are_their_codes()
+    ensures { OpsAreTheirCodes }
+{}
+
+/// A code, a number and a length are read as an answer exactly where they are its own.
+pub fn answers_are_their_codes()
+    ensures { AnswersAreTheirCodes }
+{}

@@ -1,0 +1,28 @@
+//! The codes of tags.
+
+ghost use Rattle.std.specs.Prelude.{◌≡◌};
+ghost use Rattle.fe_codes.specs.Codes.{tag_code};
+ghost use Rattle.fe_codes.specs.Reading.{tag_of};
+
+use fe_words::Tag;
+
+pub fn tag_code(tag: Tag) -> u8
+    ensures { result ≡ tag_code tag }
+{
+    match tag {
+        Tag::Empty => 0,
+        Tag::Full => 1,
+    }
+}
+
+/// The tag of a code, or `None` where no tag has it.
+#[tactic(auto, unfolding(crate::specs::Reading::tag_of))]
+pub fn tag_of(code: u8) -> Option<Tag>
+    ensures { result ≡ tag_of code }
+{
+    match code {
+        0 => Some(Tag::Empty),
+        1 => Some(Tag::Full),
+        _ => None,
+    }
+}

@@ -1,0 +1,154 @@
+-- What was written to connections goes on with more.
+use Rattle.std.proofs.Common.{◌≡◌, ℕ, Bool, true, false, List, [], ◌∷◌, ◌++◌, map, Option, Some, None, refl, sym, ap, subst, ◌∙◌, append_assoc, append-nil, nat_eq, if◌then◌else◌}
+use Rattle.std.specs.Prelude.{MatchBool, is_some}
+use Rattle.fe_wire.specs.Stream.{Decoding}
+use Rattle.fe_wire.specs.declared.client_message.ClientMessage.{ClientMessage}
+use Rattle.fe_front.specs.Front.{FrontState, is_connected, has_room}
+use Rattle.fe_desk.specs.declared.handed.Handed.{Handed}
+use Rattle.fe_desk.specs.declared.handed.Handed.TheVariants.{Nothing, Cut, Stored}
+use Rattle.fe_desk.specs.declared.step.Step.{Step}
+use Rattle.fe_desk.specs.declared.step.Step.TheVariants as step
+use Rattle.fe_desk.specs.Mails.{emptied_box}
+use Rattle.fe_desk.specs.Messages.{outputs}
+use Rattle.fe_desk.specs.Output.{output_of, Extends}
+use Rattle.fe_desk.specs.Standing.{Client, Standing, unwritten, all_told}
+use Rattle.fe_desk.specs.Storing.{cut, stored, stored_from, posted, posted_from, cleared, made, with_room, begun_room, roomy, is_making}
+use Rattle.fe_desk.specs.Taking.{TakesAll}
+use Rattle.fe_desk.specs.Steps.{find, on_client, with_left, with_decoder, new_client, clients_with, unmade, Connects, gone, TakesPiece, TakesFrom, TakesBytes, after_frame, Acts}
+
+pub extends_itself : (xs : List (ℕ × List ℕ)) → Extends xs xs
+extends_itself [] = tt
+extends_itself (x ∷ xs) = (refl, ([], sym (append-nil x.1)), extends_itself xs)
+
+pub extends_both : (xs ys zs : List (ℕ × List ℕ)) → Extends xs ys → Extends ys zs → Extends xs zs
+extends_both [] ys zs e f = tt
+extends_both (x ∷ xs) [] zs e f = absurd e
+extends_both (x ∷ xs) (y ∷ ys) [] e f = absurd f
+extends_both (x ∷ xs) (y ∷ ys) (z ∷ zs) e f =
+    let one = e.1 in
+    let two = f.1 in
+    (f.0 ∙ e.0, (one.0 ++ two.0, two.1 ∙ ap (λ (t : List ℕ). t ++ two.0) one.1 ∙ append_assoc x.1 one.0 two.0), extends_both xs ys zs e.2 f.2)
+
+pub extends_as : (xs ys : List (ℕ × List ℕ)) → ys ≡ xs → Extends xs ys
+extends_as xs ys same = subst (λ (zs : List (ℕ × List ℕ)). Extends xs zs) (sym same) (extends_itself xs)
+
+-- a client is written more
+pub extends_at : (done : List Client) (c d : Client) (left : List Client) → d.conn ≡ c.conn → (more : List ℕ) × (d.written ≡ c.written ++ more)
+    → Extends (map output_of (done ++ c ∷ left)) (map output_of (done ++ d ∷ left))
+extends_at [] c d left conn more = (conn, more, extends_itself (map output_of left))
+extends_at (x ∷ done) c d left conn more = (refl, ([], sym (append-nil x.written)), extends_at done c d left conn more)
+
+-- a client comes
+extends_behind : (cs : List Client) (d : Client) → Extends (map output_of cs) (map output_of (cs ++ d ∷ []))
+extends_behind [] d = tt
+extends_behind (c ∷ cs) d = (refl, ([], sym (append-nil c.written)), extends_behind cs d)
+
+-- each is written its mails
+pub all_told-extends : (f : FrontState) (cs : List Client) → Extends (map output_of cs) (map output_of (all_told f cs))
+all_told-extends f [] = tt
+all_told-extends f (c ∷ cs) = (refl, (unwritten f c, refl), all_told-extends (emptied_box f c.conn) cs)
+
+-- ---- the clients over what a step does
+
+-- what is written to a client stays
+abbrev pub Keeps : (Client → Client) → Type 0
+Keeps change = (c : Client) → output_of (change c) ≡ output_of c
+
+pub changed : (conn : ℕ) (change : Client → Client) → Keeps change → (cs : List Client) → map output_of (on_client conn change cs) ≡ map output_of cs
+changed conn change keeps [] = refl
+changed conn change keeps (c ∷ cs) = by (nat_eq c.conn conn) (changed conn change keeps cs)
+  where
+    by : (b : Bool) → map output_of (on_client conn change cs) ≡ map output_of cs → map output_of (if b then change c ∷ cs else c ∷ on_client conn change cs) ≡ map output_of (c ∷ cs)
+    by true rest = ap (λ (x : ℕ × List ℕ). x ∷ map output_of cs) (keeps c)
+    by false rest = ap (λ (xs : List (ℕ × List ℕ)). output_of c ∷ xs) rest
+
+came : (cs : List Client) (conn : ℕ) (d : Decoding) → Extends (map output_of cs) (map output_of (clients_with cs conn d))
+came cs conn d = by (is_some (find conn cs))
+  where
+    by : (b : Bool) → Extends (map output_of cs) (map output_of (if b then on_client conn (λ c. record c { decoder = d; left = [] }) cs else cs ++ new_client conn d ∷ []))
+    by true = extends_as (map output_of cs) (map output_of (on_client conn (λ c. record c { decoder = d; left = [] }) cs)) (changed conn (λ c. record c { decoder = d; left = [] }) (λ c. refl) cs)
+    by false = extends_behind cs (new_client conn d)
+
+chosen : (b : Bool) (s t u : Standing) → t.clients ≡ s.clients → u.clients ≡ s.clients → (if b then t else u).clients ≡ s.clients
+chosen true s t u e f = e
+chosen false s t u e f = f
+
+stored_clients : (h : Handed) (s : Standing) → (stored_from h s).clients ≡ s.clients
+stored_clients Nothing s = refl
+stored_clients (Cut batch) s = refl
+stored_clients (Stored batch) s = refl
+
+posted_clients : (h : Handed) (s : Standing) → (posted_from h s).clients ≡ s.clients
+posted_clients Nothing s = refl
+posted_clients (Cut batch) s = refl
+posted_clients (Stored batch) s = refl
+
+cleared_clients : (s : Standing) → (cleared s).clients ≡ s.clients
+cleared_clients s = posted_clients (stored s).handed (stored s) ∙ stored_clients s.handed s
+
+roomy_clients : (s : Standing) (conn : ℕ) → (roomy s conn).clients ≡ s.clients
+roomy_clients s conn = with_clients (begun_room s conn) ∙ chosen (is_making s conn) s (made (cleared s)) s (cleared_clients s) refl
+  where
+    with_clients : (u : Standing) → (with_room u).clients ≡ u.clients
+    with_clients u = chosen (has_room u.front) u u (made (cleared (cut (cleared u)))) refl (cleared_clients (cut (cleared u)) ∙ cleared_clients u)
+
+pub takes_clients : (ms : List ClientMessage) (s : Standing) (conn : ℕ) (t : Standing) → TakesAll s conn ms t → t.clients ≡ s.clients
+takes_clients [] s conn t e = ap (λ (u : Standing). u.clients) e
+takes_clients (m ∷ ms) s conn t e =
+    let u = e.0 in
+    let one : u.clients ≡ s.clients = ap (λ (u : Standing). u.clients) e.1.after ∙ roomy_clients s conn in
+    takes_clients ms u conn t e.2 ∙ one
+
+-- ---- output over what a step does
+
+-- the clients of one standing are those of another
+same : (s t : Standing) → t.clients ≡ s.clients → outputs t ≡ outputs s
+same s t clients = ap (λ (cs : List Client). map output_of cs) clients
+
+left_output : (s : Standing) (conn : ℕ) (left : List ClientMessage) → outputs (with_left s conn left) ≡ outputs s
+left_output s conn left = changed conn (λ c. record c { left = left }) (λ c. refl) s.clients
+
+gone_output : (s : Standing) (conn : ℕ) → outputs (gone s conn) ≡ outputs s
+gone_output s conn = left_output (unmade s conn) conn [] ∙ same s (unmade s conn) (chosen (is_making s conn) s (record s { making = None }) s refl refl)
+
+frame_output : (bad : Bool) (s : Standing) (conn : ℕ) → outputs (after_frame bad s conn) ≡ outputs s
+frame_output true s conn = gone_output s conn
+frame_output false s conn = refl
+
+piece_output : (s : Standing) (conn : ℕ) (before : Decoding) (piece : List ℕ) (t : Standing) → TakesPiece s conn before piece t → outputs t ≡ outputs s
+piece_output s conn before piece t p =
+    let read = with_decoder s conn p.decoder in
+    ap outputs p.after
+    ∙ frame_output p.decoder.is_bad p.last conn
+    ∙ same read p.last (takes_clients p.more read conn p.last p.takes)
+    ∙ changed conn (λ c. record c { decoder = p.decoder }) (λ c. refl) s.clients
+
+from_output : (s : Standing) (conn : ℕ) (left : List ClientMessage) (before : Decoding) (piece : List ℕ) (t : Standing) → TakesFrom s conn left before piece t → outputs t ≡ outputs s
+from_output s conn left before piece t p =
+    by (is_connected p.mid.front conn) p.reading
+    ∙ same (with_left s conn []) p.mid (takes_clients left (with_left s conn []) conn p.mid p.leftovers)
+    ∙ left_output s conn []
+  where
+    by : (b : Bool) → MatchBool b (TakesPiece p.mid conn before piece t) (t ≡ p.mid) → outputs t ≡ outputs p.mid
+    by true r = piece_output p.mid conn before piece t r
+    by false r = ap outputs r
+
+bytes_output : (s : Standing) (o : Option Client) (piece : List ℕ) (t : Standing) → TakesBytes s o piece t → outputs t ≡ outputs s
+bytes_output s None piece t e = ap outputs e
+bytes_output s (Some c) piece t e = from_output s c.conn c.left c.decoder piece t e
+
+-- a step writes nothing before its end
+pub acts_extends : (s : Standing) (x : Step) (t : Standing) → Acts s x t → Extends (outputs s) (outputs t)
+acts_extends s (step.Connect conn) t e = by (is_connected s.front conn) e
+  where
+    by : (b : Bool) → MatchBool b (t ≡ s) (Connects s conn t) → Extends (outputs s) (outputs t)
+    by true r = extends_as (outputs s) (outputs t) (ap outputs r)
+    by false r = subst (λ (u : Standing). Extends (outputs s) (outputs u)) (sym r.after) (came s.clients conn r.decoder)
+acts_extends s (step.Bytes conn piece) t e = extends_as (outputs s) (outputs t) (bytes_output s (find conn s.clients) piece.items t e)
+acts_extends s (step.Gone conn) t e = extends_as (outputs s) (outputs t) (ap outputs e ∙ gone_output s conn)
+acts_extends s step.Cut t e = extends_as (outputs s) (outputs t) (ap outputs e)
+acts_extends s step.Append t e = extends_as (outputs s) (outputs t) (ap outputs e ∙ same s (stored s) (stored_clients s.handed s))
+acts_extends s step.Post t e = extends_as (outputs s) (outputs t) (ap outputs e ∙ same s (posted s) (posted_clients s.handed s))
+acts_extends s step.CheckBegin t e = extends_as (outputs s) (outputs t) (ap outputs e)
+acts_extends s step.CheckStep t e = extends_as (outputs s) (outputs t) (ap outputs e)
+acts_extends s step.CheckFinish t e = extends_as (outputs s) (outputs t) (ap outputs e)

@@ -1,0 +1,110 @@
+-- How far a connection's messages were taken where a batch found no memory, or the device failed it.
+use Rattle.std.proofs.Common.{◌≡◌, inl, inr, ℕ, ◌<◌, Bool, true, false, Option, List, [], ◌∷◌, ◌++◌, length, Some, refl, sym, ap, subst, ◌∙◌, arith}
+use Rattle.std.specs.Prelude.{nat_eq, nat_le, if◌then◌else◌}
+use Rattle.std.proofs.lemmas.Bool.Decides.{nat_tests}
+use Rattle.fe_state.specs.declared.entry.Entry.{Entry}
+use Rattle.fe_front.specs.Front.{has_room}
+use Rattle.fe_wire.specs.declared.client_message.ClientMessage.{ClientMessage}
+use Rattle.fe_desk.specs.declared.handed.Handed.{Handed}
+use Rattle.fe_desk.specs.declared.handed.Handed.TheVariants.{Nothing, Cut, Stored}
+use Rattle.fe_desk.specs.Standing.{Client, Standing}
+use Rattle.fe_desk.specs.Storing.{cut, cleared, committed, made, begun_room, roomy, is_making}
+use Rattle.fe_desk.specs.Steps.{on_client, with_left}
+use Rattle.fe_desk.specs.Messages.{left_of}
+use Rattle.fe_desk.specs.Stopping.{HasCut, MayBegin, StopsMaking, StopsBefore, room_begun}
+use Rattle.fe_desk.specs.Crash.{DeskState}
+use Rattle.fe_desk.specs.Ends.{Tears}
+use Rattle.fe_desk.specs.within.Desk.{IsHanded}
+use Rattle.fe_desk.proofs.Making.{begun_by, cleared_pending, roomy_later}
+use Rattle.fe_desk.proofs.Reading.{on_client-twice, on_client-stays, relieved, left_among, with_clients, cleared-clients, begun_room-clients}
+use Rattle.fe_desk.proofs.Leftovers.{IsTaken}
+
+-- ---- room
+
+same_number : (n : ℕ) → nat_eq n n ≡ true
+same_number n = grind (arith, nat_tests)
+
+-- which connection room is made for tells nothing once it is made
+made_alike : (s : Standing) (m : Option ℕ) → made (cleared (record s { making = m })) ≡ made (cleared s)
+made_alike s m = by s.handed
+  where
+    by : (h : Handed) → made (cleared (record s { handed = h; making = m })) ≡ made (cleared (record s { handed = h }))
+    by Nothing = refl
+    by (Cut batch) = refl
+    by (Stored batch) = refl
+
+-- room that is begun is made by what is left of it
+begun_made : (s : Standing) (conn : ℕ) → begun_room (room_begun s conn) conn ≡ made (committed (cleared s))
+begun_made s conn = begun_by (room_begun s conn) conn true (same_number conn) ∙ made_alike (cut (cleared s)) (Some conn)
+
+-- where the making of room stops, it comes to the same later
+pub stops_later : (s mid t : Standing) (conn : ℕ) → mid ≡ begun_room s conn → IsHanded mid.handed mid.front.out → has_room mid.front ≡ false → MayBegin mid conn t → roomy t conn ≡ roomy s conn
+stops_later s mid t conn begun handed none (inl is) = roomy_later s mid t conn begun handed none (inl is)
+stops_later s mid t conn begun handed none (inr is) =
+    roomy_later s mid t conn begun handed none (inr (ap (λ (u : Standing). begun_room u conn) is ∙ begun_made mid conn))
+
+-- what is pending is not touched by room that was begun
+begun_pending : (s : Standing) (conn : ℕ) → (begun_room s conn).front.service.pending ≡ s.front.service.pending
+begun_pending s conn = by (is_making s conn)
+  where
+    by : (b : Bool) → (if b then made (cleared s) else s).front.service.pending ≡ s.front.service.pending
+    by true = cleared_pending s
+    by false = refl
+
+-- room was made as far as to there
+pub stops_room : (s mid t : Standing) (conn : ℕ) → mid ≡ begun_room s conn → has_room mid.front ≡ false → MayBegin mid conn t → StopsMaking s conn t
+stops_room s mid t conn begun none may =
+    let pending : mid.front.service.pending ≡ s.front.service.pending = ap (λ (u : Standing). u.front.service.pending) begun ∙ begun_pending s conn in
+    let full : has_room s.front ≡ false = ap (λ (es : List Entry). nat_le (length es) 2048) (sym pending) ∙ none in
+    inr (full, subst (λ (u : Standing). MayBegin u conn t) begun may)
+
+-- ---- room is made whatever stands among the clients
+
+room_begun-clients : (s : Standing) (conn : ℕ) (cs : List Client) → room_begun (with_clients s cs) conn ≡ with_clients (room_begun s conn) cs
+room_begun-clients s conn cs = ap (λ (t : Standing). record (cut t) { making = Some conn }) (cleared-clients s cs)
+
+begins-clients : (s t : Standing) (conn : ℕ) (cs : List Client) → MayBegin s conn t → MayBegin (with_clients s cs) conn (with_clients t cs)
+begins-clients s t conn cs (inl is) = inl (ap (λ (u : Standing). with_clients u cs) is)
+begins-clients s t conn cs (inr is) = inr (ap (λ (u : Standing). with_clients u cs) is ∙ sym (room_begun-clients s conn cs))
+
+stops-clients : (s t : Standing) (conn : ℕ) (cs : List Client) → StopsMaking s conn t → StopsMaking (with_clients s cs) conn (with_clients t cs)
+stops-clients s t conn cs (inl still) = inl (still.0, ap (λ (u : Standing). with_clients u cs) still.1)
+stops-clients s t conn cs (inr begins) =
+    inr (begins.0, subst (λ (u : Standing). MayBegin u conn (with_clients t cs)) (sym (begun_room-clients s conn cs)) (begins-clients (begun_room s conn) t conn cs begins.1))
+
+-- ---- messages
+
+-- messages were taken as far as to there, and room for the next is not made
+pub first_stops : (conn : ℕ) (s a t : Standing) → 0 < length (left_of a conn) → t.clients ≡ a.clients → StopsMaking a conn t → HasCut t → IsTaken conn s a → StopsBefore s conn t
+first_stops conn s a t some clients stops at_hand taken = by (left_of a conn) some refl
+  where
+    emptied : List Client
+    emptied = on_client conn (relieved []) a.clients
+
+    back : (ms : List ClientMessage) → left_of a conn ≡ ms → on_client conn (relieved ms) emptied ≡ t.clients
+    back ms is =
+        on_client-twice conn (relieved []) (relieved ms) a.clients (λ c. refl)
+        ∙ on_client-stays conn (relieved ms) a.clients (λ c here. ap (λ (left : List ClientMessage). relieved left c) (sym (sym (ap left_among here) ∙ is)))
+        ∙ sym clients
+
+    by : (ms : List ClientMessage) → 0 < length ms → left_of a conn ≡ ms → StopsBefore s conn t
+    by [] none is = absurd (omega arith)
+    by (m ∷ ms) here is = record {
+      taken = taken.rest.0;
+      next = m;
+      behind = ms;
+      before = with_left a conn [];
+      last = with_clients t emptied;
+      all = taken.rest.1 ∙ ap (λ (left : List ClientMessage). taken.rest.0 ++ left) is;
+      takes = taken.took;
+      stops = stops-clients a t conn emptied stops;
+      at_hand = record { batch = at_hand.batch; handed = at_hand.handed };
+      after = ap (λ (cs : List Client). with_clients t cs) (sym (back (m ∷ ms) is));
+    }
+
+-- the device failed there
+pub first_tears : {D : Type 0} (conn : ℕ) (s a last : Standing) (new : DeskState D) → 0 < length (left_of a conn) → new.standing.clients ≡ a.clients → StopsMaking a conn last → IsTaken conn s a → Tears last new
+    → (u : Standing) × StopsBefore s conn u × Tears u new
+first_tears conn s a last new some clients stops taken tears =
+    let same : last.clients ≡ a.clients = sym (ap (λ (u : Standing). u.clients) tears.standing) ∙ clients in
+    (last, first_stops conn s a last some same stops tears.at_hand taken, tears)

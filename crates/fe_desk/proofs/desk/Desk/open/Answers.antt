@@ -1,0 +1,53 @@
+use Rattle.std.proofs.Common.{◌≡◌, ◌⊎◌, false, inl, inr, ⊎_elim, ap, subst, sym, ◌∙◌}
+use Rattle.std.proofs.lemmas.Result.{IfOk-weaker, IfErr-weaker}
+use Rattle.fe_journal.specs.Steps.{OnlyReads}
+use Rattle.fe_keeper.specs.Keeper.{KeeperState}
+use Rattle.fe_keeper.specs.Stands.{EachStandsFor}
+use Rattle.fe_desk.specs.Crash.{disk_of}
+use Rattle.fe_desk.specs.Messages.{told_as}
+use Rattle.fe_keeper.specs.declared.fault.Fault.TheVariants as keeper
+use Rattle.fe_desk.specs.declared.fault.DeskFault.{DeskFault}
+use Rattle.fe_desk.specs.declared.fault.DeskFault.TheVariants.{Store, NoMemory}
+use Rattle.fe_desk.specs.Opened.{TellsOpening}
+use Rattle.fe_desk.proofs.Openings.{disk_is, device_told, tells_opening, short_opening}
+use Rattle.fe_desk.proofs.desk.Desk.open.Goals as goal
+
+pub returns-in-Ok-clause-stands : goal.returns-in-Ok-clause-stands
+returns-in-Ok-clause-stands g c = λ honest.
+    let k = c.in-Ok.keeper in
+    IfOk-weaker c.desk_over.result (λ desk. desk.keeper ≡ k) (λ desk. EachStandsFor g.D.Disk.may_leave (disk_of desk) desk.keeper.state)
+    (λ desk is. subst (λ (x : KeeperState g.row.D.Denot). EachStandsFor g.D.Disk.may_leave x.store.disk x.state) (sym is) (c.in-Ok.ensures.stands honest)) c.desk_over.ensures.keeper
+
+pub returns-in-Ok-clause-reads : goal.returns-in-Ok-clause-reads
+returns-in-Ok-clause-reads g c = λ honest.
+    let k = c.in-Ok.keeper in
+    subst (λ d. OnlyReads g.D.Disk.seen g.D.Disk.may_leave g.D.Disk.moment g.D.Disk.left_since c.args.disk d) (sym (disk_is c.desk_over.result k c.desk_over.ensures.keeper c.desk_over.ensures.disk))
+    (c.in-Ok.ensures.reads honest)
+
+pub returns-in-Ok-clause-device : goal.returns-in-Ok-clause-device
+returns-in-Ok-clause-device g c =
+    device_told c.desk_over.result c.in-Ok.keeper g.D.Disk.failures (g.D.Disk.failures c.args.disk) c.in-Ok.ensures.calm c.desk_over.ensures.fault c.desk_over.ensures.disk
+
+pub returns-in-Ok-clause-refused : goal.returns-in-Ok-clause-refused
+returns-in-Ok-clause-refused g c = λ honest s stands.
+    IfErr-weaker c.desk_over.result (λ e. e.0 ≡ NoMemory false) (λ e. (e.0 ≡ Store keeper.Device) ⊎ (e.0 ≡ NoMemory false)) (λ e is. inr is) c.desk_over.ensures.fault
+
+pub returns-in-Err-clause-refused : goal.returns-in-Err-clause-refused
+returns-in-Err-clause-refused g c = λ honest s stands.
+    ⊎_elim (λ e. inl (c.told.ensures ∙ ap (λ f. told_as f false) e)) (λ e. inr (c.told.ensures ∙ ap (λ f. told_as f false) e)) (c.in-Err.ensures.refused honest s stands)
+
+pub returns-in-Ok-clause-told : goal.returns-in-Ok-clause-told
+returns-in-Ok-clause-told g c = λ honest.
+    short_opening c.desk_over.result (g.D.Disk.seen c.args.disk) (c.in-Ok.ensures.unformatted honest) c.desk_over.ensures.fault
+
+pub returns-in-Ok-clause-unformatted : goal.returns-in-Ok-clause-unformatted
+returns-in-Ok-clause-unformatted g c = λ honest odd. absurd (c.in-Ok.ensures.unformatted honest odd)
+
+pub returns-in-Err-clause-told : goal.returns-in-Err-clause-told
+returns-in-Err-clause-told g c = λ honest.
+    let seen = g.D.Disk.seen c.args.disk in
+    subst (λ (f : DeskFault). TellsOpening f seen) (sym c.told.ensures) (tells_opening seen c.in-Err.fault (c.in-Err.ensures.told honest))
+
+pub returns-in-Err-clause-unformatted : goal.returns-in-Err-clause-unformatted
+returns-in-Err-clause-unformatted g c = λ honest odd.
+    ⊎_elim (λ e. inl (c.told.ensures ∙ ap (λ f. told_as f false) e)) (λ e. inr (c.told.ensures ∙ ap (λ f. told_as f false) e)) (c.in-Err.ensures.unformatted honest odd)

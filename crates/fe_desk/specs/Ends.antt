@@ -1,0 +1,66 @@
+-- How a step ends that found no memory, or that the device failed.
+use Rattle.std.specs.Prelude.{◌≡◌, ◌⊎◌, ℕ, Bool, true, false, [], ◌∷◌, ◌++◌, List, length}
+use Rattle.fe_front.specs.Front.{is_connected}
+use Rattle.fe_desk.specs.declared.step.Step.{Step}
+use Rattle.fe_desk.specs.declared.step.Step.TheVariants as step
+use Rattle.fe_desk.specs.Standing.{Standing, discharged}
+use Rattle.fe_desk.specs.Stopping.{HasCut, StopsBefore, StopsUnread, StopsBehind}
+use Rattle.fe_desk.specs.Crash.{DeskState}
+use Rattle.fe_desk.specs.Checks.{StoresMore}
+
+-- ---- no memory
+
+-- mails that were owed found no memory, and nothing else was done
+pub record StillOwes {D : Type 0} (old new : DeskState D) : Type 0 where
+  pub owed : old.standing.owes ≡ true
+  pub later : discharged new.standing ≡ discharged old.standing
+  pub keeper : new.keeper ≡ old.keeper
+  pub synced : new.synced ≡ old.synced
+
+-- mails that were owed are written
+abbrev pub discharged_desk : {D : Type 0} → DeskState D → DeskState D
+discharged_desk d = record d { standing = discharged d.standing }
+
+-- What a step found no memory for, where no mails are owed. A connection came, a batch is at hand, or a checkpoint was to
+-- begin, and nothing was done. Or of a connection's messages the first were taken, before its piece was read or behind it
+-- (`fed`), and what that stored is all that was done to the store. Other steps take no memory.
+abbrev pub Lacks : {D : Type 0} → Bool → Step → DeskState D → DeskState D → Type 0
+Lacks false (step.Connect conn) old new = (is_connected old.standing.front conn ≡ false) × (new ≡ old)
+Lacks false (step.Bytes conn piece) old new =
+    (StopsBefore old.standing conn new.standing ⊎ StopsUnread old.standing conn new.standing) × StoresMore old new
+Lacks true (step.Bytes conn piece) old new = StopsBehind old.standing conn piece.items new.standing × StoresMore old new
+Lacks false step.Append old new = HasCut old.standing × (new ≡ old)
+Lacks false step.CheckBegin old new = new ≡ old
+Lacks fed other old new = ⊥
+
+-- a step found no memory: for mails that were owed, or for what it does behind them
+abbrev pub FindsNoMemory : {D : Type 0} → Bool → Step → DeskState D → DeskState D → Type 0
+FindsNoMemory fed step old new = ((fed ≡ false) × StillOwes old new) ⊎ Lacks fed step (discharged_desk old) new
+
+-- ---- the device
+
+-- The device failed the batch that was at hand: it is the last group, and alone of them all not known to be stored.
+pub record Tears {D : Type 0} (last : Standing) (new : DeskState D) : Type 0 where
+  pub at_hand : HasCut last
+  pub standing : new.standing ≡ record last { groups = last.groups ++ at_hand.batch.entries ∷ [] }
+  pub synced : new.synced ≡ length last.groups
+
+-- It failed with a step's bytes: of the connection's messages the first were taken, and the next had no room for want of the batch.
+pub record TearsBytes {D : Type 0} (s : Standing) (conn : ℕ) (piece : List ℕ) (new : DeskState D) : Type 0 where
+  pub last : Standing
+  pub stops : StopsBefore s conn last ⊎ StopsBehind s conn piece last
+  pub tears : Tears last new
+
+-- it failed a call of a checkpoint: no group came, and nothing else was done
+pub record BreaksOff {D : Type 0} (old new : DeskState D) : Type 0 where
+  pub standing : new.standing ≡ old.standing
+  pub synced : new.synced ≡ old.synced
+
+-- What a step did that the device failed, where no mails are owed. Other steps make no call of it.
+abbrev pub Breaks : {D : Type 0} → Step → DeskState D → DeskState D → Type 0
+Breaks (step.Bytes conn piece) old new = TearsBytes old.standing conn piece.items new
+Breaks step.Append old new = Tears old.standing new
+Breaks step.CheckBegin old new = BreaksOff old new
+Breaks step.CheckStep old new = BreaksOff old new
+Breaks step.CheckFinish old new = BreaksOff old new
+Breaks other old new = ⊥

@@ -1,0 +1,99 @@
+-- A store over any number of stops: what each life did, and what stands after all of them. And steps that are given again.
+use Rattle.std.specs.Prelude.{◌≡◌, ◌⊎◌, ℕ, ◌≤◌, Bool, false, List, [], ◌∷◌, ◌++◌, length, map, Contains}
+use Rattle.std.specs.List.{flat_map, AllByRecursion}
+use Rattle.fe_state.specs.State.{ServerState, IsWithinLimits}
+use Rattle.fe_state.specs.History.{IsHistory}
+use Rattle.fe_state.specs.declared.answer.Answer.{Answer}
+use Rattle.fe_state.specs.declared.entry.Entry.{Entry}
+use Rattle.fe_state.specs.declared.entry.Entry.TheVariants.{Closed, Finished}
+use Rattle.fe_state.specs.declared.request.Request.{Request}
+use Rattle.fe_keeper.specs.Stands.{StandsFor}
+use Rattle.fe_keeper.specs.Prefix.{LeavesPrefix}
+use Rattle.fe_desk.specs.declared.step.Step.{Step}
+use Rattle.fe_desk.specs.Acknowledged.{IsWritten}
+use Rattle.fe_desk.specs.Laws.{Life, AreLives, AreOne, kept_groups}
+use Rattle.fe_desk.specs.Standing.{Standing, IsFirstStanding, discharged}
+use Rattle.fe_desk.specs.Steps.{DeskStep, DeskRun, IsAgain}
+
+-- ---- stops
+
+-- A life that a stop ended: the steps that were taken whole, and where they led; the groups that the step under way handed to
+-- the store; how many of all groups were stored for sure; and the image that the stop left.
+pub record Stop : Type 0 where
+  pub first : Standing
+  pub steps : List Step
+  pub last : Standing
+  pub under_way : List (List Entry)
+  pub synced : ℕ
+  pub image : List ℕ
+
+-- all groups that were handed to the store
+abbrev pub all_groups : Stop → List (List Entry)
+all_groups x = x.last.groups ++ x.under_way
+
+-- what a life handed to the store, and how much of it was stored
+abbrev pub handed_by : Life → List (List Entry) × ℕ
+handed_by life = (life.groups, life.synced)
+
+abbrev pub stored_by : Stop → List (List Entry) × ℕ
+stored_by x = (all_groups x, x.synced)
+
+-- The life is a run from the state that was opened. Its groups are a history, those of steps that were taken whole are stored,
+-- and the stop left a prefix of it that has all stored groups.
+pub record IsStopOf (begun : ServerState) (x : Stop) : Type 0 where
+  pub begins : IsFirstStanding begun x.first
+  pub run : DeskRun x.first x.steps x.last
+  pub history : IsHistory begun (all_groups x)
+  pub stored : length x.last.groups ≤ x.synced
+  pub leaves : LeavesPrefix begun (all_groups x) x.synced x.image
+
+-- stops one after the other, each life over the state that the image before stands for; the last image stands for this state
+abbrev pub AreStops : ServerState → List Stop → ServerState → Type 0
+AreStops begun [] s = s ≡ begun
+AreStops begun (x ∷ xs) s = IsStopOf begun x × ((opened : ServerState) × StandsFor x.image opened × AreStops opened xs s)
+
+-- ---- what stands after them
+
+-- where a number of a session is finished twice in the groups, the session was closed in between
+abbrev pub FinishOnceIn : List (List Entry) → Type 0
+FinishOnceIn groups = (before between behind : List Entry) (session number : ℕ) (first second : Request) (one other : Answer)
+    → flat_map (λ group. group) groups ≡ before ++ Finished session number first one ∷ between ++ Finished session number second other ∷ behind
+    → Contains between (Closed session)
+
+-- All that was written in a life stands on the groups.
+abbrev pub WrittenStand : ServerState → List (List Entry) → Standing → Type 0
+WrittenStand begun groups s = AllByRecursion (IsWritten begun groups) s.clients
+
+-- The groups that the stops kept are one history, with any that goes on from the last image; in it a number takes effect once
+-- while its session is kept; and each answer that was written in any life, or is in one that goes on, stands on it.
+pub record AreOneStore (begun : ServerState) (stops : List Stop) (s : ServerState) : Type 0 where
+  pub lives : List Life
+  pub same : map handed_by lives ≡ map stored_by stops
+  pub are : AreLives begun lives s
+  pub one : (next : List (List Entry)) → IsHistory s next → AreOne begun lives s next
+  pub once : (next : List (List Entry)) → IsHistory s next → FinishOnceIn (kept_groups lives ++ next)
+  pub answers : AllByRecursion (λ x. WrittenStand begun (kept_groups lives) x.last) stops
+  pub later : (first last : Standing) (steps : List Step) → IsFirstStanding s first → DeskRun first steps last → WrittenStand begun (kept_groups lives ++ last.groups) last
+
+abbrev pub StopsAreLives : Type 0
+StopsAreLives = (begun s : ServerState) (stops : List Stop) → IsWithinLimits begun → AreStops begun stops s → AreOneStore begun stops s
+
+-- ---- steps that are given again
+
+-- What the step comes to where it is given again, it comes to.
+abbrev pub LeavesForAgain : Standing → Step → Bool → Standing → Type 0
+LeavesForAgain s step fed t = (next : Step) (u : Standing) → IsAgain fed step next → DeskStep t next u → DeskStep s step u
+
+-- A step is given until it is taken, each time that it found no memory again. Its mails may be owed then.
+abbrev pub IsTakenAtLast : Standing → Step → List Bool → Standing → Type 0
+IsTakenAtLast s step [] t = DeskStep s step t ⊎ DeskStep s step (discharged t)
+IsTakenAtLast s step (fed ∷ more) t = (u : Standing) × (next : Step) × LeavesForAgain s step fed u × IsAgain fed step next × IsTakenAtLast u next more t
+
+-- steps one after another, each given until it is taken
+abbrev pub RunsOn : Standing → List (Step × List Bool) → Standing → Type 0
+RunsOn s [] t = t ≡ s
+RunsOn s (given ∷ more) t = (u : Standing) × IsTakenAtLast s given.0 given.1 u × RunsOn u more t
+
+-- Such steps are a run, once what is owed is written.
+abbrev pub GivenAgain : Type 0
+GivenAgain = (s t : Standing) (given : List (Step × List Bool)) → s.owes ≡ false → RunsOn s given t → DeskRun s (map (λ g. g.0) given) (discharged t)

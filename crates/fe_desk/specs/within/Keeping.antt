@@ -1,0 +1,32 @@
+-- What stays of a front where mails are taken and connections go.
+use Rattle.std.specs.Prelude.{◌≡◌, ℕ, true, List, [], ◌++◌, map}
+use Rattle.fe_mail.specs.Connections.{mails_on}
+use Rattle.fe_front.specs.Front.{FrontState, is_connected}
+use Rattle.fe_desk.specs.Mails.{emptied_box}
+use Rattle.fe_desk.specs.Output.{output_of, Extends}
+use Rattle.fe_desk.specs.Standing.{Client, told, all_told, all_emptied}
+
+-- the state, what is pending and what is out stay, and no connection comes
+pub record KeepsFront (f g : FrontState) : Type 0 where
+  pub state : g.service.state ≡ f.service.state
+  pub pending : g.service.pending ≡ f.service.pending
+  pub out : g.out ≡ f.out
+  pub durable : g.durable ≡ f.durable
+  pub none_comes : (conn : ℕ) → is_connected g conn ≡ true → is_connected f conn ≡ true
+
+-- no empty box gets a mail
+pub record KeepsEmpty (f g : FrontState) : Type 0 where
+  pub empty : (conn : ℕ) → mails_on f.connections conn ≡ [] → mails_on g.connections conn ≡ []
+
+-- some mails of a client are written and some are not: writing those comes to the same as writing all at the beginning
+pub record IsToldLater (f : FrontState) (c : Client) (g : FrontState) (d : Client) : Type 0 where
+  pub conn : d.conn ≡ c.conn
+  pub output : (more : List ℕ) × (d.written ≡ c.written ++ more)
+  pub front : emptied_box g d.conn ≡ emptied_box f c.conn
+  pub client : told g d ≡ told f c
+
+-- the same of all clients
+pub record AreToldLater (f : FrontState) (cs : List Client) (g : FrontState) (ds : List Client) : Type 0 where
+  pub front : all_emptied g ds ≡ all_emptied f cs
+  pub clients : all_told g ds ≡ all_told f cs
+  pub output : Extends (map output_of cs) (map output_of ds)

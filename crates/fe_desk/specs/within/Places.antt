@@ -1,0 +1,23 @@
+-- Where the client of a connection number stands among the clients, and what comes first where it connects.
+use Rattle.std.specs.Prelude.{◌≡◌, ◌≢◌, ℕ, ◌<◌, List, length, Option, Some, slice_get}
+use Rattle.std.specs.Option.{option_map}
+use Rattle.fe_wire.specs.Stream.{Decoding}
+use Rattle.fe_front.specs.Steps.{connected}
+use Rattle.fe_desk.specs.Standing.{Client, Standing}
+use Rattle.fe_desk.specs.Steps.{BeginsStream, clients_with}
+
+-- the number of the client at a place
+abbrev pub client_number_at : List Client → ℕ → Option ℕ
+client_number_at clients i = option_map (λ c. c.conn) (slice_get clients i)
+
+-- the first client of a number stands at this place
+pub record IsFirstAt (clients : List Client) (conn at : ℕ) : Type 0 where
+  pub within : at < length clients
+  pub here : client_number_at clients at ≡ Some conn
+  pub first : (i : ℕ) → i < at → client_number_at clients i ≢ Some conn
+
+-- a connection came, with a stream of its own; nothing else is different
+pub record Joins (s : Standing) (conn : ℕ) (t : Standing) : Type 0 where
+  pub decoder : Decoding
+  pub begins : BeginsStream decoder
+  pub after : t ≡ record s { front = connected s.front conn; clients = clients_with s.clients conn decoder }

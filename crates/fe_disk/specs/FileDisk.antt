@@ -1,0 +1,9 @@
+-- What a `FileDisk` shows. Nothing is said of the bytes of its file.
+use Rattle.std.specs.Prelude.{ℕ}
+use Rattle.fe_disk.specs.declared.file_disk.FileDisk.{FileDisk}
+
+abbrev pub file_size : FileDisk → ℕ
+file_size disk = disk.size
+
+abbrev pub fault_count : FileDisk → ℕ
+fault_count disk = disk.failures

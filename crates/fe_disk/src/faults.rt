@@ -1,0 +1,26 @@
+//! The count of faults that a disk keeps for itself.
+ghost use Rattle.std.specs.Prelude.{◌≡◌, ◌↔◌, ◌-◌, ◌^◌, ◌<◌, OnOk, IsErr};
+ghost use Rattle.fe_disk.specs.Disk.{Rises};
+
+use crate::DeviceFault;
+
+/// Counts a fault. At the top of a `u64` the count stands still.
+pub fn fault(failures: &mut u64) -> DeviceFault
+    ensures { Rises failures.old failures.new }
+{
+    *failures = failures.saturating_add(1);
+    DeviceFault
+}
+
+/// Counts a fault where the outcome is one.
+pub fn count<E: Drop>(failures: &mut u64, outcome: Result<(), E>) -> Result<(), DeviceFault>
+    requires { failures.old < 2 ^ 64 - 1 }
+    ensures same { IsErr result ↔ IsErr outcome }
+    ensures fault { IsErr result ↔ Rises failures.old failures.new }
+    ensures still { OnOk result (failures.new ≡ failures.old) }
+{
+    match outcome {
+        Ok(()) => Ok(()),
+        Err(_) => Err(fault(failures)),
+    }
+}

@@ -1,0 +1,184 @@
+//! A disk that is a file of the operating system.
+ghost use Rattle.std.specs.Prelude.{◌≡◌, ◌≢◌, ℕ, [], IfOk, IfErr, IsErrOf};
+ghost use Rattle.fe_disk.specs.declared.file_fault.FileFault.TheVariants.{WrongSize, Device};
+
+use crate::faults::{count, fault};
+use crate::{DeviceFault, Disk, FileFault};
+use std::fs::{File, OpenOptions};
+use std::io;
+use std::io::{ErrorKind, Write};
+use std::os::fd::AsRawFd;
+use std::os::unix::fs::FileExt;
+use std::path::Path;
+use std::rt::Files;
+
+/// How many zeros are written at a time.
+const PIECE: usize = 4096;
+
+/// The descriptors below this are the standard streams.
+const STREAMS: i32 = 3;
+
+/// A disk over a file of a fixed size. Each read and write is made at its offset, with no buffer
+/// between, and a sync puts the file's bytes on its device.
+///
+/// Nothing is claimed of what a file gives or keeps, so it is not honest. It has the advisory lock of
+/// its file for as long as it lives, so no second disk is made over the file meanwhile.
+#[derive(Drop)]
+pub struct FileDisk {
+    file: File,
+    size: usize,
+    failures: u64,
+}
+
+impl FileDisk {
+    ghost use Rattle.fe_disk.specs.FileDisk.{file_size, fault_count};
+
+    /// Makes a file of so many zero bytes, and syncs it and its folder. Where a file has the path
+    /// already it refuses and leaves that as it is. Where a later step is refused the file stays,
+    /// maybe of another size.
+    pub fn create<R: Files<File = File>>(
+        rt: &R,
+        path: &str,
+        size: usize,
+    ) -> Result<FileDisk, FileFault>
+        ensures size { IfOk result (λ disk. file_size disk ≡ size) }
+        ensures failures { IfOk result (λ disk. fault_count disk ≡ 0) }
+        ensures refused { IfErr result (λ fault. fault ≡ Device) }
+    {
+        match made(rt, path, size as u64) {
+            Ok(file) => {
+                Ok(FileDisk {
+                    file,
+                    size,
+                    failures: 0,
+                })
+            }
+            Err(_) => Err(FileFault::Device),
+        }
+    }
+
+    /// The disk over the file at the path, which has so many bytes.
+    pub fn at<R: Files<File = File>>(rt: &R, path: &str, size: usize) -> Result<FileDisk, FileFault>
+        ensures size { IfOk result (λ disk. file_size disk ≡ size) }
+        ensures failures { IfOk result (λ disk. fault_count disk ≡ 0) }
+        ensures wrong { (found : ℕ) → IsErrOf result (WrongSize found) → found ≢ size }
+    {
+        let file = match OpenOptions::new().read(true).write(true).open(rt, path) {
+            Ok(file) => file,
+            Err(error) if error.kind() == ErrorKind::NotFound => return Err(FileFault::Missing),
+            Err(_) => return Err(FileFault::Device),
+        };
+        let Ok(file) = locked(file) else {
+            return Err(FileFault::Device);
+        };
+        let Ok(metadata) = file.metadata() else {
+            return Err(FileFault::Device);
+        };
+        let found = metadata.len();
+        if found != size as u64 {
+            return Err(FileFault::WrongSize { found });
+        }
+        Ok(FileDisk {
+            file,
+            size,
+            failures: 0,
+        })
+    }
+}
+
+fn made<R: Files<File = File>>(rt: &R, path: &str, size: u64) -> io::Result<File> {
+    let file = locked(File::create_new(rt, path)?)?;
+    fill(&file, size)?;
+    file.sync_all()?;
+    File::open(rt, folder_of(path))?.sync_all()?;
+    Ok(file)
+}
+
+// Writes so many zeros. A file that only has the length would have holes, and a sync of what is written into one later has
+// to find room for it.
+fn fill(mut file: &File, size: u64) -> io::Result<()> {
+    let zeros = [0; PIECE];
+    for _k in 0..size / PIECE as u64 {
+        file.write_all(&zeros)?;
+    }
+    file.write_all(&zeros[..(size % PIECE as u64) as usize])
+}
+
+// The file with its lock, above the standard streams: where one of those is closed, what is meant
+// for it must not be written into the file.
+fn locked(file: File) -> io::Result<File> {
+    let file = if file.as_raw_fd() < STREAMS {
+        file.try_clone()?
+    } else {
+        file
+    };
+    file.try_lock()?;
+    Ok(file)
+}
+
+fn folder_of(path: &str) -> Path<'_> {
+    match Path::new(path).parent() {
+        Some(folder) if !folder.as_str().is_empty() => folder,
+        _ => Path::new("."),
+    }
+}
+
+impl Disk for FileDisk {
+    ghost use Rattle.fe_disk.specs.FileDisk.{file_size, fault_count};
+
+    ghost size = { file_size };
+
+    ghost failures = { fault_count };
+
+    ghost honest = { λ disk. ⊥ };
+
+    ghost seen = { λ disk. [] };
+
+    ghost may_leave = { λ disk image. ⊥ };
+
+    ghost moment = { λ disk. 0 };
+
+    ghost left_since = { λ disk t image. ⊥ };
+
+    ghost seen_is_image = { λ disk honest. absurd honest };
+
+    ghost left_is_image = { λ disk t image honest left. absurd honest };
+
+    ghost seen_may_stay = { λ disk honest. absurd honest };
+
+    ghost counts_now = { λ disk t image honest now may. absurd honest };
+
+    ghost only_now = { λ disk image honest left. absurd honest };
+
+    fn size(&self) -> usize {
+        self.size
+    }
+
+    fn failures(&self) -> u64 {
+        self.failures
+    }
+
+    fn read_at(&mut self, at: usize, buffer: &mut [u8]) -> Result<(), DeviceFault> {
+        if self.failures == u64::MAX {
+            return Err(fault(&mut self.failures));
+        }
+        let outcome = self.file.read_exact_at(buffer, at as u64);
+        count(&mut self.failures, outcome)
+    }
+
+    fn write_at(&mut self, at: usize, bytes: &[u8]) -> Result<(), DeviceFault> {
+        if self.failures == u64::MAX {
+            return Err(fault(&mut self.failures));
+        }
+        let outcome = self.file.write_all_at(bytes, at as u64);
+        count(&mut self.failures, outcome)
+    }
+
+    fn sync(&mut self) -> Result<(), DeviceFault> {
+        if self.failures == u64::MAX {
+            return Err(fault(&mut self.failures));
+        }
+        let outcome = self.file.sync_data();
+        count(&mut self.failures, outcome)
+    }
+}

@@ -1,0 +1,60 @@
+//! What holds the syncs of a `Held` back until another thread lets them go.
+use std::sync::{Condvar, Mutex, Wait};
+
+#[derive(Clone, Copy, Debug, PartialEq, Eq)]
+enum Stage {
+    /// Syncs go on.
+    Free,
+    /// The next sync waits.
+    Set,
+    /// A sync waits.
+    Holding,
+}
+
+/// Holds the syncs of a disk back from `hold` until `let_go`. Threads share it.
+#[derive(Drop)]
+pub struct Hold {
+    stage: Mutex<Stage>,
+    freed: Condvar,
+}
+
+impl Hold {
+    /// Nothing is held back yet.
+    pub fn new() -> Hold {
+        Hold {
+            stage: Mutex::new(Stage::Free),
+            freed: Condvar::new(),
+        }
+    }
+
+    /// From now on each sync waits.
+    pub fn hold(&self, rt: &impl Wait) {
+        let mut stage = self.stage.lock(rt);
+        if *stage == Stage::Free {
+            *stage = Stage::Set;
+        }
+    }
+
+    /// Whether a sync waits now.
+    pub fn is_holding(&self, rt: &impl Wait) -> bool {
+        *self.stage.lock(rt) == Stage::Holding
+    }
+
+    /// Lets each sync go that waits, and those to come.
+    pub fn let_go(&self, rt: &impl Wait) {
+        *self.stage.lock(rt) = Stage::Free;
+        self.freed.notify_all();
+    }
+
+    /// Waits while syncs are held back.
+    pub fn pass<R: Wait>(&self, rt: &R) {
+        let mut stage = self.stage.lock(rt);
+        if *stage == Stage::Set {
+            *stage = Stage::Holding;
+        }
+        drop(
+            self.freed
+                .wait_while(rt, stage, |stage| *stage != Stage::Free),
+        );
+    }
+}

@@ -1,0 +1,57 @@
+-- How the books of a front rise: by what each event says of itself, so that counts kept beside them follow.
+use Rattle.std.specs.Prelude.{◌≡◌, ℕ, ◌+◌, ◌-◌, ◌^◌, ◌≤◌, false, List, length, Some}
+use Rattle.fe_state.specs.declared.entry.Entry.{Entry}
+use Rattle.fe_mail.specs.Books.{Books}
+use Rattle.fe_mail.specs.declared.refusal.Refusal.{Refusal}
+use Rattle.fe_mail.specs.declared.mail.Mail.TheVariants as mail
+use Rattle.fe_front.specs.Event.{Event, Call, Cancel, Post, TakeMail, Tell}
+use Rattle.fe_front.specs.Front.{FrontState, IsFront}
+use Rattle.fe_front.specs.Call.{call_refused_by}
+use Rattle.fe_front.specs.Step.{FrontStep}
+use Rattle.fe_front.specs.Steps.{mailed}
+
+-- books that are not spent, with places for so many more calls and mails
+pub record HaveRoom (b : Books) (calls mails : ℕ) : Type 0 where
+  pub unspent : b.spent ≡ false
+  pub few_calls : b.calls + calls ≤ 2 ^ 63 - 1
+  pub few_mails : b.mails + mails ≤ 2 ^ 63 - 1
+
+-- Books go to others that are not spent, with so many calls more, so many more mails that were taken, and at most so
+-- many more mails.
+pub record Rise (b : Books) (called took most : ℕ) (b' : Books) : Type 0 where
+  pub unspent : b'.spent ≡ false
+  pub calls : b'.calls ≡ b.calls + called
+  pub taken : b'.taken ≡ b.taken + took
+  pub no_fewer : b.mails ≤ b'.mails
+  pub mails : b'.mails ≤ b.mails + most
+
+-- how many calls an event is
+abbrev pub calls_of : Event → ℕ
+calls_of (Call conn number request outcome) = 1
+calls_of _ = 0
+
+-- how many mails an event takes out of boxes
+abbrev pub taken_of : Event → ℕ
+taken_of (TakeMail conn (Some mail)) = 1
+taken_of _ = 0
+
+-- how many mails an event makes at most: one for each entry that is posted, and one where an event is answered at once
+abbrev pub most_mails_of : Event → ℕ
+most_mails_of (Post batch) = length batch.entries
+most_mails_of (Call conn number request outcome) = 1
+most_mails_of (Cancel conn number) = 1
+most_mails_of (Tell conn mail) = 1
+most_mails_of _ = 0
+
+-- the front after a call was refused and its refusal mailed
+abbrev pub refused_to : FrontState → ℕ → ℕ → Refusal → FrontState
+refused_to f conn number refusal = mailed (call_refused_by f) conn (mail.Refused number refusal)
+
+-- Books that have room for an event stay unspent through it, and rise by it: by one call exactly for a call, refused or
+-- not, and by one taken mail exactly for a mail that is taken. An event makes 4,097 mails at most.
+pub record BooksRise : Type 0 where
+  pub rises : (f f' : FrontState) (event : Event) (es : List Entry) → IsFront f → HaveRoom f.books (calls_of event) (most_mails_of event) → FrontStep f event es f'
+      → Rise f.books (calls_of event) (taken_of event) (most_mails_of event) f'.books
+  pub few_mails : (f f' : FrontState) (event : Event) (es : List Entry) → IsFront f → FrontStep f event es f' → most_mails_of event ≤ 4097
+  pub refused : (f : FrontState) → HaveRoom f.books 1 0 → Rise f.books 1 0 0 (call_refused_by f).books
+  pub refused_to : (f : FrontState) (conn number : ℕ) (refusal : Refusal) → HaveRoom f.books 1 1 → Rise f.books 1 0 1 (refused_to f conn number refusal).books

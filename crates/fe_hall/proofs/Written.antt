@@ -1,0 +1,190 @@
+-- What a write side took and wrote, piece by piece.
+use Rattle.std.proofs.Common.{◌≡◌, ℕ, zero, suc, ◌+◌, ◌-◌, ◌<◌, ◌≤◌, Bool, true, List, [], ◌∷◌, ◌++◌, length, take, drop, Option, Some, None, Result, Ok, Err, refl, sym, ap, subst, ◌∙◌, append_assoc, arith, length-append}
+use Rattle.std.specs.Prelude.{if◌then◌else◌, is_ok}
+use Rattle.std.specs.List.{filter_map, cons_option}
+use Rattle.std.proofs.lemmas.List.{append-nil, take-append-le, take_all, take-take}
+use Rattle.std.proofs.lemmas.List.Elements.{filter_map-append}
+use Rattle.std.proofs.lemmas.Grind.{flat_map-append}
+use Rattle.std.proofs.Math.Seq.{take-add, take-append_seam}
+use Rattle.fe_mail.specs.declared.mail.Mail.{Mail}
+use Rattle.fe_wire.specs.Spelling.{reply_spelling}
+use Rattle.fe_messages.specs.Mails.{reply_of, spelled}
+use Rattle.fe_wire.specs.declared.server_message.ServerMessage.{ServerMessage}
+use Rattle.fe_hall.specs.declared.receipt.Receipt.{Receipt}
+use Rattle.fe_hall.specs.declared.write_end.WriteEnd.{WriteEnd}
+use Rattle.fe_hall.specs.declared.write_end.WriteEnd.TheVariants.{Gone, Device, Stopped, Spent, NoMemory}
+use Rattle.fe_hall.specs.Seats.{Seat, risen}
+use Rattle.fe_hall.specs.Writes.{receipt_of, receipts_with, IsBatch, BreaksOff, MayLackLast, IsWritten, AreTaken, TakesOn, AreSpelled}
+
+-- ---- lists
+
+take_front : {A : Type 0} (n : ℕ) (xs ys : List A) → take n (take n xs ++ ys) ≡ take n (xs ++ ys)
+take_front zero xs ys = refl
+take_front (suc n) [] ys = refl
+take_front (suc n) (x ∷ xs) ys = ap (λ t. x ∷ t) (take_front n xs ys)
+
+-- the bytes up to the next ones, and those of the next that a half took
+pub wrote_further : (bytes before mid after : List ℕ) (next count : ℕ) → count ≤ length bytes - next → mid ≡ before ++ take next bytes
+    → after ≡ mid ++ take count (take (length bytes - next) (drop next bytes)) → after ≡ before ++ take (next + count) bytes
+wrote_further bytes before mid after next count few so_far more =
+    more
+    ∙ ap (λ t. mid ++ t) (take-take count (length bytes - next) (drop next bytes) few)
+    ∙ ap (λ t. t ++ take count (drop next bytes)) so_far
+    ∙ append_assoc before (take next bytes) (take count (drop next bytes))
+    ∙ ap (λ t. before ++ t) (sym (take-add next count bytes))
+
+spelled-append : (xs ys : List Mail) → spelled (xs ++ ys) ≡ spelled xs ++ spelled ys
+spelled-append xs ys = flat_map-append (λ m. reply_spelling (reply_of m)) xs ys
+
+-- ---- seat and receipts
+
+pub takes_none : (s : Seat) (kept : List Receipt) → length kept ≤ 1024 → TakesOn s s kept kept []
+takes_none s kept few = record {
+  seat = let same : s.amount ≡ s.amount + 0 = omega arith in ap (λ (k : ℕ). record s { amount = k }) same;
+  receipts = sym (ap (λ t. take 1024 t) (append-nil kept) ∙ take_all 1024 kept few);
+}
+
+pub takes_on : (a b c : Seat) (kept more all : List Receipt) (ms ns : List Mail) → TakesOn a b kept more ms → TakesOn b c more all ns → TakesOn a c kept all (ms ++ ns)
+takes_on a b c kept more all ms ns one two = record {
+  seat =
+      let count : a.amount + length ms + length ns ≡ a.amount + length (ms ++ ns) = omega (arith, length-append ms ns) in
+      two.seat ∙ ap (λ (s : Seat). risen s (length ns)) one.seat ∙ ap (λ (k : ℕ). record a { amount = k }) count;
+  receipts =
+      two.receipts
+      ∙ ap (λ (rs : List Receipt). receipts_with rs ns) one.receipts
+      ∙ take_front 1024 (kept ++ filter_map receipt_of ms) (filter_map receipt_of ns)
+      ∙ ap (λ t. take 1024 t) (append_assoc kept (filter_map receipt_of ms) (filter_map receipt_of ns) ∙ ap (λ t. kept ++ t) (sym (filter_map-append receipt_of ms ns)));
+}
+
+pub takes_same : (a b : Seat) (kept same : List Receipt) → length kept ≤ 1024 → b ≡ a → same ≡ kept → TakesOn a b kept same []
+takes_same a b kept same few seat receipts =
+    let none = takes_none a kept few in record { seat = seat ∙ none.seat; receipts = receipts ∙ none.receipts }
+
+-- a mail is taken, and its receipt kept
+pub takes_one : (a b c : Seat) (kept same all : List Receipt) (m : Mail) → b ≡ a → same ≡ kept → c ≡ risen b 1 → all ≡ receipts_with same (m ∷ []) → TakesOn a c kept all (m ∷ [])
+takes_one a b c kept same all m seat receipts risen_by more = record {
+  seat = risen_by ∙ ap (λ (s : Seat). risen s 1) seat;
+  receipts = more ∙ ap (λ (rs : List Receipt). receipts_with rs (m ∷ [])) receipts;
+}
+
+-- all that a side took
+pub as_taken : {before after : Seat} {none kept : List Receipt} {mails : List Mail} → TakesOn before after none kept mails → none ≡ [] → AreTaken before after kept mails
+as_taken {mails} takes is = record { seat = takes.seat; receipts = takes.receipts ∙ ap (λ (rs : List Receipt). receipts_with rs mails) is }
+
+-- a mail without a receipt, and one whose receipt is kept, or is beyond the first
+pub keeps_none : (kept : List Receipt) (m : Mail) → length kept ≤ 1024 → None ≡ receipt_of m → kept ≡ receipts_with kept (m ∷ [])
+keeps_none kept m few none =
+    sym (ap (λ (t : List Receipt). take 1024 t) (append-nil kept) ∙ take_all 1024 kept few) ∙ ap (λ (o : Option Receipt). take 1024 (kept ++ cons_option o [])) none
+
+pub keeps_one : {A E : Type 0} (pushed : Result A E) (kept all : List Receipt) (m : Mail) (r : Receipt) → length kept < 1024 → Some r ≡ receipt_of m → is_ok pushed ≡ true
+    → all ≡ (if is_ok pushed then kept ++ r ∷ [] else kept) → all ≡ receipts_with kept (m ∷ [])
+keeps_one pushed kept all m r few some ok is =
+    is
+    ∙ ap (λ (b : Bool). if b then kept ++ r ∷ [] else kept) ok
+    ∙ sym (take_all 1024 (kept ++ r ∷ []) (omega (arith, length-append kept (r ∷ []))))
+    ∙ ap (λ (o : Option Receipt). take 1024 (kept ++ cons_option o [])) some
+
+pub keeps_first : (kept : List Receipt) (m : Mail) → length kept ≤ 1024 → 1024 ≤ length kept → kept ≡ receipts_with kept (m ∷ [])
+keeps_first kept m few full = sym (take-append-le 1024 kept (filter_map receipt_of (m ∷ [])) full ∙ take_all 1024 kept few)
+
+-- ---- batches
+
+pub batch_none : IsBatch []
+batch_none = omega arith
+
+pub batch_more : (mails more : List Mail) → IsBatch mails → length more ≤ 1 → length (spelled mails) < 65536 → IsBatch (mails ++ more)
+batch_more mails [] batch few short = subst IsBatch (sym (append-nil mails)) batch
+batch_more mails (m ∷ []) batch few short =
+    let count : length (mails ++ m ∷ []) - 1 ≡ length mails = omega (arith, length-append mails (m ∷ [])) in
+    let front : take (length (mails ++ m ∷ []) - 1) (mails ++ m ∷ []) ≡ mails = ap (λ k. take k (mails ++ m ∷ [])) count ∙ take-append_seam mails (m ∷ []) in
+    subst (λ (xs : List Mail). length (spelled xs) < 65536) (sym front) short
+batch_more mails (m ∷ n ∷ more) batch few short = absurd (omega arith)
+
+-- ---- what the client got
+
+pub spelled_one : (frames same after : List ℕ) (m : Mail) (r : ServerMessage) → same ≡ frames → r ≡ reply_of m → after ≡ same ++ reply_spelling r → after ≡ frames ++ spelled (m ∷ [])
+spelled_one frames same after m r is reply put =
+    put
+    ∙ ap (λ t. t ++ reply_spelling r) is
+    ∙ ap (λ (x : ServerMessage). frames ++ reply_spelling x) reply
+    ∙ ap (λ t. frames ++ t) (sym (append-nil (reply_spelling (reply_of m))))
+
+pub spelled_more : (frames after : List ℕ) (mails more : List Mail) → frames ≡ spelled mails → after ≡ frames ++ spelled more → after ≡ spelled (mails ++ more)
+spelled_more frames after mails more so_far is = is ∙ ap (λ t. t ++ spelled more) so_far ∙ sym (spelled-append mails more)
+
+pub lacks : (frames after : List ℕ) (mails more : List Mail) → frames ≡ spelled mails → length more ≤ 1 → after ≡ frames → MayLackLast [] (mails ++ more) after
+lacks frames after mails more so_far few same = record { earlier = mails; last = more; all = refl; few = few; got = same ∙ so_far }
+
+breaks : {A E : Type 0} (taken : Result A E) (before frames after : List ℕ) (mails : List Mail) (n : ℕ) → IsBatch mails → AreSpelled taken mails frames → n ≤ length frames
+    → after ≡ before ++ take n frames → BreaksOff before mails after
+breaks (Ok a) before frames after mails n batch spelling few got = record {
+  earlier = [];
+  last = mails;
+  all = refl;
+  batch = batch;
+  count = n;
+  got = got ∙ ap (λ (f : List ℕ). before ++ take n f) spelling;
+}
+breaks (Err e) before frames after mails n batch spelling few got = record {
+  earlier = [];
+  last = mails;
+  all = refl;
+  batch = batch;
+  count = n;
+  got =
+      let split : spelled mails ≡ frames ++ spelled spelling.last =
+      ap spelled spelling.all ∙ spelled-append spelling.earlier spelling.last ∙ ap (λ t. t ++ spelled spelling.last) (sym spelling.got) in
+      got ∙ ap (λ t. before ++ t) (sym (ap (λ t. take n t) split ∙ take-append-le n frames (spelled spelling.last) few));
+}
+
+pub breaks_off : {A E : Type 0} (taken : Result A E) (before frames bytes after : List ℕ) (mails : List Mail) (n : ℕ) → bytes ≡ frames → IsBatch mails → AreSpelled taken mails frames → n ≤ length bytes
+    → after ≡ before ++ take n bytes → BreaksOff before mails after
+breaks_off taken before frames bytes after mails n same batch spelling few got =
+    breaks taken before frames after mails n batch spelling (subst (λ (f : List ℕ). n ≤ length f) same few) (got ∙ ap (λ (f : List ℕ). before ++ take n f) same)
+
+-- all was written, whatever the end
+pub written_all : (end : WriteEnd) (before after : List ℕ) (mails : List Mail) → after ≡ before ++ spelled mails → IsWritten before mails end after
+written_all Gone before after mails got = got
+written_all Stopped before after mails got = got
+written_all Spent before after mails got = got
+written_all Device before after mails got = record {
+  earlier = mails;
+  last = [];
+  all = sym (append-nil mails);
+  batch = batch_none;
+  count = 0;
+  got = got ∙ ap (λ t. before ++ t) (sym (append-nil (spelled mails)));
+}
+written_all NoMemory before after mails got = record { earlier = mails; last = []; all = sym (append-nil mails); few = omega arith; got = got }
+
+pub wrote_more : (before mid after : List ℕ) (ms ns : List Mail) → mid ≡ before ++ spelled ms → after ≡ mid ++ spelled ns → after ≡ before ++ spelled (ms ++ ns)
+wrote_more before mid after ms ns so_far got =
+    got
+    ∙ ap (λ t. t ++ spelled ns) so_far
+    ∙ append_assoc before (spelled ms) (spelled ns)
+    ∙ ap (λ t. before ++ t) (sym (spelled-append ms ns))
+
+pub written_more : (end : WriteEnd) (before mid after : List ℕ) (ms ns : List Mail) → mid ≡ before ++ spelled ms → IsWritten mid ns end after → IsWritten before (ms ++ ns) end after
+written_more Gone before mid after ms ns so_far got = wrote_more before mid after ms ns so_far got
+written_more Stopped before mid after ms ns so_far got = wrote_more before mid after ms ns so_far got
+written_more Spent before mid after ms ns so_far got = wrote_more before mid after ms ns so_far got
+written_more Device before mid after ms ns so_far w = record {
+  earlier = ms ++ w.earlier;
+  last = w.last;
+  all = ap (λ t. ms ++ t) w.all ∙ sym (append_assoc ms w.earlier w.last);
+  batch = w.batch;
+  count = w.count;
+  got =
+      let rest = take w.count (spelled w.last) in
+      w.got
+      ∙ ap (λ t. t ++ (spelled w.earlier ++ rest)) so_far
+      ∙ append_assoc before (spelled ms) (spelled w.earlier ++ rest)
+      ∙ ap (λ t. before ++ t) (sym (append_assoc (spelled ms) (spelled w.earlier) rest) ∙ ap (λ t. t ++ rest) (sym (spelled-append ms w.earlier)));
+}
+written_more NoMemory before mid after ms ns so_far w = record {
+  earlier = ms ++ w.earlier;
+  last = w.last;
+  all = ap (λ t. ms ++ t) w.all ∙ sym (append_assoc ms w.earlier w.last);
+  few = w.few;
+  got = wrote_more before mid after ms w.earlier so_far w.got;
+}

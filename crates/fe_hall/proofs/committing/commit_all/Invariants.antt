@@ -1,0 +1,17 @@
+use Rattle.std.proofs.Common.{◌≡◌, ◌⊎◌, false, None}
+use Rattle.std.specs.Prelude.{◌↔◌}
+use Rattle.fe_keeper.specs.Stands.{EachStandsFor}
+use Rattle.fe_hall.specs.Commits.{Commits, IsStill}
+use Rattle.fe_hall.proofs.committing.commit_all.Given as goal
+
+abbrev pub invariant-loop : goal.invariant-loop
+invariant-loop g l =
+    record {
+      commits : Commits g.D.Disk.honest g.D.Disk.moment g.D.Disk.left_since l.initial.keeper l.keeper None;
+      stands : g.D.Disk.honest l.keeper.store.disk → l.keeper.store.has_failed ≡ false → EachStandsFor g.D.Disk.may_leave l.keeper.store.disk l.keeper.state;
+      still : IsStill g.D.Disk.failures l.initial.keeper l.keeper;
+      begun : (l.keeper ≡ l.initial.keeper) ⊎ (l.keeper.store.has_failed ≡ false);
+      honesty : g.D.Disk.honest l.keeper.store.disk ↔ g.D.Disk.honest l.initial.keeper.store.disk;
+      next : (goal.iterator-loop g).can_next l.iterator';
+      finite : (goal.iterator-loop g).is_finite l.iterator';
+    }

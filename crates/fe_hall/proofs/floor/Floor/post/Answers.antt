@@ -1,0 +1,21 @@
+use Rattle.std.proofs.Common.{arith}
+use Rattle.fe_hall.proofs.Risings.{posted_goes, posted_steps}
+use Rattle.fe_hall.proofs.floor.Floor.post.Goals as goal
+
+pub invariant_of-self : goal.invariant_of-self
+invariant_of-self g c =
+    let s = c.args.self.now in
+    let e = c.post.ensures in
+    let goes = posted_goes s.front c.post.new.self c.args.batch c.post.result c.state.ensures.front s.open c.requires e.refused e.posted e.err in
+    record {
+      «open» = goes.books;
+      calls_agree = omega (arith, s.calls_agree, goes.calls);
+      mails_agree = omega (arith, s.mails_agree, goes.taken);
+      few = s.few;
+      call_parts = s.call_parts;
+      mail_parts = s.mail_parts;
+    }
+
+pub returns-clause-step : goal.returns-clause-step
+returns-clause-step g c =
+    let e = c.post.ensures in posted_steps c.args.self.now.front c.post.new.self c.args.batch c.post.result e.refused e.posted

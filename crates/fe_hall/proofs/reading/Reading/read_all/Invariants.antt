@@ -1,0 +1,13 @@
+use Rattle.std.proofs.Common.{◌≡◌, [], IsSome}
+use Rattle.fe_hall.specs.Reads.{IsAt}
+use Rattle.fe_hall.proofs.reading.Reading.read_all.Given as goal
+
+abbrev pub invariant-loop : goal.invariant-loop
+invariant-loop g l = record {
+  next : (goal.iterator-loop g).can_next l.iterator' × (goal.iterator-loop g).is_finite l.iterator';
+  tells : g.H.ReadHalf.tells l.initial.half → g.H.ReadHalf.tells l.half;
+  at : g.H.ReadHalf.tells l.initial.half → g.H.ReadHalf.told l.initial.half ≡ []
+      → IsAt [] l.initial.self.seat l.initial.self.decoder l.initial.self.seat l.initial.self.listed.items
+      → IsAt (g.H.ReadHalf.told l.half) l.initial.self.seat l.self.decoder l.self.seat l.self.listed.items;
+  left : IsSome l.left → IsSome l.fn.turns;
+}

@@ -1,0 +1,42 @@
+use Rattle.std.proofs.Common.{◌≡◌, ◌<◌, Some, sym, ap, subst, ◌∙◌, arith, slice_get}
+use Rattle.std.proofs.lemmas.Bool.{OnTrue_at, OnFalse_at}
+use Rattle.std.specs.Cmp.{nat_cmp_total}
+use Rattle.std.specs.Option.{option_map}
+use Rattle.std.specs.FinMap.{entries, nat_cmp-IsAntisymmetric}
+use Rattle.fe_state.specs.Sessions.{kept_in}
+use Rattle.fe_table.specs.Table.{shown_entry}
+use Rattle.fe_table.proofs.TableCopyLemmas.{shown_there}
+use Rattle.fe_report.proofs.Listed.{get-at}
+use Rattle.fe_hall.proofs.Kept.{AllAsTold, of_none, of_one_more, kept_as_told}
+use Rattle.fe_hall.proofs.strange.keeps_other.Goals as goal
+
+pub loop-k-init : goal.loop-k-init
+loop-k-init c = of_none c.args.state.now.sessions (AllAsTold c.args.receipt.now)
+
+pub unwrap-session-requires : goal.unwrap-session-requires
+unwrap-session-requires c = shown_there c.args.state.now.sessions c.loop-k.k c.session_entry.result c.session_entry.ensures (subst (λ n. c.loop-k.k < n) c.session_count-k-end.ensures c.loop-k-test.true)
+
+pub holds_other-requires : goal.holds_other-requires
+holds_other-requires c =
+    let sessions = c.args.state.now.sessions in
+    let e = shown_entry c.unwrap-session.result in
+    let entry = sym c.session_entry.ensures ∙ ap (option_map shown_entry) c.unwrap-session.ensures in
+    λ number k kept. ((c.requires.each e.0 e.1 (get-at nat_cmp_total nat_cmp-IsAntisymmetric sessions c.loop-k.k e entry)).kept number k kept).0
+
+pub returns-then-holds_other-clause-other : goal.returns-then-holds_other-clause-other
+returns-then-holds_other-clause-other c =
+    let sessions = c.args.state.now.sessions in
+    let e = shown_entry c.unwrap-session.result in
+    let entry = sym c.session_entry.ensures ∙ ap (option_map shown_entry) c.unwrap-session.ensures in
+    let there = get-at nat_cmp_total nat_cmp-IsAntisymmetric sessions c.loop-k.k e entry in
+    let found = OnTrue_at c.if-holds_other.true c.holds_other.ensures.other in
+    (e.0, found.0, found.1, ap (λ o. kept_in o found.0) there ∙ found.2, found.3, found.4)
+
+pub loop-k-preserved : goal.loop-k-preserved
+loop-k-preserved c =
+    let e = shown_entry c.unwrap-session.result in
+    let entry = sym c.session_entry.ensures ∙ ap (option_map shown_entry) c.unwrap-session.ensures in
+    of_one_more c.args.state.now.sessions (AllAsTold c.args.receipt.now) c.loop-k.k e entry (OnFalse_at c.if-holds_other.false c.holds_other.ensures.none) c.loop-k.invariant
+
+pub returns-clause-none : goal.returns-clause-none
+returns-clause-none c = kept_as_told c.args.state.now c.args.receipt.now c.loop-k.k (omega (arith, c.session_count-k-end.ensures, c.loop-k-test.false)) c.loop-k.invariant

@@ -1,0 +1,55 @@
+use Rattle.std.proofs.Common.{[], ◌++◌, sym}
+use Rattle.std.proofs.lemmas.List.{append-nil}
+use Rattle.fe_hall.proofs.Written.{takes_none, takes_on, wrote_more, written_more, written_all}
+use Rattle.fe_hall.proofs.writing.Writing.write_all.Goals as goal
+
+pub loop-init : goal.loop-init
+loop-init g c =
+    let s = c.args.self.now in
+    (([], takes_none s.seat s.receipts.items s.few, λ told. sym (append-nil (g.H.WriteHalf.got c.args.half.now))), c.requires, (λ told. told), (tt, tt))
+
+pub returns-in-Some-write_box-clause-wrote : goal.returns-in-Some-write_box-clause-wrote
+returns-in-Some-write_box-clause-wrote g c =
+    let s = c.args.self.now in
+    let l = c.loop.self in
+    let n = c.write_box.new.self in
+    let i = c.loop.invariant.0 in
+    let w = c.in-Some-write_box.ensures.wrote in
+    let got = g.H.WriteHalf.got in (
+      i.0 ++ w.0,
+      takes_on s.seat l.seat n.seat s.receipts.items l.receipts.items n.receipts.items i.0 w.0 i.1 w.1,
+      (λ told. written_more c.in-Some-write_box.end (got c.args.half.now) (got c.loop.half) (got c.write_box.new.half) i.0 w.0 (i.2 told) (w.2 (c.loop.invariant.2 told))),
+    )
+
+pub returns-in-Some-wait_mail-clause-wrote : goal.returns-in-Some-wait_mail-clause-wrote
+returns-in-Some-wait_mail-clause-wrote g c =
+    let s = c.args.self.now in
+    let l = c.loop.self in
+    let n = c.write_box.new.self in
+    let i = c.loop.invariant.0 in
+    let w = c.in_default.ensures.wrote in
+    let got = g.H.WriteHalf.got in (
+      i.0 ++ w.0,
+      takes_on s.seat l.seat n.seat s.receipts.items l.receipts.items n.receipts.items i.0 w.0 i.1 w.1,
+      (λ told.
+          written_all c.in-Some-wait_mail.end (got c.args.half.now) (got c.write_box.new.half) (i.0 ++ w.0)
+          (wrote_more (got c.args.half.now) (got c.loop.half) (got c.write_box.new.half) i.0 w.0 (i.2 told) (w.2 (c.loop.invariant.2 told)))),
+    )
+
+pub loop-preserved : goal.loop-preserved
+loop-preserved g c =
+    let s = c.args.self.now in
+    let l = c.loop.self in
+    let n = c.write_box.new.self in
+    let i = c.loop.invariant.0 in
+    let w = c.in_default.ensures.wrote in
+    let got = g.H.WriteHalf.got in (
+      (
+        i.0 ++ w.0,
+        takes_on s.seat l.seat n.seat s.receipts.items l.receipts.items n.receipts.items i.0 w.0 i.1 w.1,
+        (λ told. wrote_more (got c.args.half.now) (got c.loop.half) (got c.write_box.new.half) i.0 w.0 (i.2 told) (w.2 (c.loop.invariant.2 told))),
+      ),
+      c.in_default.ensures.frames,
+      (λ told. c.write_box.ensures.tells (c.loop.invariant.2 told)),
+      (tt, tt),
+    )

@@ -1,0 +1,17 @@
+use Rattle.std.proofs.Common.{◌-◌, ◌≤◌, length, drop, arith, length-drop}
+use Rattle.std.proofs.lemmas.List.{length-take}
+use Rattle.fe_hall.proofs.Written.{wrote_further}
+use Rattle.fe_hall.proofs.writing.write_whole.Goals as goal
+
+pub loop-next-preserved : goal.loop-next-preserved
+loop-next-preserved g c =
+    let bytes = c.args.bytes.now in
+    let next = c.loop-next.next in
+    let got = g.H.WriteHalf.got in
+    let few : c.in_ok-count.count ≤ length bytes - next = omega (arith, c.in_ok-count.ensures.fits, length-take (length bytes - next) (drop next bytes), length-drop next bytes) in
+    record {
+      within = omega (arith, few, c.loop-next.invariant.within);
+      tells = λ told. c.write.ensures.tells (c.loop-next.invariant.tells told);
+      got = λ told.
+          wrote_further bytes (got c.args.half.now) (got c.loop-next.half) (got c.write.new.self) next c.in_ok-count.count few (c.loop-next.invariant.got told) (c.in_ok-count.ensures.got (c.loop-next.invariant.tells told));
+    }

@@ -1,0 +1,74 @@
+-- What the committing side of a hall does to the keeper that it is lent.
+use Rattle.std.specs.Prelude.{◌≡◌, ◌⊎◌, ◌↔◌, ℕ, ◌+◌, true, false, List, length, take, Option, Some, None}
+use Rattle.fe_disk.specs.Disk.{LeavesOnly, Rises}
+use Rattle.fe_state.specs.State.{ServerState, after_all}
+use Rattle.fe_state.specs.History.{IsHistory, after_groups}
+use Rattle.fe_state.specs.declared.batch.Batch.{Batch}
+use Rattle.fe_state.specs.declared.entry.Entry.{Entry}
+use Rattle.fe_replica.specs.Taking.{Continues}
+use Rattle.fe_keeper.specs.Keeper.{KeeperState}
+use Rattle.fe_keeper.specs.Prefix.{LeavesPrefix}
+use Rattle.fe_keeper.specs.Stands.{StandsFor}
+use Rattle.fe_keeper.specs.declared.fault.Fault.{Fault}
+use Rattle.fe_keeper.specs.declared.fault.Fault.TheVariants.{Device, Failed, NoMemory, Mismatch, Damaged, Unformatted}
+use Rattle.fe_hall.specs.declared.commit_end.CommitEnd.{CommitEnd}
+use Rattle.fe_hall.specs.declared.commit_end.CommitEnd.TheVariants.{Stopped, Store, Strange, Spent}
+
+-- the batch was the last to be stored: it led to this state
+pub record IsStored (batch : Batch) (s : ServerState) : Type 0 where
+  pub before : ServerState
+  pub continues : Continues before batch.first batch.entries
+  pub state_is : s ≡ after_all before batch.entries
+
+-- Groups were appended, a history from the keeper's state. All of them are in its state then, but for a last one, where the side
+-- ended since the device failed. At every moment each image that a stop leaves stands for a prefix of that history, none of
+-- what was stored before being lost. `None`: the side goes on.
+pub record Commits {D : Type 0} (honest : D → Type 0) (moment : D → ℕ) (left_since : D → ℕ → List ℕ → Type 0) (old new : KeeperState D) (end : Option CommitEnd) : Type 0 where
+  pub groups : List (List Entry)
+  pub history : IsHistory old.state groups
+  pub stored : ℕ
+  pub all : (stored ≡ length groups) ⊎ ((stored + 1 ≡ length groups) × (end ≡ Some (Store Device)))
+  pub state_is : new.state ≡ after_groups old.state (take stored groups)
+  pub any_moment : honest old.store.disk → old.store.has_failed ≡ false
+      → LeavesOnly moment left_since old.store.disk new.store.disk (LeavesPrefix old.state groups 0)
+
+-- The keeper's state is as it was, and at every moment each image that a stop leaves stands for it.
+pub record Rests {D : Type 0} (honest : D → Type 0) (moment : D → ℕ) (left_since : D → ℕ → List ℕ → Type 0) (old new : KeeperState D) : Type 0 where
+  pub state : new.state ≡ old.state
+  pub any_moment : honest old.store.disk → old.store.has_failed ≡ false → LeavesOnly moment left_since old.store.disk new.store.disk (λ image. StandsFor image old.state)
+  pub honesty : honest new.store.disk ↔ honest old.store.disk
+
+-- ---- ends
+
+-- what a fault of an append is to the side
+abbrev pub end_of : Fault → CommitEnd
+end_of Device = Store Device
+end_of Failed = Store Failed
+end_of NoMemory = Store NoMemory
+end_of (Mismatch place) = Strange
+end_of (Damaged offset) = Store (Damaged offset)
+end_of Unformatted = Store Unformatted
+
+-- no call of the disk failed
+pub record IsStill {D : Type 0} (failures : D → ℕ) (old new : KeeperState D) : Type 0 where
+  pub works : new.store.has_failed ≡ old.store.has_failed
+  pub still : failures new.store.disk ≡ failures old.store.disk
+
+-- a call of the disk failed, and none before
+pub record HasFailed {D : Type 0} (failures : D → ℕ) (old new : KeeperState D) : Type 0 where
+  pub before : old.store.has_failed ≡ false
+  pub failed : new.store.has_failed ≡ true
+  pub rises : Rises (failures old.store.disk) (failures new.store.disk)
+
+-- what the end of the side tells of the keeper's disk; `None`: the side goes on
+abbrev pub TellsEnd : {D : Type 0} → (D → ℕ) → KeeperState D → KeeperState D → Option CommitEnd → Type 0
+TellsEnd failures old new None = IsStill failures old new
+TellsEnd failures old new (Some Stopped) = IsStill failures old new
+TellsEnd failures old new (Some (Store Device)) = HasFailed failures old new
+TellsEnd failures old new (Some (Store Failed)) = (old.store.has_failed ≡ true) × (new ≡ old)
+TellsEnd failures old new (Some (Store NoMemory)) = IsStill failures old new
+TellsEnd failures old new (Some (Store (Mismatch place))) = ⊥
+TellsEnd failures old new (Some (Store (Damaged offset))) = ⊥
+TellsEnd failures old new (Some (Store Unformatted)) = ⊥
+TellsEnd failures old new (Some Strange) = IsStill failures old new
+TellsEnd failures old new (Some Spent) = IsStill failures old new

@@ -1,0 +1,5 @@
+pub mod Receipts
+pub mod Seats
+pub mod Commits
+pub mod Reads
+pub mod Writes

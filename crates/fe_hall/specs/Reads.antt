@@ -1,0 +1,93 @@
+-- What a read side makes of the bytes of its stream.
+use Rattle.std.specs.Prelude.{◌≡◌, ℕ, ◌<◌, ◌^◌, ◌-◌, ◌⊎◌, Bool, true, false, ◌&&◌, nat_lt, if◌then◌else◌, min, List, [], ◌∷◌, ◌++◌, length, take, filter, sum_by}
+use Rattle.std.specs.List.{flat_map}
+use Rattle.fe_wire.specs.Spelling.{spelling}
+use Rattle.fe_wire.specs.Stream.{Decoding, HasRead, IsStream, IsUnfinished, IsBad}
+use Rattle.fe_codes.specs.Bytes.{IsBytes}
+use Rattle.fe_wire.specs.declared.client_message.ClientMessage.{ClientMessage}
+use Rattle.fe_wire.specs.declared.client_message.ClientMessage.TheVariants.{Attach, Call, Cancel, Settle, Bye, Report}
+use Rattle.fe_wire.specs.declared.version.Version.TheVariants.{Two}
+use Rattle.fe_hall.specs.declared.ends.ReadEnd.{ReadEnd}
+use Rattle.fe_hall.specs.declared.ends.ReadEnd.TheVariants.{Closed, Device, BadFrame, Gone, Turns, Stopped, Spent, NoMemory}
+use Rattle.fe_hall.specs.Seats.{Seat, calls_in, risen}
+
+-- the message is an attach or a call
+abbrev pub is_sent : ClientMessage → Bool
+is_sent (Attach session) = true
+is_sent (Call number request) = true
+is_sent (Cancel number) = false
+is_sent (Settle floor) = false
+is_sent Bye = false
+is_sent Report = false
+
+-- how many calls are among these messages
+abbrev pub calls_among : List ClientMessage → ℕ
+calls_among messages = sum_by calls_in messages
+
+-- how many messages the list of a side has at most
+abbrev pub most_listed : ℕ
+most_listed = 1024
+
+-- the attaches and calls among these messages, the first 1,024 of them
+abbrev pub sent_among : List ClientMessage → List ClientMessage
+sent_among messages = take most_listed (filter is_sent messages)
+
+-- These messages were handled: the seat rose by the calls among them, and the list has the first attaches and calls.
+pub record AreHandled (before after : Seat) (list messages : List ClientMessage) : Type 0 where
+  pub seat : after ≡ risen before (calls_among messages)
+  pub listed : list ≡ sent_among messages
+
+-- what an end says, where the stream is these messages and this rest, and so many of the messages were handled
+abbrev pub EndsAt : ReadEnd → List ClientMessage → List ℕ → ℕ → Type 0
+EndsAt Closed messages rest count = (count ≡ length messages) × IsUnfinished Two rest
+EndsAt Device messages rest count = (count ≡ length messages) × IsUnfinished Two rest
+EndsAt Turns messages rest count = (count ≡ length messages) × IsUnfinished Two rest
+EndsAt (BadFrame offset) messages rest count =
+    (count ≡ length messages) × IsBad Two rest × (offset ≡ min (length (flat_map spelling messages)) (2 ^ 64 - 1))
+EndsAt Gone messages rest count = count < length messages
+EndsAt Stopped messages rest count = count < length messages
+EndsAt Spent messages rest count = count < length messages
+EndsAt NoMemory messages rest count = (count < length messages) ⊎ (messages ≡ [])
+
+-- A side that was told these bytes, the stream of its client: the first so many of the stream's messages were handled, and
+-- none behind them.
+pub record HandlesStream (bytes : List ℕ) (before after : Seat) (list : List ClientMessage) (end : ReadEnd) : Type 0 where
+  pub messages : List ClientMessage
+  pub rest : List ℕ
+  pub is_stream : IsStream Two bytes messages rest
+  pub count : ℕ
+  pub handled : AreHandled before after list (take count messages)
+  pub ends : EndsAt end messages rest count
+
+-- ---- on the way
+
+-- the list, with a message that was handled
+abbrev pub listed_with : List ClientMessage → ClientMessage → List ClientMessage
+listed_with list message = if is_sent message && nat_lt (length list) most_listed then list ++ message ∷ [] else list
+
+-- the side ended before a message
+abbrev pub BreaksOff : ReadEnd → Type 0
+BreaksOff Closed = ⊥
+BreaksOff Device = ⊥
+BreaksOff Turns = ⊥
+BreaksOff (BadFrame offset) = ⊥
+BreaksOff Gone = Unit {0}
+BreaksOff Stopped = Unit {0}
+BreaksOff Spent = Unit {0}
+BreaksOff NoMemory = Unit {0}
+
+-- All messages of the bytes that came so far were handled, and more bytes are waited for.
+pub record IsAt (bytes : List ℕ) (before : Seat) (decoder : Decoding) (after : Seat) (list : List ClientMessage) : Type 0 where
+  pub are_bytes : IsBytes bytes
+  pub version : decoder.version ≡ Two
+  pub goes_on : decoder.is_bad ≡ false
+  pub messages : List ClientMessage
+  pub reads : HasRead decoder bytes messages
+  pub handled : AreHandled before after list messages
+
+-- The side ended before one of these messages, which came behind the earlier ones.
+pub record EndsAmong (before after : Seat) (list earlier messages : List ClientMessage) (end : ReadEnd) : Type 0 where
+  pub breaks : BreaksOff end
+  pub count : ℕ
+  pub fewer : count < length messages
+  pub handled : AreHandled before after list (earlier ++ take count messages)

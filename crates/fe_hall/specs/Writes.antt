@@ -1,0 +1,79 @@
+-- What the write side of a connection takes out of its box, and what its client gets.
+use Rattle.std.specs.Prelude.{◌≡◌, ℕ, ◌-◌, ◌<◌, ◌≤◌, List, [], ◌++◌, length, take, Option, Some, None, Result, Ok, Err}
+use Rattle.std.specs.List.{filter_map}
+use Rattle.fe_mail.specs.declared.mail.Mail.{Mail}
+use Rattle.fe_mail.specs.declared.mail.Mail.TheVariants as mail
+use Rattle.fe_messages.specs.Mails.{spelled}
+use Rattle.fe_hall.specs.declared.receipt.Receipt.{Receipt}
+use Rattle.fe_hall.specs.declared.write_end.WriteEnd.{WriteEnd}
+use Rattle.fe_hall.specs.declared.write_end.WriteEnd.TheVariants.{Gone, Device, Stopped, Spent, NoMemory}
+use Rattle.fe_hall.specs.Seats.{Seat, risen}
+
+-- an answer has a receipt, and no other mail has one
+abbrev pub receipt_of : Mail → Option Receipt
+receipt_of (mail.Answer session number answer place) = Some (record { session = session; number = number; answer = answer; place = place })
+receipt_of (mail.Welcome session floor) = None
+receipt_of (mail.Refused number refusal) = None
+receipt_of (mail.Withdrawn number) = None
+receipt_of (mail.Settled floor) = None
+receipt_of (mail.Goodbye session) = None
+receipt_of (mail.Report text) = None
+
+-- how many receipts a side keeps at most
+abbrev pub most_receipts : ℕ
+most_receipts = 1024
+
+-- the receipts of the answers among these mails, of the first 1,024 of them
+abbrev pub receipts_of : List Mail → List Receipt
+receipts_of mails = take most_receipts (filter_map receipt_of mails)
+
+-- These mails were taken: the seat rose by their number, and the receipts are those of their first answers.
+pub record AreTaken (before after : Seat) (kept : List Receipt) (mails : List Mail) : Type 0 where
+  pub seat : after ≡ risen before (length mails)
+  pub receipts : kept ≡ receipts_of mails
+
+-- mails that are written at once: all but the last of them are spelled in less than 64 KiB
+abbrev pub IsBatch : List Mail → Type 0
+IsBatch mails = length (spelled (take (length mails - 1) mails)) < 65536
+
+-- A client got the mails, but for the last batch, of which it got so many bytes.
+pub record BreaksOff (before : List ℕ) (mails : List Mail) (after : List ℕ) : Type 0 where
+  pub earlier : List Mail
+  pub last : List Mail
+  pub all : mails ≡ earlier ++ last
+  pub batch : IsBatch last
+  pub count : ℕ
+  pub got : after ≡ before ++ (spelled earlier ++ take count (spelled last))
+
+-- A client got the mails, but for one at the end if it is missing.
+pub record MayLackLast (before : List ℕ) (mails : List Mail) (after : List ℕ) : Type 0 where
+  pub earlier : List Mail
+  pub last : List Mail
+  pub all : mails ≡ earlier ++ last
+  pub few : length last ≤ 1
+  pub got : after ≡ before ++ spelled earlier
+
+-- What a client had got before these mails were taken for it, and what it has got when its write side ends: behind it come
+-- the frames of the mails in their order, all of them but where the half or memory failed.
+abbrev pub IsWritten : List ℕ → List Mail → WriteEnd → List ℕ → Type 0
+IsWritten before mails Gone after = after ≡ before ++ spelled mails
+IsWritten before mails Stopped after = after ≡ before ++ spelled mails
+IsWritten before mails Spent after = after ≡ before ++ spelled mails
+IsWritten before mails Device after = BreaksOff before mails after
+IsWritten before mails NoMemory after = MayLackLast before mails after
+
+-- ---- on the way
+
+-- the receipts of a side, with those of mails that it took next
+abbrev pub receipts_with : List Receipt → List Mail → List Receipt
+receipts_with receipts mails = take most_receipts (receipts ++ filter_map receipt_of mails)
+
+-- a side took these mails next
+pub record TakesOn (before after : Seat) (kept kept_after : List Receipt) (mails : List Mail) : Type 0 where
+  pub seat : after ≡ risen before (length mails)
+  pub receipts : kept_after ≡ receipts_with kept mails
+
+-- the frames of mails that were taken, all of them unless memory was short
+abbrev pub AreSpelled : {A E : Type 0} → Result A E → List Mail → List ℕ → Type 0
+AreSpelled (Ok a) mails frames = frames ≡ spelled mails
+AreSpelled (Err e) mails frames = MayLackLast [] mails frames

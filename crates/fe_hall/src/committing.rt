@@ -1,0 +1,141 @@
+//! The committing side: it stores the batches of a hall, and posts them.
+
+ghost use Rattle.std.specs.Prelude.{◌≡◌, ◌↔◌, true, false, Some, None, Ok, Err, OnOk, IfErr};
+ghost use Rattle.fe_keeper.specs.Stands.{EachStandsFor};
+ghost use Rattle.fe_keeper.specs.declared.fault.Fault.TheVariants.{Device};
+ghost use Rattle.fe_hall.specs.Commits.{Commits, Rests, IsStill, HasFailed, TellsEnd, end_of};
+
+use crate::commit_end::CommitEnd;
+use crate::hall::Hall;
+use crate::tally::Tally;
+use fe_disk::Disk;
+use fe_keeper::{Fault, Keeper};
+use fe_state::Batch;
+use std::sync::Wait;
+
+/// A checkpoint is begun once more bytes of the journal are used than these.
+const MOST_USED: u32 = 524288;
+
+/// Stores what the calls of a hall make, batch by batch, and posts each batch once it is stored. After each batch it goes on with a
+/// checkpoint. It is for one thread, and ends once the hall is stopped and nothing is pending; every other end stops the hall.
+pub fn commit_side<C: Tally, M: Tally, D: Disk, R: Wait>(
+    rt: &R,
+    hall: &Hall<C, M>,
+    keeper: &mut Keeper<D>,
+) -> CommitEnd
+    ensures commits { Commits D.honest D.moment D.left_since keeper.old keeper.new (Some result) }
+    ensures stands { D.honest keeper.new.store.disk → keeper.new.store.has_failed ≡ false → EachStandsFor D.may_leave keeper.new.store.disk keeper.new.state }
+    ensures tells { TellsEnd D.failures keeper.old keeper.new (Some result) }
+    ensures honesty { D.honest keeper.new.store.disk ↔ D.honest keeper.old.store.disk }
+{
+    let end = commit_all(rt, hall, keeper);
+    // It is stopped already where that is the end.
+    hall.stop(rt);
+    end
+}
+
+/// Stores and posts batch after batch.
+fn commit_all<C: Tally, M: Tally, D: Disk, R: Wait>(
+    rt: &R,
+    hall: &Hall<C, M>,
+    keeper: &mut Keeper<D>,
+) -> CommitEnd
+    ensures commits { Commits D.honest D.moment D.left_since keeper.old keeper.new (Some result) }
+    ensures stands { D.honest keeper.new.store.disk → keeper.new.store.has_failed ≡ false → EachStandsFor D.may_leave keeper.new.store.disk keeper.new.state }
+    ensures tells { TellsEnd D.failures keeper.old keeper.new (Some result) }
+    ensures honesty { D.honest keeper.new.store.disk ↔ D.honest keeper.old.store.disk }
+{
+    // It names what is always true of the keeper (`docs/DECISIONS.md`, "Toolchain").
+    let _ = keeper.state();
+    let mut slices = true;
+    for _ in rt.forever() {
+        let Some(batch) = hall.next_batch(rt) else {
+            return CommitEnd::Stopped;
+        };
+        if let Some(end) = commit(rt, hall, keeper, batch) {
+            return end;
+        }
+        match tend(keeper, slices) {
+            Ok(left) => slices = left,
+            Err(fault) => return CommitEnd::Store(fault),
+        }
+    }
+    unreachable!()
+}
+
+/// Stores a batch and posts it. Why the side ends then, if it does.
+fn commit<C: Tally, M: Tally, D: Disk, R: Wait>(
+    rt: &R,
+    hall: &Hall<C, M>,
+    keeper: &mut Keeper<D>,
+    batch: Batch,
+) -> Option<CommitEnd>
+    ensures commits { Commits D.honest D.moment D.left_since keeper.old keeper.new result }
+    ensures stands { D.honest keeper.new.store.disk → keeper.new.store.has_failed ≡ false → EachStandsFor D.may_leave keeper.new.store.disk keeper.new.state }
+    ensures tells { TellsEnd D.failures keeper.old keeper.new result }
+    ensures works { result ≡ None → keeper.old.store.has_failed ≡ false }
+    ensures honesty { D.honest keeper.new.store.disk ↔ D.honest keeper.old.store.disk }
+{
+    match keeper.append(batch) {
+        Ok(batch) => match hall.post(rt, batch, keeper) {
+            Some(Ok(())) => None,
+            Some(Err(_)) => Some(CommitEnd::Strange),
+            None => Some(CommitEnd::Spent),
+        },
+        Err((fault, _)) => Some(end_of(fault)),
+    }
+}
+
+/// What a fault of an append is to the side.
+fn end_of(fault: Fault) -> CommitEnd
+    ensures { result ≡ end_of fault }
+{
+    match fault {
+        Fault::Mismatch { .. } => CommitEnd::Strange,
+        _ => CommitEnd::Store(fault),
+    }
+}
+
+/// A turn of the checkpoint, after a batch: a slice of it is written, or it is finished; where none is under way, one is begun when
+/// it is due. `slices` is whether slices were left of it, and so is the answer. The fault is `Device`.
+fn tend<D: Disk>(keeper: &mut Keeper<D>, slices: bool) -> Result<bool, Fault>
+    requires works { keeper.old.store.has_failed ≡ false }
+    ensures rests { Rests D.honest D.moment D.left_since keeper.old keeper.new }
+    ensures stands { D.honest keeper.new.store.disk → keeper.new.store.has_failed ≡ false → EachStandsFor D.may_leave keeper.new.store.disk keeper.new.state }
+    ensures still { OnOk result (IsStill D.failures keeper.old keeper.new) }
+    ensures device { IfErr result (λ fault. (fault ≡ Device) × HasFailed D.failures keeper.old keeper.new) }
+{
+    if slices {
+        if keeper.checkpoint_step()? {
+            return Ok(true);
+        }
+        // Its last slice was just written, and none is begun beside it; or an append finished it.
+        return begin_when_due(keeper);
+    }
+    if keeper.checkpoint_finish()? {
+        return Ok(false);
+    }
+    begin_when_due(keeper)
+}
+
+/// Begins a checkpoint where it is due and none is under way. One that finds no memory is begun later. Whether it was begun.
+fn begin_when_due<D: Disk>(keeper: &mut Keeper<D>) -> Result<bool, Fault>
+    requires works { keeper.old.store.has_failed ≡ false }
+    ensures rests { Rests D.honest D.moment D.left_since keeper.old keeper.new }
+    ensures stands { D.honest keeper.new.store.disk → keeper.new.store.has_failed ≡ false → EachStandsFor D.may_leave keeper.new.store.disk keeper.new.state }
+    ensures still { OnOk result (IsStill D.failures keeper.old keeper.new) }
+    ensures device { IfErr result (λ fault. (fault ≡ Device) × HasFailed D.failures keeper.old keeper.new) }
+{
+    // It names what is always true of the keeper (`docs/DECISIONS.md`, "Toolchain").
+    let _ = keeper.state();
+    if keeper.used() <= MOST_USED {
+        return Ok(false);
+    }
+    match keeper.checkpoint_begin() {
+        Ok(begun) => Ok(begun),
+        Err(fault) => match fault {
+            Fault::NoMemory => Ok(false),
+            _ => Err(fault),
+        },
+    }
+}

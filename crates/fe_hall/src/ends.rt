@@ -1,0 +1,21 @@
+/// Why a read side ended. Its connection is gone then, but where it was stopped.
+#[derive(Clone, Copy, Debug, PartialEq, Eq)]
+pub enum ReadEnd {
+    /// The stream ended.
+    Closed,
+    /// A read failed.
+    Device,
+    /// A frame outside the grammar (`docs/formats.md`, "Frames"), and where its first byte stands in the stream, counted from
+    /// 0; 2^64 - 1 for places beyond.
+    BadFrame { offset: u64 },
+    /// The connection was not there any more.
+    Gone,
+    /// As many reads were made as the side may make.
+    Turns,
+    /// The hall is stopped.
+    Stopped,
+    /// A book of the hall is full.
+    Spent,
+    /// There was no memory for the messages that came, for the next one in the list, or for the bytes of the first read.
+    NoMemory,
+}

@@ -1,0 +1,289 @@
+//! What lies under the lock of a hall: the front, with a ledger of its calls and one of the mails that were taken.
+
+ghost use Rattle.std.specs.Prelude.{◌≡◌, ◌≢◌, ◌+◌, ◌≤◌, ◌↔◌, ℕ, List, [], true, false, Ok, Err, Some, None, IsTrue, IfOk, IfErr, OnOk, OnErr, IfSome, MatchOption, slice_get, length, nat_lt};
+ghost use Rattle.std.specs.FinMap.{get};
+ghost use Rattle.fe_state.specs.declared.entry.Entry.{Entry};
+ghost use Rattle.fe_front.specs.Front.{has_room, is_connected};
+ghost use Rattle.fe_mail.specs.Books.{AddUp, first_books};
+ghost use Rattle.fe_front.specs.Event as event;
+ghost use Rattle.fe_front.specs.Step.{FrontStep};
+ghost use Rattle.fe_messages.specs.Taking.{Takes};
+ghost use Rattle.fe_hall.specs.Seats.{IsOpen, calls_in, risen, takes_more, posts_more, most_connections, most_counted};
+
+use crate::seat::{CallSeat, MailSeat};
+use crate::tally::Tally;
+use fe_front::{Books, Front, Mail, StrangeBatch};
+use fe_messages::take_message;
+use fe_state::Batch;
+use fe_wire::ClientMessage;
+use std::alloc::Global;
+use std::sync::ledger::{Blank, Book, Share};
+
+/// How many bells a hall has.
+pub(crate) const BELLS: u64 = 256;
+
+/// How many connections a hall makes, 2^62.
+const CONNECTIONS: u64 = 4611686018427387904;
+
+/// The most that a book of a hall counts before its sides end.
+const MOST: u64 = 9223372036854767616;
+
+/// The front and its ledgers, which agree with its books.
+#[derive(Drop)]
+pub(crate) struct Floor<C: Tally, M: Tally> {
+    pub(crate) front: Front,
+    calls: Book<C>,
+    mails: Book<M>,
+    spare_calls: Share<C>,
+    spare_mails: Share<M>,
+    /// How many connections were made.
+    made: u64,
+    /// The connections that were made and did not leave.
+    present: Vec<u64>,
+    pub(crate) stopped: bool,
+    ghost open: { IsOpen front.books },
+    ghost calls_agree: { calls.total ≡ front.books.calls },
+    ghost mails_agree: { mails.total ≡ front.books.taken },
+    ghost few: { made ≤ most_connections },
+    ghost call_parts: { (spare_calls.parts + made ≡ C.all) × (spare_calls.amount ≡ 0) × (C.all ≡ most_connections + 1) },
+    ghost mail_parts: { (spare_mails.parts + made ≡ M.all) × (spare_mails.amount ≡ 0) × (M.all ≡ most_connections + 1) },
+}
+
+/// What came of a message, or why no mail comes.
+#[derive(Clone, Copy, Debug, PartialEq, Eq)]
+pub(crate) enum Handled {
+    Taken,
+    /// The connection is not there.
+    Gone,
+    /// The hall is stopped.
+    Stopped,
+    /// A book is full.
+    Spent,
+}
+
+/// Why no connection was made.
+#[derive(Clone, Copy, Debug, PartialEq, Eq)]
+pub enum Unconnected {
+    /// A connection of that number is there.
+    InUse,
+    NoMemory,
+    /// As many connections were made as a hall makes, 2^62.
+    Spent,
+}
+
+impl<C: Tally, M: Tally> Floor<C, M> {
+    /// A front that is as it began, with no connection made.
+    pub(crate) fn new(alloc: Global, front: Front, calls: Blank, mails: Blank) -> Floor<C, M>
+        requires first { front.books ≡ first_books }
+        requires calls { (calls.name ≡ C.name) × (calls.parts ≡ C.parts) × (C.all ≡ C.parts) × (C.all ≡ most_connections + 1) }
+        requires mails { (mails.name ≡ M.name) × (mails.parts ≡ M.parts) × (M.all ≡ M.parts) × (M.all ≡ most_connections + 1) }
+        ensures { result.front ≡ front }
+    {
+        let (called, spare_calls) = calls.open::<C>();
+        let (taken, spare_mails) = mails.open::<M>();
+        Floor {
+            front,
+            calls: called,
+            mails: taken,
+            spare_calls,
+            spare_mails,
+            made: 0,
+            present: Vec::new(alloc),
+            stopped: false,
+        }
+    }
+
+    /// Makes a connection with an empty box, and the seats of its two sides.
+    pub(crate) fn connect(&mut self, conn: u64) -> Result<(CallSeat<C>, MailSeat<M>), Unconnected>
+        ensures step { OnOk result (FrontStep self.old.front (event.Connect conn) [] self.new.front) }
+        ensures err { OnErr result (self.new.front ≡ self.old.front) }
+        ensures in_use { (result ≡ Err Unconnected.InUse) ↔ (is_connected self.old.front conn ≡ true) }
+        ensures calls { IfOk result (λ seats. seats.0 ≡ record { connections = 1; amount = 0 }) }
+        ensures mails { IfOk result (λ seats. seats.1 ≡ record { connections = 1; amount = 0 }) }
+    {
+        if self.front.connected(conn) {
+            return Err(Unconnected::InUse);
+        }
+        if self.made == CONNECTIONS {
+            return Err(Unconnected::Spent);
+        }
+        if self.present.reserve(1).is_err() || self.front.connect(conn).is_err() {
+            return Err(Unconnected::NoMemory);
+        }
+        if self.present.push(conn).is_err() {
+            unreachable!();
+        }
+        let calls = self.spare_calls.split_off(1, 0);
+        let mails = self.spare_mails.split_off(1, 0);
+        self.made += 1;
+        Ok((CallSeat::new(calls), MailSeat::new(mails)))
+    }
+
+    /// Whether one message more stays within the books of a hall.
+    pub(crate) fn takes_more(&self) -> bool
+        ensures { result ≡ takes_more self.now.front.books }
+    {
+        let books = self.front.books();
+        books.calls < MOST && books.mails < MOST
+    }
+
+    /// A message of a connection is its event, or its refusal is mailed.
+    pub(crate) fn take_message(
+        &mut self,
+        alloc: Global,
+        conn: u64,
+        message: ClientMessage,
+        seat: &mut CallSeat<C>,
+    )
+        requires room { IsTrue (has_room self.old.front) }
+        requires more { IsTrue (takes_more self.old.front.books) }
+        ensures taken { (es : List Entry) × Takes self.old.front conn message es self.new.front }
+        ensures seat { seat.new ≡ risen seat.old (calls_in message) }
+    {
+        // It names what is always true of the front (`docs/DECISIONS.md`, "Toolchain").
+        let _ = self.front.state();
+        seat.called(&mut self.calls, calls_in(&message));
+        take_message(alloc, &mut self.front, conn, message);
+    }
+
+    /// Takes a message of a connection where there is room for it; else nothing, and `None`.
+    pub(crate) fn handle(
+        &mut self,
+        alloc: Global,
+        conn: u64,
+        message: &ClientMessage,
+        seat: &mut CallSeat<C>,
+    ) -> Option<Handled>
+        ensures taken { result ≡ Some Handled.Taken → ((es : List Entry) × Takes self.old.front conn message.now es self.new.front) × (seat.new ≡ risen seat.old (calls_in message.now)) }
+        ensures other { result ≢ Some Handled.Taken → (self.new.front ≡ self.old.front) × (seat.new ≡ seat.old) }
+    {
+        if self.stopped {
+            return Some(Handled::Stopped);
+        }
+        if !self.front.connected(conn) {
+            return Some(Handled::Gone);
+        }
+        if !self.takes_more() {
+            return Some(Handled::Spent);
+        }
+        if !self.front.room() {
+            return None;
+        }
+        self.take_message(alloc, conn, *message, seat);
+        Some(Handled::Taken)
+    }
+
+    /// Whether the write side of a connection has to look: it has mail, or it is gone.
+    pub(crate) fn calls_writer(&self, conn: u64) -> bool {
+        self.front.has_mail(conn) || !self.front.connected(conn)
+    }
+
+    /// Marks the bells of the connections whose write sides have to look.
+    pub(crate) fn mark(&self, wakes: &mut [bool; BELLS as usize]) {
+        for conn in &self.present {
+            if self.calls_writer(*conn) {
+                wakes[(*conn % BELLS) as usize] = true;
+            }
+        }
+    }
+
+    /// Whether one mail more that is taken stays within the books of a hall.
+    pub(crate) fn gives_more(&self) -> bool
+        ensures { result ≡ nat_lt self.now.front.books.taken most_counted }
+    {
+        self.front.books().taken < MOST
+    }
+
+    /// Takes the first mail out of a connection's box.
+    pub(crate) fn take_mail(&mut self, conn: u64, seat: &mut MailSeat<M>) -> Option<Mail>
+        ensures step { FrontStep self.old.front (event.TakeMail conn result) [] self.new.front }
+        ensures seat { MatchOption result (seat.new ≡ seat.old) (λ mail. seat.new ≡ risen seat.old 1) }
+    {
+        let _ = self.front.state();
+        match self.front.take_mail(conn) {
+            Some(mail) => {
+                seat.taken(&mut self.mails);
+                Some(mail)
+            }
+            None => None,
+        }
+    }
+
+    /// A connection is gone, with its box and what waits of its session.
+    pub(crate) fn leave(&mut self, conn: u64)
+        ensures { (count : ℕ) × FrontStep self.old.front (event.Gone conn count) [] self.new.front }
+    {
+        self.forget(conn);
+        let _ = self.front.state();
+        let _ = self.front.gone(conn);
+    }
+
+    /// Takes a connection out of the list of those that are present.
+    fn forget(&mut self, conn: u64)
+        ensures { self.new.front ≡ self.old.front }
+    {
+        if let Some(at) = self.present.iter().position(|other| *other == conn) {
+            let _ = self.present.swap_remove(at);
+        }
+    }
+
+    /// Hands all pending entries out, if there are some and no batch is out.
+    pub(crate) fn cut(&mut self) -> Option<Batch>
+        ensures { FrontStep self.old.front (event.Cut result) [] self.new.front }
+    {
+        self.front.cut()
+    }
+
+    /// Whether the mails of a batch stay within the books of a hall.
+    pub(crate) fn posts_more(&self, batch: &Batch) -> bool
+        ensures { result ≡ posts_more self.now.front.books batch.now }
+    {
+        let count = batch.entries.as_slice().len() as u64;
+        self.front.books().mails <= MOST - count
+    }
+
+    /// Takes the batch that is out as stored, and mails its entries.
+    pub(crate) fn post(&mut self, batch: Batch) -> Result<(), StrangeBatch>
+        requires { IsTrue (posts_more self.old.front.books batch) }
+        ensures step { OnOk result (FrontStep self.old.front (event.Post batch) [] self.new.front) }
+        ensures err { OnErr result (self.new.front ≡ self.old.front) }
+    {
+        let _ = self.front.state();
+        self.front.post(batch)
+    }
+
+    /// The books, once all seats of the hall are here.
+    pub(crate) fn audit(self, calls: CallSeat<C>, mails: MailSeat<M>) -> Option<Books>
+        requires calls { C.all ≡ C.parts }
+        requires mails { M.all ≡ M.parts }
+        ensures all { IfSome result (λ books. (books.calls ≡ calls.amount) × (books.taken ≡ mails.amount) × (books ≡ self.front.books)) }
+        ensures add_up { IfSome result (λ books. AddUp books) }
+        ensures unspent { IfSome result (λ books. books.spent ≡ false) }
+    {
+        if calls.connections() != self.made || mails.connections() != self.made {
+            return None;
+        }
+        let Floor {
+            front,
+            calls: mut called,
+            mails: mut taken,
+            spare_calls,
+            spare_mails,
+            ..
+        } = self;
+        let books = front.books();
+        calls.audit(&mut called, spare_calls);
+        mails.audit(&mut taken, spare_mails);
+        Some(books)
+    }
+}
+
+/// How many calls a message is.
+fn calls_in(message: &ClientMessage) -> u64
+    ensures { result ≡ calls_in message.now }
+{
+    match message {
+        ClientMessage::Call { .. } => 1,
+        _ => 0,
+    }
+}

@@ -1,0 +1,209 @@
+ghost use Rattle.std.specs.Prelude.{◌≡◌, ◌≢◌, ◌+◌, IfOk, IfErr, Some, None, MatchOption, length};
+ghost use Rattle.fe_mail.specs.Books.{first_books};
+ghost use Rattle.fe_hall.specs.Seats.{calls_in, risen, most_connections};
+ghost use Rattle.fe_hall.specs.Commits.{IsStored};
+
+use crate::floor::{BELLS, Floor, Handled, Unconnected};
+use crate::seat::{CallSeat, MailSeat};
+use crate::tally::Tally;
+use crate::write_end::WriteEnd;
+use fe_disk::Disk;
+use fe_front::{Front, Mail, StrangeBatch};
+use fe_keeper::Keeper;
+use fe_state::Batch;
+use fe_wire::ClientMessage;
+use std::alloc::{AllocError, Global};
+use std::sync::ledger::Blank;
+use std::sync::{Condvar, Mutex, MutexGuard, Wait};
+
+/// A front for many threads. Whoever has the lock makes one event of it.
+///
+/// It is generic in the names of its two ledgers, of the calls and of the mails that were taken.
+#[derive(Drop)]
+pub struct Hall<C: Tally, M: Tally> {
+    floor: Mutex<Floor<C, M>>,
+    /// Rung where entries are pending, and where the hall is stopped.
+    work: Condvar,
+    /// Rung where room came for an event, and where the hall is stopped.
+    room: Condvar,
+    /// Rung for the write side of a connection, by its number's remainder.
+    bells: Vec<Condvar>,
+    ghost all_bells: { length bells.items ≡ 256 },
+}
+
+impl<C: Tally, M: Tally> Hall<C, M> {
+    /// A hall round a front that is as `Front::new` gave it. The blanks are the ledgers', of 2^62 + 1 parts each.
+    pub fn new(
+        alloc: Global,
+        front: Front,
+        calls: Blank,
+        mails: Blank,
+    ) -> Result<Hall<C, M>, (AllocError, Front)>
+        requires first { front.books ≡ first_books }
+        requires calls { (calls.name ≡ C.name) × (calls.parts ≡ C.parts) × (C.all ≡ C.parts) × (C.all ≡ most_connections + 1) }
+        requires mails { (mails.name ≡ M.name) × (mails.parts ≡ M.parts) × (M.all ≡ M.parts) × (M.all ≡ most_connections + 1) }
+        ensures { IfErr result (λ e. e.1 ≡ front) }
+    {
+        match bells(alloc) {
+            Ok(bells) => Ok(Hall {
+                floor: Mutex::new(Floor::new(alloc, front, calls, mails)),
+                work: Condvar::new(),
+                room: Condvar::new(),
+                bells,
+            }),
+            Err(_) => Err((AllocError, front)),
+        }
+    }
+
+    /// Makes a connection, and gives the seats of its two sides.
+    pub fn connect<R: Wait>(
+        &self,
+        rt: &R,
+        conn: u64,
+    ) -> Result<(CallSeat<C>, MailSeat<M>), Unconnected>
+        ensures calls { IfOk result (λ seats. seats.0 ≡ record { connections = 1; amount = 0 }) }
+        ensures mails { IfOk result (λ seats. seats.1 ≡ record { connections = 1; amount = 0 }) }
+    {
+        self.floor.lock(rt).connect(conn)
+    }
+
+    /// Tells all sides to end. What is pending is still stored.
+    pub fn stop<R: Wait>(&self, rt: &R) {
+        self.floor.lock(rt).stopped = true;
+        self.work.notify_all();
+        self.room.notify_all();
+        for bell in &self.bells {
+            bell.notify_all();
+        }
+    }
+
+    /// Rings for the write side of a connection.
+    fn ring(&self, conn: u64) {
+        self.bells[(conn % BELLS) as usize].notify_all();
+    }
+
+    /// Takes a message of a connection, once there is room for it.
+    pub(crate) fn handle<R: Wait>(
+        &self,
+        rt: &R,
+        alloc: Global,
+        conn: u64,
+        message: &ClientMessage,
+        seat: &mut CallSeat<C>,
+    ) -> Handled
+        ensures taken { result ≡ Handled.Taken → seat.new ≡ risen seat.old (calls_in message.now) }
+        ensures other { result ≢ Handled.Taken → seat.new ≡ seat.old }
+    {
+        let mut floor = self.floor.lock(rt);
+        for _ in rt.forever() {
+            if let Some(handled) = floor.handle(alloc, conn, message, seat) {
+                let told = floor.calls_writer(conn);
+                MutexGuard::unlock(floor);
+                self.work.notify_one();
+                if told {
+                    self.ring(conn);
+                }
+                return handled;
+            }
+            floor = self.room.wait(rt, floor);
+        }
+        unreachable!()
+    }
+
+    /// A connection is gone, if it still is there.
+    pub(crate) fn leave<R: Wait>(&self, rt: &R, conn: u64) {
+        self.floor.lock(rt).leave(conn);
+        self.ring(conn);
+    }
+
+    /// Waits for a mail of a connection. `None` where there is one; else why its write side ends.
+    pub(crate) fn wait_mail<R: Wait>(&self, rt: &R, conn: u64) -> Option<WriteEnd> {
+        let mut floor = self.floor.lock(rt);
+        for _ in rt.forever() {
+            if floor.front.has_mail(conn) {
+                return None;
+            }
+            if !floor.front.connected(conn) {
+                return Some(WriteEnd::Gone);
+            }
+            if floor.stopped {
+                return Some(WriteEnd::Stopped);
+            }
+            if !floor.gives_more() {
+                return Some(WriteEnd::Spent);
+            }
+            floor = self.bells[(conn % BELLS) as usize].wait(rt, floor);
+        }
+        unreachable!()
+    }
+
+    /// Takes the first mail of a connection, if there is one.
+    pub(crate) fn take_mail<R: Wait>(
+        &self,
+        rt: &R,
+        conn: u64,
+        seat: &mut MailSeat<M>,
+    ) -> Option<Mail>
+        ensures seat { MatchOption result (seat.new ≡ seat.old) (λ mail. seat.new ≡ risen seat.old 1) }
+    {
+        self.floor.lock(rt).take_mail(conn, seat)
+    }
+
+    /// Waits for entries, and cuts them. `None` where the hall is stopped and none is pending.
+    pub(crate) fn next_batch<R: Wait>(&self, rt: &R) -> Option<Batch> {
+        let mut floor = self.floor.lock(rt);
+        for _ in rt.forever() {
+            if let Some(batch) = floor.cut() {
+                return Some(batch);
+            }
+            if floor.stopped {
+                return None;
+            }
+            floor = self.work.wait(rt, floor);
+        }
+        unreachable!()
+    }
+
+    /// Posts the batch that the keeper has stored last, and rings for whoever has mail. `None` where a book is full.
+    pub(crate) fn post<D: Disk, R: Wait>(
+        &self,
+        rt: &R,
+        batch: Batch,
+        _keeper: &Keeper<D>,
+    ) -> Option<Result<(), StrangeBatch>>
+        requires stored { IsStored batch _keeper.now.state }
+    {
+        let mut wakes = [false; BELLS as usize];
+        let mut floor = self.floor.lock(rt);
+        if !floor.posts_more(&batch) {
+            return None;
+        }
+        let outcome = floor.post(batch);
+        floor.mark(&mut wakes);
+        MutexGuard::unlock(floor);
+        self.room.notify_all();
+        for at in 0..self.bells.len() {
+            if wakes[at] {
+                self.bells[at].notify_all();
+            }
+        }
+        Some(outcome)
+    }
+
+    /// What lies under the lock, once no thread has the hall.
+    pub(crate) fn into_floor(self) -> Floor<C, M> {
+        let Hall { floor, .. } = self;
+        floor.into_inner()
+    }
+}
+
+/// As many condition variables as there are bells.
+fn bells(alloc: Global) -> Result<Vec<Condvar>, AllocError>
+    ensures { IfOk result (λ bells. length bells.items ≡ 256) }
+{
+    let mut bells = Vec::with_capacity(alloc, BELLS as usize)?;
+    for _k in 0..BELLS {
+        bells.push(Condvar::new())?;
+    }
+    Ok(bells)
+}

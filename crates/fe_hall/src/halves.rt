@@ -1,0 +1,129 @@
+//! The two directions of a connection, and what stands before each message.
+
+ghost use Rattle.std.specs.Prelude.{◌≡◌, ◌≤◌, ◌++◌, ℕ, List, length, take, IfOk, OnOk, OnErr};
+
+use std::alloc::Global;
+use std::sync::Wait;
+
+/// A read or a write of a connection failed.
+#[derive(Clone, Copy, Debug, PartialEq, Eq)]
+pub struct LineFault;
+
+/// The direction from the client.
+pub trait ReadHalf {
+    /// It tells the bytes that it reads. A socket tells nothing.
+    ghost tells: { Self → Type 0 };
+
+    /// The bytes that were read.
+    ghost told: { Self → List ℕ };
+
+    /// Reads some bytes into the front of the buffer, and says how many; none where the stream has ended.
+    fn read(&mut self, buffer: &mut [u8]) -> Result<usize, LineFault>
+        ensures fits { IfOk result (λ n. n ≤ length buffer.old) }
+        ensures tells { tells self.old → tells self.new }
+        ensures told { tells self.old → IfOk result (λ n. told self.new ≡ told self.old ++ take n buffer.new) }
+        ensures err { tells self.old → OnErr result (told self.new ≡ told self.old) };
+}
+
+/// The direction to the client.
+pub trait WriteHalf {
+    /// It tells the bytes that it got. A socket tells nothing.
+    ghost tells: { Self → Type 0 };
+
+    /// The bytes that it got.
+    ghost got: { Self → List ℕ };
+
+    /// Writes some bytes from the front, and says how many; none where it takes no more.
+    fn write(&mut self, bytes: &[u8]) -> Result<usize, LineFault>
+        ensures fits { IfOk result (λ n. n ≤ length bytes.now) }
+        ensures tells { tells self.old → tells self.new }
+        ensures got { tells self.old → IfOk result (λ n. got self.new ≡ got self.old ++ take n bytes.now) }
+        ensures err { tells self.old → OnErr result (got self.new ≡ got self.old) };
+}
+
+/// What a message passes before it is handled; it may let it wait.
+pub trait Gate {
+    fn pass<R: Wait>(&self, rt: &R, conn: u64);
+}
+
+/// A gate that lets each message through.
+#[derive(Clone, Copy, Debug)]
+pub struct Open;
+
+impl Gate for Open {
+    fn pass<R: Wait>(&self, _rt: &R, _conn: u64) {}
+}
+
+/// Bytes in memory that are read in pieces.
+#[derive(Drop)]
+pub struct MemoryRead {
+    bytes: Vec<u8>,
+    next: usize,
+    piece: usize,
+    ghost within: { next ≤ length bytes.items },
+}
+
+impl MemoryRead {
+    /// These bytes, in pieces of at most so many.
+    pub fn new(bytes: Vec<u8>, piece: usize) -> MemoryRead {
+        MemoryRead {
+            bytes,
+            next: 0,
+            piece,
+        }
+    }
+}
+
+impl ReadHalf for MemoryRead {
+    ghost use Rattle.std.specs.Prelude.{take};
+
+    ghost tells = { λ _. Unit {0} };
+
+    ghost told = { λ r. take r.next r.bytes.items };
+
+    fn read(&mut self, buffer: &mut [u8]) -> Result<usize, LineFault> {
+        let count = buffer
+            .len()
+            .min(self.piece)
+            .min(self.bytes.len() - self.next);
+        let end = self.next + count;
+        buffer[..count].copy_from_slice(&self.bytes.as_slice()[self.next..end]);
+        self.next = end;
+        Ok(count)
+    }
+}
+
+/// Bytes in memory that were written.
+#[derive(Drop)]
+pub struct MemoryWrite {
+    bytes: Vec<u8>,
+}
+
+impl MemoryWrite {
+    /// Nothing is written.
+    pub fn new(alloc: Global) -> MemoryWrite {
+        MemoryWrite {
+            bytes: Vec::new(alloc),
+        }
+    }
+
+    /// What was written.
+    pub fn as_slice(&self) -> &[u8]
+        ensures { result.now ≡ self.now.bytes.items }
+    {
+        self.bytes.as_slice()
+    }
+}
+
+impl WriteHalf for MemoryWrite {
+    ghost tells = { λ _. Unit {0} };
+
+    ghost got = { λ w. w.bytes.items };
+
+    fn write(&mut self, bytes: &[u8]) -> Result<usize, LineFault> {
+        match self.bytes.extend_from_slice(bytes) {
+            Ok(()) => Ok(bytes.len()),
+            Err(_) => Err(LineFault),
+        }
+    }
+}

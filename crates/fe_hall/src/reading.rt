@@ -1,0 +1,224 @@
+//! The read side of a connection: the messages of its stream go to the hall, one after the other.
+
+ghost use Rattle.std.specs.Prelude.{◌≡◌, ◌≢◌, ◌↔◌, ◌++◌, [], ℕ, List, IsNone, IsSome, IfNone, IfSome, OnSome, MatchOption};
+ghost use Rattle.fe_wire.specs.declared.client_message.ClientMessage.{ClientMessage as Message};
+ghost use Rattle.fe_hall.specs.Seats.{Seat, calls_in, risen};
+ghost use Rattle.fe_hall.specs.Reads.{is_sent, listed_with, AreHandled, BreaksOff, EndsAmong, HandlesStream, IsAt};
+
+use crate::ends::ReadEnd;
+use crate::floor::Handled;
+use crate::hall::Hall;
+use crate::halves::{Gate, ReadHalf};
+use crate::seat::CallSeat;
+use crate::tally::Tally;
+use fe_wire::{ClientMessage, Decoder, Version};
+use std::alloc::Global;
+use std::sync::Wait;
+
+/// How many bytes a read may bring.
+const PIECE_BYTES: usize = 65536;
+
+/// How many messages the list of a side has at most.
+const LISTED: usize = 1024;
+
+/// Serves the direction from the client of a connection, until it ends. Each message goes through the gate, outside the lock,
+/// and then to the hall, which may let it wait for room. `turns` bounds the reads; where it is absent nothing does.
+///
+/// It gives the seat back, with the first 1,024 attaches and calls that were handled. Every end but `Stopped` makes the
+/// connection gone.
+pub fn read_side<C: Tally, M: Tally, H: ReadHalf, G: Gate, R: Wait>(
+    rt: &R,
+    alloc: Global,
+    hall: &Hall<C, M>,
+    seat: CallSeat<C>,
+    conn: u64,
+    half: &mut H,
+    gate: &G,
+    turns: Option<u64>,
+) -> (CallSeat<C>, Vec<ClientMessage>, ReadEnd)
+    // A half that tells its bytes, and has told none: what was handled is the front of its stream.
+    ensures handled { H.tells half.old → H.told half.old ≡ [] → HandlesStream (H.told half.new) seat result.0 result.1.items result.2 }
+    ensures tells { H.tells half.old → H.tells half.new }
+    ensures turns { result.2 ≡ ReadEnd.Turns → IsSome turns }
+{
+    let decoder = Decoder::with_version(Version::Two);
+    let listed = Vec::new(alloc);
+    let mut reading = Reading {
+        alloc,
+        conn,
+        seat,
+        decoder,
+        listed,
+    };
+    let end = reading.read_all(rt, hall, half, gate, turns);
+    if end != ReadEnd::Stopped {
+        hall.leave(rt, conn);
+    }
+    let Reading { seat, listed, .. } = reading;
+    (seat, listed, end)
+}
+
+/// A read side at work.
+#[derive(Drop)]
+struct Reading<C: Tally> {
+    alloc: Global,
+    conn: u64,
+    seat: CallSeat<C>,
+    decoder: Decoder,
+    /// The first attaches and calls that were handled.
+    listed: Vec<ClientMessage>,
+}
+
+impl<C: Tally> Reading<C> {
+    /// Reads as often as it may, until the side ends.
+    fn read_all<M: Tally, H: ReadHalf, G: Gate, R: Wait>(
+        &mut self,
+        rt: &R,
+        hall: &Hall<C, M>,
+        half: &mut H,
+        gate: &G,
+        turns: Option<u64>,
+    ) -> ReadEnd
+        ensures handled { H.tells half.old → H.told half.old ≡ [] → IsAt [] self.old.seat self.old.decoder self.old.seat self.old.listed.items
+            → HandlesStream (H.told half.new) self.old.seat self.new.seat self.new.listed.items result }
+        ensures tells { H.tells half.old → H.tells half.new }
+        ensures turns { result ≡ ReadEnd.Turns → IsSome turns }
+    {
+        let Ok(mut buffer) = vec![in self.alloc; 0u8; PIECE_BYTES] else {
+            return ReadEnd::NoMemory;
+        };
+        let mut left = turns;
+        for _ in rt.forever() {
+            match left {
+                Some(0) => return ReadEnd::Turns,
+                Some(count) => left = Some(count - 1),
+                None => {}
+            }
+            if let Some(end) = self.read(rt, hall, half, gate, buffer.as_mut_slice()) {
+                return end;
+            }
+        }
+        unreachable!()
+    }
+
+    /// Reads once, and takes the messages that came whole. Why the side ends, if it does.
+    fn read<M: Tally, H: ReadHalf, G: Gate, R: Wait>(
+        &mut self,
+        rt: &R,
+        hall: &Hall<C, M>,
+        half: &mut H,
+        gate: &G,
+        buffer: &mut [u8],
+    ) -> Option<ReadEnd>
+        ensures handled { (before : Seat) → H.tells half.old → IsAt (H.told half.old) before self.old.decoder self.old.seat self.old.listed.items
+            → MatchOption result (IsAt (H.told half.new) before self.new.decoder self.new.seat self.new.listed.items)
+            (HandlesStream (H.told half.new) before self.new.seat self.new.listed.items) }
+        ensures tells { H.tells half.old → H.tells half.new }
+        ensures turns { IfSome result (λ end. end ≢ ReadEnd.Turns) }
+    {
+        match half.read(buffer) {
+            Err(_) => Some(ReadEnd::Device),
+            Ok(0) => Some(ReadEnd::Closed),
+            Ok(count) => self.take_piece(rt, hall, gate, &buffer[..count]),
+        }
+    }
+
+    /// Takes the messages that the next piece of the stream completes. Why the side ends, if it does.
+    fn take_piece<M: Tally, G: Gate, R: Wait>(
+        &mut self,
+        rt: &R,
+        hall: &Hall<C, M>,
+        gate: &G,
+        piece: &[u8],
+    ) -> Option<ReadEnd>
+        ensures handled { (before : Seat) (bytes : List ℕ) → IsAt bytes before self.old.decoder self.old.seat self.old.listed.items
+            → MatchOption result (IsAt (bytes ++ piece.now) before self.new.decoder self.new.seat self.new.listed.items)
+            (HandlesStream (bytes ++ piece.now) before self.new.seat self.new.listed.items) }
+        ensures turns { IfSome result (λ end. end ≢ ReadEnd.Turns) }
+    {
+        let Ok(fed) = self.decoder.feed(self.alloc, piece) else {
+            return Some(ReadEnd::NoMemory);
+        };
+        if let Some(end) = self.take_all(rt, hall, gate, fed.messages.as_slice()) {
+            return Some(end);
+        }
+        let fault = fed.fault?;
+        Some(ReadEnd::BadFrame {
+            offset: fault.offset,
+        })
+    }
+
+    /// Takes messages in their order. Why the side ends, if it does.
+    fn take_all<M: Tally, G: Gate, R: Wait>(
+        &mut self,
+        rt: &R,
+        hall: &Hall<C, M>,
+        gate: &G,
+        messages: &[ClientMessage],
+    ) -> Option<ReadEnd>
+        ensures handled { (before : Seat) (earlier : List Message) → AreHandled before self.old.seat self.old.listed.items earlier
+            → MatchOption result (AreHandled before self.new.seat self.new.listed.items (earlier ++ messages.now))
+            (EndsAmong before self.new.seat self.new.listed.items earlier messages.now) }
+        ensures turns { IfSome result (λ end. end ≢ ReadEnd.Turns) }
+        ensures decoder { self.new.decoder ≡ self.old.decoder }
+    {
+        for message in messages {
+            if let Some(end) = self.take(rt, hall, gate, message) {
+                return Some(end);
+            }
+        }
+        None
+    }
+
+    /// Takes a message. Why the side ends before it, if it does.
+    fn take<M: Tally, G: Gate, R: Wait>(
+        &mut self,
+        rt: &R,
+        hall: &Hall<C, M>,
+        gate: &G,
+        message: &ClientMessage,
+    ) -> Option<ReadEnd>
+        ensures seat { IfNone result (self.new.seat ≡ risen self.old.seat (calls_in message.now)) }
+        ensures listed { IfNone result (self.new.listed.items ≡ listed_with self.old.listed.items message.now) }
+        ensures untaken { OnSome result ((self.new.seat ≡ self.old.seat) × (self.new.listed.items ≡ self.old.listed.items)) }
+        ensures end { IfSome result BreaksOff }
+        ensures decoder { self.new.decoder ≡ self.old.decoder }
+    {
+        let lists = is_sent(message) && self.listed.len() < LISTED;
+        if lists && self.listed.reserve(1).is_err() {
+            return Some(ReadEnd::NoMemory);
+        }
+        gate.pass(rt, self.conn);
+        let handled = hall.handle(rt, self.alloc, self.conn, message, &mut self.seat);
+        if let Some(end) = end_of(handled) {
+            return Some(end);
+        }
+        if lists && self.listed.push(*message).is_err() {
+            unreachable!();
+        }
+        None
+    }
+}
+
+/// Why a side ends whose message was not taken. `None` where it was.
+fn end_of(handled: Handled) -> Option<ReadEnd>
+    ensures taken { IsNone result ↔ (handled ≡ Handled.Taken) }
+    ensures end { IfSome result BreaksOff }
+{
+    match handled {
+        Handled::Taken => None,
+        Handled::Gone => Some(ReadEnd::Gone),
+        Handled::Stopped => Some(ReadEnd::Stopped),
+        Handled::Spent => Some(ReadEnd::Spent),
+    }
+}
+
+/// Whether a message is an attach or a call.
+fn is_sent(message: &ClientMessage) -> bool
+    ensures { result ≡ is_sent message.now }
+{
+    matches!(
+        message,
+        ClientMessage::Attach { .. } | ClientMessage::Call { .. }
+    )
+}

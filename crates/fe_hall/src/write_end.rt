@@ -1,0 +1,14 @@
+/// Why a write side ended. Its connection is gone then, but where it was stopped.
+#[derive(Clone, Copy, Debug, PartialEq, Eq)]
+pub enum WriteEnd {
+    /// The connection was not there any more.
+    Gone,
+    /// A write failed, or took no byte.
+    Device,
+    /// The hall is stopped, and the box was empty.
+    Stopped,
+    /// The book of the mails that were taken is full.
+    Spent,
+    /// There was no memory for a receipt or for the frame of a mail.
+    NoMemory,
+}

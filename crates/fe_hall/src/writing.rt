@@ -1,0 +1,198 @@
+//! The write side of a connection: the mails of its box are spelled to its client, in their order.
+
+ghost use Rattle.std.specs.Prelude.{◌≡◌, ◌<◌, ◌≤◌, ◌∷◌, ◌++◌, [], ℕ, List, length, take, vec_len, vec_capacity, OnOk, OnErr, IfNone, MatchOption};
+ghost use Rattle.fe_mail.specs.declared.mail.Mail.{Mail as Told};
+ghost use Rattle.fe_messages.specs.Mails.{spelled};
+ghost use Rattle.fe_hall.specs.Writes.{AreTaken, IsWritten, TakesOn, IsBatch, AreSpelled, receipts_with};
+
+use crate::hall::Hall;
+use crate::halves::{LineFault, WriteHalf};
+use crate::receipt::Receipt;
+use crate::seat::MailSeat;
+use crate::tally::Tally;
+use crate::write_end::WriteEnd;
+use fe_front::Mail;
+use fe_messages::Reply;
+use std::alloc::{AllocError, Global};
+use std::sync::Wait;
+
+/// How many bytes are spelled at least before they are written, where so many mails are there.
+const BATCH_BYTES: usize = 65536;
+
+/// How many receipts a side keeps at most.
+const KEPT: usize = 1024;
+
+/// Serves the direction to the client of a connection, until it ends. It waits for mail, takes all of it out of the box, and
+/// makes one write of what it spelled outside the lock, before it takes more than some 64 KiB.
+///
+/// It gives the seat back, with the receipts of the first 1,024 answers that it took. Every end but `Stopped` makes the
+/// connection gone.
+pub fn write_side<C: Tally, M: Tally, H: WriteHalf, R: Wait>(
+    rt: &R,
+    alloc: Global,
+    hall: &Hall<C, M>,
+    seat: MailSeat<M>,
+    conn: u64,
+    half: &mut H,
+) -> (MailSeat<M>, Vec<Receipt>, WriteEnd)
+    // The mails that were taken: seat and receipts tell them, and a half that tells its bytes got their spelling.
+    ensures wrote { (mails : List Told) × AreTaken seat result.0 result.1.items mails × (H.tells half.old → IsWritten (H.got half.old) mails result.2 (H.got half.new)) }
+    ensures tells { H.tells half.old → H.tells half.new }
+{
+    let mut writing = Writing {
+        conn,
+        seat,
+        receipts: Vec::new(alloc),
+        frames: Vec::new(alloc),
+    };
+    let end = writing.write_all(rt, hall, half);
+    if end != WriteEnd::Stopped {
+        hall.leave(rt, conn);
+    }
+    let Writing { seat, receipts, .. } = writing;
+    (seat, receipts, end)
+}
+
+/// A write side at work.
+#[derive(Drop)]
+struct Writing<M: Tally> {
+    conn: u64,
+    seat: MailSeat<M>,
+    /// The receipts of the first answers that were taken.
+    receipts: Vec<Receipt>,
+    /// The frames of the mails that were taken and are not written.
+    frames: Vec<u8>,
+    ghost few: { length receipts.items ≤ 1024 },
+}
+
+impl<M: Tally> Writing<M> {
+    /// Writes what comes into the box, until the side ends.
+    fn write_all<C: Tally, H: WriteHalf, R: Wait>(
+        &mut self,
+        rt: &R,
+        hall: &Hall<C, M>,
+        half: &mut H,
+    ) -> WriteEnd
+        requires { self.old.frames.items ≡ [] }
+        ensures wrote { (mails : List Told) × TakesOn self.old.seat self.new.seat self.old.receipts.items self.new.receipts.items mails
+            × (H.tells half.old → IsWritten (H.got half.old) mails result (H.got half.new)) }
+        ensures tells { H.tells half.old → H.tells half.new }
+    {
+        for _ in rt.forever() {
+            if let Some(end) = self.write_box(rt, hall, half) {
+                return end;
+            }
+            if let Some(end) = hall.wait_mail(rt, self.conn) {
+                return end;
+            }
+        }
+        unreachable!()
+    }
+
+    /// Takes the mails of the box, or enough of them for a write, and writes them. Why the side ends, if it does.
+    fn write_box<C: Tally, H: WriteHalf, R: Wait>(
+        &mut self,
+        rt: &R,
+        hall: &Hall<C, M>,
+        half: &mut H,
+    ) -> Option<WriteEnd>
+        requires { self.old.frames.items ≡ [] }
+        ensures wrote { (mails : List Told) × TakesOn self.old.seat self.new.seat self.old.receipts.items self.new.receipts.items mails
+            × (H.tells half.old → MatchOption result (H.got half.new ≡ H.got half.old ++ spelled mails) (λ end. IsWritten (H.got half.old) mails end (H.got half.new))) }
+        ensures frames { IfNone result (self.new.frames.items ≡ []) }
+        ensures tells { H.tells half.old → H.tells half.new }
+    {
+        let taken = self.take_mails(rt, hall);
+        if let Err(_) = write_whole(half, self.frames.as_slice()) {
+            return Some(WriteEnd::Device);
+        }
+        self.frames.clear();
+        match taken {
+            Ok(()) => None,
+            Err(_) => Some(WriteEnd::NoMemory),
+        }
+    }
+
+    /// Takes mails and spells them, until the box is empty or enough bytes are spelled for a write. Where memory is short, at
+    /// most the last mail that was taken is not spelled.
+    fn take_mails<C: Tally, R: Wait>(&mut self, rt: &R, hall: &Hall<C, M>) -> Result<(), AllocError>
+        requires { self.old.frames.items ≡ [] }
+        ensures { (mails : List Told) × TakesOn self.old.seat self.new.seat self.old.receipts.items self.new.receipts.items mails
+            × IsBatch mails × AreSpelled result mails self.new.frames.items }
+    {
+        for _ in rt.forever() {
+            if self.frames.len() >= BATCH_BYTES {
+                return Ok(());
+            }
+            if !self.take_mail(rt, hall)? {
+                return Ok(());
+            }
+        }
+        unreachable!()
+    }
+
+    /// Takes a mail, keeps its receipt, and spells it. Whether there was one.
+    fn take_mail<C: Tally, R: Wait>(
+        &mut self,
+        rt: &R,
+        hall: &Hall<C, M>,
+    ) -> Result<bool, AllocError>
+        ensures { (mails : List Told) × TakesOn self.old.seat self.new.seat self.old.receipts.items self.new.receipts.items mails
+            × (length mails ≤ 1) × OnOk result (self.new.frames.items ≡ self.old.frames.items ++ spelled mails) × OnErr result (self.new.frames.items ≡ self.old.frames.items) }
+    {
+        self.make_room()?;
+        let Some(mail) = hall.take_mail(rt, self.conn, &mut self.seat) else {
+            return Ok(false);
+        };
+        self.keep_receipt(&mail);
+        Reply::of(mail).put(&mut self.frames)?;
+        Ok(true)
+    }
+
+    /// Makes room for the receipt of the next mail, where one may be kept.
+    fn make_room(&mut self) -> Result<(), AllocError>
+        ensures room { OnOk result (vec_len self.new.receipts < 1024 → vec_len self.new.receipts < vec_capacity self.new.receipts) }
+        ensures receipts { self.new.receipts.items ≡ self.old.receipts.items }
+        ensures seat { self.new.seat ≡ self.old.seat }
+        ensures frames { self.new.frames.items ≡ self.old.frames.items }
+    {
+        if self.receipts.len() < KEPT {
+            self.receipts.reserve(1)?;
+        }
+        Ok(())
+    }
+
+    /// Keeps the receipt of a mail, if it is an answer and among the first.
+    fn keep_receipt(&mut self, mail: &Mail)
+        requires { vec_len self.old.receipts < 1024 → vec_len self.old.receipts < vec_capacity self.old.receipts }
+        ensures receipts { self.new.receipts.items ≡ receipts_with self.old.receipts.items (mail.now ∷ []) }
+        ensures seat { self.new.seat ≡ self.old.seat }
+        ensures frames { self.new.frames.items ≡ self.old.frames.items }
+    {
+        if self.receipts.len() >= KEPT {
+            return;
+        }
+        if let Some(receipt) = Receipt::of(mail) {
+            if self.receipts.push(receipt).is_err() {
+                unreachable!();
+            }
+        }
+    }
+}
+
+/// Writes all of these bytes; in one write, where the half takes them so.
+fn write_whole<H: WriteHalf>(half: &mut H, bytes: &[u8]) -> Result<(), LineFault>
+    ensures tells { H.tells half.old → H.tells half.new }
+    ensures ok { H.tells half.old → OnOk result (H.got half.new ≡ H.got half.old ++ bytes.now) }
+    ensures err { H.tells half.old → OnErr result ((n : ℕ) × (n ≤ length bytes.now) × (H.got half.new ≡ H.got half.old ++ take n bytes.now)) }
+{
+    let mut next = 0;
+    while next < bytes.len() {
+        let count = half.write(&bytes[next..])?;
+        if count == 0 {
+            return Err(LineFault);
+        }
+        next += count;
+    }
+    Ok(())
+}

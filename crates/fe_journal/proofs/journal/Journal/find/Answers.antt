@@ -1,0 +1,48 @@
+use Rattle.std.proofs.Common.{ℕ, List, Err, sym, ◌∙◌, ap, subst}
+use Rattle.fe_disk.specs.Disk.{Rises}
+use Rattle.fe_journal.specs.Found.{IsFound}
+use Rattle.fe_journal.specs.Steps.{OnlyReads}
+use Rattle.fe_journal.specs.Store.{IsStore}
+use Rattle.fe_journal.specs.declared.fault.StoreFault.{StoreFault}
+use Rattle.fe_journal.proofs.Founds.{formatted, refused_only, unformatted_only}
+use Rattle.fe_journal.proofs.journal.Journal.find.Goals as goal
+
+pub returns-in-Ok-clause-found : goal.returns-in-Ok-clause-found
+returns-in-Ok-clause-found g c = λ honest.
+    let same = (c.read_store.ensures.reads honest).same in
+    let store = subst (λ (l : List ℕ). IsStore l c.in-Ok.store) (sym same) (c.in-Ok.ensures.store honest) in
+    subst (λ (l : List ℕ). IsFound g.D.Disk.seen g.D.Disk.may_leave l c.found_in.result) same (c.found_in.ensures.found (c.read_store.ensures.honesty.1 honest) store (c.in-Ok.ensures.settled honest))
+
+pub returns-in-Err-clause-refused : goal.returns-in-Err-clause-refused
+returns-in-Err-clause-refused g c = λ honest. c.in-Err.ensures.faults honest
+
+pub returns-in-Err-clause-holds : goal.returns-in-Err-clause-holds
+returns-in-Err-clause-holds g c = λ honest contents holds. refused_only contents (g.D.Disk.seen c.args.disk) holds c.in-Err.fault (c.in-Err.ensures.faults honest)
+
+pub returns-in-Ok-clause-reads : goal.returns-in-Ok-clause-reads
+returns-in-Ok-clause-reads g c = λ honest.
+    subst (λ (d : g.row.D.Denot). OnlyReads g.D.Disk.seen g.D.Disk.may_leave g.D.Disk.moment g.D.Disk.left_since c.args.disk d) (sym c.found_in.ensures.disk) (c.read_store.ensures.reads honest)
+
+pub returns-in-Err-clause-reads : goal.returns-in-Err-clause-reads
+returns-in-Err-clause-reads g c = c.read_store.ensures.reads
+
+pub returns-in-Err-clause-device : goal.returns-in-Err-clause-device
+returns-in-Err-clause-device g c = let fault = c.in-Err.ensures.fault in (λ is. fault.0 (ap (λ (f : StoreFault). Err f) is), λ rises. let e = fault.1 rises in cc)
+
+pub returns-in-Ok-clause-still : goal.returns-in-Ok-clause-still
+returns-in-Ok-clause-still g c = ap (λ (d : g.row.D.Denot). g.D.Disk.failures d) c.found_in.ensures.disk ∙ c.in-Ok.ensures.still
+
+pub returns-in-Ok-clause-works : goal.returns-in-Ok-clause-works
+returns-in-Ok-clause-works g c = λ rises.
+    let e = c.in-Ok.ensures.fault.1 (subst (λ (d : g.row.D.Denot). Rises (g.D.Disk.failures c.args.disk) (g.D.Disk.failures d)) c.found_in.ensures.disk rises) in
+    cc
+
+pub returns-in-Err-clause-unformatted : goal.returns-in-Err-clause-unformatted
+returns-in-Err-clause-unformatted g c = λ honest odd. unformatted_only (g.D.Disk.seen c.args.disk) c.in-Err.fault (c.in-Err.ensures.faults honest) odd
+
+pub returns-in-Ok-clause-unformatted : goal.returns-in-Ok-clause-unformatted
+returns-in-Ok-clause-unformatted g c = λ honest odd.
+    let same = (c.read_store.ensures.reads honest).same in
+    let store = subst (λ (l : List ℕ). IsStore l c.in-Ok.store) (sym same) (c.in-Ok.ensures.store honest) in
+    let found = subst (λ (l : List ℕ). IsFound g.D.Disk.seen g.D.Disk.may_leave l c.found_in.result) same (c.found_in.ensures.found (c.read_store.ensures.honesty.1 honest) store (c.in-Ok.ensures.settled honest)) in
+    absurd (formatted found.contents (g.D.Disk.seen c.args.disk) found.holds odd)

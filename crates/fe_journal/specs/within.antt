@@ -1,0 +1,2 @@
+pub mod CursorFields
+pub mod Fields

@@ -1,0 +1,27 @@
+use Rattle.std.proofs.Common.{sym, subst}
+use Rattle.fe_state.specs.State.{ServerState, first_state}
+use Rattle.fe_format.specs.declared.format.Format.TheVariants.{Two}
+use Rattle.fe_journal.specs.Contents.{first_contents}
+use Rattle.fe_keeper.specs.Keeper.{KeeperState}
+use Rattle.fe_keeper.specs.Stands.{Stands, EachStandsFor}
+use Rattle.fe_keeper.specs.Opened.{KeepsState}
+use Rattle.fe_keeper.proofs.Beginning.{first_stands}
+use Rattle.fe_keeper.proofs.Openings.{each_stands}
+use Rattle.fe_keeper.proofs.keeper.Keeper.format.Goals as goal
+
+pub keeper_over-requires-clause-keeps : goal.keeper_over-requires-clause-keeps
+keeper_over-requires-clause-keeps g c = λ honest. record {
+  contents = first_contents Two;
+  keeps = c.in-Ok-format.ensures.formatted (c.in-Ok-format.ensures.honesty.0 honest);
+  stands = subst (λ (s : ServerState). Stands (first_contents Two) s) (sym c.in-Ok.ensures.state) first_stands;
+}
+
+pub returns-in-Ok-format-clause-formatted : goal.returns-in-Ok-format-clause-formatted
+returns-in-Ok-format-clause-formatted g c = λ honest.
+    let kept : KeepsState g.D.Disk.seen g.D.Disk.may_leave c.in-Ok-format.journal first_state = record {
+      contents = first_contents Two;
+      keeps = c.in-Ok-format.ensures.formatted honest;
+      stands = first_stands;
+    } in
+    let each = each_stands g.D.Disk.seen g.D.Disk.may_leave c.in-Ok-format.journal first_state kept in
+    subst (λ (k : KeeperState g.row.D.Denot). EachStandsFor g.D.Disk.may_leave k.store.disk first_state) (sym c.keeper_over.ensures) each

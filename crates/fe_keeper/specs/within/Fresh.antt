@@ -1,0 +1,21 @@
+-- A checkpoint that is made and not begun: all memory that it takes is there.
+use Rattle.std.specs.Prelude.{◌≡◌, ℕ, ◌≤◌, [], vec_len, vec_capacity}
+use Rattle.fe_state.specs.State.{ServerState}
+use Rattle.fe_codec.specs.Image.{image_spelling, FitsImage}
+use Rattle.fe_format.specs.Layout.{IsImageLength}
+use Rattle.fe_format.specs.declared.format.Format.TheVariants.{Two}
+use Rattle.fe_keeper.specs.declared.checkpoint.Checkpoint.{Checkpoint}
+
+-- nothing of its image is written and nothing came since this place, and it has room for the longest group
+pub record IsFresh (c : Checkpoint) (place : ℕ) : Type 0 where
+  pub allowed : IsImageLength Two (vec_len c.image)
+  pub written : c.written ≡ 0
+  pub place_is : c.place ≡ place
+  pub empty : c.catch_up.items ≡ []
+  pub room : 1048560 ≤ vec_capacity c.catch_up
+
+-- its image is that of the state
+pub record IsImageOf (c : Checkpoint) (s : ServerState) : Type 0 where
+  pub fits : FitsImage Two s
+  pub image_is : c.image.items ≡ image_spelling Two s
+  pub place_is : c.place ≡ s.place

@@ -1,0 +1,30 @@
+-- The parts of a keeper, at rest and with a batch that is taken and not yet stored.
+use Rattle.std.specs.Prelude.{◌≡◌, ◌≤◌, ℕ, List, length, false}
+use Rattle.fe_state.specs.State.{ServerState, after_all}
+use Rattle.fe_state.specs.History.{AreLegal}
+use Rattle.fe_state.specs.UndoLog.{UndoLog, empty_log, rewound, IsLogOf}
+use Rattle.fe_state.specs.declared.entry.Entry.{Entry}
+use Rattle.fe_keeper.specs.Keeper.{KeeperState}
+use Rattle.fe_keeper.specs.within.Upholds.{IsStore, Upholds, store_of}
+use Rattle.fe_keeper.specs.declared.parts.Parts.{Parts}
+
+-- a keeper as its callers see it
+abbrev pub kept_of : {D : Type 0} → Parts D → KeeperState D
+kept_of parts = record { state = parts.state; store = store_of parts.store }
+
+-- The log is empty and has room for a batch, and a disk that is honest and has not failed upholds the state.
+pub record IsKept {D : Type 0} (honest : D → Type 0) (seen : D → List ℕ) (may_leave : D → List ℕ → Type 0) (parts : Parts D) : Type 0 where
+  pub store : IsStore parts.store
+  pub place : parts.store.place ≡ parts.state.place
+  pub log : parts.log ≡ empty_log parts.log.room
+  pub room : 4097 ≤ parts.log.room
+  pub upheld : honest parts.store.journal.disk → parts.store.journal.has_failed ≡ false → Upholds seen may_leave parts.store parts.state
+
+-- Entries were taken from a state: they lead to the state now, and the log leads back.
+pub record HasTaken (before : ServerState) (entries : List Entry) (now : ServerState) (log : UndoLog) : Type 0 where
+  pub some : 1 ≤ length entries
+  pub legal : AreLegal before entries
+  pub state_is : now ≡ after_all before entries
+  pub is_log : IsLogOf log now
+  pub beginning : rewound log now ≡ before
+  pub room : length entries ≤ log.room

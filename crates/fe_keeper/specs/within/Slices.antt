@@ -1,0 +1,31 @@
+-- A checkpoint and the journal's slot begun for it, as slices are written.
+use Rattle.std.specs.Prelude.{◌≡◌, ℕ, ◌+◌, List, Some, vec_len}
+use Rattle.fe_state.specs.State.{ServerState}
+use Rattle.fe_format.specs.declared.format.Format.TheVariants.{Two}
+use Rattle.fe_journal.specs.Contents.{Contents}
+use Rattle.fe_journal.specs.Journal.{JournalState, Draft, Keeps}
+use Rattle.fe_keeper.specs.Keeper.{slice_size}
+use Rattle.fe_keeper.specs.within.Upholds.{IsDraftOf, progress_of}
+use Rattle.fe_keeper.specs.declared.checkpoint.Checkpoint.{Checkpoint}
+
+-- the slot begun is the checkpoint's
+abbrev pub IsBegunFor : {D : Type 0} → JournalState D → Checkpoint → Type 0
+IsBegunFor j c = j.begun ≡ Some (record { format = Two; generation = j.generation + 1; image_length = vec_len c.image; written = c.written })
+
+-- the checkpoint with one slice more written
+abbrev pub sliced : Checkpoint → Checkpoint
+sliced c = record c { written = c.written + slice_size (progress_of c) }
+
+-- the journal after it
+abbrev pub journal_sliced : {D : Type 0} → JournalState D → D → Checkpoint → JournalState D
+journal_sliced j disk c =
+    record j {
+      disk = disk;
+      begun = Some (record { format = Two; generation = j.generation + 1; image_length = vec_len c.image; written = c.written });
+    }
+
+-- The journal keeps contents, and beside them a draft of the checkpoint that leads to the state.
+pub record KeepsDraft {D : Type 0} (seen : D → List ℕ) (may_leave : D → List ℕ → Type 0) (j : JournalState D) (contents : Contents) (c : Checkpoint) (s : ServerState) : Type 0 where
+  pub draft : Draft
+  pub keeps : Keeps seen may_leave j contents (Some draft)
+  pub is_draft : IsDraftOf c draft s

@@ -1,0 +1,15 @@
+-- What the entries of a message leave of a front.
+use Rattle.std.specs.Prelude.{◌≡◌, ℕ, true, List, ◌++◌}
+use Rattle.fe_state.specs.History.{AreLegal}
+use Rattle.fe_state.specs.State.{after_all}
+use Rattle.fe_state.specs.declared.entry.Entry.{Entry}
+use Rattle.fe_front.specs.Front.{FrontState, is_connected}
+
+-- entries were made: they are legal, lead to the state now, and are pending behind the others; no connection comes
+pub record Enters (f : FrontState) (es : List Entry) (g : FrontState) : Type 0 where
+  pub legal : AreLegal f.service.state es
+  pub state : g.service.state ≡ after_all f.service.state es
+  pub pending : g.service.pending ≡ f.service.pending ++ es
+  pub out : g.out ≡ f.out
+  pub durable : g.durable ≡ f.durable
+  pub none_comes : (conn : ℕ) → is_connected g conn ≡ true → is_connected f conn ≡ true

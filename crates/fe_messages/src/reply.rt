@@ -1,0 +1,55 @@
+ghost use Rattle.std.specs.Prelude.{◌≡◌, ◌++◌, OnOk, OnErr};
+ghost use Rattle.fe_wire.specs.Spelling.{reply_spelling, ReplyFits};
+ghost use Rattle.fe_messages.specs.Mails.{reply_of};
+
+use fe_mail::Mail;
+use fe_wire::{ServerMessage, put_reply};
+use std::alloc::AllocError;
+use std::marker::Model;
+
+/// The reply that tells a mail.
+#[derive(Drop)]
+pub struct Reply {
+    message: ServerMessage,
+}
+
+impl Model for Reply {
+    ghost use Rattle.fe_wire.specs.Spelling.{HasRefusalCode};
+    ghost use Rattle.fe_wire.specs.declared.server_message.ServerMessage.{ServerMessage};
+
+    ghost Value = { ServerMessage };
+
+    ghost view = { λ r. r.message };
+
+    ghost invariant = { λ r. HasRefusalCode r.message };
+}
+
+impl Reply {
+    /// It leaves out an answer's session and place.
+    pub fn of(mail: Mail) -> Reply
+        ensures { result ≡ reply_of mail }
+    {
+        let message = match mail {
+            Mail::Welcome { session, floor } => ServerMessage::Welcome { session, floor },
+            Mail::Answer { number, answer, .. } => ServerMessage::Answer { number, answer },
+            Mail::Refused { number, refusal } => ServerMessage::Refused {
+                number,
+                code: refusal.code(),
+            },
+            Mail::Withdrawn { number } => ServerMessage::Withdrawn { number },
+            Mail::Settled { floor } => ServerMessage::Settled { floor },
+            Mail::Goodbye { session } => ServerMessage::Goodbye { session },
+            Mail::Report(text) => ServerMessage::Report(text),
+        };
+        Reply { message }
+    }
+
+    /// Appends its frame. Where there is no memory for it, nothing is appended.
+    pub fn put(&self, out: &mut Vec<u8>) -> Result<(), AllocError>
+        ensures ok { OnOk result (out.new.items ≡ out.old.items ++ reply_spelling self.now) }
+        ensures err { OnErr result (out.new.items ≡ out.old.items) }
+        ensures fits { ReplyFits self.now }
+    {
+        put_reply(out, &self.message)
+    }
+}

@@ -1,0 +1,61 @@
+//! Messages go to the front.
+
+ghost use Rattle.std.specs.Prelude.{◌≡◌, List, IsTrue};
+ghost use Rattle.fe_state.specs.declared.entry.Entry.{Entry};
+ghost use Rattle.fe_front.specs.Front.{has_room};
+ghost use Rattle.fe_messages.specs.Taking.{Takes};
+ghost use Rattle.fe_messages.specs.Enters.{Enters};
+ghost use Rattle.fe_wire.specs.declared.client_message.ClientMessage.TheVariants as Message;
+
+use fe_front::Front;
+use fe_mail::{Refusal, ReportText};
+use fe_report::report;
+use fe_wire::ClientMessage;
+use std::alloc::Global;
+
+/// Gives a message of a connection to the front, and mails its refusal if it is refused.
+pub fn take_message(alloc: Global, front: &mut Front, conn: u64, message: ClientMessage)
+    requires room { IsTrue (has_room front.old) }
+    ensures taken { (es : List Entry) × Takes front.old conn message es front.new × Enters front.old es front.new }
+{
+    // It names a type for the checker (`docs/DECISIONS.md`, "Toolchain").
+    let _ = front.state();
+    match message {
+        ClientMessage::Attach { session } => {
+            if let Err(refusal) = front.attach(conn, session) {
+                front.mail_refusal(conn, session, refusal);
+            }
+        }
+        ClientMessage::Call { number, request } => {
+            if let Err(refusal) = front.call(conn, number, request) {
+                front.mail_refusal(conn, number, refusal);
+            }
+        }
+        ClientMessage::Cancel { number } => {
+            if let Err(refusal) = front.cancel(conn, number) {
+                front.mail_refusal(conn, number, refusal);
+            }
+        }
+        ClientMessage::Settle { floor } => {
+            if let Err(refusal) = front.settle(conn, floor) {
+                front.mail_refusal(conn, floor, refusal);
+            }
+        }
+        ClientMessage::Bye => {
+            if let Err(refusal) = front.bye(conn) {
+                front.mail_refusal(conn, 0, refusal);
+            }
+        }
+        ClientMessage::Report => mail_report(alloc, front, conn),
+    }
+}
+
+/// Mails the report of what waits.
+fn mail_report(alloc: Global, front: &mut Front, conn: u64)
+    ensures taken { (es : List Entry) × Takes front.old conn Message.Report es front.new × Enters front.old es front.new }
+{
+    match report(alloc, front) {
+        Ok(text) => front.mail_text(conn, ReportText::new(text)),
+        Err(_) => front.mail_refusal(conn, 0, Refusal::NoMemory),
+    }
+}

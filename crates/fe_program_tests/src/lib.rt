@@ -1,0 +1,13 @@
+//! The tests of the program's commands, through the public functions that it calls.
+#![tactic(auto)]
+
+#[cfg(test)]
+mod faults;
+#[cfg(test)]
+mod looks;
+#[cfg(test)]
+mod settings;
+#[cfg(test)]
+mod stores;
+#[cfg(test)]
+mod words;

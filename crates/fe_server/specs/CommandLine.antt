@@ -1,0 +1,44 @@
+-- The command line: its commands, and what they ask for.
+use Rattle.std.specs.Prelude.{◌≡◌, ℕ, List, codes, true, Option, Some, None}
+use Rattle.clap.specs.Words.{App, Row, Rule, Text, first_of, new_app, new_rule, with_rule, with_subcommand}
+use Rattle.clap.specs.Simple.{on_top}
+use Rattle.fe_server.specs.declared.command_line.Invocation.{Invocation}
+use Rattle.fe_server.specs.declared.command_line.Invocation.TheVariants.{Run, Serve, Call, Look}
+
+-- an option that has to be given, with one value
+abbrev pub option_rule : Text → Rule
+option_rule name = record (new_rule name) { long = Some name; value_names = 1; required = true }
+
+-- a command with one option
+abbrev pub with_option : Text → Text → App
+with_option name option = with_rule (new_app name) (option_rule option)
+
+-- the program, of which a command is wanted
+abbrev pub program : App
+program = on_top (λ s. record s { has_version = true; subcommand_required = true }) (new_app (codes "femem"))
+
+-- `run`, `serve --settings FILE`, `call --socket PATH` and `look --store PATH`
+abbrev pub femem : App
+femem =
+    with_subcommand
+    (with_subcommand
+    (with_subcommand
+    (with_subcommand program (new_app (codes "run")).top)
+    (with_option (codes "serve") (codes "settings")).top)
+    (with_option (codes "call") (codes "socket")).top)
+    (with_option (codes "look") (codes "store")).top
+
+-- a command of this name, where this was found of its options, asks for it
+abbrev pub IsCommand : Invocation → Text → List Row → Type 0
+IsCommand Run name found = name ≡ codes "run"
+IsCommand (Serve settings) name found = (name ≡ codes "serve") × (first_of (codes "settings") found ≡ Some settings.now)
+IsCommand (Call socket) name found = (name ≡ codes "call") × (first_of (codes "socket") found ≡ Some socket.now)
+IsCommand (Look store) name found = (name ≡ codes "look") × (first_of (codes "store") found ≡ Some store.now)
+
+-- the command that was met, with what was found of its options, asks for it
+abbrev pub IsAsked : Invocation → Option (Text × List Row) → Type 0
+IsAsked asked None = ⊥
+IsAsked asked (Some met) = IsCommand asked met.0 met.1
+
+abbrev pub AsksNone : Option (Text × List Row) → Type 0
+AsksNone met = (asked : Invocation) → IsAsked asked met → ⊥

@@ -1,0 +1,110 @@
+-- The settings of a server.
+use Rattle.std.specs.Prelude.{◌≡◌, ◌^◌, ◌||◌, ◌&&◌, ℕ, ℤ, pos, List, Bool, true, false, codes, nat_le, if◌then◌else◌, string_bytes, Option, Some, None, option_and_then, Result, Ok, Err}
+use Rattle.std.specs.Option.{option_map_or}
+use Rattle.std.specs.Str.{bytes_eq}
+use Rattle.toml.specs.Data.{Data, as_str, as_integer, as_bool, get_member, Members, no_members, member}
+use Rattle.toml.specs.Parse.{parse_document}
+use Rattle.fe_server.specs.declared.key.Key.{Key}
+use Rattle.fe_server.specs.declared.key.Key.TheVariants as key
+use Rattle.fe_server.specs.declared.fault.Fault.{Fault}
+use Rattle.fe_server.specs.declared.fault.Fault.TheVariants as fault
+use Rattle.fe_server.specs.declared.settings.Settings.{Settings}
+
+-- the name of a key in a document
+abbrev pub name_of : Key → List ℕ
+name_of key.Socket = codes "socket"
+name_of key.Store = codes "store"
+name_of key.Connections = codes "connections"
+name_of key.Format = codes "format"
+name_of key.Accepts = codes "accepts"
+name_of key.Turns = codes "turns"
+
+-- the value at a key
+abbrev pub value_of : Key → Members → Option Data
+value_of k document = get_member (name_of k) document
+
+-- the text at a key; nothing where there is none
+abbrev pub text_of : Key → Members → Option (List ℕ)
+text_of k document = option_and_then as_str (value_of k document)
+
+-- the number that an integer is, within bounds
+abbrev pub within : ℕ → ℕ → ℤ → Option ℕ
+within least most (pos n) = if nat_le least n && nat_le n most then Some n else None
+within least most other = None
+
+-- the number that a value is, within bounds
+abbrev pub number_in : ℕ → ℕ → Data → Option ℕ
+number_in least most value = option_and_then (within least most) (as_integer value)
+
+-- the number at a key, and the usual one where the key is absent; nothing where another value is there
+abbrev pub number_under : Key → ℕ → ℕ → ℕ → Members → Option ℕ
+number_under k least most usual document = option_map_or (number_in least most) (value_of k document) (Some usual)
+
+-- whether a flag is set, which it isn't where the key is absent; nothing where another value is there
+abbrev pub flag_under : Key → Members → Option Bool
+flag_under k document = option_map_or as_bool (value_of k document) (Some false)
+
+-- a setting has this name
+abbrev pub is_known : List ℕ → Bool
+is_known name =
+    bytes_eq name (codes "socket") || (bytes_eq name (codes "store") || (bytes_eq name (codes "connections")
+    || (bytes_eq name (codes "format") || (bytes_eq name (codes "accepts") || bytes_eq name (codes "turns")))))
+
+-- all keys are those of settings
+abbrev pub has_known_keys : Members → Bool
+has_known_keys no_members = true
+has_known_keys (member name value others) = is_known name && has_known_keys others
+
+-- These settings are those of the document, which has no other key.
+pub record IsSettingsOf (document : Members) (s : Settings) : Type 0 where
+  pub socket : text_of key.Socket document ≡ Some (string_bytes s.socket)
+  pub store : text_of key.Store document ≡ Some (string_bytes s.store)
+  pub connections : number_under key.Connections 1 256 64 document ≡ Some s.connections
+  pub format : flag_under key.Format document ≡ Some s.format
+  pub accepts : number_under key.Accepts 0 65536 0 document ≡ Some s.accepts
+  pub turns : number_under key.Turns 1 (2 ^ 40) 1000000000 document ≡ Some s.turns
+  pub known : has_known_keys document ≡ true
+
+-- the value at this key is wrong
+abbrev pub IsWrong : Key → Members → Type 0
+IsWrong key.Socket document = text_of key.Socket document ≡ None
+IsWrong key.Store document = text_of key.Store document ≡ None
+IsWrong key.Connections document = number_under key.Connections 1 256 64 document ≡ None
+IsWrong key.Format document = flag_under key.Format document ≡ None
+IsWrong key.Accepts document = number_under key.Accepts 0 65536 0 document ≡ None
+IsWrong key.Turns document = number_under key.Turns 1 (2 ^ 40) 1000000000 document ≡ None
+
+abbrev pub IsRight : Key → Members → Type 0
+IsRight k document = IsWrong k document → ⊥
+
+-- the settings of texts, those before the flag, those before the turns, and all of them are right
+abbrev pub AreTextsRight : Members → Type 0
+AreTextsRight document = IsRight key.Socket document × IsRight key.Store document
+
+abbrev pub AreFirstRight : Members → Type 0
+AreFirstRight document = AreTextsRight document × IsRight key.Connections document
+
+abbrev pub AreMostRight : Members → Type 0
+AreMostRight document = AreFirstRight document × (IsRight key.Format document × IsRight key.Accepts document)
+
+-- the keys before this one, in the order in which faults are told, are right
+abbrev pub AreRightBefore : Key → Members → Type 0
+AreRightBefore key.Socket document = Unit {0}
+AreRightBefore key.Store document = IsRight key.Socket document
+AreRightBefore key.Connections document = AreTextsRight document
+AreRightBefore key.Format document = AreFirstRight document
+AreRightBefore key.Accepts document = AreFirstRight document × IsRight key.Format document
+AreRightBefore key.Turns document = AreMostRight document
+
+-- The document is refused for this: its first wrong key, and where none is wrong, a key that is none of the settings.
+abbrev pub RefusesDocument : Members → Fault → Type 0
+RefusesDocument document (fault.Setting k) = IsWrong k document × AreRightBefore k document
+RefusesDocument document fault.UnknownKey = (has_known_keys document ≡ false) × (AreMostRight document × IsRight key.Turns document)
+RefusesDocument document fault.Memory = Unit {0}
+RefusesDocument document other = ⊥
+
+-- The text is refused for this: it is no document, or its document is refused. Want of memory says nothing of it.
+abbrev pub RefusesText : List ℕ → Fault → Type 0
+RefusesText text fault.NotToml = parse_document text ≡ None
+RefusesText text fault.Memory = Unit {0}
+RefusesText text other = (document : Members) × (parse_document text ≡ Some document) × RefusesDocument document other

@@ -1,0 +1,162 @@
+//! The words of the command line.
+
+ghost use Rattle.std.specs.Prelude.{◌≡◌, ◌⊎◌, false, map, IfNone, IfSome, IfOk, IfErr, option_map};
+ghost use Rattle.clap.specs.Words.{HasKind, app_of, fault_of, first_of, found_of, kind_of, rows_of, subcommand_of, subcommand_rows_of};
+ghost use Rattle.clap.specs.declared.builder.command.Command.TheViews.{out-Command as fields_of};
+ghost use Rattle.fe_server.specs.CommandLine.{femem, with_option, IsCommand, IsAsked, AsksNone};
+ghost use Rattle.fe_server.specs.declared.command_line.Invocation.{Invocation};
+
+use clap::error::ErrorKind;
+use clap::{Arg, ArgMatches, Command, Error};
+use std::alloc::{AllocError, Global};
+use std::convert::AsStr;
+
+/// The version that `femem --version` prints.
+const VERSION: &str = "0.1.0";
+
+/// What help says of each command.
+const RUN: &str = "Runs a schedule from standard input";
+
+const SERVE: &str = "Serves clients at a socket";
+
+const CALL: &str = "Sends lines from standard input to a server";
+
+const LOOK: &str = "Shows what is in a store";
+
+/// What a command line asks for.
+#[derive(Clone, Copy, Debug, PartialEq, Eq)]
+pub enum Invocation<'a> {
+    /// Run a schedule from standard input.
+    Run,
+    /// Serve by the settings in a file.
+    Serve { settings: &'a str },
+    /// Send the lines of standard input to a server's socket.
+    Call { socket: &'a str },
+    /// Show what is in the store in a file.
+    Look { store: &'a str },
+}
+
+/// A command with one option, which has to be given.
+fn with_option<'a>(
+    alloc: Global,
+    name: &'a str,
+    about: &'a str,
+    option: &'a str,
+    value: &'a str,
+    help: &'a str,
+) -> Result<Command<'a>, AllocError>
+    ensures app { IfOk result (λ command. app_of command ≡ with_option name.entry.now option.entry.now) }
+    ensures local { IfOk result (λ command. (fields_of command).has_globals ≡ false) }
+{
+    let option = Arg::new(alloc, option)
+        .long(option)
+        .value_name(value)
+        .help(help)
+        .required(true);
+    Command::new(alloc, name).about(about).arg(option)
+}
+
+/// The commands of the program.
+fn commands<'a>(alloc: Global) -> Result<Command<'a>, AllocError>
+    ensures { IfOk result (λ command. app_of command ≡ femem) }
+{
+    let run = Command::new(alloc, "run").about(RUN);
+    let serve = with_option(alloc, "serve", SERVE, "settings", "FILE", "The settings")?;
+    let call = with_option(
+        alloc,
+        "call",
+        CALL,
+        "socket",
+        "PATH",
+        "The socket of the server",
+    )?;
+    let look = with_option(
+        alloc,
+        "look",
+        LOOK,
+        "store",
+        "PATH",
+        "The file of the store",
+    )?;
+    Command::new(alloc, "femem")
+        .about("A recoverable server of full/empty memory")
+        .version(VERSION)
+        .subcommand_required(true)
+        .subcommand(run)?
+        .subcommand(serve)?
+        .subcommand(call)?
+        .subcommand(look)
+}
+
+/// The value that was found for an option.
+fn value_of<'a>(found: &ArgMatches<'a>, option: &str) -> Option<&'a str>
+    ensures { option_map (λ value. value.now) result ≡ first_of option.now (rows_of (found_of found.now)) }
+{
+    found.get_str(option)
+}
+
+/// What a command of this name asks for with what was found of its option.
+fn asked<'a>(name: &str, found: &ArgMatches<'a>) -> Option<Invocation<'a>>
+    ensures some { IfSome result (λ asked. IsCommand asked name.now (rows_of (found_of found.now))) }
+    ensures none { IfNone result ((asked : Invocation) → IsCommand asked name.now (rows_of (found_of found.now)) → ⊥) }
+{
+    if name == "run" {
+        Some(Invocation::Run)
+    } else if name == "serve" {
+        let settings = value_of(found, "settings")?;
+        Some(Invocation::Serve { settings })
+    } else if name == "call" {
+        let socket = value_of(found, "socket")?;
+        Some(Invocation::Call { socket })
+    } else if name == "look" {
+        let store = value_of(found, "store")?;
+        Some(Invocation::Look { store })
+    } else {
+        None
+    }
+}
+
+/// What the matches ask for.
+fn asked_by<'a>(matches: &ArgMatches<'a>) -> Option<Invocation<'a>>
+    ensures some { IfSome result (λ asked. IsAsked asked (subcommand_rows_of matches.now)) }
+    ensures none { IfNone result (AsksNone (subcommand_rows_of matches.now)) }
+{
+    let (name, found) = matches.subcommand()?;
+    asked(name, found)
+}
+
+/// What the words of a command line ask for, of which the first is the program's name. The error tells what is wrong
+/// with the words, or has the help or the version that was asked for.
+pub fn arguments<'a, S: AsStr>(alloc: Global, words: &'a [S]) -> Result<Invocation<'a>, Error>
+    // It is the command that `clap` finds in the words, with the value that it finds for its option.
+    ensures asked { IfOk result (λ asked. IsAsked asked (subcommand_of femem (map S.text words.entry.now))) }
+    // The words are refused only as `clap` refuses them, or where it finds none of the commands.
+    ensures refused { IfErr result (λ error. HasKind (fault_of femem (map S.text words.entry.now)) error ⊎ AsksNone (subcommand_of femem (map S.text words.entry.now))) }
+{
+    let command = commands(alloc)?;
+    let matches = command.try_get_matches_from(words)?;
+    match asked_by(&matches) {
+        Some(asked) => Ok(asked),
+        None => Err(commands(alloc)?.error(ErrorKind::MissingSubcommand, "a command is wanted")?),
+    }
+}
+
+/// The error of a command line that is no text.
+pub fn not_text(alloc: Global) -> Error
+    ensures { (kind_of result ≡ ErrorKind.InvalidValue) ⊎ (kind_of result ≡ ErrorKind.OutOfMemory) }
+{
+    match refused(alloc) {
+        Ok(error) => error,
+        Err(short) => Error::from(short),
+    }
+}
+
+fn refused(alloc: Global) -> Result<Error, AllocError>
+    ensures { IfOk result (λ error. kind_of error ≡ ErrorKind.InvalidValue) }
+{
+    let mut command = commands(alloc)?;
+    command.error(
+        ErrorKind::InvalidValue,
+        "invalid UTF-8 was detected in one or more arguments",
+    )
+}

@@ -1,0 +1,42 @@
+//! The lines of an input.
+
+ghost use Rattle.std.specs.Prelude.{◌≡◌, ◌≢◌, ◌<◌, ◌==◌, ◌++◌, [], ◌∷◌, None, length, position, IfNone, IfSome};
+ghost use Rattle.fe_server.specs.Line.{parsed, LineFits};
+ghost use Rattle.fe_server.specs.Lines.{HasNoFeed};
+ghost use Rattle.fe_server.specs.Runs.{SaysLine};
+
+use crate::line::{Line, parse};
+use fe_state::Request;
+use fe_wire::ClientMessage;
+
+/// Where the first line feed stands.
+fn feed_in(bytes: &[u8]) -> Option<usize>
+    ensures place { result ≡ position (λ byte. byte == 10) bytes.now }
+    ensures within { IfSome result (λ at. at < length bytes.now) }
+{
+    bytes.iter().position(|byte| *byte == b'\n')
+}
+
+/// The bytes in front of the first line feed, and those behind it, if there is one.
+pub(crate) fn first_line(bytes: &[u8]) -> Option<(&[u8], &[u8])>
+    ensures parts { IfSome result (λ p. bytes.entry.now ≡ p.0.now ++ 10 ∷ p.1.now) }
+    ensures first { IfSome result (λ p. HasNoFeed p.0.now) }
+    ensures none { IfNone result (HasNoFeed bytes.entry.now) }
+{
+    let at = feed_in(bytes)?;
+    Some((&bytes[..at], &bytes[at + 1..]))
+}
+
+/// The line that the bytes say, or none in an empty line. `None` outside the syntax.
+pub(crate) fn line_in(bytes: &[u8]) -> Option<Option<Line>>
+    ensures stray { IfNone result ((bytes.now ≢ []) × (parsed bytes.now ≡ None)) }
+    ensures said { IfSome result (SaysLine bytes.now) }
+    ensures fits { IfSome result (λ line. IfSome line LineFits) }
+{
+    let _named: (Option<Request>, Option<ClientMessage>) = (None, None);
+    if bytes.is_empty() {
+        return Some(None);
+    }
+    let line = parse(bytes)?;
+    Some(Some(line))
+}

@@ -1,5 +1,0 @@
-use Rattle.fe_state.proofs.TableLemmas.{from_sorted-nil}
-use Rattle.fe_state.proofs.table.Table.new.Goals as goal
-
-pub returns : goal.returns
-returns g c = record { empty = rw c.in_ok-entries.ensures.items from_sorted-nil }

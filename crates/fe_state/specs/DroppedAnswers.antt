@@ -1,0 +1,51 @@
+-- Answers that sessions lost when they were settled or closed, and what it takes to keep them again.
+use Rattle.std.specs.Prelude.{◌≡◌, ℕ, ◌+◌, ◌-◌, ◌^◌, ◌≤◌, ◌<◌, List, [], ◌∷◌, ◌++◌, length, take, reverse, slice_index_or, Option, None, Some}
+use Rattle.std.specs.Ordering.{nat_cmp}
+use Rattle.std.specs.FinMap.{FinMap, empty, get, insert, len}
+use Rattle.fe_state.specs.Sessions.{Session, IsInWindow}
+use Rattle.fe_state.specs.declared.dropped.Dropped.{Dropped}
+use Rattle.fe_state.specs.declared.kept.Kept.{Kept}
+
+-- what is dropped for a number, given what is kept for it
+abbrev pub answer_at : ℕ → Option Kept → List Dropped
+answer_at number None = []
+answer_at number (Some k) = record { number = number; kept = k } ∷ []
+
+-- what is kept once dropped answers are kept again, one after another
+abbrev pub keeping_all : FinMap nat_cmp Kept → List Dropped → FinMap nat_cmp Kept
+keeping_all m [] = m
+keeping_all m (d ∷ ds) = keeping_all (insert m d.number d.kept) ds
+
+-- a session with another floor that keeps so many of the dropped answers again
+abbrev pub kept_again : Session → ℕ → ℕ → List Dropped → Session
+kept_again s floor answers dropped = record { floor = floor; kept = keeping_all s.kept (take answers dropped) }
+
+-- the first of the answers were dropped for numbers of the window of a floor
+pub record AreDropped (floor answers : ℕ) (dropped : List Dropped) : Type 0 where
+  pub there : answers ≤ length dropped
+  pub in_window : (k : ℕ) (d : Dropped) → k < answers → IsInWindow floor (slice_index_or dropped k d).number
+
+-- a floor may be lowered again, by 32 at the most, where nothing is kept beyond the window of the lower one
+pub record MayLower (s : Session) (floor : ℕ) : Type 0 where
+  pub least : 1 ≤ floor
+  pub no_higher : floor ≤ s.floor
+  pub within_window : s.floor ≤ floor + 32
+  pub in_window : (number : ℕ) (k : Kept) → get s.kept number ≡ Some k → number < floor + 32
+
+-- a session may be opened again where it is not, with a floor and answers that it may have
+pub record MayReopen (floor answers : ℕ) (dropped : List Dropped) (sessions : FinMap nat_cmp Session) (session : ℕ) : Type 0 where
+  pub least : 1 ≤ floor
+  pub most : floor ≤ 2 ^ 63 - 32
+  pub answers_there : AreDropped floor answers dropped
+  pub free : get sessions session ≡ None
+  pub few : len sessions < 64
+
+-- what was dropped for the numbers from a floor on and below an end came behind what had been dropped, and
+-- brings back what was kept before
+pub record WereDropped (floor end : ℕ) (before after : FinMap nat_cmp Kept) (old new : List Dropped) : Type 0 where
+  -- the latest first
+  pub answers : List Dropped
+  pub added : new ≡ old ++ reverse answers
+  pub few : length answers + floor ≤ end
+  pub again : keeping_all after answers ≡ before
+  pub in_window : (k : ℕ) (d : Dropped) → k < length answers → IsInWindow floor (slice_index_or answers k d).number

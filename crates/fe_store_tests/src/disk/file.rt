@@ -1,0 +1,96 @@
+use super::{read, write};
+use fe_disk::{Disk, FileDisk, FileFault};
+use std::fs::{File, OpenOptions};
+use std::process::Abort;
+use std::rt::{Env, Files};
+use std::test::Fail;
+use std::{env, fs, process};
+
+const SIZE: usize = 64;
+
+// A path of this process's own.
+fn path_of<R: Env + AllocGlobal>(rt: &R, id: u32, name: &str) -> Result<String, Fail> {
+    let folder = env::temp_dir(rt)?;
+    Ok(format!(in rt.alloc(); "{}/fe_disk_{id}_{name}", folder.as_str())?)
+}
+
+fn check_bytes(rt: &impl Abort, disk: &mut FileDisk, want: [u8; 5]) -> Result<(), Fail> {
+    let mut found = [7; 5];
+    read(rt, disk, 10, &mut found)?;
+    assert_eq!(rt; found, want);
+    Ok(())
+}
+
+// A new file is of zeros, and no second disk is made over it meanwhile.
+fn check_new<R: Files<File = File> + Abort>(
+    rt: &R,
+    disk: &mut FileDisk,
+    path: &str,
+) -> Result<(), Fail> {
+    assert_eq!(rt; disk.size(), SIZE);
+    check_bytes(rt, disk, [0; 5])?;
+    write(rt, disk, 11, &[1, 2, 3])?;
+    disk.sync()?;
+    assert_eq!(rt; disk.failures(), 0);
+    assert_eq!(rt; FileDisk::at(rt, path, SIZE).err(), Some(FileFault::Device));
+    assert_eq!(rt;
+        FileDisk::create(rt, path, SIZE).err(),
+        Some(FileFault::Device)
+    );
+    Ok(())
+}
+
+// What was written is in the file.
+fn check_again<R: Files<File = File> + Abort>(rt: &R, path: &str) -> Result<(), Fail> {
+    let mut disk = FileDisk::at(rt, path, SIZE)?;
+    let checked = check_bytes(rt, &mut disk, [0, 1, 2, 3, 0]);
+    drop(disk);
+    checked?;
+    let wrong = FileFault::WrongSize { found: 64 };
+    assert_eq!(rt; FileDisk::at(rt, path, SIZE + 1).err(), Some(wrong));
+    Ok(())
+}
+
+// A file that was cut under its disk: a read behind the end is a fault, which is counted, and the disk goes on.
+fn check_cut<R: Files<File = File> + Abort>(
+    rt: &R,
+    disk: &mut FileDisk,
+    path: &str,
+) -> Result<(), Fail> {
+    let other = OpenOptions::new().write(true).open(rt, path)?;
+    other.set_len(8)?;
+    let mut found = [7; 5];
+    assert!(rt; read(rt, disk, 6, &mut found).is_err());
+    assert_eq!(rt; disk.failures(), 1);
+    write(rt, disk, 10, &[1, 2, 3, 4, 5])?;
+    check_bytes(rt, disk, [1, 2, 3, 4, 5])?;
+    assert_eq!(rt; disk.failures(), 1);
+    Ok(())
+}
+
+#[test]
+fn keeps_a_file(rt: HostRuntime) -> Result<(), Fail> {
+    let path = path_of(&rt, process::id(rt.process()), "keeps")?;
+    assert_eq!(rt;
+        FileDisk::at(&rt, path.as_str(), SIZE).err(),
+        Some(FileFault::Missing)
+    );
+    let mut disk = FileDisk::create(&rt, path.as_str(), SIZE)?;
+    let checked = check_new(&rt, &mut disk, path.as_str());
+    drop(disk);
+    checked?;
+    check_again(&rt, path.as_str())?;
+    fs::remove_file(&rt, path.as_str())?;
+    Ok(())
+}
+
+#[test]
+fn counts_faults_of_a_file(rt: HostRuntime) -> Result<(), Fail> {
+    let path = path_of(&rt, process::id(rt.process()), "cut")?;
+    let mut disk = FileDisk::create(&rt, path.as_str(), SIZE)?;
+    let checked = check_cut(&rt, &mut disk, path.as_str());
+    drop(disk);
+    checked?;
+    fs::remove_file(&rt, path.as_str())?;
+    Ok(())
+}

@@ -1,0 +1,3 @@
+pub mod TableCopyLemmas
+pub mod TableLemmas
+pub mod TablePlaces

@@ -1,0 +1,136 @@
+ghost use Rattle.std.specs.Prelude.{◌≡◌, ◌<◌, ◌≤◌, IfOk, IfErr, None, Some, IsSome, option_copied, slice_get};
+ghost use Rattle.std.specs.Option.{option_map};
+ghost use Rattle.std.specs.FinMap as map;
+ghost use Rattle.std.specs.Borrow.{sem};
+ghost use Rattle.fe_table.specs.Table.{shown_entry, IsAt, IsGapFor};
+ghost use Rattle.fe_table.specs.within.TableLends.{lends_value, lends_place};
+
+use crate::copied::Copied;
+use std::alloc::{AllocError, Global};
+use std::marker::Model;
+
+/// A map from numbers to values, in ascending order of the numbers, with room for `ROOM` of them.
+///
+/// `new` makes the room, and of the others `copied` alone takes memory. A key is found by halving, and one that comes
+/// or goes moves those after it.
+#[derive(Drop)]
+pub struct Table<V, const ROOM: usize> {
+    entries: Vec<(u64, V)>,
+}
+
+impl<V, const ROOM: usize> Model for Table<V, ROOM> {
+    ghost use Rattle.std.specs.Prelude.{vec_capacity};
+    ghost use Rattle.std.specs.FinMap as map;
+    ghost use Rattle.std.specs.Ordering.{nat_cmp};
+    ghost use Rattle.std.specs.Coded.{coded_ℕ};
+    ghost use Rattle.fe_table.specs.Table.{IsTable};
+
+    ghost Value = { map.FinMap nat_cmp V };
+
+    ghost coded = { map.code coded_ℕ V.code };
+
+    ghost view = { λ a. map.from_sorted a.entries.items };
+
+    ghost invariant = { λ a. IsTable ROOM a.entries.items (vec_capacity a.entries) };
+}
+
+impl<V, const ROOM: usize> Table<V, ROOM> {
+    /// An empty table, with its room. The one error is that memory is short.
+    pub fn new(alloc: Global) -> Result<Self, AllocError>
+        ensures empty { IfOk result (λ table. table ≡ map.empty) }
+    {
+        let entries = Vec::with_capacity(alloc, ROOM)?;
+        Ok(Table { entries })
+    }
+
+    /// How many keys there are.
+    pub fn len(&self) -> usize
+        ensures len { result ≡ map.len self.now }
+        ensures fits { result ≤ ROOM }
+    {
+        self.entries.len()
+    }
+
+    /// The value at a key.
+    pub fn get(&self, key: u64) -> Option<&V>
+        ensures value { option_copied result ≡ map.get self.now key }
+    {
+        match self.search(key) {
+            Ok(place) => Some(&self.entries[place].1),
+            Err(_) => None,
+        }
+    }
+
+    /// The key at a place of the ascending order, counted from zero, with its value.
+    pub fn at(&self, place: usize) -> Option<(u64, &V)>
+        ensures entry { option_map shown_entry result ≡ slice_get (map.entries self.now) place }
+    {
+        let (key, value) = self.entries.get(place)?;
+        Some((*key, value))
+    }
+
+    /// The value at a key that is there, to write.
+    pub fn get_mut(&mut self, key: u64) -> &mut V
+        requires present { IsSome (map.get self.old key) }
+        ensures* writes_back { sem 𝓛 (lends_value V.row ROOM.row self.entry key result) }
+        ensures value { map.get self.old key ≡ Some result.now }
+    {
+        let place = self.search(key).unwrap();
+        self.at_mut(place)
+    }
+
+    /// The value at a place of the ascending order that is taken, to write.
+    pub fn at_mut(&mut self, place: usize) -> &mut V
+        requires taken { place < map.len self.old }
+        ensures* writes_back { sem 𝓛 (lends_place V.row ROOM.row self.entry place result) }
+        ensures value { option_map (λ e. e.1) (slice_get (map.entries self.old) place) ≡ Some result.now }
+    {
+        let entry = &mut self.entries[place];
+        &mut entry.1
+    }
+
+    /// Takes a key out, and gives the value that it had.
+    pub fn remove(&mut self, key: u64) -> Option<V>
+        ensures value { result ≡ map.get self.old key }
+        ensures removed { self.new ≡ map.remove self.old key }
+    {
+        match self.search(key) {
+            Ok(place) => {
+                let (_, value) = self.entries.remove(place);
+                Some(value)
+            }
+            Err(_) => None,
+        }
+    }
+
+    // Where the key is, or where it would go.
+    fn search(&self, key: u64) -> Result<usize, usize>
+        ensures found { IfOk result (IsAt (map.entries self.now) key) }
+        ensures absent { IfErr result (IsGapFor (map.entries self.now) key) }
+    {
+        self.entries.binary_search_by_key(&key, |entry| entry.0)
+    }
+}
+
+impl<V: Drop, const ROOM: usize> Table<V, ROOM> {
+    /// Puts a value at a new key.
+    pub fn insert(&mut self, key: u64, value: V)
+        requires absent { map.get self.old key ≡ None }
+        requires room { map.len self.old < ROOM }
+        ensures inserted { self.new ≡ map.insert self.old key value }
+    {
+        let place = self.search(key).unwrap_err();
+        self.entries.insert(place, (key, value)).unwrap();
+    }
+}
+
+impl<V: Copied + Drop, const ROOM: usize> Copied for Table<V, ROOM> {
+    fn copied(&self, alloc: Global) -> Result<Self, AllocError> {
+        let mut copy = Table::new(alloc)?;
+        for place in 0..self.len() {
+            let (key, value) = self.at(place).unwrap();
+            copy.insert(key, value.copied(alloc)?);
+        }
+        Ok(copy)
+    }
+}

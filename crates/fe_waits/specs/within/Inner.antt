@@ -1,0 +1,71 @@
+-- How the waiting requests stand in the pool and on the chains. No public clause cites this module.
+use Rattle.std.specs.Prelude.{◌≡◌, ℕ, ◌≤◌, List, [], ◌∷◌, length, sum_by, Option, Some, None, slice_index_or, slice_get, Contains}
+use Rattle.std.specs.Ordering.{nat_cmp}
+use Rattle.std.specs.FinMap.{FinMap, insert, empty, len}
+use Rattle.fe_pool.specs.declared.chain.Chain.{Chain}
+use Rattle.fe_pool.specs.declared.family.Family.{Family}
+use Rattle.fe_pool.specs.declared.family.Family.TheVariants.{OfWord, OfSession}
+use Rattle.fe_pool.specs.Pool.{Contents, IsChain, list_of}
+use Rattle.fe_waits.specs.declared.row.Row.{Row}
+use Rattle.fe_waits.specs.Pair.{pair_cmp}
+use Rattle.fe_waits.specs.Waiting.{Waiter, Waiting, key_of, waiter_of, row_of, count_of}
+use Rattle.fe_waits.specs.within.Words.{chain_at, lengths}
+
+-- the requests of the taken nodes, as a finite map
+abbrev pub members_of : List (Option Row) → FinMap pair_cmp Waiter
+members_of [] = empty
+members_of (None ∷ nodes) = members_of nodes
+members_of (Some row ∷ nodes) = insert (members_of nodes) (key_of row) (waiter_of row)
+
+-- the request of a node
+abbrev pub row_in : List (Option Row) → ℕ → Option Row
+row_in nodes node = slice_index_or nodes node None
+
+-- no two nodes have the same slot and number
+abbrev pub AreDifferent : List (Option Row) → Type 0
+AreDifferent nodes = (node other : ℕ) (row else : Row) → row_in nodes node ≡ Some row → row_in nodes other ≡ Some else → key_of row ≡ key_of else → node ≡ other
+
+-- the chains of a family, one at each place: each is a chain of the pool, and on the list of a place
+-- are just the nodes whose request belongs there
+pub record AreListed {Place : Type 0} (nodes : List (Option Row)) (pool : Contents Row) (family : Family) (place_of : Row → Place) (chain_of : Place → Option Chain) : Type 0 where
+  pub chains : (place : Place) (chain : Chain) → chain_of place ≡ Some chain → IsChain pool family chain
+  pub listed : (node : ℕ) (row : Row) → row_in nodes node ≡ Some row → (chain : Chain) × (chain_of (place_of row) ≡ Some chain) × Contains (list_of pool family chain) node
+  pub belongs : (place : Place) (chain : Chain) (node : ℕ) → chain_of place ≡ Some chain → Contains (list_of pool family chain) node → (row : Row) × (row_in nodes node ≡ Some row) × (place_of row ≡ place)
+
+-- the chain without nodes
+abbrev pub empty_chain : Chain
+empty_chain = record { first = None; last = None; length = 0 }
+
+-- where a request belongs in each family
+abbrev pub session_of : Row → ℕ
+session_of row = row.slot
+
+-- the node stands for a request of the slot
+abbrev pub IsNodeOfSlot : Waiting → ℕ → ℕ → Type 0
+IsNodeOfSlot w slot node = (row : Row) × (row_of w node ≡ Some row) × (session_of row ≡ slot)
+
+abbrev pub word_of : Row → ℕ × ℕ
+word_of row = (row.array, row.index)
+
+-- how many requests a session's list has, by its chain
+abbrev pub length_of : Chain → ℕ
+length_of chain = chain.length
+
+-- what is always true of the pool, the sessions' chains, the words' chains and the count: the
+-- requests differ, each is once on its session's list and once on its word's, a session's list is as
+-- long as the requests of its slot are many, at most 32, and the count is that of all
+pub record IsKept (pool : Contents Row) (sessions : List Chain) (words : FinMap nat_cmp (List Chain)) (waiting : ℕ) : Type 0 where
+  pub sized : length pool.items ≡ 2048
+  pub slots : length sessions ≡ 64
+  pub different : AreDifferent pool.items
+  pub by_session : AreListed pool.items pool OfSession session_of (λ slot. slice_get sessions slot)
+  pub by_word : AreListed pool.items pool OfWord word_of (λ word. chain_at words word)
+  pub counted : (slot : ℕ) (chain : Chain) → slice_get sessions slot ≡ Some chain → chain.length ≡ count_of (members_of pool.items) slot
+  pub few : (slot : ℕ) (chain : Chain) → slice_get sessions slot ≡ Some chain → chain.length ≤ 32
+  pub all : waiting ≡ len (members_of pool.items)
+  pub total : waiting ≡ sum_by length_of sessions
+  pub arrays : len words ≤ 64
+
+-- what a contract sees of them
+abbrev pub waiting_of : Contents Row → FinMap nat_cmp (List Chain) → Waiting
+waiting_of pool words = record { arrays = lengths words; members = members_of pool.items; nodes = pool.items }

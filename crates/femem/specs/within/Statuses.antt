@@ -1,0 +1,27 @@
+-- The statuses that the program ends with.
+use Rattle.std.specs.Prelude.{◌≡◌, ◌==◌, ℕ, Bool, true, false, if◌then◌else◌, Result, Ok, Err}
+use Rattle.clap.specs.declared.error.kind.ErrorKind.{ErrorKind}
+use Rattle.clap.specs.declared.error.kind.ErrorKind.TheVariants as kind
+use Rattle.fe_server.specs.Fault.{status_of}
+use Rattle.fe_server.specs.declared.fault.Fault.{Fault}
+use Rattle.fe_server.specs.declared.fault.Fault.TheVariants as fault
+
+-- 0 for help that was asked for, 3 where memory was short, and 2 for any other words
+abbrev pub words_status : ErrorKind → ℕ
+words_status kind.OutOfMemory = 3
+words_status kind.DisplayHelp = 0
+words_status kind.DisplayVersion = 0
+words_status other = 2
+
+-- the status of these words, and that of a fault of the output where help that was asked for was not written
+abbrev pub shown_status : ErrorKind → Bool → ℕ
+shown_status k true = words_status k
+shown_status k false = if words_status k == 0 then status_of fault.Input else words_status k
+
+abbrev pub IsWordsStatus : ErrorKind → ℕ → Type 0
+IsWordsStatus k status = (written : Bool) × (status ≡ shown_status k written)
+
+-- 0 for a command that did all, and else what its fault says
+abbrev pub command_status : Result (Unit {0}) Fault → ℕ
+command_status (Ok done) = 0
+command_status (Err fault) = status_of fault
