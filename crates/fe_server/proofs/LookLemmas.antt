@@ -21,6 +21,8 @@ not_of_store (fault.Damaged offset) out of = absurd out
 not_of_store (fault.Setting key) out of = absurd out
 not_of_store fault.UnknownKey out of = absurd out
 not_of_store fault.NotToml out of = absurd out
+not_of_store fault.Unreadable out of = absurd out
+not_of_store fault.Socket out of = absurd out
 not_of_store fault.Strange out of = absurd out
 
 pub device_told : (end : Fault) (f : keeper.Fault) → end ≡ fault_of_store f → f ≡ store.Device → end ≡ fault.Device

@@ -67,6 +67,8 @@ no_desk (fault.Damaged offset) o now is = absurd is
 no_desk (fault.Setting key) o now is = absurd is
 no_desk fault.UnknownKey o now is = absurd is
 no_desk fault.NotToml o now is = absurd is
+no_desk fault.Unreadable o now is = absurd is
+no_desk fault.Socket o now is = absurd is
 no_desk fault.Strange o now is = absurd is
 
 -- ---- ends

@@ -82,6 +82,8 @@ outside (fault.Damaged offset) lines left more out = absurd out
 outside (fault.Setting key) lines left more out = absurd out
 outside fault.UnknownKey lines left more out = absurd out
 outside fault.NotToml lines left more out = absurd out
+outside fault.Unreadable lines left more out = absurd out
+outside fault.Socket lines left more out = absurd out
 outside fault.Strange lines left more out = absurd out
 
 -- the text that is kept, with nothing behind it
@@ -102,6 +104,8 @@ stray (fault.Damaged offset) number line lines left counts is = absurd is
 stray (fault.Setting key) number line lines left counts is = absurd is
 stray fault.UnknownKey number line lines left counts is = absurd is
 stray fault.NotToml number line lines left counts is = absurd is
+stray fault.Unreadable number line lines left counts is = absurd is
+stray fault.Socket number line lines left counts is = absurd is
 stray fault.Strange number line lines left counts is = absurd is
 
 -- a line at fault, which comes whole
@@ -134,6 +138,8 @@ too_long (fault.Damaged offset) number bytes is = absurd is
 too_long (fault.Setting key) number bytes is = absurd is
 too_long fault.UnknownKey number bytes is = absurd is
 too_long fault.NotToml number bytes is = absurd is
+too_long fault.Unreadable number bytes is = absurd is
+too_long fault.Socket number bytes is = absurd is
 too_long fault.Strange number bytes is = absurd is
 
 -- the lines at a line that is too long
@@ -157,6 +163,8 @@ long_ends (fault.Damaged offset) number line others lines counts none is = absur
 long_ends (fault.Setting key) number line others lines counts none is = absurd is
 long_ends fault.UnknownKey number line others lines counts none is = absurd is
 long_ends fault.NotToml number line others lines counts none is = absurd is
+long_ends fault.Unreadable number line others lines counts none is = absurd is
+long_ends fault.Socket number line others lines counts none is = absurd is
 long_ends fault.Strange number line others lines counts none is = absurd is
 
 pub front_fails : (end : Fault) (read : List ℕ) (before now : Option (List ℕ)) (r : Run) (bytes kept : List ℕ) → SoFar read before now r → HasNoFeed bytes → IsTooLong (r.lines + 1) (r.begun.items ++ bytes) end → kept ≡ string_bytes r.text

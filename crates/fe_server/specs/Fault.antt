@@ -9,7 +9,7 @@ use Rattle.fe_desk.specs.declared.fault.DeskFault.TheVariants as desk
 use Rattle.fe_server.specs.declared.fault.Fault.{Fault}
 use Rattle.fe_server.specs.declared.fault.Fault.TheVariants as fault
 
--- 2 where the input, the output or the settings are at fault, else 3
+-- 2 where the input, the output or the settings are at fault, 4 where the socket is, else 3
 abbrev pub status_of : Fault → ℕ
 status_of (fault.Line number) = 2
 status_of fault.Input = 2
@@ -21,6 +21,8 @@ status_of (fault.Damaged offset) = 3
 status_of (fault.Setting key) = 2
 status_of fault.UnknownKey = 2
 status_of fault.NotToml = 2
+status_of fault.Unreadable = 2
+status_of fault.Socket = 4
 status_of fault.Strange = 3
 
 -- a fault of what stands outside: a stream, or memory
@@ -35,6 +37,8 @@ IsOutside (fault.Damaged offset) = ⊥
 IsOutside (fault.Setting key) = ⊥
 IsOutside fault.UnknownKey = ⊥
 IsOutside fault.NotToml = ⊥
+IsOutside fault.Unreadable = ⊥
+IsOutside fault.Socket = ⊥
 IsOutside fault.Strange = ⊥
 
 -- a fault of the desk: of its store's device, or of memory
@@ -49,6 +53,8 @@ IsOfDesk (fault.Damaged offset) = ⊥
 IsOfDesk (fault.Setting key) = ⊥
 IsOfDesk fault.UnknownKey = ⊥
 IsOfDesk fault.NotToml = ⊥
+IsOfDesk fault.Unreadable = ⊥
+IsOfDesk fault.Socket = ⊥
 IsOfDesk fault.Strange = ⊥
 
 -- what a fault of the desk ends a schedule with

@@ -127,6 +127,8 @@ IsFaultOf number bytes (fault.Damaged offset) = ⊥
 IsFaultOf number bytes (fault.Setting key) = ⊥
 IsFaultOf number bytes fault.UnknownKey = ⊥
 IsFaultOf number bytes fault.NotToml = ⊥
+IsFaultOf number bytes fault.Unreadable = ⊥
+IsFaultOf number bytes fault.Socket = ⊥
 IsFaultOf number bytes fault.Strange = ⊥
 
 -- the same of a line that is longer than any of the syntax
@@ -141,6 +143,8 @@ IsTooLong number bytes (fault.Damaged offset) = ⊥
 IsTooLong number bytes (fault.Setting key) = ⊥
 IsTooLong number bytes fault.UnknownKey = ⊥
 IsTooLong number bytes fault.NotToml = ⊥
+IsTooLong number bytes fault.Unreadable = ⊥
+IsTooLong number bytes fault.Socket = ⊥
 IsTooLong number bytes fault.Strange = ⊥
 
 -- ---- pieces

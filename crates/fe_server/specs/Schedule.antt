@@ -127,6 +127,8 @@ EndsAt (fault.Damaged offset) lines left more = ⊥
 EndsAt (fault.Setting key) lines left more = ⊥
 EndsAt fault.UnknownKey lines left more = ⊥
 EndsAt fault.NotToml lines left more = ⊥
+EndsAt fault.Unreadable lines left more = ⊥
+EndsAt fault.Socket lines left more = ⊥
 EndsAt fault.Strange lines left more = ⊥
 
 -- Lines at the front of the input ran, and what is written is a front of what they print.

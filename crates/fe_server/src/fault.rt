@@ -39,13 +39,20 @@ pub enum Fault {
     /// The settings are no document of TOML.
     #[error("femem: settings: not toml")]
     NotToml,
+    /// The file of the settings can't be read as text.
+    #[error("femem: settings: unreadable")]
+    Unreadable,
+    /// The socket can't be made, or a server at its other end broke off or broke the rules of frames.
+    #[error("femem: socket")]
+    Socket,
     /// A layer below answered what a right one never answers.
     #[error("femem: strange")]
     Strange,
 }
 
 impl Fault {
-    /// The status that the program ends with: 2 where the input, the output or the settings are at fault, else 3.
+    /// The status that the program ends with: 2 where the input, the output or the settings are at fault, 4 where the
+    /// socket is, else 3.
     pub fn status(self) -> u8
         ensures { result ≡ status_of self }
     {
@@ -60,6 +67,8 @@ impl Fault {
             Fault::Setting(_) => 2,
             Fault::UnknownKey => 2,
             Fault::NotToml => 2,
+            Fault::Unreadable => 2,
+            Fault::Socket => 4,
             Fault::Strange => 3,
         }
     }
