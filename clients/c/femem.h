@@ -1,0 +1,176 @@
+/* A client of femem, the recoverable full/empty memory server: one session over one Unix socket, with frames of
+   version 2 (docs/formats.md, "Frames"). C11 and POSIX, nothing else. README.md beside this file says of each call what
+   it answers, when it waits, and what a stop of the server does to it.
+
+   A client is used by one thread at a time. No call raises a signal, and none takes memory but femem_open and the first
+   femem_report. */
+#ifndef FEMEM_H
+#define FEMEM_H
+
+#include <stdbool.h>
+#include <stddef.h>
+#include <stdint.h>
+
+#ifdef __cplusplus
+extern "C" {
+#endif
+
+typedef struct femem femem;
+
+/* What a call comes to. Answers have the codes of docs/formats.md, refusals 100 and their number. */
+typedef enum femem_error {
+  FEMEM_OK = 0,
+
+  /* Answers of the server that are not what was asked for. They are kept like any other. */
+  FEMEM_NO_ARRAY = 4,
+  FEMEM_BAD_INDEX = 5,
+  FEMEM_NAME_TAKEN = 6,
+  FEMEM_ARRAY_LIMIT = 7,
+  FEMEM_WORD_LIMIT = 8,
+  FEMEM_BAD_NAME = 9,
+  FEMEM_BAD_LENGTH = 10,
+  FEMEM_NOT_NOW = 11,
+
+  /* Refusals of the server: the message changed nothing. */
+  FEMEM_REFUSED_NOT_ATTACHED = 101,
+  FEMEM_REFUSED_SESSION_LIMIT = 102,
+  FEMEM_REFUSED_BELOW_FLOOR = 103,
+  FEMEM_REFUSED_BEYOND_WINDOW = 104,
+  FEMEM_REFUSED_NUMBER_USED = 105,
+  FEMEM_REFUSED_STILL_WAITING = 106,
+  FEMEM_REFUSED_CLOSING = 107,
+  FEMEM_REFUSED_NO_MEMORY = 108,
+  FEMEM_REFUSED_SPENT = 109,
+  FEMEM_REFUSED_NOT_WAITING = 110,
+
+  /* What the client itself tells. The request, if there is one, is still out after the first four. */
+  FEMEM_TIMEOUT = 201,        /* no answer in time */
+  FEMEM_DISCONNECTED = 202,   /* the server ended the connection, or is gone */
+  FEMEM_UNREACHABLE = 203,    /* no server was reached in time */
+  FEMEM_SYSTEM = 204,         /* a call of the system failed: femem_errno */
+  FEMEM_WITHDRAWN = 205,      /* the request was cancelled, and has not happened */
+  FEMEM_WINDOW_FULL = 206,    /* no number is free: take answers first */
+  FEMEM_NOTHING_OUT = 207,    /* nothing is out that could be answered */
+  FEMEM_BAD_CALL = 208,       /* an argument is not as femem.h says */
+  FEMEM_ENDED = 209,          /* the session has said bye */
+  FEMEM_MEMORY = 210,         /* no memory here */
+
+  /* The server, or who speaks in its place, does not keep to the formats. The connection is closed. */
+  FEMEM_BAD_FRAME = 301,      /* bytes that are no reply's */
+  FEMEM_WRONG_NUMBER = 302,   /* a reply under a number that is not out */
+  FEMEM_STRANGE_REPLY = 303,  /* a reply to nothing that was asked, or of another kind than was asked */
+  FEMEM_CHANGED_ANSWER = 304, /* an answer came again and is another */
+  FEMEM_SESSION_LOST = 305    /* the session was ended and begun anew, or is an older one: nothing was sent again */
+} femem_error;
+
+/* The codes of requests in docs/formats.md. */
+typedef enum femem_operation {
+  FEMEM_CREATE = 1,
+  FEMEM_FIND = 2,
+  FEMEM_REMOVE = 3,
+  FEMEM_READFE = 16,
+  FEMEM_READFF = 17,
+  FEMEM_READXX = 18,
+  FEMEM_WRITEEF = 19,
+  FEMEM_WRITEFF = 20,
+  FEMEM_WRITEXF = 21,
+  FEMEM_PURGE = 22,
+  FEMEM_INT_FETCH_ADD = 23
+} femem_operation;
+
+/* What femem_send and femem_call ask for. Fields that the operation does not have are not read. */
+typedef struct femem_request {
+  femem_operation operation;
+  bool no_wait;         /* eight operations: answered FEMEM_NOT_NOW where it would wait */
+  bool full;            /* create: the tag of the new words */
+  uint8_t name_length;  /* create, find: 0 to 32 */
+  char name[32];        /* create, find */
+  uint32_t length;      /* create */
+  uint32_t index;       /* eight operations */
+  uint64_t array;       /* eight operations, remove */
+  uint64_t operand;     /* writeef, writeff, writexf, int_fetch_add */
+} femem_request;
+
+/* An answer: `error` is FEMEM_OK or says why there is no value. */
+typedef struct femem_answer {
+  uint64_t number;
+  femem_error error;
+  uint32_t length;      /* create, find */
+  uint64_t array;       /* create, find */
+  uint64_t value;       /* readfe, readff, readxx, int_fetch_add */
+} femem_answer;
+
+/* Times are milliseconds, and FEMEM_FOREVER has no end. */
+#define FEMEM_FOREVER ((int64_t)-1)
+
+typedef struct femem_settings {
+  int64_t wait;      /* how long a call waits for its answer, FEMEM_FOREVER where no settings are given */
+  int64_t reconnect; /* how long a client tries to reach a server that is gone; 0: not at all, as without settings */
+  bool resume;       /* numbers go on at the session's floor; else what the session kept is settled first */
+} femem_settings;
+
+/* The client of a session on the socket at `path`. `settings` may be NULL. Where it fails, *client is NULL. */
+femem_error femem_open(femem **client, const char *path, uint64_t session, const femem_settings *settings);
+/* Lets go of the connection and the memory. The session stays on the server. NULL is allowed. */
+void femem_close(femem *client);
+/* Connects again, and sends again what is out, under the same numbers. */
+femem_error femem_reconnect(femem *client, int64_t within);
+/* Ends the session. Nothing may be out. */
+femem_error femem_bye(femem *client);
+
+/* One request and its answer. A name ends with a zero byte. */
+femem_error femem_create(femem *client, const char *name, uint32_t length, bool full, uint64_t *array);
+femem_error femem_find(femem *client, const char *name, uint64_t *array, uint32_t *length);
+femem_error femem_remove(femem *client, uint64_t array);
+femem_error femem_readfe(femem *client, uint64_t array, uint32_t index, uint64_t *value);
+femem_error femem_readff(femem *client, uint64_t array, uint32_t index, uint64_t *value);
+femem_error femem_readxx(femem *client, uint64_t array, uint32_t index, uint64_t *value);
+femem_error femem_writeef(femem *client, uint64_t array, uint32_t index, uint64_t operand);
+femem_error femem_writeff(femem *client, uint64_t array, uint32_t index, uint64_t operand);
+femem_error femem_writexf(femem *client, uint64_t array, uint32_t index, uint64_t operand);
+femem_error femem_purge(femem *client, uint64_t array, uint32_t index);
+femem_error femem_int_fetch_add(femem *client, uint64_t array, uint32_t index, uint64_t operand, uint64_t *value);
+/* Any request, also one that is not to wait. */
+femem_error femem_call(femem *client, const femem_request *request, femem_answer *answer);
+/* The same, cancelled where it is not answered in time: FEMEM_WITHDRAWN, or the answer that came first. */
+femem_error femem_call_within(femem *client, const femem_request *request, int64_t within, femem_answer *answer);
+
+/* Requests that are not waited for: `number` is what the answer will have. At most 32 numbers are out. */
+femem_error femem_send(femem *client, const femem_request *request, uint64_t *number);
+femem_error femem_send_readfe(femem *client, uint64_t array, uint32_t index, uint64_t *number);
+femem_error femem_send_readff(femem *client, uint64_t array, uint32_t index, uint64_t *number);
+femem_error femem_send_readxx(femem *client, uint64_t array, uint32_t index, uint64_t *number);
+femem_error femem_send_writeef(femem *client, uint64_t array, uint32_t index, uint64_t operand, uint64_t *number);
+femem_error femem_send_writeff(femem *client, uint64_t array, uint32_t index, uint64_t operand, uint64_t *number);
+femem_error femem_send_writexf(femem *client, uint64_t array, uint32_t index, uint64_t operand, uint64_t *number);
+femem_error femem_send_purge(femem *client, uint64_t array, uint32_t index, uint64_t *number);
+femem_error femem_send_int_fetch_add(femem *client, uint64_t array, uint32_t index, uint64_t operand,
+                                     uint64_t *number);
+/* Writes what was sent and is still here. The calls that wait do it by themselves. */
+femem_error femem_flush(femem *client);
+/* The next answer, in the order in which they come. The function's value is FEMEM_OK where there is one, whatever its
+   error is. */
+femem_error femem_next(femem *client, femem_answer *answer, int64_t within);
+/* The answer of that number. */
+femem_error femem_wait(femem *client, uint64_t number, femem_answer *answer, int64_t within);
+/* Takes a request back: FEMEM_WITHDRAWN, or FEMEM_OK with the answer of a request that had happened. */
+femem_error femem_cancel(femem *client, uint64_t number, femem_answer *answer);
+/* Settles all that was answered and taken, and waits until the server says so. */
+femem_error femem_settle(femem *client);
+/* What waits on the server, as a text that ends with a zero byte; it is the client's until its next report. */
+femem_error femem_report(femem *client, const char **text);
+
+/* What a client knows of itself. */
+int femem_descriptor(const femem *client);       /* for poll and its like; -1 where it is not connected */
+unsigned femem_out(const femem *client);         /* requests without an answer */
+unsigned femem_ready(const femem *client);       /* answers that are here and not taken */
+uint64_t femem_number(const femem *client);      /* of the last request; 0 before the first */
+uint64_t femem_floor(const femem *client);       /* the floor that the server has told last */
+uint64_t femem_reconnects(const femem *client);  /* how often it has come back */
+int femem_errno(const femem *client);            /* of the last FEMEM_SYSTEM or FEMEM_UNREACHABLE */
+const char *femem_error_text(femem_error error); /* a name in plain words, never NULL */
+
+#ifdef __cplusplus
+}
+#endif
+#endif
