@@ -1,0 +1,303 @@
+#!/usr/bin/env python3
+"""Tries the client against a real server: `check.py PROGRAM`, where PROGRAM is the program `femem`.
+
+Every pattern with 16 processes, the shell, a counter that 16 processes raise while the server is killed and started twenty
+times, and a server that never comes back. It prints a line for each, and ends with status 0 where all went well. Socket and
+store are in a temporary folder.
+"""
+
+import json
+import os
+import pathlib
+import signal
+import subprocess
+import sys
+import tempfile
+import time
+
+ROOT = pathlib.Path(__file__).resolve().parent
+sys.path.insert(0, str(ROOT))
+
+import femem  # noqa: E402
+from femem import Client, requests  # noqa: E402
+from femem.patterns import Barrier, BoundedQueue, Counter, Future, Lock, Once, Semaphore, shared_array  # noqa: E402
+
+PROCESSES = 16
+KILLS = 20
+
+
+class Failure(Exception):
+    """A part did not go as it must."""
+
+
+def expect(what, got, wanted):
+    if got != wanted:
+        raise Failure(f"{what}: got {got}, not {wanted}")
+
+
+class Server:
+    """The program `femem serve`, over a store that is formatted for it."""
+
+    def __init__(self, program, folder):
+        self.path = os.path.join(folder, "socket")
+        self._settings = os.path.join(folder, "femem.toml")
+        self._program = program
+        store = os.path.join(folder, "store")
+        with open(self._settings, "w") as file:
+            file.write(f'socket = "{self.path}"\nstore = "{store}"\nformat = true\n')
+
+    def start(self):
+        """Its socket is there once it serves."""
+        self._process = subprocess.Popen([self._program, "serve", "--settings", self._settings])
+        end = time.monotonic() + 20
+        while not os.path.exists(self.path):
+            if self._process.poll() is not None or time.monotonic() > end:
+                raise Failure(f"the server does not start, status {self._process.poll()}")
+            time.sleep(0.01)
+
+    def kill(self):
+        """What it leaves of its socket is removed, as an operator does."""
+        self._process.send_signal(signal.SIGKILL)
+        self._process.wait()
+        if os.path.exists(self.path):
+            os.unlink(self.path)
+
+
+# What each process does. It gives what the part looks at.
+
+
+def lock(client, k):
+    """Numbers are read and written inside the lock by two operations, so each that is not alone is lost."""
+    mine, total = Lock(client, "lock"), shared_array(client, "total", 1, full=True)
+    for _ in range(5):
+        with mine:
+            client.writexf(total, 0, client.readxx(total, 0) + 1)
+    return None
+
+
+def semaphore(client, k):
+    permits, inside = Semaphore(client, "semaphore", 3), Counter(client, "inside")
+    most = 0
+    for _ in range(4):
+        with permits:
+            most = max(most, inside.add(1) + 1)
+            inside.add(-1)
+    return most
+
+
+def queue(client, k):
+    """Half of them give, half of them take."""
+    values = BoundedQueue(client, "queue", 4)
+    if k % 2:
+        return [values.get() for _ in range(8)]
+    for value in range(8):
+        values.put(100 * k + value)
+    return []
+
+
+def barrier(client, k):
+    """The number of arrivals as seen behind each wait: never less than all of that round."""
+    gate, arrivals = Barrier(client, "barrier", PROCESSES), Counter(client, "arrivals")
+    seen = []
+    for _ in range(4):
+        arrivals.add()
+        gate.wait()
+        seen.append(arrivals.value())
+    return seen
+
+
+def counter(client, k):
+    hits = Counter(client, "counter")
+    return [hits.add() for _ in range(10)]
+
+
+def future(client, k):
+    result = Future(client, "future")
+    return [result.set(1000 + k), result.get()]
+
+
+def once(client, k):
+    runs = Counter(client, "runs")
+    return Once(client, "once").run(lambda: 50 + runs.add())
+
+
+def raising(client, k):
+    """Raises a counter until a file says that it is enough: by one and by one, and 32 at a time."""
+    word = shared_array(client, "raised", 1, full=True)
+    values = []
+    while not os.path.exists(client.path + ".enough"):
+        if k % 2:
+            values.append(client.int_fetch_add(word, 0, 1))
+        else:
+            futures = [client.submit(requests.int_fetch_add(word, 0, 1)) for _ in range(32)]
+            values += [done.result() for done in futures]
+    return values
+
+
+WORK = {w.__name__: w for w in (lock, semaphore, queue, barrier, counter, future, once, raising)}
+
+
+def work_as_told(path, k):
+    """A process: for each name on standard input it does that work, and prints what came of it."""
+    # A slow machine may not get to each client before the server is killed again.
+    with Client(path, 1000 + k, reconnect_timeout=100.0) as client:
+        print("ready", flush=True)
+        for line in sys.stdin:
+            print(json.dumps(WORK[line.strip()](client, k)), flush=True)
+
+
+class Processes:
+    """16 processes, each with a client."""
+
+    def __init__(self, path):
+        self._all = [
+            subprocess.Popen(
+                [sys.executable, __file__, "--work", path, str(k)],
+                stdin=subprocess.PIPE,
+                stdout=subprocess.PIPE,
+                text=True,
+            )
+            for k in range(PROCESSES)
+        ]
+        for process in self._all:
+            expect("a process", process.stdout.readline(), "ready\n")
+
+    def begin(self, name):
+        for process in self._all:
+            process.stdin.write(name + "\n")
+            process.stdin.flush()
+
+    def results(self):
+        lines = [process.stdout.readline() for process in self._all]
+        if "" in lines:
+            raise Failure("a process ended")
+        return [json.loads(line) for line in lines]
+
+    def run(self, name):
+        self.begin(name)
+        return self.results()
+
+    def close(self):
+        """An end of their input ends them; whoever does not end is ended."""
+        for process in self._all:
+            process.stdin.close()
+        for process in self._all:
+            try:
+                process.wait(10)
+            except subprocess.TimeoutExpired:
+                process.kill()
+                process.wait()
+            process.stdout.close()
+
+
+def flat(lists):
+    return [value for values in lists for value in values]
+
+
+def try_patterns(path, processes):
+    with Client(path, 1) as client:
+        processes.run("lock")
+        expect("lock", client.readxx(client.find("total"), 0), 5 * PROCESSES)
+        yield "lock"
+        most = max(processes.run("semaphore"))
+        if not 1 <= most <= 3:
+            raise Failure(f"semaphore: {most} inside")
+        yield "semaphore"
+        put = [100 * k + value for k in range(0, PROCESSES, 2) for value in range(8)]
+        expect("queue", sorted(flat(processes.run("queue"))), put)
+        yield "queue"
+        for seen in processes.run("barrier"):
+            if any(count < PROCESSES * (round + 1) for round, count in enumerate(seen)):
+                raise Failure(f"barrier: arrivals {seen}")
+        yield "barrier"
+        expect("counter", sorted(flat(processes.run("counter"))), list(range(10 * PROCESSES)))
+        yield "counter"
+        got = processes.run("future")
+        expect("future", [first for first, _ in got].count(True), 1)
+        winner = [first for first, _ in got].index(True)
+        expect("future", {value for _, value in got}, {1000 + winner})
+        yield "future"
+        expect("once", processes.run("once"), [50] * PROCESSES)
+        expect("once", Counter(client, "runs").value(), 1)
+        yield "once"
+
+
+def try_shell(path):
+    lines = "create words 2\nwriteef words 0 42\nreadfe words 0\nreadfe words 0 nowait\nreport\nremove words\n"
+    shell = subprocess.run(
+        [sys.executable, "-m", "femem", path], cwd=ROOT, input=lines, capture_output=True, text=True, timeout=30
+    )
+    out = shell.stdout.splitlines()
+    expect("shell", (shell.returncode, out[1:3], out[4:]), (0, ["done", "value 42"], ["waiting 0", "done"]))
+    expect("shell", (out[0][:6], out[3][:8]), ("array ", "not-now:"))
+
+
+def try_kills(server, processes):
+    """The counter ends at as much as it was raised, and each of its values was answered once."""
+    enough = server.path + ".enough"
+    processes.begin("raising")
+    for _ in range(KILLS):
+        time.sleep(0.25)
+        server.kill()
+        server.start()
+    with open(enough, "w"):
+        pass
+    values = flat(processes.results())
+    with Client(server.path, 1) as client:
+        end = client.readff(client.find("raised"), 0)
+    expect("the counter's end", end, len(values))
+    if sorted(values) != list(range(end)):
+        raise Failure("a value of the counter was answered twice")
+
+
+def try_no_server(server):
+    """What is asked of a server that never comes back ends with an error, about in the time that was given."""
+    with Client(server.path, 1, reconnect_timeout=1.0) as client:
+        word = shared_array(client, "word", 1, full=False)
+        waiting = client.submit(requests.readfe(word, 0))
+        server.kill()
+        begin = time.monotonic()
+        error = waiting.exception(20)
+        expect("a server that is gone", type(error), femem.ServerUnreachable)
+        if time.monotonic() - begin > 15:
+            raise Failure("a server that is gone is told late")
+
+
+def check(program):
+    with tempfile.TemporaryDirectory() as folder:
+        server = Server(program, folder)
+        server.start()
+        try:
+            processes = Processes(server.path)
+            try:
+                for pattern in try_patterns(server.path, processes):
+                    print(f"{pattern}: {PROCESSES} processes", flush=True)
+                try_shell(server.path)
+                print("shell: its lines are answered", flush=True)
+                try_kills(server, processes)
+                print(f"kills: {KILLS}, and the counter's end is exact", flush=True)
+            finally:
+                processes.close()
+            try_no_server(server)
+            print("no server: it is told in time", flush=True)
+        finally:
+            server.kill()
+
+
+def main(words):
+    if len(words) == 3 and words[0] == "--work":
+        work_as_told(words[1], int(words[2]))
+        return 0
+    if len(words) != 1:
+        print("usage: check.py PROGRAM", file=sys.stderr)
+        return 2
+    try:
+        check(os.path.abspath(words[0]))
+    except (Failure, femem.FememError, OSError, subprocess.SubprocessError) as failure:
+        print(f"check.py: {type(failure).__name__}: {failure}", file=sys.stderr)
+        return 1
+    return 0
+
+
+if __name__ == "__main__":
+    sys.exit(main(sys.argv[1:]))

@@ -1,0 +1,546 @@
+"""The client without sockets and clocks: what to send, what a reply means, and when to do something unasked.
+
+`Core` is told what happened (connected, bytes came, the connection broke, so late it is), and says what to send, when it
+wants to be called again, and which requests ended. Both clients, of threads and of asyncio, are thin shells round it.
+docs/formats.md, "What a client has to know", has the rules of the server that it rests on.
+"""
+
+from __future__ import annotations
+
+import enum
+import itertools
+import random
+from collections import deque
+from typing import Any, Deque, List, Optional, Set, TypeVar
+
+from . import errors, frames, reports
+from .errors import ProtocolError
+from .meeting import FIRST_PROBE, Meeting, unexpected
+from .requests import Request
+from .tickets import Ticket, Timeouts
+from .window import Window
+
+T = TypeVar("T")
+
+# How long a request waits before it may be moved out of the window's way, in seconds.
+_PATIENCE = 0.05
+
+# How long a client waits about before it attaches once more a session that it could not get, in seconds.
+_ATTACH_PAUSE = 0.03
+
+_OF_CALL = (frames.BELOW_FLOOR, frames.BEYOND_WINDOW, frames.NUMBER_USED, frames.NO_MEMORY, frames.SPENT)
+_OF_SETTLE = (frames.BELOW_FLOOR, frames.BEYOND_WINDOW, frames.STILL_WAITING, frames.SPENT)
+
+
+class Phase(enum.Enum):
+    DOWN = "no connection"
+    ATTACHING = "attach is sent"
+    MEETING = "the floor is raised above all numbers that were used before"
+    READY = "requests are sent"
+    ENDED = "the client is of no further use"
+
+
+class Core:
+    """One session's requests, over any number of connections. Times are in seconds, of one clock."""
+
+    def __init__(self, session: int, reconnect_timeout: Optional[float], probe_interval: float = 5.0) -> None:
+        if not 0 <= session < 2**64:
+            raise ValueError(f"a session is a number of 64 bits: {session}")
+        self.session = session
+        self.phase = Phase.DOWN
+        self.failure: Optional[errors.FememError] = None
+        self.to_send = bytearray()
+        self._reconnect_timeout = float("inf") if reconnect_timeout is None else reconnect_timeout
+        self._probe_interval = probe_interval
+        self._probes = itertools.count(FIRST_PROBE)
+        self._window: Optional[Window[Ticket[Any]]] = None
+        self._queue: Deque[Ticket[Any]] = deque()
+        self._reports: Deque[Ticket[reports.Report]] = deque()
+        self._leaving: Optional[Ticket[None]] = None
+        self._opening: Optional[Ticket[None]] = None
+        self._ended: List[Ticket[Any]] = []
+        self._timeouts = Timeouts()
+        # Whether the session was attached more than once by this client.
+        self._was_away = False
+        # Since when something is asked that is not done.
+        self._asked_at = 0.0
+        # Whether the server is there; else, since when it is not.
+        self._in_contact = False
+        self._lost_at = 0.0
+        self._start_over()
+
+    def _start_over(self) -> None:
+        """What is of one connection: what was sent over it and is owed, and since when."""
+        self.to_send.clear()
+        self._decoder = frames.ReplyDecoder()
+        self._meeting: Optional[Meeting] = None
+        self._attach_at: Optional[float] = None
+        self._is_closing = False
+        self._cancelled: Set[int] = set()
+        self._probes_sent: Set[int] = set()
+        self._probe: Optional[int] = None  # the one whose echo is waited for
+        self._probed_at = 0.0
+        self._settle_sent: Optional[float] = None
+        self._report_sent: Optional[float] = None
+        self._bye_sent: Optional[float] = None
+
+    # What is asked of the client.
+
+    def open(self, now: float) -> Ticket[None]:
+        """A ticket that is done once the session is attached for the first time."""
+        self._opening = self._new(None, now)
+        return self._opening
+
+    def submit(self, request: Request[T], now: float, timeout: Optional[float] = None) -> Ticket[T]:
+        """A request, sent as soon as the window has room. It is taken back once `timeout` seconds are over."""
+        ticket = self._new(request, now)
+        if timeout is not None:
+            self._timeouts.add(now + timeout, ticket)
+        self._queue.append(ticket)
+        self._pump(now)
+        return ticket
+
+    def report(self, now: float) -> Ticket[reports.Report]:
+        ticket: Ticket[reports.Report] = self._new(None, now)
+        self._reports.append(ticket)
+        self._pump(now)
+        return ticket
+
+    def leave(self, now: float) -> Ticket[None]:
+        """Ends the session. `StillWaiting` where something has no answer yet."""
+        if self._is_busy():
+            raise errors.StillWaiting("a request of this client has no answer yet")
+        self._leaving = self._new(None, now)
+        self._pump(now)
+        return self._leaving
+
+    def withdraw(self, ticket: Ticket[Any], now: float, why: Optional[errors.Withdrawn] = None) -> None:
+        """Takes a request back, if it waits. It ends with `why`, or with its answer where it has happened."""
+        if ticket.done or ticket.request is None:
+            return
+        ticket.taken_back = why or errors.Withdrawn(ticket.request.what)
+        if ticket.number is None:
+            self._queue.remove(ticket)
+            self._end(ticket, error=ticket.taken_back)
+        elif self.phase is Phase.READY:
+            self._cancel(ticket, now)
+
+    def close(self) -> None:
+        self.fail(errors.Closed("the client is closed"))
+
+    def fail(self, failure: errors.FememError) -> None:
+        """The client ends, and everything that is under way with it."""
+        if self.failure is not None:
+            return
+        self.failure = failure
+        self.phase = Phase.ENDED
+        self._start_over()
+        tickets: List[Ticket[Any]] = [*self._queue, *self._reports]
+        if self._window is not None:
+            tickets = [*self._window.unanswered.values(), *tickets]
+            self._window.unanswered.clear()
+        tickets += [ticket for ticket in (self._leaving, self._opening) if ticket is not None]
+        self._queue.clear()
+        self._reports.clear()
+        for ticket in tickets:
+            if not ticket.done:
+                self._end(ticket, error=self._failure_again())
+
+    def take_ended(self) -> List[Ticket[Any]]:
+        """The tickets that ended since the last call. Whoever takes them calls `finished` of each."""
+        ended, self._ended = self._ended, []
+        return ended
+
+    # What happens to the connection.
+
+    def connected(self, now: float) -> None:
+        if self.phase is not Phase.ENDED:
+            self._start_over()
+            self._attach(now)
+
+    def disconnected(self, now: float) -> None:
+        """The connection is gone, or could not be made."""
+        if self.phase is Phase.ENDED:
+            return
+        self.phase = Phase.DOWN
+        self._start_over()
+        if self._in_contact:
+            self._in_contact = False
+            self._lost_at = now
+
+    def received(self, piece: bytes, now: float) -> None:
+        if self.phase in (Phase.DOWN, Phase.ENDED):
+            return
+        try:
+            for reply in self._decoder.feed(piece):
+                self._take(reply, now)
+                if self.failure is not None:
+                    return
+        except errors.FememError as failure:
+            self.fail(failure)
+        else:
+            self._pump(now)
+
+    # What happens by the clock.
+
+    def next_time(self) -> Optional[float]:
+        """When `tick` has something to do, if nothing else happens before."""
+        if self.phase is Phase.ENDED:
+            return None
+        times = [self._timeouts.first(), self._attach_at, self._probe_at()]
+        if self._is_busy():
+            times.append(self._give_up_at())
+        times += [ticket.sent_at + _PATIENCE for ticket in self._in_the_way()]
+        return min((time for time in times if time is not None), default=None)
+
+    def tick(self, now: float) -> None:
+        if self.phase is Phase.ENDED:
+            return
+        while True:
+            ticket = self._timeouts.take(now)
+            if ticket is None:
+                break
+            assert ticket.request is not None
+            self.withdraw(ticket, now, errors.TimedOut(ticket.request.what))
+        if self._is_busy() and self._give_up_at() <= now:
+            self._give_up()
+            return
+        if self._attach_at is not None and self._attach_at <= now:
+            self._attach(now)
+        probe_at = self._probe_at()
+        if probe_at is not None and probe_at <= now:
+            self._send_probe(now)
+        self._pump(now)
+
+    def _is_busy(self) -> bool:
+        """Whether something is asked that is not done."""
+        unanswered = self._window is not None and bool(self._window.unanswered)
+        alone = (self._leaving, self._opening)
+        return bool(unanswered or self._queue or self._reports or any(t is not None and not t.done for t in alone))
+
+    def _probe_at(self) -> Optional[float]:
+        """When to ask whether the server is there, and whether the session is still this client's.
+
+        Nobody tells a client that its session was taken over, not even one that waits for its welcome.
+        """
+        if self._probe is not None or self._attach_at is not None or self.phase is Phase.DOWN:
+            return None
+        is_ready = self.phase is Phase.READY
+        return self._probed_at + (self._probe_interval if is_ready else min(1.0, self._probe_interval))
+
+    def _give_up_at(self) -> float:
+        """When the server counts as unreachable: counted from the oldest thing that it owes, while something is asked."""
+        owed: List[Optional[float]] = [] if self._in_contact else [self._lost_at]
+        if self.phase is Phase.READY and self._window is not None:
+            owed += [self._settle_sent, self._report_sent, self._bye_sent]
+            if self._probe is not None:
+                owed.append(self._probed_at)
+            owed += [ticket.sent_at for ticket in self._window.unanswered.values() if ticket.must_end()]
+        oldest = min((time for time in owed if time is not None), default=float("inf"))
+        return max(oldest, self._asked_at) + self._reconnect_timeout
+
+    def _give_up(self) -> None:
+        if self._is_closing:
+            self.fail(errors.Closing(f"session {self.session} is still being ended"))
+        else:
+            time = self._reconnect_timeout
+            self.fail(errors.ServerUnreachable(f"no word from the server, or none that was due, for {time:g} seconds"))
+
+    # Tickets.
+
+    def _new(self, request: Optional[Request[T]], now: float) -> Ticket[T]:
+        if self.failure is not None:
+            raise self._failure_again()
+        if self._leaving is not None:
+            raise errors.Closed("the session is being ended")
+        if not self._is_busy():
+            self._asked_at = now
+        return Ticket(request)
+
+    def _failure_again(self) -> errors.FememError:
+        """A new one for each who is told, since an error that two threads raise gets the traces of both."""
+        assert self.failure is not None
+        return type(self.failure)(*self.failure.args)
+
+    def _end(self, ticket: Ticket[T], result: Optional[T] = None, error: Optional[BaseException] = None) -> None:
+        ticket.end(result, error)
+        self._ended.append(ticket)
+
+    # Sending.
+
+    def _attach(self, now: float) -> None:
+        self.phase = Phase.ATTACHING
+        self._attach_at = None
+        self._is_closing = False
+        self._probe = None
+        self._probed_at = now
+        self.to_send += frames.attach(self.session)
+
+    def _attach_later(self, now: float) -> None:
+        """Not at a fixed time, so that two clients that want one session do not keep it from each other."""
+        self.phase = Phase.ATTACHING
+        self._meeting = None
+        self._probe = None
+        self._attach_at = now + _ATTACH_PAUSE * (0.5 + random.random())
+
+    def _send_probe(self, now: float) -> None:
+        self._probe = next(self._probes)
+        self._probes_sent.add(self._probe)
+        self._probed_at = now
+        self.to_send += frames.cancel(self._probe)
+
+    def _send(self, ticket: Ticket[Any], now: float) -> None:
+        assert ticket.request is not None and ticket.number is not None
+        ticket.sent_at = now
+        ticket.cancel_sent = False
+        self.to_send += ticket.request.spell(ticket.number)
+
+    def _cancel(self, ticket: Ticket[Any], now: float) -> None:
+        assert ticket.number is not None
+        if not ticket.cancel_sent:
+            ticket.cancel_sent = True
+            ticket.sent_at = now
+            self._cancelled.add(ticket.number)
+            self.to_send += frames.cancel(ticket.number)
+
+    def _pump(self, now: float) -> None:
+        """Sends what may be sent now."""
+        if self.phase is not Phase.READY or self._window is None:
+            return
+        if self._leaving is not None:
+            if self._bye_sent is None:
+                self._bye_sent = now
+                self.to_send += frames.bye()
+            return
+        self._send_queue(self._window, now)
+        for ticket in self._in_the_way():
+            if ticket.sent_at + _PATIENCE <= now:
+                self._cancel(ticket, now)
+        if self._reports and self._report_sent is None:
+            self._report_sent = now
+            self.to_send += frames.report()
+
+    def _send_queue(self, window: Window[Ticket[Any]], now: float) -> None:
+        """Requests as far as the window has room, and the floor that makes more."""
+        while self._queue and window.has_room():
+            ticket = self._queue.popleft()
+            ticket.number = window.give(ticket)
+            self._send(ticket, now)
+        floor = window.next_floor()
+        if floor is not None:
+            self._settle_sent = now
+            self.to_send += frames.settle(floor)
+            self._send_queue(window, now)
+
+    def _in_the_way(self) -> List[Ticket[Any]]:
+        """What keeps the window from moving, while something is queued: requests that wait under its lowest numbers.
+
+        They are cancelled, and called again under new numbers: of a request that is withdrawn nothing happened. So what
+        waits long keeps nobody else from being sent.
+        """
+        window = self._window
+        if not self._queue or window is None or self.phase is not Phase.READY or not window.is_stuck():
+            return []
+        return [ticket for ticket in window.lower_half() if not ticket.cancel_sent]
+
+    def _resume(self, window: Window[Ticket[Any]], now: float) -> None:
+        """All that has no answer is sent again, under its old number, behind the floor that is asked for."""
+        self.phase = Phase.READY
+        self._was_away = True
+        if self._leaving is None and window.asked != window.floor:
+            self._settle_sent = now
+            self.to_send += frames.settle(window.asked)
+        for ticket in window.unanswered.values():
+            self._send(ticket, now)
+        for ticket in window.unanswered.values():
+            if ticket.taken_back is not None:
+                self._cancel(ticket, now)
+        self._send_probe(now)
+
+    # Replies.
+
+    def _take(self, reply: frames.Reply, now: float) -> None:
+        if isinstance(reply, frames.Welcome) and reply.session != self.session:
+            raise ProtocolError(f"a welcome to session {reply.session}")
+        if isinstance(reply, frames.Refusal):
+            self._take_refusal(reply, now)
+        elif self._window is None:
+            self._take_stranger(reply, now)
+        elif self.phase is Phase.ATTACHING and isinstance(reply, (frames.Answer, frames.Settled)):
+            # It may be to whoever had the session in between, if the welcome tells of one. Else it comes again.
+            pass
+        elif isinstance(reply, frames.Answer):
+            self._take_answer(self._window, reply, now)
+        elif isinstance(reply, frames.Settled):
+            self._take_settled(self._window, reply.floor)
+        elif isinstance(reply, frames.Welcome):
+            self._take_welcome(self._window, reply, now)
+        elif isinstance(reply, frames.Withdrawn):
+            self._take_withdrawn(self._window, reply.number, now)
+        elif isinstance(reply, frames.Report):
+            self._take_report(reply)
+        else:
+            self._take_goodbye(reply)
+
+    def _take_stranger(self, reply: frames.Reply, now: float) -> None:
+        """A reply before the session is this client's: it may be to whoever had it before."""
+        if self._meeting is not None:
+            self._meeting.take(reply)
+            self._go_on_meeting(self._meeting)
+        elif isinstance(reply, frames.Welcome):
+            self.phase = Phase.MEETING
+            self._meeting = Meeting(reply.floor, self._probes)
+            self._go_on_meeting(self._meeting)
+        elif not isinstance(reply, (frames.Answer, frames.Settled)):
+            raise ProtocolError("a reply that nobody asked for")
+        self._probed_at = now
+
+    def _go_on_meeting(self, meeting: Meeting) -> None:
+        self.to_send += meeting.to_send
+        meeting.to_send.clear()
+        if meeting.new_floor is not None:
+            self._window = Window(meeting.new_floor)
+            self._meeting = None
+            self.phase = Phase.READY
+            self._in_contact = True
+            if self._opening is not None and not self._opening.done:
+                self._end(self._opening)
+
+    def _take_answer(self, window: Window[Ticket[Any]], answer: frames.Answer, now: float) -> None:
+        ticket = window.answer(answer)
+        if ticket is None:
+            return
+        assert ticket.request is not None
+        self._heard(now)
+        try:
+            result = ticket.request.result(answer)
+        except errors.AnswerError as error:
+            self._end(ticket, error=error)
+        except ProtocolError as error:
+            self._end(ticket, error=error)
+            raise
+        else:
+            self._end(ticket, result=result)
+
+    def _take_settled(self, window: Window[Ticket[Any]], floor: int) -> None:
+        if self._was_away and floor > window.asked:
+            raise errors.TakenOver(f"another client had session {self.session} in between")
+        window.settled(floor)
+        if window.asked == window.floor:
+            self._settle_sent = None
+
+    def _take_welcome(self, window: Window[Ticket[Any]], welcome: frames.Welcome, now: float) -> None:
+        # While the session is being ended it may be gone, and another one attached in its place.
+        if self._leaving is None:
+            window.welcomed(welcome.floor)
+        if self.phase is Phase.ATTACHING:
+            self._resume(window, now)
+        elif window.asked == window.floor:
+            self._settle_sent = None
+
+    def _take_withdrawn(self, window: Window[Ticket[Any]], number: int, now: float) -> None:
+        if number not in self._cancelled or number not in window.unanswered:
+            raise ProtocolError(f"number {number} is withdrawn, which nobody asked for")
+        self._heard(now)
+        self._cancelled.discard(number)
+        ticket = window.end(number)
+        if ticket.taken_back is not None:
+            self._end(ticket, error=ticket.taken_back)
+        else:
+            ticket.number = None
+            self._queue.append(ticket)
+
+    def _take_report(self, reply: frames.Report) -> None:
+        if self._report_sent is None:
+            raise ProtocolError("a report that nobody asked for")
+        report = reports.parse(reply.text)
+        self._report_sent = None
+        self._end(self._reports.popleft(), result=report)
+
+    def _take_goodbye(self, reply: frames.Goodbye) -> None:
+        if self._bye_sent is None or reply.session != self.session:
+            raise ProtocolError("a goodbye that nobody asked for")
+        self._has_left()
+
+    def _has_left(self) -> None:
+        assert self._leaving is not None
+        self._end(self._leaving)
+        self.fail(errors.Closed("the session is ended"))
+
+    def _heard(self, now: float) -> None:
+        """The server did something for this client: it is there, and the session is this client's."""
+        self._in_contact = True
+        if self._probe is None:
+            self._probed_at = now
+
+    # Refusals.
+
+    def _take_refusal(self, refusal: frames.Refusal, now: float) -> None:
+        number, code = refusal.number, refusal.code
+        is_echo = number in self._probes_sent and code in (frames.NOT_ATTACHED, frames.NOT_WAITING)
+        if is_echo and number != self._probe:
+            self._probes_sent.discard(number)  # it was sent before the last attach, or before the welcome
+        elif code == frames.NOT_ATTACHED:
+            self._take_not_attached(number, now)
+        elif is_echo:
+            self._take_echo(number, now)
+        elif self.phase is Phase.ATTACHING:
+            self._take_attach_refusal(refusal, now)
+        elif self._meeting is not None:
+            self._meeting.take(refusal)
+            self._go_on_meeting(self._meeting)
+        elif code == frames.NOT_WAITING and number in self._cancelled:
+            self._cancelled.discard(number)
+        else:
+            self._take_other_refusal(refusal)
+
+    def _take_echo(self, number: int, now: float) -> None:
+        self._probes_sent.discard(number)
+        self._probe = None
+        self._probed_at = now
+        if self.phase is Phase.READY:
+            self._in_contact = True
+
+    def _take_not_attached(self, number: int, now: float) -> None:
+        """Another connection has the session.
+
+        Before this client asked anything that may be what a former process still had on its way: it attaches again.
+        """
+        if self._window is not None:
+            raise errors.TakenOver(f"another connection has session {self.session}")
+        if self.phase is Phase.MEETING or number == self._probe:
+            self._attach_later(now)
+
+    def _take_attach_refusal(self, refusal: frames.Refusal, now: float) -> None:
+        if refusal.number != self.session:
+            raise unexpected(refusal)
+        if refusal.code == frames.CLOSING:
+            self._is_closing = True
+            self._attach_later(now)
+        elif refusal.code == frames.SESSION_LIMIT and self._leaving is not None:
+            self._has_left()
+        elif refusal.code == frames.SESSION_LIMIT and self._window is not None:
+            raise errors.SessionLost("the server keeps 64 other sessions")
+        elif refusal.code in (frames.SESSION_LIMIT, frames.SPENT):
+            raise errors.REFUSALS[refusal.code](f"attach {self.session}")
+        else:
+            raise unexpected(refusal)
+
+    def _take_other_refusal(self, refusal: frames.Refusal) -> None:
+        window = self._window
+        assert window is not None
+        number, code = refusal.number, refusal.code
+        error = errors.REFUSALS[code]
+        if number == 0 and code == frames.NO_MEMORY and self._report_sent is not None:
+            self._report_sent = None
+            self._end(self._reports.popleft(), error=error("report"))
+        elif number == 0 and code == frames.SPENT and self._bye_sent is not None:
+            raise error("bye")
+        elif number == window.asked != window.floor and code in _OF_SETTLE:
+            raise error(f"settle {number}")
+        elif number in window.unanswered and code in _OF_CALL:
+            ticket = window.end(number)
+            assert ticket.request is not None
+            self._end(ticket, error=error(ticket.request.what))
+        else:
+            raise unexpected(refusal)

@@ -1,0 +1,203 @@
+"""Messages and replies as bytes (docs/formats.md, "Frames", version 2).
+
+Messages are spelled by one function each. Replies are read by a strict decoder, which refuses every byte that no server
+sends and holds at most one frame.
+"""
+
+from __future__ import annotations
+
+import struct
+from dataclasses import dataclass
+from typing import List, Union
+
+from .errors import ProtocolError
+
+WINDOW = 32
+GREATEST_FLOOR = 2**63 - 32
+LONGEST_NAME = 32
+LONGEST_REPORT = 262_144
+
+READFE, READFF, READXX, WRITEEF, WRITEFF, WRITEXF, PURGE, INT_FETCH_ADD = range(16, 24)
+
+VALUE, DONE, ARRAY, NO_ARRAY, BAD_INDEX = 1, 2, 3, 4, 5
+NAME_TAKEN, ARRAY_LIMIT, WORD_LIMIT, BAD_NAME, BAD_LENGTH, NOT_NOW = 6, 7, 8, 9, 10, 11
+
+NOT_ATTACHED, SESSION_LIMIT, BELOW_FLOOR, BEYOND_WINDOW, NUMBER_USED = 1, 2, 3, 4, 5
+STILL_WAITING, CLOSING, NO_MEMORY, SPENT, NOT_WAITING = 6, 7, 8, 9, 10
+
+
+def _frame(kind: int, body: bytes = b"") -> bytes:
+    return struct.pack(">IB", 1 + len(body), kind) + body
+
+
+def attach(session: int) -> bytes:
+    return _frame(1, struct.pack(">Q", session))
+
+
+def create(number: int, name: bytes, length: int, full: bool) -> bytes:
+    """A name of up to 16 bytes has a kind of its own, and a longer one another."""
+    kind, row = (2, 16) if len(name) <= 16 else (12, 32)
+    return _frame(kind, struct.pack(f">QB{row}sIB", number, len(name), name, length, full))
+
+
+def find(number: int, name: bytes) -> bytes:
+    kind, row = (3, 16) if len(name) <= 16 else (13, 32)
+    return _frame(kind, struct.pack(f">QB{row}s", number, len(name), name))
+
+
+def remove(number: int, array: int) -> bytes:
+    return _frame(4, struct.pack(">QQ", number, array))
+
+
+def access(number: int, code: int, array: int, index: int, operand: int, nowait: bool) -> bytes:
+    kind = 11 if nowait else 5
+    return _frame(kind, struct.pack(">QBQIQ", number, code, array, index, operand))
+
+
+def cancel(number: int) -> bytes:
+    return _frame(6, struct.pack(">Q", number))
+
+
+def settle(floor: int) -> bytes:
+    return _frame(7, struct.pack(">Q", floor))
+
+
+def bye() -> bytes:
+    return _frame(8)
+
+
+def report() -> bytes:
+    return _frame(9)
+
+
+@dataclass(frozen=True)
+class Welcome:
+    session: int
+    floor: int
+
+
+@dataclass(frozen=True)
+class Answer:
+    """`value` is the value of *value* and the id of *array*; `length` is that of *array*; else both are 0."""
+
+    number: int
+    code: int
+    value: int = 0
+    length: int = 0
+
+
+@dataclass(frozen=True)
+class Withdrawn:
+    number: int
+
+
+@dataclass(frozen=True)
+class Settled:
+    floor: int
+
+
+@dataclass(frozen=True)
+class Goodbye:
+    session: int
+
+
+@dataclass(frozen=True)
+class Refusal:
+    number: int
+    code: int
+
+
+@dataclass(frozen=True)
+class Report:
+    text: str
+
+
+Reply = Union[Welcome, Answer, Withdrawn, Settled, Goodbye, Refusal, Report]
+
+# The length of each kind but a report's, which is 2 to 262,145.
+_LENGTHS = {65: 17, 66: 22, 67: 9, 68: 9, 69: 9, 70: 10}
+_REPORT = 71
+
+
+class ReplyDecoder:
+    """Reads replies from the pieces of a stream, however it is cut.
+
+    It holds less than a frame between pieces, and a frame has at most 262,149 bytes.
+    """
+
+    def __init__(self) -> None:
+        self._rest = bytearray()
+        self._offset = 0
+
+    def feed(self, piece: bytes) -> List[Reply]:
+        """The replies that the piece completes.
+
+        `ProtocolError` names the offset of the first frame that no server sends; of that piece nothing is handed out.
+        """
+        self._rest += piece
+        replies: List[Reply] = []
+        at = 0
+        while True:
+            end = self._end_of_frame(at)
+            if end == 0:
+                break
+            replies.append(self._reply(at, end))
+            at = end
+        del self._rest[:at]
+        self._offset += at
+        return replies
+
+    def _bad(self, at: int, what: str) -> ProtocolError:
+        return ProtocolError(f"bad frame at offset {self._offset + at}: {what}")
+
+    def _end_of_frame(self, at: int) -> int:
+        """Where the frame at `at` ends, or 0 where it is not whole. It is refused as soon as its head is wrong."""
+        have = len(self._rest) - at
+        if have < 4:
+            return 0
+        length = int.from_bytes(self._rest[at : at + 4], "big")
+        if not 1 <= length <= 1 + LONGEST_REPORT:
+            raise self._bad(at, f"length {length}")
+        if have < 5:
+            return 0
+        kind = self._rest[at + 4]
+        if kind == _REPORT:
+            right = length >= 2
+        else:
+            right = _LENGTHS.get(kind) == length
+        if not right:
+            raise self._bad(at, f"kind {kind} of length {length}")
+        return at + 4 + length if have >= 4 + length else 0
+
+    def _reply(self, at: int, end: int) -> Reply:
+        kind = self._rest[at + 4]
+        body = bytes(self._rest[at + 5 : end])
+        if kind == 66:
+            return self._answer(at, body)
+        if kind == 65:
+            session, floor = struct.unpack(">QQ", body)
+            if not 1 <= floor <= GREATEST_FLOOR:
+                raise self._bad(at, f"floor {floor}")
+            return Welcome(session, floor)
+        if kind == 70:
+            number, code = struct.unpack(">QB", body)
+            if not 1 <= code <= 10:
+                raise self._bad(at, f"refusal {code}")
+            return Refusal(number, code)
+        if kind == _REPORT:
+            try:
+                return Report(body.decode("utf-8"))
+            except UnicodeDecodeError:
+                raise self._bad(at, "a report that is not UTF-8") from None
+        (number,) = struct.unpack(">Q", body)
+        if kind == 67:
+            return Withdrawn(number)
+        return Settled(number) if kind == 68 else Goodbye(number)
+
+    def _answer(self, at: int, body: bytes) -> Answer:
+        number, code, value, length = struct.unpack(">QBQI", body)
+        if not 1 <= code <= 11:
+            raise self._bad(at, f"answer {code}")
+        if code != ARRAY and length or code not in (VALUE, ARRAY) and value:
+            raise self._bad(at, f"answer {code} with an unused field")
+        return Answer(number, code, value, length)

@@ -1,0 +1,99 @@
+"""The wait report of the server, as text and as rows."""
+
+from __future__ import annotations
+
+import re
+from dataclasses import dataclass
+from typing import Dict, List
+
+from .errors import ProtocolError
+
+NEEDS = {
+    "readfe": "full",
+    "readff": "full",
+    "writeef": "empty",
+    "writeff": "full",
+    "int_fetch_add": "full",
+}
+
+_N = "([0-9]{1,20})"
+_WAITING = re.compile(f"waiting {_N}")
+_WORD = re.compile(f"word {_N} {_N} session {_N} number {_N} ([a-z_]+)")
+_SESSION = re.compile(f"session {_N} waits {_N}")
+
+
+@dataclass(frozen=True)
+class Waiter:
+    """A request that waits: at which word, of whom, and for which operation."""
+
+    array: int
+    index: int
+    session: int
+    number: int
+    operation: str
+
+    @property
+    def needs(self) -> str:
+        """The tag that it waits for: `full` or `empty`."""
+        return NEEDS[self.operation]
+
+
+@dataclass(frozen=True)
+class Report:
+    """What waits now.
+
+    `waiters` by array, index, session and number; `sessions` says how many requests of each session wait; `all_wait`
+    is whether a session is attached and each attached one waits for something.
+    """
+
+    text: str
+    waiters: List[Waiter]
+    sessions: Dict[int, int]
+    all_wait: bool
+
+
+def parse(text: str) -> Report:
+    """`ProtocolError` where the text is no report."""
+    lines = text.split("\n")
+    if lines.pop() != "" or not lines:
+        raise ProtocolError("a report that does not end with its line")
+    head = _WAITING.fullmatch(lines[0])
+    if head is None:
+        raise ProtocolError("a report without its first line")
+    if head[1] == "0" and len(lines) == 1:
+        return Report(text, [], {}, False)
+    if lines[-1] not in ("all-wait yes", "all-wait no"):
+        raise ProtocolError("a report without its last line")
+    waiters: List[Waiter] = []
+    sessions: Dict[int, int] = {}
+    for line in lines[1:-1]:
+        word = _WORD.fullmatch(line)
+        session = _SESSION.fullmatch(line)
+        if word is not None and word[5] in NEEDS and not sessions:
+            waiters.append(Waiter(int(word[1]), int(word[2]), int(word[3]), int(word[4]), word[5]))
+        elif session is not None:
+            sessions[int(session[1])] = int(session[2])
+        else:
+            raise ProtocolError("a report with a line of another kind")
+    if len(waiters) != int(head[1]) or sum(sessions.values()) != len(waiters):
+        raise ProtocolError("a report that does not add up")
+    return Report(text, waiters, sessions, lines[-1] == "all-wait yes")
+
+
+def graph(report: Report) -> str:
+    """The waits as a graph for Graphviz: from each session to the words that it waits at.
+
+    Who will fill or empty a word is not known to the server, so no arrow leaves a word.
+    """
+    lines = ["digraph waits {", "  rankdir=LR;"]
+    if report.all_wait:
+        lines.append('  label="every attached session waits";')
+    for session in report.sessions:
+        lines.append(f'  "s{session}" [shape=box, label="session {session}"];')
+    for array, index in dict.fromkeys((w.array, w.index) for w in report.waiters):
+        lines.append(f'  "w{array}_{index}" [label="word {index} of array {array}"];')
+    for w in report.waiters:
+        label = f"{w.operation} (number {w.number}), needs {w.needs}"
+        lines.append(f'  "s{w.session}" -> "w{w.array}_{w.index}" [label="{label}"];')
+    lines.append("}")
+    return "\n".join(lines) + "\n"

@@ -1,0 +1,68 @@
+"""What is under way."""
+
+from __future__ import annotations
+
+import heapq
+import itertools
+from typing import Any, Callable, Generic, List, Optional, Tuple, TypeVar
+
+from .errors import Withdrawn
+from .requests import Request
+
+T = TypeVar("T")
+
+
+class Ticket(Generic[T]):
+    """Something asked of the server. Once `done`, it has a `result` or an `error`."""
+
+    def __init__(self, request: Optional[Request[T]]) -> None:
+        self.request = request
+        self.number: Optional[int] = None
+        self.sent_at = 0.0
+        self.done = False
+        self.result: Optional[T] = None
+        self.error: Optional[BaseException] = None
+        self.finished: Callable[[], None] = lambda: None
+        # What it ends with where it is taken back, once somebody wants that.
+        self.taken_back: Optional[Withdrawn] = None
+        # Whether a cancel of it was sent over this connection.
+        self.cancel_sent = False
+
+    def must_end(self) -> bool:
+        """Whether the server owes an end of it, whatever others do."""
+        return self.cancel_sent or self.request is None or not self.request.may_wait
+
+    def end(self, result: Optional[T] = None, error: Optional[BaseException] = None) -> None:
+        self.done = True
+        self.result = result
+        self.error = error
+
+
+class Timeouts:
+    """Tickets by the time at which they are to be taken back."""
+
+    # How many there are before those that are done are looked for.
+    _FEW = 1024
+
+    def __init__(self) -> None:
+        self._heap: List[Tuple[float, int, Ticket[Any]]] = []
+        self._order = itertools.count()
+        self._many = self._FEW
+
+    def add(self, time: float, ticket: Ticket[Any]) -> None:
+        heapq.heappush(self._heap, (time, next(self._order), ticket))
+        if len(self._heap) > self._many:
+            self._heap = [entry for entry in self._heap if not entry[2].done]
+            heapq.heapify(self._heap)
+            self._many = max(self._FEW, 2 * len(self._heap))
+
+    def first(self) -> Optional[float]:
+        """The first time, of those that are not done."""
+        while self._heap and self._heap[0][2].done:
+            heapq.heappop(self._heap)
+        return self._heap[0][0] if self._heap else None
+
+    def take(self, now: float) -> Optional[Ticket[Any]]:
+        """A ticket whose time has come."""
+        first = self.first()
+        return heapq.heappop(self._heap)[2] if first is not None and first <= now else None

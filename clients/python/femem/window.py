@@ -1,0 +1,105 @@
+"""The numbers of a session: which are in use, which are answered, and how far the floor may rise.
+
+The server lets a session use 32 numbers from its floor on, and keeps the answer under each. `settle` raises the floor.
+A `Window` gives each request the next number, never one twice; it knows which of its numbers have no answer, and keeps
+the answers of the others until the server has dropped them, since an answer may come again and is then equal.
+"""
+
+from __future__ import annotations
+
+from typing import Dict, Generic, List, Optional, TypeVar, Union
+
+from . import frames
+from .errors import ProtocolError, SessionLost, TakenOver
+
+T = TypeVar("T")
+
+# The floor is raised at the latest once so many numbers are answered.
+_STEP = 16
+
+# The floor asked is less than a whole window above the one that stands. A client that takes the session over raises the
+# floor by a whole one, so the floor then tells that it was there.
+_LONGEST_STEP = frames.WINDOW - 1
+
+_SETTLED_OTHERWISE = "no answer is due"
+
+
+class Window(Generic[T]):
+    """`floor` is the floor that stands, and `asked` the one that is asked for: the same, or up to 31 above."""
+
+    def __init__(self, floor: int) -> None:
+        self.floor = floor
+        self.asked = floor
+        self.unanswered: Dict[int, T] = {}  # ascending, since numbers are given in order
+        self._next = floor
+        self._answers: Dict[int, Union[frames.Answer, str]] = {}
+
+    def has_room(self) -> bool:
+        return self._next < self.asked + frames.WINDOW
+
+    def give(self, item: T) -> int:
+        """The next number, for this request. There is room."""
+        number = self._next
+        self._next += 1
+        self.unanswered[number] = item
+        return number
+
+    def lowest(self) -> int:
+        """The lowest number without an answer, or the next one where each has its own."""
+        return next(iter(self.unanswered), self._next)
+
+    def answer(self, answer: frames.Answer) -> Optional[T]:
+        """Whose answer this is, or `None` where it came before. `ProtocolError` where none is due, or it is another."""
+        number = answer.number
+        if number in self.unanswered:
+            self._answers[number] = answer
+            return self.unanswered.pop(number)
+        if self._answers.get(number) != answer:
+            raise ProtocolError(f"an answer to number {number} that is not due")
+        return None
+
+    def end(self, number: int) -> T:
+        """The number ends without an answer: it was withdrawn or refused. It is not used again."""
+        self._answers[number] = _SETTLED_OTHERWISE
+        return self.unanswered.pop(number)
+
+    def next_floor(self) -> Optional[int]:
+        """The floor to ask for now, if it should rise. One is asked for at a time."""
+        if self.asked != self.floor:
+            return None
+        floor = min(self.lowest(), self.floor + _LONGEST_STEP, frames.GREATEST_FLOOR)
+        if floor - self.floor < _STEP and (self.has_room() or floor == self.floor):
+            return None
+        self.asked = floor
+        return floor
+
+    def is_stuck(self) -> bool:
+        """Whether there is no room, and none comes before the request of the lowest number ends."""
+        return not self.has_room() and self.asked == self.floor == self.lowest()
+
+    def lower_half(self) -> List[T]:
+        """What has no answer among the lower half of the window's numbers."""
+        half = self.floor + frames.WINDOW // 2
+        return [item for number, item in self.unanswered.items() if number < half]
+
+    def settled(self, floor: int) -> None:
+        """The server says that this floor stands."""
+        if floor == self.floor:
+            return
+        if floor != self.asked:
+            raise ProtocolError(f"floor {floor}, where {self.floor} stands and {self.asked} is asked for")
+        self.floor = floor
+        for number in [number for number in self._answers if number < floor]:
+            del self._answers[number]
+
+    def welcomed(self, floor: int) -> None:
+        """The session was attached again, with this floor.
+
+        `SessionLost` where it fell, which happens to no session that is kept; `TakenOver` where it rose by another's
+        hand.
+        """
+        if floor < self.floor:
+            raise SessionLost(f"the floor was {self.floor} and is {floor}")
+        if floor not in (self.floor, self.asked):
+            raise TakenOver(f"the floor was {self.floor} and is {floor}")
+        self.settled(floor)

@@ -1,0 +1,106 @@
+"""The client for asyncio, over the model behind a socket."""
+
+import asyncio
+
+import paths  # noqa: F401
+from serving import WithFolder
+
+import femem
+from femem import requests
+from femem.aio import AsyncClient
+
+
+class Asyncio(WithFolder):
+    def run_with(self, work, **more):
+        async def main():
+            async with AsyncClient(self.path, 7, **more) as client:
+                await asyncio.wait_for(work(client), 20)
+
+        asyncio.run(main())
+
+    def test_the_table(self):
+        self.server()
+
+        async def work(client):
+            cells = await client.create("cells", 2)
+            self.assertEqual(await client.find("cells"), cells)
+            await client.writeef(cells, 0, 42)
+            self.assertEqual(await client.readff(cells, 0), 42)
+            await client.writeff(cells, 0, 5)
+            self.assertEqual(await client.int_fetch_add(cells, 0, 3), 5)
+            self.assertEqual(await client.readfe(cells, 0), 8)
+            with self.assertRaises(femem.NotNow):
+                await client.readfe(cells, 0, nowait=True)
+            with self.assertRaises(femem.TimedOut):
+                await client.readfe(cells, 0, timeout=0.05)
+            await client.writexf(cells, 0, 9)
+            await client.purge(cells, 0)
+            self.assertEqual(await client.readxx(cells, 0), 0)
+            self.assertEqual((await client.report()).waiters, [])
+            await client.remove(cells)
+            await client.bye()
+
+        self.run_with(work)
+
+    def test_tasks_that_wait_for_each_other(self):
+        self.server()
+
+        async def work(client):
+            slot = await client.create("slot", 1)
+            takers = [asyncio.ensure_future(client.readfe(slot, 0)) for _ in range(50)]
+            await asyncio.gather(*[client.writeef(slot, 0, value) for value in range(50)])
+            self.assertEqual(sorted(await asyncio.gather(*takers)), list(range(50)))
+
+        self.run_with(work)
+
+    def test_a_task_that_is_cancelled_takes_its_operation_back(self):
+        self.server()
+
+        async def work(client):
+            slot = await client.create("slot", 1)
+            task = asyncio.ensure_future(client.readfe(slot, 0))
+            await asyncio.sleep(0.05)
+            self.assertEqual(len((await client.report()).waiters), 1)
+            task.cancel()
+            with self.assertRaises(asyncio.CancelledError):
+                await task
+            self.assertEqual((await client.report()).waiters, [])
+            await client.writeef(slot, 0, 1)
+            self.assertEqual(await client.readfe(slot, 0), 1)
+
+        self.run_with(work)
+
+    def test_stops(self):
+        server = self.server()
+
+        async def work(client):
+            word = await client.create("word", 1, full=True)
+            for stop in range(5):
+                server.posts = False
+                futures = [client.submit(requests.int_fetch_add(word, 0, 1)) for _ in range(40)]
+                await asyncio.sleep(0.05)
+                server.kill()
+                await asyncio.sleep(0.05)
+                server.posts = True
+                server.start()
+                self.assertEqual(await asyncio.gather(*futures), list(range(40 * stop, 40 * stop + 40)))
+
+        self.run_with(work)
+
+    def test_a_server_that_never_comes_back(self):
+        server = self.server()
+
+        async def work(client):
+            word = await client.create("word", 1)
+            future = client.submit(requests.readfe(word, 0))
+            server.kill()
+            with self.assertRaises(femem.ServerUnreachable):
+                await future
+            with self.assertRaises(femem.ServerUnreachable):
+                await client.readxx(word, 0)
+
+        self.run_with(work, reconnect_timeout=0.4)
+
+    def test_no_server(self):
+        with self.assertRaises(femem.ServerUnreachable):
+            self.run_with(None, reconnect_timeout=0.3)
