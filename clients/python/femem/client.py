@@ -2,6 +2,7 @@
 
 from __future__ import annotations
 
+import os
 import selectors
 import socket
 import threading
@@ -61,6 +62,7 @@ class Client:
         self.session = session
         self.timeout = timeout
         self._core = Core(session, reconnect_timeout, probe_interval)
+        self._process = os.getpid()
         self._longest_sleep = probe_interval
         self._lock = threading.Lock()
         self._socket: Optional[socket.socket] = None
@@ -220,6 +222,8 @@ class Client:
 
     def _submit(self, request: Request[T], timeout: Timeout) -> tuple[Ticket[T], Future[T]]:
         seconds = self.timeout if isinstance(timeout, _Default) else timeout
+        if self._process != os.getpid():
+            raise errors.Closed("a client is of the process that made it")
         with self._lock:
             ticket = self._core.submit(request, time.monotonic(), seconds)
             future = self._future(ticket)
@@ -331,10 +335,13 @@ class Client:
         was_ready = False
         with selectors.DefaultSelector() as selector:
             selector.register(self._woken, selectors.EVENT_READ)
-            selector.register(connection, selectors.EVENT_READ)
+            events = selectors.EVENT_READ
+            selector.register(connection, events)
             while self._tick():
-                events = selectors.EVENT_READ | (selectors.EVENT_WRITE if self._core.to_send else 0)
-                selector.modify(connection, events)
+                wanted = selectors.EVENT_READ | (selectors.EVENT_WRITE if self._core.to_send else 0)
+                if wanted != events:
+                    events = wanted
+                    selector.modify(connection, events)
                 for key, _ in selector.select(self._until_next(None)):
                     if key.fileobj is self._woken:
                         self._drain()

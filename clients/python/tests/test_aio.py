@@ -14,7 +14,7 @@ class Asyncio(WithFolder):
     def run_with(self, work, **more):
         async def main():
             async with AsyncClient(self.path, 7, **more) as client:
-                await asyncio.wait_for(work(client), 20)
+                await asyncio.wait_for(work(client), 60)
 
         asyncio.run(main())
 

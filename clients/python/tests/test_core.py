@@ -4,6 +4,7 @@ What is looked at is what a user sees: each request that ended with a result hap
 all, and what was under way when a client ended, once at most.
 """
 
+import os
 import random
 import unittest
 
@@ -165,7 +166,7 @@ def run(world, core, request):
 
 
 class Schedules(unittest.TestCase):
-    SEEDS = 60
+    SEEDS = int(os.environ.get("SEEDS", "30"))
 
     def test_a_counter_is_exact(self):
         for seed in range(self.SEEDS):

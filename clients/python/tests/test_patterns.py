@@ -31,7 +31,7 @@ class Patterns(WithFolder):
             server.kill()
             server.start()
         for thread in threads:
-            thread.join(20)
+            thread.join(60)
         self.assertEqual(len(results), self.CLIENTS)
         return [results[k] for k in range(self.CLIENTS)]
 
@@ -56,7 +56,7 @@ class Patterns(WithFolder):
             self.assertFalse(yours.try_acquire())
             self.assertFalse(yours.acquire(timeout=0.05))
             yours.break_open()
-            self.assertTrue(yours.acquire(timeout=5))
+            self.assertTrue(yours.acquire(timeout=60))
 
     def test_semaphore(self):
         inside, most = [], []
@@ -126,7 +126,7 @@ class Patterns(WithFolder):
             time.sleep(0.05 * k)
             was_first = future.set(10 + k)
             self.assertTrue(future.is_set())
-            return was_first, future.get(timeout=10)
+            return was_first, future.get(timeout=60)
 
         got = self.run_all(work)
         self.assertEqual(sum(was_first for was_first, _ in got), 1)

@@ -26,7 +26,7 @@ class Shell(WithFolder):
 
     def say(self, lines, *more):
         shell = self.start(*more)
-        out, err = shell.communicate("".join(line + "\n" for line in lines), timeout=20)
+        out, err = shell.communicate("".join(line + "\n" for line in lines), timeout=60)
         return out.splitlines(), err, shell.returncode
 
     def test_lines(self):
@@ -120,10 +120,10 @@ class Shell(WithFolder):
         self.assertIn("not every attached session waits", lines[0])
         self.assertEqual(lines[1], "  word 0 of array 1 is to become full for session 8 (readfe, number 33)\n")
         watch.send_signal(signal.SIGINT)
-        self.assertEqual(watch.communicate(timeout=10)[0].splitlines()[-1], "value 0")
+        self.assertEqual(watch.communicate(timeout=60)[0].splitlines()[-1], "value 0")
 
         waiter.send_signal(signal.SIGINT)
-        out, _ = waiter.communicate("readxx 1 0\n", timeout=10)
+        out, _ = waiter.communicate("readxx 1 0\n", timeout=60)
         self.assertEqual(out.splitlines(), ["withdrawn: readfe 1 0", "value 0"])
 
     def test_no_server(self):
@@ -138,6 +138,6 @@ class Shell(WithFolder):
         shell.stdin.flush()
         self.assertEqual(shell.stdout.readline(), "array 1 length 1\n")
         server.kill()
-        out, err = shell.communicate("readxx 1 0\nreadxx 1 0\n", timeout=10)
+        out, err = shell.communicate("readxx 1 0\nreadxx 1 0\n", timeout=60)
         self.assertEqual((out, shell.returncode), ("", 1))
         self.assertTrue(err.startswith("femem: server-unreachable: "))

@@ -1,0 +1,26 @@
+"""The examples of the README run as they stand, but for the path."""
+
+import contextlib
+import io
+import pathlib
+import re
+import threading
+
+import paths  # noqa: F401
+from serving import WithFolder
+
+README = pathlib.Path(paths.__file__).resolve().parents[1] / "README.md"
+
+
+class Readme(WithFolder):
+    def test_examples(self):
+        self.server()
+        examples = re.findall(r"```python\n(.*?)```", README.read_text(), re.DOTALL)
+        self.assertEqual(len(examples), 5)
+        for example in examples:
+            wanted = re.findall(r"print\(.*# ([^;\n]+)", example)
+            out = io.StringIO()
+            with contextlib.redirect_stdout(out):
+                exec(example.replace("/run/femem.sock", self.path), {"__name__": "example"})
+            self.assertEqual(out.getvalue().splitlines(), [text.strip() for text in wanted])
+        self.assertEqual([t.name for t in threading.enumerate() if t.name.startswith("femem session")], [])
