@@ -15,6 +15,10 @@ def _field(name):
     return re.search(rf'^{name} = "(.*)"$', (ROOT / "pyproject.toml").read_text(), re.MULTILINE)[1]
 
 
+def _files():
+    return sorted((ROOT / "femem").glob("*.py")) + [ROOT / "femem" / "py.typed"]
+
+
 def _stem():
     return f"{_field('name')}-{_field('version')}"
 
@@ -33,8 +37,7 @@ def _metadata():
 
 def build_wheel(wheel_directory, config_settings=None, metadata_directory=None):
     info = f"{_stem()}.dist-info"
-    files = {f"femem/{path.name}": path.read_bytes() for path in sorted((ROOT / "femem").glob("*.py*")) if path.is_file()}
-    files["femem/py.typed"] = b""
+    files = {f"femem/{path.name}": path.read_bytes() for path in _files()}
     files[f"{info}/METADATA"] = _metadata().encode()
     files[f"{info}/WHEEL"] = b"Wheel-Version: 1.0\nGenerator: femem\nRoot-Is-Purelib: true\nTag: py3-none-any\n"
     record = ""
@@ -52,6 +55,6 @@ def build_wheel(wheel_directory, config_settings=None, metadata_directory=None):
 def build_sdist(sdist_directory, config_settings=None):
     name = f"{_stem()}.tar.gz"
     with tarfile.open(pathlib.Path(sdist_directory) / name, "w:gz") as archive:
-        for path in ["pyproject.toml", "README.md", "wheels.py", *sorted(p.relative_to(ROOT) for p in ROOT.glob("femem/*.py*"))]:
-            archive.add(ROOT / path, f"{_stem()}/{path}")
+        for path in [ROOT / "pyproject.toml", ROOT / "README.md", ROOT / "wheels.py", *_files()]:
+            archive.add(path, f"{_stem()}/{path.relative_to(ROOT)}")
     return name

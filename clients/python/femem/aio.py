@@ -203,8 +203,8 @@ class AsyncClient:
                 await asyncio.wait_for(
                     asyncio.get_running_loop().create_unix_connection(lambda: connection, self.path), 1.0
                 )
-            except (OSError, asyncio.TimeoutError):
-                pass
+            except (OSError, asyncio.TimeoutError) as error:
+                self._core.trouble = str(error)
             else:
                 await self._until_lost(connection)
             if connection.was_ready:

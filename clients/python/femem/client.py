@@ -311,7 +311,8 @@ class Client:
         connection.settimeout(_CONNECT_TIME)
         try:
             connection.connect(self.path)
-        except OSError:
+        except OSError as error:
+            self._core.trouble = str(error)
             connection.close()
             return None
         connection.setblocking(False)

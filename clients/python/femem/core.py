@@ -15,21 +15,15 @@ from typing import Any, Deque, List, Optional, Set, TypeVar
 
 from . import errors, frames, reports
 from .errors import ProtocolError
+from .flow import PATIENCE, Flow
 from .meeting import FIRST_PROBE, Meeting, unexpected
 from .requests import Request
 from .tickets import Ticket, Timeouts
-from .window import Window
 
 T = TypeVar("T")
 
-# How long a request waits before it may be moved out of the window's way, in seconds.
-_PATIENCE = 0.05
-
 # How long a client waits about before it attaches once more a session that it could not get, in seconds.
 _ATTACH_PAUSE = 0.03
-
-_OF_CALL = (frames.BELOW_FLOOR, frames.BEYOND_WINDOW, frames.NUMBER_USED, frames.NO_MEMORY, frames.SPENT)
-_OF_SETTLE = (frames.BELOW_FLOOR, frames.BEYOND_WINDOW, frames.STILL_WAITING, frames.SPENT)
 
 
 class Phase(enum.Enum):
@@ -50,15 +44,16 @@ class Core:
         self.phase = Phase.DOWN
         self.failure: Optional[errors.FememError] = None
         self.to_send = bytearray()
+        # Why the last attempt to connect failed, if it did; whoever connects says so.
+        self.trouble = ""
         self._reconnect_timeout = float("inf") if reconnect_timeout is None else reconnect_timeout
         self._probe_interval = probe_interval
         self._probes = itertools.count(FIRST_PROBE)
-        self._window: Optional[Window[Ticket[Any]]] = None
-        self._queue: Deque[Ticket[Any]] = deque()
+        self._ended: List[Ticket[Any]] = []
+        self._flow = Flow(self.to_send, self._ended)
         self._reports: Deque[Ticket[reports.Report]] = deque()
         self._leaving: Optional[Ticket[None]] = None
         self._opening: Optional[Ticket[None]] = None
-        self._ended: List[Ticket[Any]] = []
         self._timeouts = Timeouts()
         # Whether the session was attached more than once by this client.
         self._was_away = False
@@ -72,15 +67,14 @@ class Core:
     def _start_over(self) -> None:
         """What is of one connection: what was sent over it and is owed, and since when."""
         self.to_send.clear()
+        self._flow.start_over()
         self._decoder = frames.ReplyDecoder()
         self._meeting: Optional[Meeting] = None
         self._attach_at: Optional[float] = None
         self._is_closing = False
-        self._cancelled: Set[int] = set()
         self._probes_sent: Set[int] = set()
         self._probe: Optional[int] = None  # the one whose echo is waited for
         self._probed_at = 0.0
-        self._settle_sent: Optional[float] = None
         self._report_sent: Optional[float] = None
         self._bye_sent: Optional[float] = None
 
@@ -96,7 +90,7 @@ class Core:
         ticket = self._new(request, now)
         if timeout is not None:
             self._timeouts.add(now + timeout, ticket)
-        self._queue.append(ticket)
+        self._flow.add(ticket)
         self._pump(now)
         return ticket
 
@@ -119,11 +113,7 @@ class Core:
         if ticket.done or ticket.request is None:
             return
         ticket.taken_back = why or errors.Withdrawn(ticket.request.what)
-        if ticket.number is None:
-            self._queue.remove(ticket)
-            self._end(ticket, error=ticket.taken_back)
-        elif self.phase is Phase.READY:
-            self._cancel(ticket, now)
+        self._flow.withdraw(ticket, now, self.phase is Phase.READY)
 
     def close(self) -> None:
         self.fail(errors.Closed("the client is closed"))
@@ -135,12 +125,8 @@ class Core:
         self.failure = failure
         self.phase = Phase.ENDED
         self._start_over()
-        tickets: List[Ticket[Any]] = [*self._queue, *self._reports]
-        if self._window is not None:
-            tickets = [*self._window.unanswered.values(), *tickets]
-            self._window.unanswered.clear()
+        tickets: List[Ticket[Any]] = [*self._flow.take_all(), *self._reports]
         tickets += [ticket for ticket in (self._leaving, self._opening) if ticket is not None]
-        self._queue.clear()
         self._reports.clear()
         for ticket in tickets:
             if not ticket.done:
@@ -148,13 +134,15 @@ class Core:
 
     def take_ended(self) -> List[Ticket[Any]]:
         """The tickets that ended since the last call. Whoever takes them calls `finished` of each."""
-        ended, self._ended = self._ended, []
+        ended = self._ended[:]
+        self._ended.clear()
         return ended
 
     # What happens to the connection.
 
     def connected(self, now: float) -> None:
         if self.phase is not Phase.ENDED:
+            self.trouble = ""
             self._start_over()
             self._attach(now)
 
@@ -190,7 +178,8 @@ class Core:
         times = [self._timeouts.first(), self._attach_at, self._probe_at()]
         if self._is_busy():
             times.append(self._give_up_at())
-        times += [ticket.sent_at + _PATIENCE for ticket in self._in_the_way()]
+        if self.phase is Phase.READY:
+            times += [ticket.sent_at + PATIENCE for ticket in self._flow.in_the_way()]
         return min((time for time in times if time is not None), default=None)
 
     def tick(self, now: float) -> None:
@@ -214,9 +203,8 @@ class Core:
 
     def _is_busy(self) -> bool:
         """Whether something is asked that is not done."""
-        unanswered = self._window is not None and bool(self._window.unanswered)
         alone = (self._leaving, self._opening)
-        return bool(unanswered or self._queue or self._reports or any(t is not None and not t.done for t in alone))
+        return self._flow.is_busy() or bool(self._reports) or any(t is not None and not t.done for t in alone)
 
     def _probe_at(self) -> Optional[float]:
         """When to ask whether the server is there, and whether the session is still this client's.
@@ -225,17 +213,18 @@ class Core:
         """
         if self._probe is not None or self._attach_at is not None or self.phase is Phase.DOWN:
             return None
+        if self._bye_sent is not None:
+            return None  # it would be refused for the closing
         is_ready = self.phase is Phase.READY
         return self._probed_at + (self._probe_interval if is_ready else min(1.0, self._probe_interval))
 
     def _give_up_at(self) -> float:
         """When the server counts as unreachable: counted from the oldest thing that it owes, while something is asked."""
         owed: List[Optional[float]] = [] if self._in_contact else [self._lost_at]
-        if self.phase is Phase.READY and self._window is not None:
-            owed += [self._settle_sent, self._report_sent, self._bye_sent]
+        if self.phase is Phase.READY:
+            owed += [*self._flow.owed(), self._report_sent, self._bye_sent]
             if self._probe is not None:
                 owed.append(self._probed_at)
-            owed += [ticket.sent_at for ticket in self._window.unanswered.values() if ticket.must_end()]
         oldest = min((time for time in owed if time is not None), default=float("inf"))
         return max(oldest, self._asked_at) + self._reconnect_timeout
 
@@ -243,8 +232,8 @@ class Core:
         if self._is_closing:
             self.fail(errors.Closing(f"session {self.session} is still being ended"))
         else:
-            time = self._reconnect_timeout
-            self.fail(errors.ServerUnreachable(f"no word from the server, or none that was due, for {time:g} seconds"))
+            what = f"no word from the server for {self._reconnect_timeout:g} seconds, or none that was due"
+            self.fail(errors.ServerUnreachable(what + (f" ({self.trouble})" if self.trouble else "")))
 
     # Tickets.
 
@@ -289,73 +278,19 @@ class Core:
         self._probed_at = now
         self.to_send += frames.cancel(self._probe)
 
-    def _send(self, ticket: Ticket[Any], now: float) -> None:
-        assert ticket.request is not None and ticket.number is not None
-        ticket.sent_at = now
-        ticket.cancel_sent = False
-        self.to_send += ticket.request.spell(ticket.number)
-
-    def _cancel(self, ticket: Ticket[Any], now: float) -> None:
-        assert ticket.number is not None
-        if not ticket.cancel_sent:
-            ticket.cancel_sent = True
-            ticket.sent_at = now
-            self._cancelled.add(ticket.number)
-            self.to_send += frames.cancel(ticket.number)
-
     def _pump(self, now: float) -> None:
         """Sends what may be sent now."""
-        if self.phase is not Phase.READY or self._window is None:
+        if self.phase is not Phase.READY:
             return
         if self._leaving is not None:
             if self._bye_sent is None:
                 self._bye_sent = now
                 self.to_send += frames.bye()
             return
-        self._send_queue(self._window, now)
-        for ticket in self._in_the_way():
-            if ticket.sent_at + _PATIENCE <= now:
-                self._cancel(ticket, now)
+        self._flow.send(now)
         if self._reports and self._report_sent is None:
             self._report_sent = now
             self.to_send += frames.report()
-
-    def _send_queue(self, window: Window[Ticket[Any]], now: float) -> None:
-        """Requests as far as the window has room, and the floor that makes more."""
-        while self._queue and window.has_room():
-            ticket = self._queue.popleft()
-            ticket.number = window.give(ticket)
-            self._send(ticket, now)
-        floor = window.next_floor()
-        if floor is not None:
-            self._settle_sent = now
-            self.to_send += frames.settle(floor)
-            self._send_queue(window, now)
-
-    def _in_the_way(self) -> List[Ticket[Any]]:
-        """What keeps the window from moving, while something is queued: requests that wait under its lowest numbers.
-
-        They are cancelled, and called again under new numbers: of a request that is withdrawn nothing happened. So what
-        waits long keeps nobody else from being sent.
-        """
-        window = self._window
-        if not self._queue or window is None or self.phase is not Phase.READY or not window.is_stuck():
-            return []
-        return [ticket for ticket in window.lower_half() if not ticket.cancel_sent]
-
-    def _resume(self, window: Window[Ticket[Any]], now: float) -> None:
-        """All that has no answer is sent again, under its old number, behind the floor that is asked for."""
-        self.phase = Phase.READY
-        self._was_away = True
-        if self._leaving is None and window.asked != window.floor:
-            self._settle_sent = now
-            self.to_send += frames.settle(window.asked)
-        for ticket in window.unanswered.values():
-            self._send(ticket, now)
-        for ticket in window.unanswered.values():
-            if ticket.taken_back is not None:
-                self._cancel(ticket, now)
-        self._send_probe(now)
 
     # Replies.
 
@@ -364,19 +299,21 @@ class Core:
             raise ProtocolError(f"a welcome to session {reply.session}")
         if isinstance(reply, frames.Refusal):
             self._take_refusal(reply, now)
-        elif self._window is None:
+        elif self._flow.window is None:
             self._take_stranger(reply, now)
         elif self.phase is Phase.ATTACHING and isinstance(reply, (frames.Answer, frames.Settled)):
             # It may be to whoever had the session in between, if the welcome tells of one. Else it comes again.
             pass
         elif isinstance(reply, frames.Answer):
-            self._take_answer(self._window, reply, now)
+            if self._flow.answered(reply):
+                self._heard(now)
         elif isinstance(reply, frames.Settled):
-            self._take_settled(self._window, reply.floor)
+            self._take_settled(reply.floor)
         elif isinstance(reply, frames.Welcome):
-            self._take_welcome(self._window, reply, now)
+            self._take_welcome(reply.floor, now)
         elif isinstance(reply, frames.Withdrawn):
-            self._take_withdrawn(self._window, reply.number, now)
+            self._flow.withdrawn(reply.number)
+            self._heard(now)
         elif isinstance(reply, frames.Report):
             self._take_report(reply)
         else:
@@ -399,56 +336,30 @@ class Core:
         self.to_send += meeting.to_send
         meeting.to_send.clear()
         if meeting.new_floor is not None:
-            self._window = Window(meeting.new_floor)
+            self._flow.begin(meeting.new_floor)
             self._meeting = None
             self.phase = Phase.READY
             self._in_contact = True
             if self._opening is not None and not self._opening.done:
                 self._end(self._opening)
 
-    def _take_answer(self, window: Window[Ticket[Any]], answer: frames.Answer, now: float) -> None:
-        ticket = window.answer(answer)
-        if ticket is None:
-            return
-        assert ticket.request is not None
-        self._heard(now)
-        try:
-            result = ticket.request.result(answer)
-        except errors.AnswerError as error:
-            self._end(ticket, error=error)
-        except ProtocolError as error:
-            self._end(ticket, error=error)
-            raise
-        else:
-            self._end(ticket, result=result)
-
-    def _take_settled(self, window: Window[Ticket[Any]], floor: int) -> None:
+    def _take_settled(self, floor: int) -> None:
+        window = self._flow.window
+        assert window is not None
         if self._was_away and floor > window.asked:
             raise errors.TakenOver(f"another client had session {self.session} in between")
-        window.settled(floor)
-        if window.asked == window.floor:
-            self._settle_sent = None
+        self._flow.settled(floor)
 
-    def _take_welcome(self, window: Window[Ticket[Any]], welcome: frames.Welcome, now: float) -> None:
+    def _take_welcome(self, floor: int, now: float) -> None:
         # While the session is being ended it may be gone, and another one attached in its place.
         if self._leaving is None:
-            window.welcomed(welcome.floor)
+            self._flow.welcomed(floor)
         if self.phase is Phase.ATTACHING:
-            self._resume(window, now)
-        elif window.asked == window.floor:
-            self._settle_sent = None
-
-    def _take_withdrawn(self, window: Window[Ticket[Any]], number: int, now: float) -> None:
-        if number not in self._cancelled or number not in window.unanswered:
-            raise ProtocolError(f"number {number} is withdrawn, which nobody asked for")
-        self._heard(now)
-        self._cancelled.discard(number)
-        ticket = window.end(number)
-        if ticket.taken_back is not None:
-            self._end(ticket, error=ticket.taken_back)
-        else:
-            ticket.number = None
-            self._queue.append(ticket)
+            self.phase = Phase.READY
+            self._was_away = True
+            if self._leaving is None:
+                self._flow.send_again(now)
+            self._send_probe(now)
 
     def _take_report(self, reply: frames.Report) -> None:
         if self._report_sent is None:
@@ -489,9 +400,7 @@ class Core:
         elif self._meeting is not None:
             self._meeting.take(refusal)
             self._go_on_meeting(self._meeting)
-        elif code == frames.NOT_WAITING and number in self._cancelled:
-            self._cancelled.discard(number)
-        else:
+        elif not self._flow.refused(refusal):
             self._take_other_refusal(refusal)
 
     def _take_echo(self, number: int, now: float) -> None:
@@ -506,7 +415,7 @@ class Core:
 
         Before this client asked anything that may be what a former process still had on its way: it attaches again.
         """
-        if self._window is not None:
+        if self._flow.window is not None:
             raise errors.TakenOver(f"another connection has session {self.session}")
         if self.phase is Phase.MEETING or number == self._probe:
             self._attach_later(now)
@@ -519,7 +428,7 @@ class Core:
             self._attach_later(now)
         elif refusal.code == frames.SESSION_LIMIT and self._leaving is not None:
             self._has_left()
-        elif refusal.code == frames.SESSION_LIMIT and self._window is not None:
+        elif refusal.code == frames.SESSION_LIMIT and self._flow.window is not None:
             raise errors.SessionLost("the server keeps 64 other sessions")
         elif refusal.code in (frames.SESSION_LIMIT, frames.SPENT):
             raise errors.REFUSALS[refusal.code](f"attach {self.session}")
@@ -527,20 +436,11 @@ class Core:
             raise unexpected(refusal)
 
     def _take_other_refusal(self, refusal: frames.Refusal) -> None:
-        window = self._window
-        assert window is not None
-        number, code = refusal.number, refusal.code
-        error = errors.REFUSALS[code]
-        if number == 0 and code == frames.NO_MEMORY and self._report_sent is not None:
+        """Of a report or a bye, whose number is 0."""
+        if refusal == frames.Refusal(0, frames.NO_MEMORY) and self._report_sent is not None:
             self._report_sent = None
-            self._end(self._reports.popleft(), error=error("report"))
-        elif number == 0 and code == frames.SPENT and self._bye_sent is not None:
-            raise error("bye")
-        elif number == window.asked != window.floor and code in _OF_SETTLE:
-            raise error(f"settle {number}")
-        elif number in window.unanswered and code in _OF_CALL:
-            ticket = window.end(number)
-            assert ticket.request is not None
-            self._end(ticket, error=error(ticket.request.what))
+            self._end(self._reports.popleft(), error=errors.NoMemory("report"))
+        elif refusal == frames.Refusal(0, frames.SPENT) and self._bye_sent is not None:
+            raise errors.Spent("bye")
         else:
             raise unexpected(refusal)

@@ -10,12 +10,14 @@ that is. What takes several operations has no time-out, not that of its client e
 
 from __future__ import annotations
 
+import time
 from types import TracebackType
-from typing import Callable, Optional, Type
+from typing import Any, Callable, List, Optional, Tuple, Type
 
+from . import requests
 from .client import Client
 from .errors import NameTaken, NoArray, NotNow, TimedOut
-from .requests import Array
+from .requests import Array, Request
 
 
 def shared_array(client: Client, name: str, length: int, full: bool) -> Array:
@@ -81,26 +83,88 @@ class Lock:
         self.release()
 
 
-class Semaphore:
-    """Held by `permits` at a time. Each permit is a full word; takers and givers go round, each by a count of its own.
+class _Shared:
+    """Some words that are changed together: a state, whose word is empty while somebody changes it, and signals.
 
-    A client that is gone for good while it held a permit leaves it held, so there is one less.
+    A signal is full where somebody who waits for it may go on. Who goes on empties it, looks at the state, and fills it
+    again if there is something left for the next. So nobody holds anything while it waits, and a client that is gone for
+    good while it waited leaves nothing behind. Signals are full at first, and one that is full for nothing does no harm.
+
+    What is done once the state is taken is sent in one, the new state last. A client that is gone for good in the middle
+    of that leaves the state taken, or a signal empty that should be full; `break_open` puts that right.
     """
 
-    def __init__(self, client: Client, name: str, permits: int) -> None:
-        self._client = client
-        self._permits = permits
-        self._words = shared_array(client, name, permits + 2, full=True)
+    _signals: Tuple[int, ...] = (1,)
 
-    def acquire(self) -> None:
-        """Waits for a permit; who came first gets one first."""
-        turn = self._client.int_fetch_add(self._words, 0, 1, timeout=None)
-        self._client.readfe(self._words, 2 + turn % self._permits, timeout=None)
+    def __init__(self, client: Client, name: str, length: int) -> None:
+        self._client = client
+        self._words = shared_array(client, name, length, full=True)
+
+    def _wait_for(self, signal: int, end: Optional[float]) -> None:
+        left = None if end is None else max(0.0, end - time.monotonic())
+        try:
+            self._client.readfe(self._words, signal, timeout=left)
+        except TimedOut:
+            raise
+        except BaseException:
+            # Interrupted: it may have emptied the signal, and somebody else wants it.
+            if self._client.failure is None:
+                self._client.submit(self._fill(signal))
+            raise
+
+    def _take_state(self) -> int:
+        return self._client.readfe(self._words, 0, timeout=None)
+
+    def _leave_state(self, state: int, *before: Request[Any]) -> List[Any]:
+        """Does these and then puts the state back; what each answered."""
+        last = requests.writeef(self._words, 0, state)
+        futures = [self._client.submit(request, timeout=None) for request in (*before, last)]
+        return [future.result() for future in futures]
+
+    def _fill(self, word: int, value: int = 0) -> Request[None]:
+        return requests.writexf(self._words, word, value)
+
+    def break_open(self) -> None:
+        """Frees the state as it was before, where a client that was changing it is gone for good."""
+        state = self._client.readxx(self._words, 0)
+        for signal in self._signals:
+            self._client.writexf(self._words, signal, 0)
+        self._client.writexf(self._words, 0, state)
+
+
+class Semaphore(_Shared):
+    """Held by `permits` at a time.
+
+    A client that is gone for good while it held a permit leaves it held; another one may `release` it. One that is gone in
+    the middle of `acquire` or `release`, but not while it waited, may leave the others waiting; `break_open` ends that.
+    """
+
+    _FREE = 1  # the signal that a permit is free
+
+    def __init__(self, client: Client, name: str, permits: int) -> None:
+        """`permits` is the same for all who share it."""
+        super().__init__(client, name, 2)
+        self._permits = permits
+
+    def acquire(self, timeout: Optional[float] = None) -> bool:
+        """Waits for a permit. Whether one was got in time."""
+        end = None if timeout is None else time.monotonic() + timeout
+        while True:
+            try:
+                self._wait_for(self._FREE, end)
+            except TimedOut:
+                return False
+            held = self._take_state()
+            if held < self._permits:
+                more = [self._fill(self._FREE)] if held + 1 < self._permits else []
+                self._leave_state(held + 1, *more)
+                return True
+            self._leave_state(held)
 
     def release(self) -> None:
         """Gives a permit back. Whoever holds none must not."""
-        turn = self._client.int_fetch_add(self._words, 1, 1, timeout=None)
-        self._client.writeef(self._words, 2 + turn % self._permits, 0, timeout=None)
+        held = self._take_state()
+        self._leave_state(max(0, held - 1), self._fill(self._FREE))
 
     def __enter__(self) -> Semaphore:
         self.acquire()
@@ -115,28 +179,49 @@ class Semaphore:
         self.release()
 
 
-class BoundedQueue:
-    """At most `capacity` values of 64 bits, first in, first out, each taken once. Its arrays are NAME and NAME_n.
+class BoundedQueue(_Shared):
+    """At most `capacity` values of 64 bits, first in, first out, each taken once.
 
-    A client that is gone for good while it waited in `get` or `put` had a turn already: one value stays where it is, or one
-    place empty, until the turns come round to it again, `capacity` later.
+    A `put` or `get` of a client that is gone for good happened wholly or not at all. Where it went in the middle of it, but
+    not while it waited, it may leave the others waiting; `break_open` ends that.
     """
 
+    _VALUES, _ROOM = 1, 2  # the signals that a value is there, and that there is room
+    _SLOTS = 3
+    _signals = (1, 2)
+
     def __init__(self, client: Client, name: str, capacity: int) -> None:
-        self._client = client
+        super().__init__(client, name, self._SLOTS + capacity)
         self._capacity = capacity
-        self._slots = shared_array(client, name, capacity, full=False)
-        self._turns = shared_array(client, name + "_n", 2, full=True)
 
-    def put(self, value: int) -> None:
-        """Waits for room, and adds a value."""
-        turn = self._client.int_fetch_add(self._turns, 0, 1, timeout=None)
-        self._client.writeef(self._slots, turn % self._capacity, value, timeout=None)
+    def put(self, value: int, timeout: Optional[float] = None) -> None:
+        """Waits for room, and adds a value. `TimedOut` where there is none in time."""
+        end = None if timeout is None else time.monotonic() + timeout
+        while True:
+            self._wait_for(self._ROOM, end)
+            state = self._take_state()
+            first, count = divmod(state, 2**32)
+            if count < self._capacity:
+                slot = self._SLOTS + (first + count) % self._capacity
+                more = [self._fill(self._ROOM)] if count + 1 < self._capacity else []
+                self._leave_state(state + 1, self._fill(slot, value), self._fill(self._VALUES), *more)
+                return
+            self._leave_state(state)
 
-    def get(self) -> int:
-        """Waits for a value, and takes it."""
-        turn = self._client.int_fetch_add(self._turns, 1, 1, timeout=None)
-        return self._client.readfe(self._slots, turn % self._capacity, timeout=None)
+    def get(self, timeout: Optional[float] = None) -> int:
+        """Waits for a value, and takes it. `TimedOut` where there is none in time."""
+        end = None if timeout is None else time.monotonic() + timeout
+        while True:
+            self._wait_for(self._VALUES, end)
+            state = self._take_state()
+            first, count = divmod(state, 2**32)
+            if count > 0:
+                look = requests.readxx(self._words, self._SLOTS + first)
+                more = [self._fill(self._VALUES)] if count > 1 else []
+                after = (first + 1) % self._capacity * 2**32 + count - 1
+                value: int = self._leave_state(after, look, self._fill(self._ROOM), *more)[0]
+                return value
+            self._leave_state(state)
 
 
 class Barrier:

@@ -88,6 +88,54 @@ class Patterns(WithFolder):
             mine = [value for value in got if value // 100 == k]
             self.assertEqual(mine, sorted(mine))
 
+    def test_a_queue_in_time(self):
+        self.server()
+        with Client(self.path, 1) as client:
+            queue = BoundedQueue(client, "queue", 2)
+            with self.assertRaises(femem.TimedOut):
+                queue.get(timeout=0.05)
+            queue.put(1)
+            queue.put(2)
+            with self.assertRaises(femem.TimedOut):
+                queue.put(3, timeout=0.05)
+            self.assertEqual([queue.get(), queue.get()], [1, 2])
+
+    def test_clients_that_go_while_they_wait_leave_nothing_behind(self):
+        self.server()
+        with Client(self.path, 1) as client:
+            queue, semaphore = BoundedQueue(client, "queue", 2), Semaphore(client, "semaphore", 1)
+            semaphore.acquire()
+            gone = [Client(self.path, 2 + k) for k in range(4)]
+            for k, other in enumerate(gone):
+                waits = BoundedQueue(other, "queue", 2).get if k < 2 else Semaphore(other, "semaphore", 1).acquire
+                threading.Thread(target=lambda waits=waits: self.swallow(waits)).start()
+            while len(client.report().waiters) < 4:
+                time.sleep(0.01)
+            for other in gone:
+                other.close()
+            for value in range(5):
+                queue.put(value)
+                self.assertEqual(queue.get(timeout=30), value)
+            semaphore.release()
+            self.assertTrue(semaphore.acquire(timeout=30))
+            self.assertFalse(semaphore.acquire(timeout=0.05))
+
+    @staticmethod
+    def swallow(waits):
+        try:
+            waits()
+        except femem.Closed:
+            pass
+
+    def test_a_state_that_is_left_taken(self):
+        self.server()
+        with Client(self.path, 1) as client:
+            queue = BoundedQueue(client, "queue", 2)
+            queue.put(7)
+            client.readfe(client.find("queue"), 0)  # as a client that is gone in the middle
+            queue.break_open()
+            self.assertEqual(queue.get(timeout=30), 7)
+
     def test_barrier(self):
         arrived = []
 
@@ -157,6 +205,6 @@ class Patterns(WithFolder):
     def test_names_are_of_one_size(self):
         self.server()
         with Client(self.path, 1) as client:
-            Semaphore(client, "s", 2)
+            BoundedQueue(client, "q", 2)
             with self.assertRaises(ValueError):
-                Semaphore(client, "s", 3)
+                BoundedQueue(client, "q", 3)

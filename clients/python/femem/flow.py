@@ -1,0 +1,198 @@
+"""The requests of a session, over its connections: they are numbered, sent, sent again, and taken back."""
+
+from __future__ import annotations
+
+from collections import deque
+from typing import Any, Deque, List, Optional, Set
+
+from . import errors, frames
+from .errors import ProtocolError
+from .tickets import Ticket
+from .window import Window
+
+# How long a request waits before it may be moved out of the window's way, in seconds.
+PATIENCE = 0.05
+
+_OF_CALL = (frames.BELOW_FLOOR, frames.BEYOND_WINDOW, frames.NUMBER_USED, frames.NO_MEMORY, frames.SPENT)
+_OF_SETTLE = (frames.BELOW_FLOOR, frames.BEYOND_WINDOW, frames.STILL_WAITING, frames.SPENT)
+
+
+class Flow:
+    """What is sent goes to `to_send`, and tickets that end go to `ended`.
+
+    There is no window, and nothing is sent, until `begin`.
+    """
+
+    def __init__(self, to_send: bytearray, ended: List[Ticket[Any]]) -> None:
+        self.window: Optional[Window[Ticket[Any]]] = None
+        self._to_send = to_send
+        self._ended = ended
+        self._queue: Deque[Ticket[Any]] = deque()
+        self.start_over()
+
+    def start_over(self) -> None:
+        """Another connection: nothing was cancelled or settled over it."""
+        self._cancelled: Set[int] = set()
+        self._settle_sent: Optional[float] = None
+
+    def begin(self, floor: int) -> None:
+        """From this floor on no number was used."""
+        self.window = Window(floor)
+
+    def add(self, ticket: Ticket[Any]) -> None:
+        self._queue.append(ticket)
+
+    def is_busy(self) -> bool:
+        return bool(self._queue) or self.window is not None and bool(self.window.unanswered)
+
+    def owed(self) -> List[float]:
+        """Since when the server owes what it owes."""
+        if self.window is None:
+            return []
+        times = [ticket.sent_at for ticket in self.window.unanswered.values() if ticket.must_end()]
+        return times if self._settle_sent is None else [*times, self._settle_sent]
+
+    def take_all(self) -> List[Ticket[Any]]:
+        """Everything that is under way, which is given up."""
+        tickets = list(self._queue)
+        if self.window is not None:
+            tickets = [*self.window.unanswered.values(), *tickets]
+            self.window.unanswered.clear()
+        self._queue.clear()
+        return tickets
+
+    # Sending.
+
+    def send(self, now: float) -> None:
+        """Requests as far as the window has room, and what makes more room."""
+        if self.window is not None:
+            self._send_queue(self.window, now)
+            for ticket in self.in_the_way():
+                if ticket.sent_at + PATIENCE <= now:
+                    self._cancel(ticket, now)
+
+    def _send_queue(self, window: Window[Ticket[Any]], now: float) -> None:
+        while self._queue and window.has_room():
+            ticket = self._queue.popleft()
+            ticket.number = window.give(ticket)
+            self._send(ticket, now)
+        floor = window.next_floor()
+        if floor is not None:
+            self._settle(floor, now)
+            self._send_queue(window, now)
+
+    def in_the_way(self) -> List[Ticket[Any]]:
+        """What keeps the window from moving, while something is queued: requests that wait under its lowest numbers.
+
+        They are cancelled, and called again under new numbers: of a request that is withdrawn nothing happened. So what
+        waits long keeps nobody else from being sent.
+        """
+        if not self._queue or self.window is None or not self.window.is_stuck():
+            return []
+        return [ticket for ticket in self.window.lower_half() if not ticket.cancel_sent]
+
+    def send_again(self, now: float) -> None:
+        """All that has no answer, under its old number, behind the floor that is asked for; and what is taken back."""
+        window = self.window
+        assert window is not None
+        if window.asked != window.floor:
+            self._settle(window.asked, now)
+        for ticket in window.unanswered.values():
+            self._send(ticket, now)
+        for ticket in window.unanswered.values():
+            if ticket.taken_back is not None:
+                self._cancel(ticket, now)
+
+    def withdraw(self, ticket: Ticket[Any], now: float, is_ready: bool) -> None:
+        """Takes a ticket back, which says what it then ends with. Where nothing can be sent now, `send_again` does it."""
+        if ticket.number is None:
+            self._queue.remove(ticket)
+            self._end(ticket, error=ticket.taken_back)
+        elif is_ready:
+            self._cancel(ticket, now)
+
+    def _settle(self, floor: int, now: float) -> None:
+        self._settle_sent = now
+        self._to_send += frames.settle(floor)
+
+    def _send(self, ticket: Ticket[Any], now: float) -> None:
+        assert ticket.request is not None and ticket.number is not None
+        ticket.sent_at = now
+        ticket.cancel_sent = False
+        self._to_send += ticket.request.spell(ticket.number)
+
+    def _cancel(self, ticket: Ticket[Any], now: float) -> None:
+        assert ticket.number is not None
+        if not ticket.cancel_sent:
+            ticket.cancel_sent = True
+            ticket.sent_at = now
+            self._cancelled.add(ticket.number)
+            self._to_send += frames.cancel(ticket.number)
+
+    def _end(self, ticket: Ticket[Any], result: Any = None, error: Optional[BaseException] = None) -> None:
+        ticket.end(result, error)
+        self._ended.append(ticket)
+
+    # Replies.
+
+    def answered(self, answer: frames.Answer) -> bool:
+        """Whether a request ended by it; else it came before."""
+        assert self.window is not None
+        ticket = self.window.answer(answer)
+        if ticket is None:
+            return False
+        assert ticket.request is not None
+        try:
+            result = ticket.request.result(answer)
+        except errors.AnswerError as error:
+            self._end(ticket, error=error)
+        except ProtocolError as error:
+            self._end(ticket, error=error)
+            raise
+        else:
+            self._end(ticket, result)
+        return True
+
+    def withdrawn(self, number: int) -> None:
+        window = self.window
+        if window is None or number not in self._cancelled or number not in window.unanswered:
+            raise ProtocolError(f"number {number} is withdrawn, which nobody asked for")
+        self._cancelled.discard(number)
+        ticket = window.end(number)
+        if ticket.taken_back is not None:
+            self._end(ticket, error=ticket.taken_back)
+        else:
+            ticket.number = None
+            self._queue.append(ticket)
+
+    def settled(self, floor: int) -> None:
+        assert self.window is not None
+        self.window.settled(floor)
+        self._note_floor(self.window)
+
+    def welcomed(self, floor: int) -> None:
+        assert self.window is not None
+        self.window.welcomed(floor)
+        self._note_floor(self.window)
+
+    def _note_floor(self, window: Window[Ticket[Any]]) -> None:
+        if window.asked == window.floor:
+            self._settle_sent = None
+
+    def refused(self, refusal: frames.Refusal) -> bool:
+        """Whether it is of a request, a cancel or a settle. That of a settle is raised: then nothing can go on."""
+        window = self.window
+        number, code = refusal.number, refusal.code
+        if window is None:
+            return False
+        if code == frames.NOT_WAITING and number in self._cancelled:
+            self._cancelled.discard(number)  # it has happened, and its answer comes
+        elif number == window.asked != window.floor and code in _OF_SETTLE:
+            raise errors.REFUSALS[code](f"settle {number}")
+        elif number in window.unanswered and code in _OF_CALL:
+            ticket = window.end(number)
+            assert ticket.request is not None
+            self._end(ticket, error=errors.REFUSALS[code](ticket.request.what))
+        else:
+            return False
+        return True
