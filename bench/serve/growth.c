@@ -1,7 +1,8 @@
 /* What growth asks of a server beside a load:
      growth sessions SOCKET COUNT        so many sessions come, make a call each, and go
      growth words SOCKET                 makes arrays until but 64 words are left
-     growth waiting SOCKET COUNT         so many requests wait, of 63 sessions at most, until standard input ends
+     growth waiting SOCKET COUNT         63 sessions attach, and so many requests of theirs wait, until standard input
+                                         ends
      growth check SOCKET STORE SECONDS   calls one by one, and tells those while a checkpoint is under way from the
                                          others: one line of JSON */
 #define _GNU_SOURCE
@@ -61,7 +62,7 @@ static void waiting(const char *path, long count) {
   femem *clients[MOST_SESSIONS];
   uint64_t array = 0;
   long left = count;
-  for (int i = 0; i < MOST_SESSIONS && left > 0; i++) {
+  for (int i = 0; i < MOST_SESSIONS; i++) {
     clients[i] = opened(path, 2000 + (uint64_t)i);
     if (i == 0) array = made(clients[i], "waiting", WINDOW, false);
     for (uint32_t word = 0; word < WINDOW && left > 0; word++, left--)

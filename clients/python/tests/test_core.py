@@ -453,6 +453,38 @@ class Endings(unittest.TestCase):
                 self.assertTrue(ticket.done and ticket.error is None)
                 self.assertEqual(list(world.model.state.sessions), [8])
 
+    def test_a_bye_that_takes_long_to_be_stored(self):
+        world = World(1)
+        core = world.core(7)
+        world.settle_down([core])
+        ticket = core.leave(world.now)
+        for _ in range(20):
+            world.push(core)
+            world.pull(core)
+            world.now += 1
+            core.tick(world.now)
+        self.assertFalse(ticket.done)
+        world.settle_down([core])
+        self.assertIsNone(ticket.error)
+
+    def test_a_bye_while_a_floor_is_asked_for(self):
+        world = World(1)
+        core = world.core(7)
+        array = run(world, core, requests.create("a", 1, True))
+        tickets = [core.submit(requests.int_fetch_add(array, 0, 1), world.now) for _ in range(20)]
+        while not all(ticket.done for ticket in tickets):
+            world.push(core)
+            world.model.post()
+            world.pull(core)
+        self.assertNotEqual(core._flow.window.asked, core._flow.window.floor)
+        ticket = core.leave(world.now)
+        world.push(core)
+        world.model.post()
+        world.stop()
+        world.settle_down([core])
+        self.assertIsNone(ticket.error)
+        self.assertEqual(world.model.state.sessions, {})
+
     def test_bye_is_refused_while_something_waits(self):
         world = World(1)
         core = world.core(7)

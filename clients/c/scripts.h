@@ -1,0 +1,111 @@
+/* Servers that are scripts: each is a process of its own, which ends with 1 where the client does another thing. */
+#ifndef SCRIPTS_H
+#define SCRIPTS_H
+
+#include "testing.h"
+
+#include <sys/resource.h>
+#include <sys/socket.h>
+#include <sys/un.h>
+#include <sys/wait.h>
+#include <time.h>
+#include <unistd.h>
+
+static char folder[] = "/tmp/femem_test_XXXXXX", path[64];
+
+/* Microseconds. */
+static inline int64_t moment_now(void) {
+  struct timespec time;
+  clock_gettime(CLOCK_MONOTONIC, &time);
+  return (int64_t)time.tv_sec * 1000000 + time.tv_nsec / 1000;
+}
+
+static inline void rest(long microseconds) {
+  nanosleep(&(struct timespec){microseconds / 1000000, microseconds % 1000000 * 1000}, NULL);
+}
+
+static void say_bytes(int line, const uint8_t *bytes, size_t count) {
+  for (size_t at = 0; at < count;) {
+    ssize_t size = send(line, bytes + at, count - at, MSG_NOSIGNAL);
+    if (size <= 0) _exit(0); /* the client has hung up */
+    at += (size_t)size;
+  }
+}
+
+static void say(int line, const char *hex) {
+  uint8_t bytes[512];
+  say_bytes(line, bytes, bytes_of(hex, bytes));
+}
+
+static void hear(int line, const char *hex) {
+  uint8_t due[4096], got[4096];
+  size_t count = bytes_of(hex, due), at = 0;
+  while (at < count) {
+    ssize_t size = recv(line, got + at, count - at, 0);
+    if (size <= 0) break;
+    at += (size_t)size;
+  }
+  if (at == count && memcmp(due, got, count) == 0) return;
+  printf("%s: heard", test);
+  for (size_t i = 0; i < at; i++) printf(" %02x", got[i]);
+  printf(" where this is due: %s\n", hex);
+  fflush(stdout);
+  _exit(1);
+}
+
+static void hear_end(int line) {
+  uint8_t byte;
+  if (recv(line, &byte, 1, 0) != 0) _exit(1);
+}
+
+/* A resuming client is welcomed at floor 1, and its numbers begin there. */
+static void welcome(int line) {
+  hear(line, ATTACH_7);
+  say(line, WELCOME_7);
+}
+
+typedef void (*script)(int listener);
+
+static int take_line(int listener) {
+  int line = accept(listener, NULL, NULL);
+  if (line < 0) _exit(1);
+  return line;
+}
+
+/* Begins a script on the socket at `path`, and answers its process. */
+static pid_t begin(script run) {
+  unlink(path);
+  int listener = socket(AF_UNIX, SOCK_STREAM, 0);
+  struct sockaddr_un address = {.sun_family = AF_UNIX};
+  strcpy(address.sun_path, path);
+  if (bind(listener, (struct sockaddr *)&address, sizeof address) || listen(listener, 8)) abort();
+  fflush(stdout);
+  pid_t child = fork();
+  if (child == 0) {
+    alarm(30);
+    run(listener);
+    _exit(0);
+  }
+  close(listener);
+  return child;
+}
+
+/* The script has come to its end as it should. */
+static void end(pid_t child, int line) {
+  int status = 0;
+  waitpid(child, &status, 0);
+  check(WIFEXITED(status) && WEXITSTATUS(status) == 0, "the server heard what was due", line);
+}
+#define END(child) end(child, __LINE__)
+
+static const femem_settings resuming = {.wait = 3000, .resume = true};
+static const femem_settings returning = {.wait = 6000, .reconnect = 3000, .resume = true};
+
+static femem *opened(const femem_settings *settings) {
+  femem *client;
+  femem_error error = femem_open(&client, path, 7, settings);
+  is_error(error, FEMEM_OK, __LINE__);
+  if (!client) exit(1);
+  return client;
+}
+#endif
