@@ -28,12 +28,11 @@ control_in word =
     else if bytes_eq word (codes "check") then Some Check
     else None
 
--- one word behind the name of a connection
-unfoldable pub plain_in : ℕ → List ℕ → Option Line
-plain_in conn word =
-    if bytes_eq word (codes "bye") then Some (Message conn message.Bye)
-    else if bytes_eq word (codes "report") then Some (Message conn message.Report)
-    else if bytes_eq word (codes "gone") then Some (Gone conn)
+-- a message of one word
+unfoldable pub plain_in : List ℕ → Option ClientMessage
+plain_in word =
+    if bytes_eq word (codes "bye") then Some message.Bye
+    else if bytes_eq word (codes "report") then Some message.Report
     else None
 
 -- a message that is made of the number which the word says
@@ -57,15 +56,19 @@ numbered_in first words =
     else if bytes_eq first (codes "settle") then made_of (λ floor. message.Settle floor) words
     else call_in first words
 
+-- The message that the bytes say.
+unfoldable pub message_in : List ℕ → Option ClientMessage
+message_in words = option_map_or (λ parts. numbered_in parts.0 parts.1) (words_at words) (plain_in words)
+
 -- a message of this connection
-abbrev pub message_in : ℕ → List ℕ → List ℕ → Option Line
-message_in conn first words = do
-  told ← numbered_in first words
+abbrev pub message_of : ℕ → List ℕ → Option Line
+message_of conn words = do
+  told ← message_in words
   Some (Message conn told)
 
 -- what stands behind the name of a connection
 unfoldable pub told_in : ℕ → List ℕ → Option Line
-told_in conn words = option_map_or (λ parts. message_in conn parts.0 parts.1) (words_at words) (plain_in conn words)
+told_in conn words = if bytes_eq words (codes "gone") then Some (Gone conn) else message_of conn words
 
 -- a line that begins with the name of a connection
 abbrev pub named_in : List ℕ → List ℕ → Option Line

@@ -1,5 +1,6 @@
--- The lines of an input.
-use Rattle.std.specs.Prelude.{◌≡◌, ℕ, List, [], ◌∷◌, false, ◌==◌, if◌then◌else◌}
+-- The lines of an input, and what is read of it.
+use Rattle.std.specs.Prelude.{◌≡◌, ℕ, ◌<◌, ◌≤◌, List, [], ◌∷◌, length, take, Option, None, Some, false, ◌==◌, if◌then◌else◌}
+use Rattle.std.specs.Io.KnownBytes.{Keeps, Consumes, IsAtEnd}
 
 -- the byte at the front of the first line
 abbrev pub before_first : ℕ → List (List ℕ) → List (List ℕ)
@@ -15,3 +16,8 @@ lines_of (byte ∷ bytes) = if byte == 10 then [] ∷ lines_of bytes else before
 abbrev pub HasNoFeed : List ℕ → Type 0
 HasNoFeed [] = Unit {0}
 HasNoFeed (byte ∷ bytes) = ((byte == 10) ≡ false) × HasNoFeed bytes
+
+-- what a read gave of the bytes that are left, if it was not interrupted
+abbrev pub ReadsSome : Option (List ℕ) → Option (List ℕ) → List ℕ → Option ℕ → Type 0
+ReadsSome old new piece None = Keeps old new
+ReadsSome old new piece (Some count) = (count ≤ length piece) × Consumes old new (take count piece) × (count ≡ 0 → 0 < length piece → IsAtEnd new)

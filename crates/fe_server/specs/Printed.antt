@@ -1,5 +1,5 @@
 -- Replies as text.
-use Rattle.std.specs.Prelude.{ℕ, List, ◌++◌, codes, ◌==◌, if◌then◌else◌}
+use Rattle.std.specs.Prelude.{ℕ, List, [], ◌++◌, codes, Option, None, Some, ◌==◌, if◌then◌else◌}
 use Rattle.std.specs.Fmt.{decimal}
 use Rattle.std.specs.List.{flat_map}
 use Rattle.std.specs.Str.Lines.{lines}
@@ -35,22 +35,27 @@ refusal_text code =
     else if code == 9 then codes "spent"
     else codes "not-waiting"
 
+-- the name of a connection and a space, and nothing where it has no name
+abbrev pub name_text : Option ℕ → List ℕ
+name_text None = []
+name_text (Some conn) = codes "c" ++ (decimal conn ++ codes " ")
+
 -- a line of a report
-abbrev pub report_line : ℕ → List ℕ → List ℕ
-report_line conn line = codes "c" ++ (decimal conn ++ (codes " " ++ (line ++ codes "\n")))
+abbrev pub report_line : Option ℕ → List ℕ → List ℕ
+report_line conn line = name_text conn ++ (line ++ codes "\n")
 
 -- The line for a reply to a connection, with its line feed, or of a report a line for each of its lines.
-unfoldable pub printed : ℕ → ServerMessage → List ℕ
+unfoldable pub printed : Option ℕ → ServerMessage → List ℕ
 printed conn (server.Welcome session floor) =
-    codes "c" ++ (decimal conn ++ (codes " welcome " ++ (decimal session ++ (codes " " ++ (decimal floor ++ codes "\n")))))
+    name_text conn ++ (codes "welcome " ++ (decimal session ++ (codes " " ++ (decimal floor ++ codes "\n"))))
 printed conn (server.Answer number answer) =
-    codes "c" ++ (decimal conn ++ (codes " " ++ (decimal number ++ (codes " " ++ (answer_text answer ++ codes "\n")))))
+    name_text conn ++ (decimal number ++ (codes " " ++ (answer_text answer ++ codes "\n")))
 printed conn (server.Refused number code) =
-    codes "c" ++ (decimal conn ++ (codes " refused " ++ (decimal number ++ (codes " " ++ (refusal_text code ++ codes "\n")))))
+    name_text conn ++ (codes "refused " ++ (decimal number ++ (codes " " ++ (refusal_text code ++ codes "\n"))))
 printed conn (server.Withdrawn number) =
-    codes "c" ++ (decimal conn ++ (codes " " ++ (decimal number ++ codes " withdrawn\n")))
+    name_text conn ++ (decimal number ++ codes " withdrawn\n")
 printed conn (server.Settled floor) =
-    codes "c" ++ (decimal conn ++ (codes " settled " ++ (decimal floor ++ codes "\n")))
+    name_text conn ++ (codes "settled " ++ (decimal floor ++ codes "\n"))
 printed conn (server.Goodbye session) =
-    codes "c" ++ (decimal conn ++ (codes " goodbye " ++ (decimal session ++ codes "\n")))
+    name_text conn ++ (codes "goodbye " ++ (decimal session ++ codes "\n"))
 printed conn (server.Report text) = flat_map (report_line conn) (lines text)

@@ -1,6 +1,6 @@
 -- What is always true of a run, and what its parts do.
 use Rattle.std.specs.Prelude.{◌≡◌, ◌≢◌, ℕ, ◌+◌, ◌-◌, ◌^◌, ◌<◌, ◌≤◌, Bool, List, [], ◌∷◌, ◌++◌, length, map, take, Option, None, Some, string_bytes}
-use Rattle.std.specs.Io.KnownBytes.{Appends, Keeps, Consumes, IsAtEnd}
+use Rattle.std.specs.Io.KnownBytes.{Appends}
 use Rattle.fe_disk.specs.Memory.{MemoryState}
 use Rattle.fe_desk.specs.Crash.{DeskState, IsFrom}
 use Rattle.fe_desk.specs.Frames.{AreReplies}
@@ -181,8 +181,3 @@ pub record Ended (end : Fault) (input : List ℕ) (before now : Option (List ℕ
   pub text : List ℕ
   pub prints : Prints lines ((text ++ kept) ++ more)
   pub written : Appends before now text
-
--- what a read gave of the bytes that are left, if it was not interrupted
-abbrev pub ReadsSome : Option (List ℕ) → Option (List ℕ) → List ℕ → Option ℕ → Type 0
-ReadsSome old new piece None = Keeps old new
-ReadsSome old new piece (Some count) = (count ≤ length piece) × Consumes old new (take count piece) × (count ≡ 0 → 0 < length piece → IsAtEnd new)

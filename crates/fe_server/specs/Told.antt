@@ -1,5 +1,5 @@
 -- What connections are told, and in which order it is printed.
-use Rattle.std.specs.Prelude.{◌≡◌, ℕ, List, [], ◌∷◌, ◌++◌, map, drop}
+use Rattle.std.specs.Prelude.{◌≡◌, ℕ, List, [], ◌∷◌, ◌++◌, map, drop, Some}
 use Rattle.std.specs.List.{flat_map, AllByRecursion}
 use Rattle.std.specs.List.Sorted.{IsPermutation, IsSortedByKey, IsStableByKey}
 use Rattle.std.specs.Ordering.{nat_cmp, ordering_then}
@@ -59,7 +59,7 @@ AreTold before (o ∷ os) told =
 -- ---- what is printed
 
 abbrev pub told_text : Told → List ℕ
-told_text t = printed t.conn t.reply
+told_text t = printed (Some t.conn) t.reply
 
 -- The text is what was told since, in its order.
 pub record PrintsSince (before : List (List ℕ)) (after : List (ℕ × List ℕ)) (text : List ℕ) : Type 0 where

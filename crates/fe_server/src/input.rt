@@ -18,7 +18,7 @@ fn feed_in(bytes: &[u8]) -> Option<usize>
 }
 
 /// The bytes in front of the first line feed, and those behind it, if there is one.
-pub(crate) fn first_line(bytes: &[u8]) -> Option<(&[u8], &[u8])>
+pub fn first_line(bytes: &[u8]) -> Option<(&[u8], &[u8])>
     ensures parts { IfSome result (λ p. bytes.entry.now ≡ p.0.now ++ 10 ∷ p.1.now) }
     ensures first { IfSome result (λ p. HasNoFeed p.0.now) }
     ensures none { IfNone result (HasNoFeed bytes.entry.now) }

@@ -24,9 +24,12 @@ mod word;
 
 pub use command_line::{Invocation, arguments, not_text};
 pub use fault::Fault;
+pub use input::first_line;
 pub use key::Key;
 pub use laws::refusals_print_their_names;
-pub use line::{Line, parse};
+pub use line::{Line, message_in, parse};
 pub use looking::{look, look_at};
+pub use printing::print_reply;
 pub use schedule::run_schedule;
 pub use settings::{Settings, read_settings};
+pub use stream::{PIECE, READS, buffer, read_once, stream_fault, write_out};

@@ -1,7 +1,7 @@
 //! The lines of a schedule (`docs/schedules.md`).
 
 ghost use Rattle.std.specs.Prelude.{◌≡◌, IfSome};
-ghost use Rattle.fe_server.specs.Line.{parsed, conn_of, control_in, plain_in, numbered_in, told_in, LineFits};
+ghost use Rattle.fe_server.specs.Line.{parsed, conn_of, control_in, plain_in, numbered_in, message_in, told_in, LineFits};
 ghost use Rattle.fe_wire.specs.Spelling.{Fits};
 ghost use Rattle.fe_server.specs.Schedule.{holds_after};
 
@@ -78,23 +78,16 @@ fn control_in(word: &[u8]) -> Option<Line>
     }
 }
 
-/// `bye`, `report` or `gone`.
+/// `bye` or `report`.
 #[tactic(auto, unfolding(crate::specs::Line::plain_in))]
-fn plain_in(conn: u64, word: &[u8]) -> Option<Line>
-    ensures { result ≡ plain_in conn word.now }
+fn plain_in(word: &[u8]) -> Option<ClientMessage>
+    ensures message { result ≡ plain_in word.now }
+    ensures fits { IfSome result Fits }
 {
     if says(word, "bye") {
-        Some(Line::Message {
-            conn,
-            message: ClientMessage::Bye,
-        })
+        Some(ClientMessage::Bye)
     } else if says(word, "report") {
-        Some(Line::Message {
-            conn,
-            message: ClientMessage::Report,
-        })
-    } else if says(word, "gone") {
-        Some(Line::Gone { conn })
+        Some(ClientMessage::Report)
     } else {
         None
     }
@@ -123,19 +116,30 @@ fn numbered_in(first: &[u8], words: &[u8]) -> Option<ClientMessage>
     Some(ClientMessage::Call { number, request })
 }
 
+/// The message that these bytes say: a line of a schedule without the name of its connection. None of them has more than
+/// 94 bytes.
+#[tactic(auto, unfolding(crate::specs::Line::message_in))]
+pub fn message_in(words: &[u8]) -> Option<ClientMessage>
+    ensures message { result ≡ message_in words.now }
+    ensures fits { IfSome result Fits }
+{
+    match word_at(words) {
+        Some((first, words)) => numbered_in(first, words),
+        None => plain_in(words),
+    }
+}
+
 /// What stands behind the name of a connection.
 #[tactic(auto, unfolding(crate::specs::Line::told_in))]
 fn told_in(conn: u64, words: &[u8]) -> Option<Line>
     ensures line { result ≡ told_in conn words.now }
     ensures fits { IfSome result LineFits }
 {
-    match word_at(words) {
-        Some((first, words)) => {
-            let message = numbered_in(first, words)?;
-            Some(Line::Message { conn, message })
-        }
-        None => plain_in(conn, words),
+    if says(words, "gone") {
+        return Some(Line::Gone { conn });
     }
+    let message = message_in(words)?;
+    Some(Line::Message { conn, message })
 }
 
 /// The line that these bytes say, without a line feed, with single spaces between the words. `None` for any other

@@ -3,7 +3,7 @@
 ghost use Rattle.std.specs.Prelude.{◌≡◌, ◌++◌, string_bytes, OnOk};
 ghost use Rattle.std.specs.List.{flat_map};
 ghost use Rattle.std.specs.Str.Lines.{lines};
-ghost use Rattle.fe_server.specs.Printed.{answer_text, refusal_text, printed, report_line};
+ghost use Rattle.fe_server.specs.Printed.{answer_text, refusal_text, name_text, printed, report_line};
 ghost use Rattle.fe_server.specs.Told.{told_text};
 
 use crate::told::Told;
@@ -16,7 +16,7 @@ pub(crate) fn print_told(text: &mut String, told: &[Told]) -> Result<(), AllocEr
     ensures { OnOk result (string_bytes text.new ≡ string_bytes text.old ++ flat_map told_text told.now) }
 {
     for one in told {
-        print(text, one.conn, &one.reply)?;
+        print_reply(text, Some(one.conn), &one.reply)?;
     }
     Ok(())
 }
@@ -40,37 +40,64 @@ fn print_answer(text: &mut String, answer: &Answer) -> Result<(), AllocError>
     }
 }
 
-/// Prints a reply to a connection: a line, or a line for each of a report.
+/// Prints a reply: a line, or a line for each of a report. Each begins with the name of the connection, if it has one.
 #[tactic(auto, unfolding(crate::specs::Printed::printed))]
-fn print(text: &mut String, conn: u64, reply: &ServerMessage) -> Result<(), AllocError>
+pub fn print_reply(
+    text: &mut String,
+    conn: Option<u64>,
+    reply: &ServerMessage,
+) -> Result<(), AllocError>
     ensures { OnOk result (string_bytes text.new ≡ string_bytes text.old ++ printed conn reply.now) }
 {
     match reply {
         ServerMessage::Welcome { session, floor } => {
-            write!(text, "c{conn} welcome {session} {floor}\n")
+            print_name(text, conn)?;
+            write!(text, "welcome {session} {floor}\n")
         }
         ServerMessage::Answer { number, answer } => {
-            write!(text, "c{conn} {number} ")?;
+            print_name(text, conn)?;
+            write!(text, "{number} ")?;
             print_answer(text, answer)?;
             text.push_str("\n")
         }
         ServerMessage::Refused { number, code } => {
+            print_name(text, conn)?;
             let name = refusal_name(*code);
-            write!(text, "c{conn} refused {number} {name}\n")
+            write!(text, "refused {number} {name}\n")
         }
-        ServerMessage::Withdrawn { number } => write!(text, "c{conn} {number} withdrawn\n"),
-        ServerMessage::Settled { floor } => write!(text, "c{conn} settled {floor}\n"),
-        ServerMessage::Goodbye { session } => write!(text, "c{conn} goodbye {session}\n"),
+        ServerMessage::Withdrawn { number } => {
+            print_name(text, conn)?;
+            write!(text, "{number} withdrawn\n")
+        }
+        ServerMessage::Settled { floor } => {
+            print_name(text, conn)?;
+            write!(text, "settled {floor}\n")
+        }
+        ServerMessage::Goodbye { session } => {
+            print_name(text, conn)?;
+            write!(text, "goodbye {session}\n")
+        }
         ServerMessage::Report(report) => print_report(text, conn, report.as_str()),
     }
 }
 
+/// Prints the name of a connection and a space, if it has one.
+fn print_name(text: &mut String, conn: Option<u64>) -> Result<(), AllocError>
+    ensures { OnOk result (string_bytes text.new ≡ string_bytes text.old ++ name_text conn) }
+{
+    match conn {
+        Some(conn) => write!(text, "c{conn} "),
+        None => Ok(()),
+    }
+}
+
 /// Prints each line of a report behind the name of the connection.
-fn print_report(text: &mut String, conn: u64, report: &str) -> Result<(), AllocError>
+fn print_report(text: &mut String, conn: Option<u64>, report: &str) -> Result<(), AllocError>
     ensures { OnOk result (string_bytes text.new ≡ string_bytes text.old ++ flat_map (report_line conn) (lines report.now)) }
 {
     for line in report.lines() {
-        write!(text, "c{conn} {line}\n")?;
+        print_name(text, conn)?;
+        write!(text, "{line}\n")?;
     }
     Ok(())
 }

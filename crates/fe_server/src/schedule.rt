@@ -1,22 +1,14 @@
 //! Runs a schedule (`docs/schedules.md`).
 
-ghost use Rattle.std.specs.Prelude.{◌≡◌, ◌<◌, [], length, take, vec_len, IfOk, IfErr, OnOk};
-ghost use Rattle.std.specs.Io.KnownBytes.{Keeps};
-ghost use Rattle.fe_server.specs.Fault.{IsOutside};
+ghost use Rattle.std.specs.Prelude.{◌<◌, [], length, IfErr, OnOk};
 ghost use Rattle.fe_server.specs.Schedule.{RunsAll, RunsUntil};
-ghost use Rattle.fe_server.specs.Runs.{IsRun, SoFar, ReadsSome};
+ghost use Rattle.fe_server.specs.Runs.{IsRun, SoFar};
 
 use crate::fault::Fault;
 use crate::run::Run;
-use crate::stream::stream_fault;
+use crate::stream::{PIECE, READS, buffer, read_once};
 use std::alloc::Global;
-use std::io::{ErrorKind, Read, Write};
-
-/// How often a stream is read at most.
-const READS: u64 = 1 << 40;
-
-/// How many bytes one read takes at most.
-const PIECE: usize = 65536;
+use std::io::{Read, Write};
 
 /// Runs the lines that the reader gives, and writes what the replies to them say. What the lines of one read print is
 /// written before the next read. `Line` at the first line outside the syntax, counted from 1 with the empty lines, which
@@ -35,14 +27,6 @@ pub fn run_schedule<R: Read, W: Write>(
     let mut piece = buffer(alloc, PIECE)?;
     let mut run = Run::new(alloc)?;
     run_all(&mut run, piece.as_mut_slice(), reader, writer)
-}
-
-/// What a read writes into.
-fn buffer(alloc: Global, count: usize) -> Result<Vec<u8>, Fault>
-    ensures len { IfOk result (λ piece. vec_len piece ≡ count) }
-    ensures err { IfErr result (λ fault. fault ≡ Fault.Memory) }
-{
-    vec![in alloc; 0; count].map_err(|_| Fault::Memory)
 }
 
 /// Runs the lines that the reader gives to its end.
@@ -66,22 +50,4 @@ fn run_all<R: Read, W: Write>(
         }
     }
     Err(Fault::Input)
-}
-
-/// How many bytes a read gave, 0 at the end. `None` where it was interrupted.
-fn read_once<R: Read>(reader: &mut R, piece: &mut [u8]) -> Result<Option<usize>, Fault>
-    ensures reads { IfOk result (ReadsSome (R.remaining reader.old) (R.remaining reader.new) piece.new) }
-    ensures len { length piece.new ≡ length piece.old }
-    ensures stays { IfErr result (λ _. Keeps (R.remaining reader.old) (R.remaining reader.new)) }
-    ensures err { IfErr result IsOutside }
-{
-    match reader.read(piece) {
-        Ok(count) => Ok(Some(count)),
-        Err(error) => {
-            if error.kind() != ErrorKind::Interrupted {
-                return Err(stream_fault(error));
-            }
-            Ok(None)
-        }
-    }
 }

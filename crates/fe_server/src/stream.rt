@@ -1,23 +1,57 @@
-//! Text to a stream.
+//! Pieces of a stream, and text to one.
 
-ghost use Rattle.std.specs.Prelude.{◌≡◌, ℕ, [], string_bytes, take, IfErr, OnOk};
-ghost use Rattle.std.specs.Io.KnownBytes.{Appends};
+ghost use Rattle.std.specs.Prelude.{◌≡◌, ℕ, [], length, string_bytes, take, vec_len, IfOk, IfErr, OnOk};
+ghost use Rattle.std.specs.Io.KnownBytes.{Appends, Keeps};
 ghost use Rattle.fe_server.specs.Fault.{IsOutside};
+ghost use Rattle.fe_server.specs.Lines.{ReadsSome};
 
 use crate::fault::Fault;
-use std::io::{Error, ErrorKind, Write};
+use std::alloc::Global;
+use std::io::{Error, ErrorKind, Read, Write};
+
+/// How often a stream is read at most.
+pub const READS: u64 = 1 << 40;
+
+/// How many bytes one read takes at most.
+pub const PIECE: usize = 65536;
 
 /// How often a stream is written at most for one text.
 const WRITES: u64 = 1 << 40;
 
-/// What a fault of a stream ends a schedule with.
-pub(crate) fn stream_fault(error: Error) -> Fault
+/// What a fault of a stream ends a command with.
+pub fn stream_fault(error: Error) -> Fault
     ensures { IsOutside result }
 {
     if error.kind() == ErrorKind::OutOfMemory {
         Fault::Memory
     } else {
         Fault::Input
+    }
+}
+
+/// What reads write into: so many bytes.
+pub fn buffer(alloc: Global, count: usize) -> Result<Vec<u8>, Fault>
+    ensures len { IfOk result (λ piece. vec_len piece ≡ count) }
+    ensures err { IfErr result (λ fault. fault ≡ Fault.Memory) }
+{
+    vec![in alloc; 0; count].map_err(|_| Fault::Memory)
+}
+
+/// How many bytes a read gave, 0 at the end. `None` where it was interrupted.
+pub fn read_once<R: Read>(reader: &mut R, piece: &mut [u8]) -> Result<Option<usize>, Fault>
+    ensures reads { IfOk result (ReadsSome (R.remaining reader.old) (R.remaining reader.new) piece.new) }
+    ensures len { length piece.new ≡ length piece.old }
+    ensures stays { IfErr result (λ _. Keeps (R.remaining reader.old) (R.remaining reader.new)) }
+    ensures err { IfErr result IsOutside }
+{
+    match reader.read(piece) {
+        Ok(count) => Ok(Some(count)),
+        Err(error) => {
+            if error.kind() != ErrorKind::Interrupted {
+                return Err(stream_fault(error));
+            }
+            Ok(None)
+        }
     }
 }
 
@@ -46,7 +80,7 @@ pub(crate) fn write_text<W: Write>(writer: &mut W, text: &[u8]) -> Result<(), Fa
 }
 
 /// Writes the text, of which nothing is left then. Where the writer fails, a front of it is written.
-pub(crate) fn write_out<W: Write>(text: &mut String, writer: &mut W) -> Result<(), Fault>
+pub fn write_out<W: Write>(text: &mut String, writer: &mut W) -> Result<(), Fault>
     ensures ok { OnOk result (Appends (W.contents writer.old) (W.contents writer.new) (string_bytes text.old)) }
     ensures front { (count : ℕ) × Appends (W.contents writer.old) (W.contents writer.new) (take count (string_bytes text.old)) }
     ensures cleared { string_bytes text.new ≡ [] }

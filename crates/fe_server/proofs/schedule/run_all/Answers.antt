@@ -1,6 +1,7 @@
 use Rattle.std.proofs.Common.{◌≡◌, ℕ, ◌<◌, List, [], ◌++◌, Option, Some, None, take, refl, sym, subst, append-nil, rules}
 use Rattle.std.specs.Io.KnownBytes.{Consumes, IsAtEnd}
-use Rattle.fe_server.specs.Runs.{IsRun, SoFar, Whole, Ended, ReadsSome}
+use Rattle.fe_server.specs.Lines.{ReadsSome}
+use Rattle.fe_server.specs.Runs.{IsRun, SoFar, Whole, Ended}
 use Rattle.fe_server.specs.declared.fault.Fault.TheVariants as fault
 use Rattle.fe_server.specs.declared.run.Run.{Run}
 use Rattle.fe_server.proofs.Moving.{ok_of, err_of, err_then, failed}
