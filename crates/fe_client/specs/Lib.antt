@@ -1,0 +1,5 @@
+pub mod Asking
+pub mod Exchanges
+pub mod Ends
+pub mod Input
+pub mod Talk

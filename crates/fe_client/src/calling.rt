@@ -1,0 +1,61 @@
+//! Calls a server.
+
+ghost use Rattle.std.specs.Prelude.{IfErr, OnOk};
+ghost use Rattle.fe_client.specs.Exchanges.{streams, TalksAll};
+ghost use Rattle.fe_client.specs.Ends.{over_socket, CallsUntil, TalksUntil};
+
+use crate::connection::Connection;
+use crate::input::Input;
+use crate::talk::Talk;
+use fe_server::Fault;
+use std::alloc::Global;
+use std::io::{Read, Write};
+use std::net::Net;
+use std::os::unix::net::UnixStream;
+
+/// Sends each line that the reader gives, as one message, to the server at the socket of that path, and prints the reply
+/// before it reads the next line. An empty line asks nothing, and is counted.
+///
+/// `Line` at the first line outside the syntax, counted from 1. `Socket` where there is no server, the connection fails or
+/// ends before a reply, or a frame is bad. `Input` where the reader or the writer fails, or a stream was read 2^40 times.
+pub fn call<N: Net, R: Read, W: Write>(
+    rt: &N,
+    alloc: Global,
+    path: &str,
+    reader: &mut R,
+    writer: &mut W,
+) -> Result<(), Fault>
+    // Each message of the lines had a reply, and the replies are printed.
+    ensures ok { OnOk result (TalksAll (R.remaining reader.old) (over_socket (W.contents writer.old)) (over_socket (W.contents writer.new))) }
+    // At a fault the messages of lines at the front had theirs.
+    ensures fault { IfErr result (λ end. CallsUntil end (R.remaining reader.old) (W.contents writer.old) (W.contents writer.new)) }
+{
+    match UnixStream::connect(rt, path) {
+        Ok(mut stream) => call_over(alloc, &mut stream, reader, writer),
+        Err(_) => Err(Fault::Socket),
+    }
+}
+
+/// The same over a connection.
+pub fn call_over<C: Connection, R: Read, W: Write>(
+    alloc: Global,
+    connection: &mut C,
+    reader: &mut R,
+    writer: &mut W,
+) -> Result<(), Fault>
+    // Of each message of the lines, in their order, the frame was sent, then the frame of a reply received and its text
+    // printed, and nothing else was.
+    ensures ok { OnOk result (TalksAll (R.remaining reader.old)
+        (streams (C.sent connection.old) (C.received connection.old) (W.contents writer.old)) (streams (C.sent connection.new) (C.received connection.new) (W.contents writer.new))) }
+    // At a fault that was so for lines at the front, and the next line came as far as the fault tells: no message of it was
+    // sent before the replies to those before were printed.
+    ensures fault { IfErr result (λ end. TalksUntil end (C.is_over connection.new) (R.remaining reader.old)
+        (streams (C.sent connection.old) (C.received connection.old) (W.contents writer.old)) (streams (C.sent connection.new) (C.received connection.new) (W.contents writer.new))) }
+{
+    let mut input = Input::new(alloc)?;
+    let mut talk = Talk::new(alloc)?;
+    while input.next_line(reader)? {
+        talk.take_line(input.number(), input.line(), connection, writer)?;
+    }
+    talk.take_line(input.number(), input.line(), connection, writer)
+}

@@ -1,0 +1,84 @@
+//! The connection to a server.
+
+ghost use Rattle.std.specs.Prelude.{ℕ, ◌<◌, ◌≤◌, List, length, Option, IfOk, OnErr};
+ghost use Rattle.std.specs.Io.KnownBytes.{Keeps, WriteAppends};
+
+use std::io::{ErrorKind, Read, Write};
+use std::os::unix::net::UnixStream;
+
+/// How often a call that was interrupted is tried.
+const TRIES: u64 = 1 << 40;
+
+/// A call of a connection failed, or the other end has closed it.
+#[derive(Clone, Copy, Debug, PartialEq, Eq)]
+pub struct Broken;
+
+/// A connection to a server.
+pub trait Connection {
+    /// The bytes that were sent, where they are known. Of a socket nothing is.
+    ghost sent: { Self → Option (List ℕ) };
+
+    /// The bytes that were received, where they are known.
+    ghost received: { Self → Option (List ℕ) };
+
+    /// A call of it failed, or the other end has closed it.
+    ghost is_over: { Self → Type 0 };
+
+    /// Sends some bytes from the front, at least one, and says how many.
+    fn send(&mut self, bytes: &[u8]) -> Result<usize, Broken>
+        requires { 0 < length bytes.now }
+        ensures some { IfOk result (λ count. 0 < count) }
+        ensures fits { IfOk result (λ count. count ≤ length bytes.now) }
+        ensures sent { WriteAppends (sent self.old) (sent self.new) result bytes.now }
+        ensures received { Keeps (received self.old) (received self.new) }
+        ensures over { OnErr result (is_over self.new) };
+
+    /// Receives some bytes into the front of the buffer, at least one, and says how many.
+    fn receive(&mut self, buffer: &mut [u8]) -> Result<usize, Broken>
+        requires { 0 < length buffer.old }
+        ensures some { IfOk result (λ count. 0 < count) }
+        ensures fits { IfOk result (λ count. count ≤ length buffer.old) }
+        ensures received { WriteAppends (received self.old) (received self.new) result buffer.new }
+        ensures sent { Keeps (sent self.old) (sent self.new) }
+        ensures over { OnErr result (is_over self.new) };
+}
+
+impl Connection for UnixStream {
+    ghost use Rattle.std.specs.Prelude.{None, ⊤};
+
+    ghost sent = { λ _. None };
+
+    ghost received = { λ _. None };
+
+    ghost is_over = { λ _. ⊤ };
+
+    fn send(&mut self, bytes: &[u8]) -> Result<usize, Broken> {
+        for _ in 0..TRIES {
+            match self.write(bytes) {
+                Ok(0) => return Err(Broken),
+                Ok(count) => return Ok(count),
+                Err(error) => {
+                    if error.kind() != ErrorKind::Interrupted {
+                        return Err(Broken);
+                    }
+                }
+            }
+        }
+        Err(Broken)
+    }
+
+    fn receive(&mut self, buffer: &mut [u8]) -> Result<usize, Broken> {
+        for _ in 0..TRIES {
+            match self.read(buffer) {
+                Ok(0) => return Err(Broken),
+                Ok(count) => return Ok(count),
+                Err(error) => {
+                    if error.kind() != ErrorKind::Interrupted {
+                        return Err(Broken);
+                    }
+                }
+            }
+        }
+        Err(Broken)
+    }
+}

@@ -1,0 +1,156 @@
+//! The lines of an input.
+
+ghost use Rattle.std.specs.Prelude.{◌≤◌, ◌<◌, ◌≡◌, ◌++◌, length, IfErr, OnOk};
+ghost use Rattle.fe_client.specs.Ends.{IsTooLong};
+
+use crate::asking::LONGEST;
+use fe_server::{Fault, PIECE, READS, buffer, first_line, read_once};
+use std::alloc::Global;
+use std::io::Read;
+
+/// The lines of a reader, one after the other.
+#[derive(Drop)]
+pub(crate) struct Input {
+    /// What the last read gave, up to `end`. Before `next` it is taken.
+    piece: Vec<u8>,
+    next: usize,
+    end: usize,
+    /// The line at hand, as far as it has come.
+    line: Vec<u8>,
+    /// Its number, from 1; 0 before the first.
+    number: u64,
+    /// How often the reader was read.
+    reads: u64,
+    ghost order: { next ≤ end },
+    ghost within: { end ≤ length piece.items },
+    ghost room: { 0 < length piece.items },
+    ghost few: { length line.items ≤ 94 },
+}
+
+impl Input {
+    ghost use Rattle.std.specs.Prelude.{◌≡◌, ◌+◌, ◌++◌, [], ◌∷◌, ℕ, List, ⊤, IfOk, IfErr, OnOk, MatchBool};
+    ghost use Rattle.std.specs.Io.KnownBytes.{Keeps, IsAtEnd};
+    ghost use Rattle.fe_server.specs.Lines.{HasNoFeed};
+    ghost use Rattle.fe_server.specs.Fault.{IsOutside};
+    ghost use Rattle.fe_client.specs.Input.{kept_of, left_in, TakesLine, TakesLast, NotTaken};
+    ghost use Rattle.fe_client.specs.Ends.{IsTooLong};
+
+    /// No line is taken.
+    pub fn new(alloc: Global) -> Result<Input, Fault>
+        ensures kept { IfOk result (λ input. kept_of input ≡ []) }
+        ensures number { IfOk result (λ input. input.number ≡ 0) }
+        ensures err { IfErr result (λ fault. fault ≡ Fault.Memory) }
+    {
+        let piece = buffer(alloc, PIECE)?;
+        Ok(Input {
+            piece,
+            next: 0,
+            end: 0,
+            line: Vec::new(alloc),
+            number: 0,
+            reads: 0,
+        })
+    }
+
+    /// The line that was taken last, without its line feed.
+    pub fn line(&self) -> &[u8]
+        ensures { result.now ≡ self.now.line.items }
+    {
+        self.line.as_slice()
+    }
+
+    /// Its number, from 1.
+    pub fn number(&self) -> u64
+        ensures { result ≡ self.now.number }
+    {
+        self.number
+    }
+
+    /// Takes the next line, and says whether a line feed ends it. What stands behind the last line feed, which may be
+    /// nothing, is taken at the end of the input. `Line` as soon as it is longer than any of the syntax.
+    pub fn next_line<R: Read>(&mut self, reader: &mut R) -> Result<bool, Fault>
+        ensures taken { IfOk result (λ fed. MatchBool fed
+            (TakesLine (left_in self.old (R.remaining reader.old)) (left_in self.new (R.remaining reader.new)) self.new.line.items)
+            (TakesLast (left_in self.old (R.remaining reader.old)) self.new.line.items)) }
+        ensures number { OnOk result (self.new.number ≡ self.old.number + 1) }
+        ensures err { IfErr result (λ end. NotTaken end (self.old.number + 1) (left_in self.old (R.remaining reader.old))) }
+    {
+        if self.number == u64::MAX {
+            return Err(Fault::Input);
+        }
+        self.number += 1;
+        self.line.clear();
+        while self.reads < READS {
+            if self.take_kept()? {
+                return Ok(true);
+            }
+            self.reads += 1;
+            if !self.fill(reader)? {
+                return Ok(false);
+            }
+        }
+        Err(Fault::Input)
+    }
+
+    /// Takes what is kept of the piece, up to the first line feed. Whether there is one.
+    fn take_kept(&mut self) -> Result<bool, Fault>
+        ensures taken { IfOk result (λ fed. (front : List ℕ) × HasNoFeed front × (self.new.line.items ≡ self.old.line.items ++ front)
+            × MatchBool fed (kept_of self.old ≡ front ++ 10 ∷ kept_of self.new) ((kept_of self.old ≡ front) × (kept_of self.new ≡ []))) }
+        ensures number { self.new.number ≡ self.old.number }
+        ensures reads { self.new.reads ≡ self.old.reads }
+        ensures err { IfErr result (λ end. (front behind : List ℕ) × HasNoFeed front × (kept_of self.old ≡ front ++ behind)
+            × IsTooLong end self.old.number (self.old.line.items ++ front)) }
+    {
+        let kept = &self.piece.as_slice()[self.next..self.end];
+        match first_line(kept) {
+            Some((front, _)) => {
+                let count = front.len();
+                add(&mut self.line, front, self.number)?;
+                self.next += count + 1;
+                Ok(true)
+            }
+            None => {
+                add(&mut self.line, kept, self.number)?;
+                self.next = self.end;
+                Ok(false)
+            }
+        }
+    }
+
+    /// Reads the next piece, where all of the one before is taken. Whether the input has not ended.
+    fn fill<R: Read>(&mut self, reader: &mut R) -> Result<bool, Fault>
+        requires { kept_of self.old ≡ [] }
+        ensures read { IfOk result (λ more. Keeps (left_in self.old (R.remaining reader.old)) (left_in self.new (R.remaining reader.new))) }
+        ensures end { IfOk result (λ more. MatchBool more ⊤ (IsAtEnd (left_in self.new (R.remaining reader.new)))) }
+        ensures line { self.new.line ≡ self.old.line }
+        ensures number { self.new.number ≡ self.old.number }
+        ensures reads { self.new.reads ≡ self.old.reads }
+        ensures err { IfErr result IsOutside }
+    {
+        match read_once(reader, self.piece.as_mut_slice())? {
+            Some(0) => Ok(false),
+            Some(count) => {
+                self.next = 0;
+                self.end = count;
+                Ok(true)
+            }
+            None => Ok(true),
+        }
+    }
+}
+
+/// Adds to the front of a line of that number.
+fn add(line: &mut Vec<u8>, bytes: &[u8], number: u64) -> Result<(), Fault>
+    requires few { length line.old.items ≤ 94 }
+    ensures few { length line.new.items ≤ 94 }
+    ensures ok { OnOk result (line.new.items ≡ line.old.items ++ bytes.now) }
+    ensures err { IfErr result (λ end. IsTooLong end number (line.old.items ++ bytes.now)) }
+{
+    if bytes.len() > LONGEST - line.len() {
+        return Err(Fault::Line(number));
+    }
+    match line.extend_from_slice(bytes) {
+        Ok(()) => Ok(()),
+        Err(_) => Err(Fault::Memory),
+    }
+}

@@ -1,0 +1,14 @@
+//! The small client: the lines of an input go to a server as messages, and the reply to each is printed before the next.
+#![tactic(auto)]
+
+mod asking;
+mod calling;
+mod connection;
+mod input;
+mod memory;
+mod receiving;
+mod talk;
+
+pub use calling::{call, call_over};
+pub use connection::{Broken, Connection};
+pub use memory::MemoryConnection;

@@ -1,0 +1,73 @@
+//! A connection in memory.
+
+ghost use Rattle.std.specs.Prelude.{◌≡◌, ◌<◌, ◌≤◌, length};
+
+use crate::connection::{Broken, Connection};
+use std::alloc::Global;
+
+/// A connection whose other end has given its bytes beforehand. They come in pieces.
+#[derive(Drop)]
+pub struct MemoryConnection {
+    answers: Vec<u8>,
+    /// How many of them came.
+    next: usize,
+    piece: usize,
+    sent: Vec<u8>,
+    has_failed: bool,
+    ghost within: { next ≤ length answers.items },
+    ghost some: { 0 < piece },
+}
+
+impl MemoryConnection {
+    /// The other end gives these bytes, in pieces of at most so many, and closes it then.
+    pub fn new(alloc: Global, answers: Vec<u8>, piece: usize) -> MemoryConnection
+        requires { 0 < piece }
+    {
+        MemoryConnection {
+            answers,
+            next: 0,
+            piece,
+            sent: Vec::new(alloc),
+            has_failed: false,
+        }
+    }
+
+    /// What was sent.
+    pub fn sent(&self) -> &[u8]
+        ensures { result.now ≡ self.now.sent.items }
+    {
+        self.sent.as_slice()
+    }
+}
+
+impl Connection for MemoryConnection {
+    ghost use Rattle.std.specs.Prelude.{◌≡◌, ◌⊎◌, Some, true, length, take};
+
+    ghost sent = { λ c. Some c.sent.items };
+
+    ghost received = { λ c. Some (take c.next c.answers.items) };
+
+    ghost is_over = { λ c. (c.has_failed ≡ true) ⊎ (c.next ≡ length c.answers.items) };
+
+    fn send(&mut self, bytes: &[u8]) -> Result<usize, Broken> {
+        match self.sent.extend_from_slice(bytes) {
+            Ok(()) => Ok(bytes.len()),
+            Err(_) => {
+                self.has_failed = true;
+                Err(Broken)
+            }
+        }
+    }
+
+    fn receive(&mut self, buffer: &mut [u8]) -> Result<usize, Broken> {
+        let left = self.answers.len() - self.next;
+        if left == 0 {
+            return Err(Broken);
+        }
+        let count = buffer.len().min(self.piece).min(left);
+        let end = self.next + count;
+        buffer[..count].copy_from_slice(&self.answers.as_slice()[self.next..end]);
+        self.next = end;
+        Ok(count)
+    }
+}
