@@ -1,20 +1,36 @@
-//! The program `femem`: `run` runs a schedule from standard input to standard output, and `look` shows what is in a store.
+//! The program `femem`: `run` runs a schedule from standard input to standard output, `serve` serves a store at a socket, `call`
+//! sends standard input to a server, and `look` shows what is in a store.
 #![tactic(auto)]
 
-ghost use Rattle.std.specs.Prelude.{◌≡◌, is_ok};
+ghost use Rattle.std.specs.Prelude.{◌≡◌, ℕ, take, is_ok, IfOk, IfErr, OnOk};
+ghost use Rattle.std.specs.Io.KnownBytes.{Appends};
 ghost use Rattle.clap.specs.Words.{kind_of};
-ghost use Rattle.fe_server.specs.Fault.{status_of};
+ghost use Rattle.fe_server.specs.Fault.{status_of, IsOutside};
+ghost use Rattle.fe_sockets.specs.BooksText.{books_text};
+ghost use Rattle.femem.specs.within.Served.{AreSettings, RefusesFile, WritesBooks};
 ghost use Rattle.femem.specs.within.Statuses.{command_status, words_status, shown_status, IsWordsStatus};
 
 use clap::Error;
 use clap::error::ErrorKind;
-use fe_server::{Fault, Invocation, arguments, look, not_text, run_schedule};
+use fe_client::call;
+use fe_front::Books;
+use fe_hall::Open;
+use fe_server::{
+    Fault, Invocation, Settings, arguments, look, not_text, read_settings, run_schedule, write_out,
+};
+use fe_sockets::{books_text, serve};
+use std::alloc::Global;
 use std::fs::File;
-use std::io;
+use std::io::Write;
+use std::net::Net;
 use std::process::ExitCode;
 use std::rt::{Env, Files, Runtime};
+use std::sync::Wait;
+use std::thread::Threads;
+use std::time::Clock;
+use std::{fs, io};
 
-/// The status where a command line asks for what isn't there.
+/// The status where the words of a command line are wrong.
 const USAGE: u8 = 2;
 
 /// The status where memory is short.
@@ -30,7 +46,10 @@ fn words<R: Env + AllocGlobal>(rt: &R) -> Result<Vec<String>, Error> {
 }
 
 /// Does what the command line asks for, and gives the status.
-fn start<R: Runtime + Files<File = File> + AllocGlobal>(rt: &R, asked: Invocation<'_>) -> u8 {
+fn start<R: Runtime + Files<File = File> + Net + Threads + Wait + Sync + AllocGlobal>(
+    rt: &R,
+    asked: Invocation<'_>,
+) -> u8 {
     let mut writer = io::writer(rt);
     match asked {
         Invocation::Run => {
@@ -42,11 +61,60 @@ fn start<R: Runtime + Files<File = File> + AllocGlobal>(rt: &R, asked: Invocatio
             let ended = look(rt, rt.alloc(), store, &mut writer);
             ended_with(rt, ended)
         }
-        Invocation::Serve { .. } | Invocation::Call { .. } => {
-            let _ = rt.eprintln("femem: this command is not there yet");
-            USAGE
+        Invocation::Serve { settings } => {
+            let ended = serve_by(rt, settings, &mut writer);
+            ended_with(rt, ended)
         }
+        Invocation::Call { socket } => call_server(rt, socket, &mut writer),
     }
+}
+
+/// Serves by the settings in a file, and writes the books at the end.
+fn serve_by<R: Files<File = File> + Net + Clock + Threads + Wait + Sync + AllocGlobal, W: Write>(
+    rt: &R,
+    path: &str,
+    writer: &mut W,
+) -> Result<(), Fault>
+    ensures { OnOk result (WritesBooks (W.contents writer.old) (W.contents writer.new)) }
+{
+    let settings = settings_at(rt, path)?;
+    let books = serve(rt, rt.alloc(), &settings, &Open)?;
+    show_books(rt.alloc(), &books, writer)
+}
+
+/// The settings in a file.
+fn settings_at<R: Files + AllocGlobal>(rt: &R, path: &str) -> Result<Settings, Fault>
+    ensures settings { IfOk result AreSettings }
+    ensures refused { IfErr result RefusesFile }
+{
+    match fs::read_to_string(rt, path) {
+        Ok(text) => read_settings(rt.alloc(), text.as_str()),
+        Err(error) if error.kind() == io::ErrorKind::OutOfMemory => Err(Fault::Memory),
+        Err(_) => Err(Fault::Unreadable),
+    }
+}
+
+/// Writes the books, or where the writer fails, a front of their text.
+fn show_books<W: Write>(alloc: Global, books: &Books, writer: &mut W) -> Result<(), Fault>
+    ensures ok { OnOk result (Appends (W.contents writer.old) (W.contents writer.new) (books_text books.now)) }
+    ensures front { (count : ℕ) × Appends (W.contents writer.old) (W.contents writer.new) (take count (books_text books.now)) }
+    ensures err { IfErr result IsOutside }
+{
+    match books_text(alloc, books) {
+        Ok(mut text) => write_out(&mut text, writer),
+        Err(_) => Err(Fault::Memory),
+    }
+}
+
+/// Sends the lines of standard input to the server at that socket, and prints its replies.
+fn call_server<R: Runtime + Net + AllocGlobal, W: Write>(
+    rt: &R,
+    socket: &str,
+    writer: &mut W,
+) -> u8 {
+    let mut reader = rt.reader();
+    let ended = call(rt, rt.alloc(), socket, &mut reader, writer);
+    ended_with(rt, ended)
 }
 
 /// The status of a command, whose fault is told on standard error.

@@ -1,0 +1,4 @@
+pub mod BooksText
+pub mod Opening
+pub mod Ended
+pub mod Serving

@@ -1,0 +1,274 @@
+//! A store is served.
+
+ghost use Rattle.std.specs.Prelude.{◌≡◌, ◌+◌, false, Some, None, IfOk, IfErr, IfSome};
+ghost use Rattle.fe_mail.specs.Books.{AddUp};
+ghost use Rattle.fe_hall.specs.Seats.{most_connections};
+ghost use Rattle.fe_hall.specs.declared.commit_end.CommitEnd.{CommitEnd as Ended};
+ghost use Rattle.fe_hall.specs.declared.commit_end.CommitEnd.TheVariants as hall;
+ghost use Rattle.fe_server.specs.declared.fault.Fault.TheVariants as fault;
+ghost use Rattle.fe_sockets.specs.Serving.{HasCommitted, IsAnswerAt, IsServeFault, IsStoppedFault, fault_in, fault_of_end, keeper_in};
+
+use crate::accepting::serve_clients;
+use crate::house::House;
+use crate::opening::open_store;
+use fe_disk::Disk;
+use fe_front::{Books, Front};
+use fe_hall::{Closing, CommitEnd, Gate, Hall, Tally, commit_side};
+use fe_keeper::Keeper;
+use fe_server::{Fault, Settings};
+use fe_state::State;
+use std::alloc::{AllocError, Global};
+use std::fs::File;
+use std::marker::Brand;
+use std::net::Net;
+use std::os::unix::net::UnixListener;
+use std::rt::Files;
+use std::snapshot::Snapshot;
+use std::sync::Wait;
+use std::sync::ledger::Blank;
+use std::thread;
+use std::thread::{Promise, Scope, Threads};
+use std::time::Clock;
+
+/// How many parts the ledgers of a hall have, 2^62 + 1.
+const PARTS: u64 = 4611686018427387905;
+
+/// Serves the store that the settings name, at the socket that they name. It opens the store first, and then makes the socket, so that
+/// its file means that the server is ready.
+pub fn serve<R: Files<File = File> + Net + Clock + Threads + Wait + Sync, G: Gate + Sync>(
+    rt: &R,
+    alloc: Global,
+    settings: &Settings,
+    gate: &G,
+) -> Result<Books, Fault>
+    ensures add_up { IfOk result (λ books. AddUp books) }
+    ensures unspent { IfOk result (λ books. books.spent ≡ false) }
+    ensures faults { IfErr result (λ end. IsServeFault end) }
+{
+    let keeper = open_store(rt, alloc, settings.store.as_str(), settings.format)?;
+    let listener = bind(rt, settings.socket.as_str())?;
+    match serve_store(rt, alloc, listener, settings, keeper, gate) {
+        Ok(closing) => Ok(closing.books),
+        Err((fault, _)) => Err(fault),
+    }
+}
+
+/// A listener at a path that nothing has.
+fn bind<R: Files + Net>(rt: &R, path: &str) -> Result<UnixListener, Fault>
+    ensures { IfErr result (λ end. end ≡ fault.Socket) }
+{
+    // The system would make a socket of its own choice.
+    if path.is_empty() {
+        return Err(Fault::Socket);
+    }
+    match UnixListener::bind(rt, path) {
+        Ok(listener) => Ok(listener),
+        Err(_) => Err(Fault::Socket),
+    }
+}
+
+/// Serves the clients of a listener over the store of a keeper.
+pub fn serve_store<D: Disk + Drop + Send, G: Gate + Sync, R: Clock + Threads + Wait + Sync>(
+    rt: &R,
+    alloc: Global,
+    listener: UnixListener,
+    settings: &Settings,
+    keeper: Keeper<D>,
+    gate: &G,
+) -> Result<Closing<D>, (Fault, Option<Keeper<D>>)>
+    // Whatever the end, the keeper that comes back is the one before with what was stored since; and the answer is that of the
+    // committing side's end.
+    ensures committed { IfSome (keeper_in result) (λ after. (end : Ended) × HasCommitted D.honest D.moment D.left_since D.may_leave D.failures keeper after end × IsAnswerAt end (fault_in result)) }
+    // Only of receipts or seats that are strange no keeper comes back.
+    ensures dropped { keeper_in result ≡ None → fault_in result ≡ Some fault.Strange }
+    // The books of a server that ended by itself: each call and each mail stands in one column.
+    ensures add_up { IfOk result (λ closing. AddUp closing.books) }
+    ensures unspent { IfOk result (λ closing. closing.books.spent ≡ false) }
+    ensures faults { IfErr result (λ e. IsStoppedFault e.0) }
+{
+    serve_as::<Brand, Brand, D, G, R>(
+        rt,
+        alloc,
+        listener,
+        settings,
+        keeper,
+        gate,
+        Blank::new(PARTS),
+        Blank::new(PARTS),
+    )
+}
+
+fn serve_as<
+    C: Tally + Send + Sync,
+    M: Tally + Send + Sync,
+    D: Disk + Drop + Send,
+    G: Gate + Sync,
+    R: Clock + Threads + Wait + Sync,
+>(
+    rt: &R,
+    alloc: Global,
+    listener: UnixListener,
+    settings: &Settings,
+    keeper: Keeper<D>,
+    gate: &G,
+    calls: Blank,
+    mails: Blank,
+) -> Result<Closing<D>, (Fault, Option<Keeper<D>>)>
+    requires calls { (calls.name ≡ C.name) × (calls.parts ≡ C.parts) × (C.all ≡ C.parts) × (C.all ≡ most_connections + 1) }
+    requires mails { (mails.name ≡ M.name) × (mails.parts ≡ M.parts) × (M.all ≡ M.parts) × (M.all ≡ most_connections + 1) }
+    ensures committed { IfSome (keeper_in result) (λ after. (end : Ended) × HasCommitted D.honest D.moment D.left_since D.may_leave D.failures keeper after end × IsAnswerAt end (fault_in result)) }
+    ensures dropped { keeper_in result ≡ None → fault_in result ≡ Some fault.Strange }
+    ensures add_up { IfOk result (λ closing. AddUp closing.books) }
+    ensures unspent { IfOk result (λ closing. closing.books.spent ≡ false) }
+    ensures faults { IfErr result (λ e. IsStoppedFault e.0) }
+{
+    let Ok(hall) = hall_over::<C, M>(alloc, keeper.state(), calls, mails) else {
+        return Err((Fault::Memory, Some(unserved(keeper))));
+    };
+    let house = House::new(alloc, hall, settings.accepts > 0);
+    let (keeper, end) = run(rt, alloc, &house, listener, settings, keeper, gate);
+    match fault_of_end(end) {
+        Some(fault) => Err((fault, Some(keeper))),
+        None => house.close(keeper),
+    }
+}
+
+/// A keeper that was not served.
+fn unserved<D: Disk>(keeper: Keeper<D>) -> Keeper<D>
+    ensures same { result ≡ keeper }
+    ensures committed { HasCommitted D.honest D.moment D.left_since D.may_leave D.failures keeper result hall.Stopped }
+{
+    // It names what is always true of the keeper (`docs/DECISIONS.md`, "Toolchain").
+    let _ = keeper.state();
+    keeper
+}
+
+/// A hall round a front over a copy of a state.
+fn hall_over<C: Tally, M: Tally>(
+    alloc: Global,
+    state: &State,
+    calls: Blank,
+    mails: Blank,
+) -> Result<Hall<C, M>, AllocError>
+    requires calls { (calls.name ≡ C.name) × (calls.parts ≡ C.parts) × (C.all ≡ C.parts) × (C.all ≡ most_connections + 1) }
+    requires mails { (mails.name ≡ M.name) × (mails.parts ≡ M.parts) × (M.all ≡ M.parts) × (M.all ≡ most_connections + 1) }
+{
+    let front = Front::new(alloc, state.copy()?)?;
+    match Hall::new(alloc, front, calls, mails) {
+        Ok(hall) => Ok(hall),
+        Err((short, _)) => Err(short),
+    }
+}
+
+/// What the committing thread gives back.
+#[derive(Drop)]
+struct Committed<D: Disk + Drop> {
+    before: Snapshot<Keeper<D>>,
+}
+
+impl<D: Disk + Drop> Promise<(Keeper<D>, CommitEnd)> for Committed<D> {
+    ghost use Rattle.fe_sockets.specs.Serving.{HasCommitted};
+
+    ghost kept_by = { λ p r. HasCommitted D.honest D.moment D.left_since D.may_leave D.failures p.before.value r.0 r.1 };
+}
+
+/// Serves the clients of a listener, and stores what they do. The keeper comes back, and why the committing side ended.
+fn run<
+    C: Tally + Send + Sync,
+    M: Tally + Send + Sync,
+    D: Disk + Drop + Send,
+    G: Gate + Sync,
+    R: Clock + Threads + Wait + Sync,
+>(
+    rt: &R,
+    alloc: Global,
+    house: &House<C, M>,
+    listener: UnixListener,
+    settings: &Settings,
+    keeper: Keeper<D>,
+    gate: &G,
+) -> (Keeper<D>, CommitEnd)
+    requires calls { C.all ≡ C.parts }
+    requires mails { M.all ≡ M.parts }
+    ensures { HasCommitted D.honest D.moment D.left_since D.may_leave D.failures keeper result.0 result.1 }
+{
+    thread::scope(
+        thread::scope_env(),
+        rt,
+        move |scope| -> (Keeper<D>, CommitEnd)
+            requires { (C.all ≡ C.parts) × (M.all ≡ M.parts) }
+            ensures { HasCommitted D.honest D.moment D.left_since D.may_leave D.failures keeper result.0 result.1 }
+        { run_in(rt, alloc, scope, house, listener, settings, keeper, gate) },
+    )
+}
+
+/// Does so in a scope. Where the committing thread can't be started no client is served.
+fn run_in<
+    's,
+    E,
+    C: Tally + Send + Sync,
+    M: Tally + Send + Sync,
+    D: Disk + Drop + Send + 's,
+    G: Gate + Sync,
+    R: Clock + Threads + Wait + Sync,
+>(
+    rt: &'s R,
+    alloc: Global,
+    scope: &Scope<'s, E>,
+    house: &'s House<C, M>,
+    listener: UnixListener,
+    settings: &Settings,
+    keeper: Keeper<D>,
+    gate: &G,
+) -> (Keeper<D>, CommitEnd)
+    requires calls { C.all ≡ C.parts }
+    requires mails { M.all ≡ M.parts }
+    ensures { HasCommitted D.honest D.moment D.left_since D.may_leave D.failures keeper result.0 result.1 }
+{
+    let promise = Committed {
+        before: Snapshot::of(&keeper),
+    };
+    let committing = scope.spawn_with(
+        promise,
+        move || -> (Keeper<D>, CommitEnd)
+            ensures { HasCommitted D.honest D.moment D.left_since D.may_leave D.failures keeper result.0 result.1 }
+        { commit(rt, house, keeper) },
+    );
+    match committing {
+        Ok(thread) => {
+            serve_clients(rt, alloc, house, listener, settings, gate);
+            house.hall.stop(rt);
+            thread.join(rt)
+        }
+        Err(refused) => {
+            house.fall_short(rt);
+            house.hall.stop(rt);
+            (refused.value)()
+        }
+    }
+}
+
+/// The committing side of a house.
+fn commit<C: Tally, M: Tally, D: Disk, R: Wait>(
+    rt: &R,
+    house: &House<C, M>,
+    keeper: Keeper<D>,
+) -> (Keeper<D>, CommitEnd)
+    ensures { HasCommitted D.honest D.moment D.left_since D.may_leave D.failures keeper result.0 result.1 }
+{
+    let mut keeper = keeper;
+    let end = commit_side(rt, &house.hall, &mut keeper);
+    house.end(rt);
+    (keeper, end)
+}
+
+/// The fault that a server ends with whose committing side ended so.
+fn fault_of_end(end: CommitEnd) -> Option<Fault>
+    ensures { result ≡ fault_of_end end }
+{
+    match end {
+        CommitEnd::Stopped => None,
+        CommitEnd::Store(fault) => Some(Fault::from(fault)),
+        CommitEnd::Strange | CommitEnd::Spent => Some(Fault::Strange),
+    }
+}

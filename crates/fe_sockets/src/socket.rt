@@ -1,0 +1,72 @@
+//! The two directions of a connection over a socket.
+
+use fe_hall::{LineFault, ReadHalf, WriteHalf};
+use std::io::{ErrorKind, Read, Write};
+use std::os::unix::net::UnixStream;
+
+/// The direction from the client of a socket. Nothing is said of the bytes that it reads.
+#[derive(Drop)]
+pub struct SocketRead<'a> {
+    stream: &'a UnixStream,
+}
+
+impl<'a> SocketRead<'a> {
+    /// The direction from the client of this socket.
+    pub fn new(stream: &'a UnixStream) -> SocketRead<'a> {
+        SocketRead { stream }
+    }
+}
+
+impl<'a> ReadHalf for SocketRead<'a> {
+    ghost use Rattle.std.specs.Prelude.{[]};
+
+    ghost tells = { λ _. ⊥ };
+
+    ghost told = { λ _. [] };
+
+    fn read(&mut self, buffer: &mut [u8]) -> Result<usize, LineFault> {
+        let mut stream = self.stream;
+        // A read that a signal interrupts read nothing.
+        for _ in 0..u64::MAX {
+            match stream.read(buffer) {
+                Ok(count) => return Ok(count),
+                Err(error) if error.kind() == ErrorKind::Interrupted => {}
+                Err(_) => return Err(LineFault),
+            }
+        }
+        Err(LineFault)
+    }
+}
+
+/// The direction to the client of a socket. Nothing is said of the bytes that it gets.
+#[derive(Drop)]
+pub struct SocketWrite<'a> {
+    stream: &'a UnixStream,
+}
+
+impl<'a> SocketWrite<'a> {
+    /// The direction to the client of this socket.
+    pub fn new(stream: &'a UnixStream) -> SocketWrite<'a> {
+        SocketWrite { stream }
+    }
+}
+
+impl<'a> WriteHalf for SocketWrite<'a> {
+    ghost use Rattle.std.specs.Prelude.{[]};
+
+    ghost tells = { λ _. ⊥ };
+
+    ghost got = { λ _. [] };
+
+    fn write(&mut self, bytes: &[u8]) -> Result<usize, LineFault> {
+        let mut stream = self.stream;
+        for _ in 0..u64::MAX {
+            match stream.write(bytes) {
+                Ok(count) => return Ok(count),
+                Err(error) if error.kind() == ErrorKind::Interrupted => {}
+                Err(_) => return Err(LineFault),
+            }
+        }
+        Err(LineFault)
+    }
+}

@@ -1,0 +1,29 @@
+-- What serving by the settings in a file gives.
+use Rattle.std.specs.Prelude.{◌≡◌, ◌⊎◌, ℕ, List, Option, Some, false}
+use Rattle.std.specs.Io.KnownBytes.{Appends}
+use Rattle.toml.specs.Data.{Members}
+use Rattle.toml.specs.Parse.{parse_document}
+use Rattle.fe_mail.specs.Books.{Books, AddUp}
+use Rattle.fe_server.specs.Settings.{IsSettingsOf, RefusesText}
+use Rattle.fe_server.specs.declared.fault.Fault.{Fault}
+use Rattle.fe_server.specs.declared.fault.Fault.TheVariants as fault
+use Rattle.fe_server.specs.declared.settings.Settings.{Settings}
+use Rattle.fe_sockets.specs.BooksText.{books_text}
+
+-- the settings are those of the document of some text
+pub record AreSettings (settings : Settings) : Type 0 where
+  pub text : List ℕ
+  pub document : Members
+  pub parsed : parse_document text ≡ Some document
+  pub are : IsSettingsOf document settings
+
+-- the file can't be read, there is no memory for its text, or some text in it is refused for this
+abbrev pub RefusesFile : Fault → Type 0
+RefusesFile end = (end ≡ fault.Unreadable) ⊎ ((end ≡ fault.Memory) ⊎ ((text : List ℕ) × RefusesText text end))
+
+-- the text of books was written in which each call and each mail stands in one column
+pub record WritesBooks (before after : Option (List ℕ)) : Type 0 where
+  pub books : Books
+  pub add_up : AddUp books
+  pub unspent : books.spent ≡ false
+  pub written : Appends before after (books_text books)
