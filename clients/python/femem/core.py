@@ -260,7 +260,6 @@ class Core:
     def _attach(self, now: float) -> None:
         self.phase = Phase.ATTACHING
         self._attach_at = None
-        self._is_closing = False
         self._probe = None
         self._probed_at = now
         self.to_send += frames.attach(self.session)
@@ -295,8 +294,10 @@ class Core:
     # Replies.
 
     def _take(self, reply: frames.Reply, now: float) -> None:
-        if isinstance(reply, frames.Welcome) and reply.session != self.session:
-            raise ProtocolError(f"a welcome to session {reply.session}")
+        if isinstance(reply, frames.Welcome):
+            if reply.session != self.session:
+                raise ProtocolError(f"a welcome to session {reply.session}")
+            self._is_closing = False
         if isinstance(reply, frames.Refusal):
             self._take_refusal(reply, now)
         elif self._flow.window is None:

@@ -93,13 +93,14 @@ class Asyncio(WithFolder):
         async def work(client):
             word = await client.create("word", 1)
             future = client.submit(requests.readfe(word, 0))
+            client._core._reconnect_timeout = 0.4  # it was attached in good time
             server.kill()
             with self.assertRaises(femem.ServerUnreachable):
                 await future
             with self.assertRaises(femem.ServerUnreachable):
                 await client.readxx(word, 0)
 
-        self.run_with(work, reconnect_timeout=0.4)
+        self.run_with(work)
 
     def test_no_server(self):
         with self.assertRaises(femem.ServerUnreachable):

@@ -168,18 +168,19 @@ class Stops(WithFolder):
         server = self.server()
         with Client(self.path, 7) as client:
             word = client.create("word", 1)
-            future = client.submit(requests.readfe(word, 0), timeout=0.2)
+            future = client.submit(requests.readfe(word, 0), timeout=2.0)
             time.sleep(0.05)
             server.kill()
-            time.sleep(0.4)
+            time.sleep(2.2)
             self.assertFalse(future.done())
             server.start()
             self.assertIsInstance(future.exception(30), femem.TimedOut)
 
     def test_a_server_that_never_comes_back(self):
         server = self.server()
-        with Client(self.path, 7, reconnect_timeout=0.5) as client:
+        with Client(self.path, 7) as client:
             word = client.create("word", 1)
+            client._core._reconnect_timeout = 0.5  # it was attached in good time
             futures = [client.submit(requests.readfe(word, 0)) for _ in range(40)]
             server.kill()
             begin = time.monotonic()
@@ -197,10 +198,10 @@ class Stops(WithFolder):
 
     def test_an_idle_client_waits_for_its_server_without_end(self):
         server = self.server()
-        with Client(self.path, 7, reconnect_timeout=0.4) as client:
+        with Client(self.path, 7, reconnect_timeout=2.0) as client:
             word = client.create("word", 1, full=True)
             server.kill()
-            time.sleep(1.0)
+            time.sleep(2.5)
             server.start()
             self.assertEqual(client.int_fetch_add(word, 0, 1), 0)
 

@@ -86,7 +86,7 @@ class Malice(WithFolder):
                     self.path += "s"
                     self.serve(lambda piece, count, reply=reply: reply)
                 with self.assertRaises(error):
-                    self.client(0.3 if error in (femem.ServerUnreachable, femem.Closing) else 20.0)
+                    self.client({femem.ServerUnreachable: 0.3, femem.Closing: 2.0}.get(error, 20.0))
 
     def test_wrong_replies_to_a_call(self):
         value = frame(66, FIRST, frames.VALUE, 1, 0)
@@ -210,8 +210,9 @@ class Malice(WithFolder):
                 yield again
 
         self.serve(attached(lambda piece, count: flood()))
-        client = self.impatient()
+        client = self.client()
         client.submit(requests.readxx(1, 0)).result(20)
+        client._core._reconnect_timeout = 0.3
         tracemalloc.start()
         time.sleep(0.2)
         before = tracemalloc.get_traced_memory()[0]

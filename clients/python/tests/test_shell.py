@@ -22,6 +22,8 @@ class Shell(WithFolder):
             stdout=subprocess.PIPE,
             stderr=subprocess.PIPE,
             text=True,
+            # Who runs the tests in the background may have it ignored.
+            preexec_fn=lambda: signal.signal(signal.SIGINT, signal.SIG_DFL),
         )
 
     def say(self, lines, *more):
@@ -133,7 +135,7 @@ class Shell(WithFolder):
 
     def test_a_server_that_goes(self):
         server = self.server()
-        shell = self.start("--reconnect-timeout", "0.3")
+        shell = self.start("--reconnect-timeout", "3")
         shell.stdin.write("create slot 1\n")
         shell.stdin.flush()
         self.assertEqual(shell.stdout.readline(), "array 1 length 1\n")

@@ -1,0 +1,146 @@
+"""A server that ends by itself, and the books that it prints."""
+
+import re
+import threading
+
+from . import wire
+from .crowds import adding, served, together
+from .harness import Server, holds, same, until
+
+LINES = re.compile(r"calls (\d+) completed (\d+) waiting (\d+) withdrawn (\d+) repeated (\d+) refused (\d+)\nmails (\d+) taken (\d+) dropped (\d+) left (\d+)\n")
+
+
+def books_of(server):
+    """The numbers of the two lines that an ended server printed, which have to add up."""
+    status, output, errors = server.ended()
+    same((status, errors), (0, ""))
+    found = LINES.fullmatch(output)
+    holds(found, f"no books: {output!r}")
+    calls, completed, waiting, withdrawn, repeated, refused, mails, taken, dropped, left = map(int, found.groups())
+    same(calls, completed + waiting + withdrawn + repeated + refused, "calls")
+    same(mails, taken + dropped + left, "mails")
+    return dict(zip(("calls", "completed", "waiting", "withdrawn", "repeated", "refused", "mails", "taken", "dropped", "left"), map(int, found.groups())))
+
+
+def text(**numbers):
+    it = {key: numbers.get(key, 0) for key in ("calls", "completed", "waiting", "withdrawn", "repeated", "refused", "mails", "taken", "dropped", "left")}
+    first = " ".join(f"{key} {it[key]}" for key in ("calls", "completed", "waiting", "withdrawn", "repeated", "refused"))
+    return first + "\n" + " ".join(f"{key} {it[key]}" for key in ("mails", "taken", "dropped", "left")) + "\n"
+
+
+def one_client(place):
+    """one connection through `call`: the books of five lines, and what `look` shows then"""
+    server = Server(place, accepts=1).start()
+    given = b"attach 7\n1 create cells 2 empty\n2 writeef 1 0 42\n3 readfe 1 0\n4 readxx 1 0\n"
+    told = b"welcome 7 1\n1 array 1 2\n2 done\n3 value 42\n4 value 42\n"
+    same(place.run("call", "--socket", server.socket, given=given), (0, told, b""))
+    same(server.ended(), (0, text(calls=4, completed=4, mails=5, taken=5), ""))
+    same(server.looks(), "place 5\narray 1 cells 2\nsession 7 floor 1 kept 4\n")
+
+
+def each_column(place):
+    """each column of the books by a client that reads all that it is told"""
+    server = Server(place, accepts=2).start()
+    waits = ("access", 16, 1, 0, 0, False)
+    with server.attached(7) as conn:
+        same(conn.ask(wire.call(1, ("create", b"cells", 1, 0))), ("answer", 1, ("array", 1, 1)))
+        same(conn.ask(wire.call(1, ("create", b"cells", 1, 0))), ("answer", 1, ("array", 1, 1)), "repeated")
+        same(conn.ask(wire.call(1, ("find", b"cells"))), ("refused", 1, "number-used"))
+        same(conn.ask(wire.call(99, ("find", b"cells"))), ("refused", 99, "beyond-window"))
+        conn.send(wire.call(2, waits) + wire.call(2, waits) + wire.call(3, waits))
+        same(conn.ask(wire.cancel(2)), ("withdrawn", 2))
+        same(conn.ask(wire.report())[1].splitlines()[0], "waiting 1")
+        with server.attached(8) as other:
+            same(other.ask(wire.call(1, ("access", 19, 1, 0, 5, False))), ("answer", 1, ("done",)))
+            same(conn.reply(), ("answer", 3, ("value", 5)))
+            same(other.ask(wire.settle(9)), ("settled", 9))
+            same(other.ask(wire.cancel(9)), ("refused", 9, "not-waiting"))
+            same(other.ask(wire.bye()), ("goodbye", 8))
+    # calls: 1, 1 again, 1 otherwise, 99, 2, 2 again, 3 of session 7; 1 of session 8
+    wanted = text(calls=8, completed=3, withdrawn=1, repeated=2, refused=2, mails=13, taken=13)
+    same(server.ended(), (0, wanted, ""))
+
+
+def waiting_goes(place):
+    """what still waits as its client goes is withdrawn, and so nothing waits in the books of a server that ended"""
+    server = Server(place, accepts=1).start()
+    with server.attached(7) as conn:
+        same(conn.ask(wire.call(1, ("create", b"cells", 2, 0)))[:2], ("answer", 1))
+        conn.send(b"".join(wire.call(number, ("access", 16, 1, number % 2, 0, False)) for number in range(2, 12)))
+        same(conn.ask(wire.report())[1].splitlines()[0], "waiting 10")
+    same(server.ended(), (0, text(calls=11, completed=1, withdrawn=10, mails=3, taken=3), ""))
+
+
+def of_many(place):
+    """40 clients in parallel that come and go by `accepts`: the books agree with what they did"""
+    clients, each = 40, 24
+    server = Server(place, accepts=clients + 1, connections=64).start()
+    with server.attached(1000) as conn:
+        same(conn.ask(wire.call(1, ("create", b"counter", 4, 1)))[:2], ("answer", 1))
+    lock = threading.Lock()
+    did = {"calls": 1, "completed": 1, "repeated": 0, "refused": 0, "mails": 2}
+
+    def work(client):
+        with server.attached(client) as conn:
+            frames = b"".join(wire.call(number, adding(1, client % 4, 1)) for number in range(1, each + 1))
+            conn.send(frames)
+            same([conn.reply()[:2] for _ in range(each)], [("answer", number) for number in range(1, each + 1)])
+            conn.send(frames + wire.call(1, ("find", b"x")) + wire.call(33, ("find", b"x")))
+            replies = [conn.reply() for _ in range(each + 2)]
+            same(sum(reply[0] == "refused" for reply in replies), 2)
+        with lock:
+            did["calls"] += 2 * each + 2
+            did["completed"] += each
+            did["repeated"] += each
+            did["refused"] += 2
+            did["mails"] += 1 + 2 * each + 2
+
+    together(clients, work)
+    same(server.ended(), (0, text(**did, taken=did["mails"]), ""))
+    return f"{did['calls']} calls"
+
+
+def with_losses(place):
+    """clients that break off, never read or send rubbish: the books still add up, and count no more than was sent"""
+    clients = 24
+    server = Server(place, accepts=clients + 1).start()
+    with server.attached(1000) as conn:
+        same(conn.ask(wire.call(1, ("create", b"counter", 4, 1)))[:2], ("answer", 1))
+
+    def work(client):
+        with server.connect() as conn:
+            frames = wire.attach(client) + b"".join(wire.call(number, adding(1, 0, 1)) for number in range(1, 33))
+            try:
+                if client % 4 == 0:
+                    conn.send(frames[: client * 40])
+                elif client % 4 == 1:
+                    conn.send(frames)
+                    conn.reply()
+                elif client % 4 == 2:
+                    conn.send(frames + b"\xff" * 8)
+                else:
+                    conn.send(frames + frames[13:] * 100)
+            except wire.Ended:
+                pass
+
+    together(clients, work)
+    found = books_of(server)
+    holds(found["completed"] <= 1 + 32 * clients, f"{found}")
+    holds(found["waiting"] == 0 and found["withdrawn"] == 0, f"{found}")
+    return f"{found['mails']} mails, {found['taken']} taken"
+
+
+def refused_connections(place):
+    """a connection that is closed at once is not counted by `accepts`"""
+    server = Server(place, accepts=2, connections=1).start()
+    with server.attached(7):
+        for _ in range(5):
+            with server.connect() as late:
+                holds(late.has_ended(), "a second connection was served")
+    # (the place is free once the server has seen the end)
+    with until(lambda: served(server), 20, "the place was free again") as conn:
+        same(conn.ask(wire.attach(8)), ("welcome", 8, 1))
+    same(server.ended(), (0, text(mails=3, taken=3), ""))
+
+
+CHECKS = (one_client, each_column, waiting_goes, of_many, with_losses, refused_connections)

@@ -1,0 +1,134 @@
+"""Copies of a store: of one that a server left, and of one that a server is writing."""
+
+import os
+import signal
+import threading
+import time
+
+from . import store, wire
+from .crowds import adding
+from .harness import Server, holds, same, until, within
+
+HEADERS = ((0, store.IMAGE), (store.SLOT, store.IMAGE))
+
+
+def left_by_serve(place):
+    """a store that was left by SIGTERM is copied, opened, and goes on under another server"""
+    server = Server(place).start()
+    with server.attached(7) as conn:
+        same(conn.ask(wire.call(1, ("create", b"cells", 3, 1))), ("answer", 1, ("array", 1, 3)))
+        for number in range(2, 30):
+            same(conn.ask(wire.call(number, adding(1, 1, 2))), ("answer", number, ("value", 2 * number - 4)))
+        server.stop(signal.SIGTERM)
+    same(server.process.returncode, -signal.SIGTERM)
+    same((server.output(), server.errors()), ("", ""))
+    content = place.read("s.store")
+    same(server.looks(), "place 30\narray 1 cells 3\nsession 7 floor 1 kept 29\n")
+    holds(place.read("s.store") == content, "`look` changed the store")
+    other = Server(place, "t", store=place.write("copy", content), format=False).start()
+    with other.attached(7) as conn:
+        same(conn.ask(wire.call(29, adding(1, 1, 2))), ("answer", 29, ("value", 54)))
+        same(conn.ask(wire.call(30, adding(1, 1, 2))), ("answer", 30, ("value", 56)))
+    other.stop()
+    holds(place.read("s.store") == content, "a server over the copy changed the store")
+    same(other.looks(), "place 32\narray 1 cells 3\nsession 7 floor 1 kept 30\n")
+
+
+class Load:
+    """A client that adds to a word and settles, until it is stopped."""
+
+    def __init__(self, server):
+        self.server = server
+        self.answered = 0
+        self.is_ending = False
+        self.raised = None
+        self.thread = threading.Thread(target=self.work, daemon=True)
+        self.thread.start()
+
+    def work(self):
+        try:
+            with self.server.attached(7) as conn:
+                number = 2
+                while not self.is_ending:
+                    conn.send(b"".join(wire.call(number + k, adding(1, 0, 1)) for k in range(15)) + wire.settle(number + 15))
+                    for k in range(15):
+                        same(conn.reply(), ("answer", number + k, ("value", self.answered)))
+                        self.answered += 1
+                    number += 15
+                    same(conn.reply(), ("settled", number))
+        except Exception as error:
+            self.raised = error
+
+    def end(self):
+        self.is_ending = True
+        self.thread.join(30)
+        if self.raised:
+            raise self.raised
+
+
+def copied(path):
+    """The bytes of a store that is written meanwhile, read from the beginning to the end: None where a checkpoint was begun or ended."""
+    with open(path, "rb") as file:
+        headers = lambda: [os.pread(file.fileno(), size, at) for at, size in HEADERS]
+        before = headers()
+        content = b"".join(os.pread(file.fileno(), 65536, at) for at in range(0, store.SIZE, 65536))
+        return content if before == headers() else None
+
+
+@within(60)
+def taken_in_mid_run(place):
+    """copies of the file under load, in which no checkpoint begins or ends, have all that was answered before them"""
+    server = Server(place).start()
+    with server.attached(7) as conn:
+        same(conn.ask(wire.call(1, ("create", b"counter", 1, 1))), ("answer", 1, ("array", 1, 1)))
+        same(conn.ask(wire.settle(2)), ("settled", 2))
+    load = Load(server)
+    until(lambda: load.answered, 10, "the load begins")
+    copies = others = 0
+    ends = time.monotonic() + 4
+    while time.monotonic() < ends or copies < 8:
+        answered = load.answered
+        content = copied(server.store)
+        if content is None:
+            others += 1
+            continue
+        later = load.answered
+        value = store.read_store(content)[2].arrays[1].words[0][0]
+        # (an answer is on its way to this check for a moment after its entry is stored, 15 at most)
+        holds(answered <= value <= later + 15, f"a copy has {value}, of {answered} answers before it and {later} behind it")
+        copies += 1
+        if copies % 8 == 1:
+            file = place.write("copy", content)
+            status, output, errors = place.run("look", "--store", file)
+            same((status, errors), (0, b""), "look at a copy")
+            same(output.decode(), store.read_store(content)[2].looks())
+            if copies % 24 == 1:
+                opened(place, file, value)
+        time.sleep(0.02)
+    load.end()
+    server.stop()
+    return f"{copies} copies, {others} given up, {load.answered} answers"
+
+
+def opened(place, file, value):
+    other = Server(place, "t", store=file, format=False).start()
+    with other.attached(8) as conn:
+        same(conn.ask(wire.call(1, adding(1, 0, 1))), ("answer", 1, ("value", value)))
+    other.stop()
+
+
+def left_by_a_kill(place):
+    """a store that a kill left is looked at twice, and is the same each time"""
+    server = Server(place).start()
+    with server.attached(7) as conn:
+        conn.send(b"".join(wire.call(number, ("find", b"a")) for number in range(1, 33)))
+        conn.reply()
+        server.stop()
+    content = place.read("s.store")
+    first = server.looks()
+    same(server.looks(), first)
+    holds(place.read("s.store") == content, "`look` changed the store")
+    same(first, store.read_store(content)[2].looks())
+
+
+CHECKS = (left_by_serve, taken_in_mid_run, left_by_a_kill)

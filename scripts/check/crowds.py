@@ -1,0 +1,353 @@
+"""Many clients, slow ones, and hostile ones."""
+
+import os
+import threading
+import time
+
+from . import store, wire
+from .harness import Server, holds, same, until, within
+
+
+def together(count, work):
+    """Does the work in so many threads at once, and raises what one of them raised."""
+    raised = []
+
+    def guarded(number):
+        try:
+            work(number)
+        except Exception as error:
+            raised.append(error)
+
+    threads = [threading.Thread(target=guarded, args=(number,), daemon=True) for number in range(count)]
+    for thread in threads:
+        thread.start()
+    for thread in threads:
+        thread.join()
+    if raised:
+        raise raised[0]
+
+
+def adding(array, index, operand):
+    return ("access", 23, array, index, operand, False)
+
+
+def made(server, *arrays):
+    """Makes arrays (name, length, full) by a session of their own, 1000."""
+    with server.attached(1000) as conn:
+        for number, (name, length, full) in enumerate(arrays, 1):
+            same(conn.ask(wire.call(number, ("create", name, length, full))), ("answer", number, ("array", number, length)))
+
+
+def in_parallel(place):
+    """32 clients at once, 16 requests of each under way: a counter that all raise loses nothing, and no value comes twice"""
+    clients, calls, window = 32, 96, 16
+    server = Server(place).start()
+    made(server, (b"counter", 1, 1))
+    values = [[] for _ in range(clients)]
+
+    def work(client):
+        with server.attached(client) as conn:
+            number, settled = 1, 1
+            while len(values[client]) < calls:
+                batch = b"".join(wire.call(number + k, adding(1, 0, 1)) for k in range(window))
+                conn.send(batch + wire.settle(number + window))
+                for k in range(window):
+                    reply = conn.reply()
+                    same(reply[:2], ("answer", number + k))
+                    values[client].append(reply[2][1])
+                number += window
+                same(conn.reply(), ("settled", number))
+
+    together(clients, work)
+    found = sorted(value for it in values for value in it)
+    same(found, list(range(clients * calls)), "the values that were answered")
+    holds(all(it == sorted(it) for it in values), "a client saw the counter fall")
+    server.stop()
+    left = store.read_store(place.read("s.store"))[2]
+    same(left.arrays[1].words, [(clients * calls, 1)])
+    return f"{clients * calls} calls"
+
+
+def hand_overs(place):
+    """16 producers and 16 consumers over 4 words: each value is taken once"""
+    server = Server(place).start()
+    made(server, (b"queue", 4, 0))
+    pairs, each = 16, 40
+    taken = [[] for _ in range(pairs)]
+
+    def work(client):
+        # (a word has as many that fill it as empty it, so nobody waits for ever)
+        with server.attached(client) as conn:
+            for number in range(1, each + 1):
+                if client < pairs:
+                    ask = ("access", 19, 1, client % 4, client * 1000 + number, False)
+                else:
+                    ask = ("access", 16, 1, client % 4, 0, False)
+                reply = conn.ask(wire.call(number, ask))
+                same(reply[:2], ("answer", number))
+                if client >= pairs:
+                    taken[client - pairs].append(reply[2][1])
+                if number % 20 == 0:
+                    same(conn.ask(wire.settle(number + 1)), ("settled", number + 1))
+
+    together(2 * pairs, work)
+    wanted = sorted(client * 1000 + number for client in range(pairs) for number in range(1, each + 1))
+    same(sorted(value for it in taken for value in it), wanted)
+    server.stop()
+    return f"{pairs * each} values"
+
+
+@within(90)
+def one_after_another(place):
+    """a thousand connections one after the other, each with a session that goes on where it was"""
+    server = Server(place, connections=256).start()
+    made(server, (b"counter", 1, 1))
+    for turn in range(1000):
+        session, number = turn % 60, turn // 60 + 1
+        with server.connect() as conn:
+            conn.send(wire.attach(session) + wire.call(number, adding(1, 0, 1)))
+            same([conn.reply(), conn.reply()], [("welcome", session, 1), ("answer", number, ("value", turn))])
+    holds(server.is_running(), "the server ended")
+    with server.attached(0) as conn:
+        same(conn.ask(wire.report()), ("report", "waiting 0\n"))
+    until(lambda: threads_of(server) < 20, 10, "the threads of connections that ended are gone")
+    server.stop()
+
+
+def threads_of(server):
+    return len(os.listdir(f"/proc/{server.process.pid}/task"))
+
+
+@within(90)
+def the_257th(place):
+    """256 connections are served at once, the 257th is closed without a word, and one comes in once one has gone"""
+    server = Server(place, connections=256).start()
+    conns = [server.connect() for _ in range(256)]
+    for conn in conns:
+        same(conn.ask(wire.report())[0], "report")
+    with server.connect() as late:
+        holds(late.has_ended(), "the 257th connection was served")
+    for conn in conns[::17]:
+        same(conn.ask(wire.report())[0], "report")
+    conns[100].close()
+    conns[100] = until(lambda: served(server), 20, "a place was free again")
+    for conn in conns:
+        same(conn.ask(wire.report())[0], "report")
+        conn.close()
+    server.stop()
+
+
+def served(server):
+    """A connection that is served, or None."""
+    conn = server.connect()
+    try:
+        conn.ask(wire.report())
+        return conn
+    except wire.Ended:
+        conn.close()
+        return None
+
+
+def few_connections(place):
+    """`connections = 1`: a second one is closed, and the next comes in once the first has ended"""
+    server = Server(place, connections=1).start()
+    for turn in range(20):
+        first = until(lambda: served(server), 20, f"turn {turn}")
+        with server.connect() as second:
+            holds(second.has_ended(), "the second connection was served")
+        same(first.ask(wire.report())[0], "report")
+        first.close()
+    server.stop()
+
+
+def byte_at_a_time(place):
+    """a client that sends a byte at a time is answered the same"""
+    server = Server(place).start()
+    with server.connect() as conn:
+        for frame, reply in (
+            (wire.attach(7), ("welcome", 7, 1)),
+            (wire.call(1, ("create", b"cells", 2, 0)), ("answer", 1, ("array", 1, 2))),
+            (wire.call(2, ("access", 19, 1, 0, 42, False)), ("answer", 2, ("done",))),
+            (wire.call(3, ("access", 16, 1, 0, 0, False)), ("answer", 3, ("value", 42))),
+            (wire.call(4, ("access", 18, 1, 0, 0, True)), ("answer", 4, ("value", 42))),
+            (wire.call(5, ("find", b"a_name_of_more_than_16_bytes")), ("answer", 5, ("no-array",))),
+        ):
+            for at in range(len(frame)):
+                conn.send(frame[at : at + 1])
+            same(conn.reply(), reply)
+    server.stop()
+
+
+def half_closed(place):
+    """a client that shuts its sending side: what it sent before is done, its session is free and the server goes on"""
+    server = Server(place).start()
+    made(server, (b"cells", 2, 0))
+    with server.connect() as conn:
+        conn.send(wire.attach(7) + wire.call(1, adding(9, 0, 1)) + wire.call(2, ("access", 16, 1, 0, 0, False)))
+        same([conn.reply(), conn.reply()], [("welcome", 7, 1), ("answer", 1, ("no-array",))])
+        conn.finish()
+        with server.attached(8) as other:
+            # (its waiting request goes with it)
+            until(lambda: other.ask(wire.report()) == ("report", "waiting 0\n"), 10, "the waiting request was withdrawn")
+        holds(conn.has_ended(), "the server kept a connection whose stream ended")
+    with server.connect() as conn:
+        conn.send(wire.attach(7)[:6])
+        conn.finish()
+        holds(conn.has_ended(), "the server kept a connection that ended within a frame")
+    with server.attached(7) as conn:
+        same(conn.ask(wire.call(1, adding(9, 0, 1))), ("answer", 1, ("no-array",)))
+    server.stop()
+    holds("session 7 floor 1 kept 1\n" in server.looks(), "what was sent before the end of the stream was not done")
+
+
+@within(90)
+def never_reads(place):
+    """a client that sends and never reads is dropped, and the others are served meanwhile"""
+    server = Server(place).start()
+    made(server, (b"counter", 1, 1))
+    piece = b"".join(wire.call(number, ("access", 18, 1, 0, 0, False)) for number in range(1, 33)) * 64
+    dropped = None
+    with server.attached(8) as other, server.attached(7) as conn:
+        conn.wait(30)
+        for turn in range(1, 401):
+            try:
+                conn.send(piece)
+            except wire.Ended as why:
+                holds("timed out" not in str(why), f"the server neither reads nor drops: {why}")
+                dropped = turn
+                break
+            if turn % 8 == 0:
+                same(other.ask(wire.report())[0], "report")
+        holds(dropped, "a client that never reads was not dropped")
+        same(other.ask(wire.call(1, adding(1, 0, 1))), ("answer", 1, ("value", 0)))
+        # what waits in the streams ends, and then the session is free
+        with server.attached(7) as again:
+            same(again.ask(wire.call(1, ("access", 18, 1, 0, 0, False)))[:2], ("answer", 1))
+    server.stop()
+    return f"dropped within {dropped * len(piece) // 1024} kB"
+
+
+def slow_reader(place):
+    """a client that reads slowly, and has few answers unread, gets each of them in order"""
+    server = Server(place).start()
+    made(server, (b"counter", 1, 1))
+    with server.attached(7) as conn:
+        number = 1
+        for _ in range(12):
+            conn.send(b"".join(wire.call(number + k, adding(1, 0, 1)) for k in range(32)))
+            time.sleep(0.05)
+            for k in range(32):
+                same(conn.reply(), ("answer", number + k, ("value", number + k - 1)))
+            number += 32
+            same(conn.ask(wire.settle(number)), ("settled", number))
+    server.stop()
+
+
+BAD_FRAMES = (
+    ("of length 0", b"\0\0\0\0"),
+    ("of length 48", b"\0\0\0\x30"),
+    ("of the greatest length", b"\xff\xff\xff\xff"),
+    ("of kind 0", b"\0\0\0\1\0"),
+    ("of kind 10", b"\0\0\0\x0a\x0a"),
+    ("of a server's kind", wire.framed(65, bytes(16))),
+    ("with another length than its kind's", b"\0\0\0\x0a\1"),
+    ("with a name of 17 bytes in 16", wire.framed(3, bytes(8) + b"\x11" + b"a" * 16)),
+    ("with a byte behind its name", wire.framed(3, bytes(8) + b"\1" + b"aa" + bytes(14))),
+    ("with a short name in kind 13", wire.framed(13, bytes(8) + b"\x10" + b"a" * 16 + bytes(16))),
+    ("with tag 2", wire.framed(2, bytes(8) + b"\1a" + bytes(15) + b"\0\0\0\1\2")),
+    ("with operation 24", wire.framed(5, bytes(8) + b"\x18" + bytes(20))),
+    ("with an operand that is not used", wire.framed(5, bytes(8) + b"\x10" + bytes(19) + b"\1")),
+    ("of version 2 with operation 15", wire.framed(11, bytes(8) + b"\x0f" + bytes(20))),
+)
+
+
+def bad_frames(place):
+    """a bad frame of each kind ends its connection without a reply; what came before it is done"""
+    server = Server(place).start()
+    for session, (name, frame) in enumerate(BAD_FRAMES):
+        with server.connect() as conn:
+            conn.send(wire.attach(session) + wire.call(1, ("find", b"a")) + frame + wire.call(2, ("find", b"a")))
+            got = []
+            try:
+                while True:
+                    got.append(conn.reply())
+            except wire.Ended as why:
+                holds("timed out" not in str(why) and "within" not in str(why), f"a frame {name}: {why}")
+            wanted = [("welcome", session, 1), ("answer", 1, ("no-array",))]
+            holds(got == wanted[: len(got)], f"a frame {name}: {got}")
+    # (a welcome is told once all that came before it is stored)
+    server.attached(1000).close()
+    server.stop()
+    left = store.read_store(place.read("s.store"))[2]
+    for session, (name, _) in enumerate(BAD_FRAMES):
+        same(list(left.sessions[session].kept), [1], f"what came before and behind a frame {name}")
+
+
+def taken_over(place):
+    """a session that another connection attaches leaves the first one not attached, and its requests wait on"""
+    server = Server(place).start()
+    made(server, (b"cells", 1, 0))
+    with server.attached(7) as first, server.attached(8) as other:
+        first.send(wire.call(1, ("access", 16, 1, 0, 0, False)))
+        same(first.ask(wire.report())[1].splitlines()[0], "waiting 1")
+        with server.attached(7) as second:
+            same(first.ask(wire.call(2, ("find", b"cells"))), ("refused", 2, "not-attached"))
+            first.close()
+            second.send(wire.call(1, ("access", 16, 1, 0, 0, False)))
+            same(second.ask(wire.report())[1].splitlines()[1:3], ["word 1 0 session 7 number 1 readfe", "session 7 waits 1"])
+            same(other.ask(wire.call(1, ("access", 19, 1, 0, 5, False))), ("answer", 1, ("done",)))
+            same(second.reply(), ("answer", 1, ("value", 5)))
+    server.stop()
+
+
+def refusals(place):
+    """64 sessions, and the 65th refused; windows, floors and numbers, as in the schedules"""
+    server = Server(place, connections=100).start()
+    conns = [server.attached(session) for session in range(64)]
+    with server.connect() as late:
+        same(late.ask(wire.attach(64)), ("refused", 64, "session-limit"))
+        same(late.ask(wire.call(1, ("find", b"a"))), ("refused", 1, "not-attached"))
+        same(conns[0].ask(wire.bye()), ("goodbye", 0))
+        same(late.ask(wire.attach(64)), ("welcome", 64, 1))
+        same(late.ask(wire.call(33, ("find", b"a"))), ("refused", 33, "beyond-window"))
+        same(late.ask(wire.settle(0)), ("refused", 0, "below-floor"))
+        same(late.ask(wire.settle(34)), ("refused", 34, "beyond-window"))
+        same(late.ask(wire.cancel(3)), ("refused", 3, "not-waiting"))
+    for conn in conns:
+        conn.close()
+    server.stop()
+
+
+def turns(place):
+    """a connection that was read as often as `turns` says is ended, and others are served"""
+    server = Server(place, turns=5).start()
+    with server.connect() as conn:
+        got = 0
+        try:
+            for _ in range(20):
+                same(conn.ask(wire.report())[0], "report")
+                got += 1
+        except wire.Ended as why:
+            holds("timed out" not in str(why), str(why))
+        holds(1 <= got <= 5, f"{got} replies")
+    with server.connect() as conn:
+        same(conn.ask(wire.report())[0], "report")
+    server.stop()
+    return f"{got} replies"
+
+
+CHECKS = (
+    in_parallel,
+    hand_overs,
+    one_after_another,
+    the_257th,
+    few_connections,
+    byte_at_a_time,
+    half_closed,
+    never_reads,
+    slow_reader,
+    bad_frames,
+    taken_over,
+    refusals,
+    turns,
+)

@@ -1,0 +1,252 @@
+"""Checks and the processes that they start: each check has a folder, a deadline, and leaves no process behind."""
+
+import os
+import resource
+import shutil
+import signal
+import subprocess
+import time
+
+from . import wire
+
+USUAL_SECONDS = 60
+
+
+class Wrong(Exception):
+    """A check found something that should not be so."""
+
+
+class Skipped(Exception):
+    """What a check needs is not on this machine."""
+
+
+class Late(Exception):
+    """A check did not end in its time."""
+
+
+def same(got, wanted, what=""):
+    if got != wanted:
+        raise Wrong(f"{what + ': ' if what else ''}{short(got)}, not {short(wanted)}")
+
+
+def holds(condition, what):
+    if not condition:
+        raise Wrong(what)
+
+
+def short(value):
+    text = repr(value)
+    return text if len(text) <= 600 else text[:300] + " .. " + text[-300:]
+
+
+def until(condition, seconds, what):
+    """Waits until the condition holds, and gives what it gave."""
+    end = time.monotonic() + seconds
+    while True:
+        found = condition()
+        if found:
+            return found
+        if time.monotonic() > end:
+            raise Wrong(f"{what}: not within {seconds} seconds")
+        time.sleep(0.002)
+
+
+class Place:
+    """What one check has: the program, a folder of its own, and the processes that it started."""
+
+    def __init__(self, program, folder, options):
+        self.program = program
+        self.folder = folder
+        self.options = options
+        self.started = []
+        self.groups = []
+
+    def path(self, name):
+        return os.path.join(self.folder, name)
+
+    def write(self, name, content):
+        with open(self.path(name), "wb") as file:
+            file.write(content)
+        return self.path(name)
+
+    def start(self, words, name="program", env=None, stdin=subprocess.DEVNULL, stdout=None, stderr=None, limit=None, group=False):
+        """Starts a process whose output and errors go to files NAME.out and NAME.err, under that limit of the system, if
+        any. With `group` whatever it starts itself ends with it."""
+        how = {"env": {**os.environ, **(env or {})}, "cwd": self.folder, "start_new_session": group}
+        if limit:
+            how["preexec_fn"] = lambda: resource.setrlimit(limit[0], (limit[1], limit[1]))
+        with open(self.path(f"{name}.out"), "wb") as out, open(self.path(f"{name}.err"), "wb") as err:
+            process = subprocess.Popen(words, stdin=stdin, stdout=stdout or out, stderr=stderr or err, **how)
+        self.started.append(process)
+        if group:
+            self.groups.append(process.pid)
+        return process
+
+    def run(self, *words, given=b"", seconds=30, env=None, stdout=None):
+        """Runs the program to its end: its status, output and errors."""
+        process = self.start([self.program, *words], "run", env, subprocess.PIPE, stdout)
+        try:
+            process.communicate(given, seconds)
+        except subprocess.TimeoutExpired:
+            raise Wrong(f"{words}: no end within {seconds} seconds") from None
+        return process.returncode, self.read("run.out"), self.read("run.err")
+
+    def read(self, name):
+        with open(self.path(name), "rb") as file:
+            return file.read()
+
+    def end(self):
+        for process in self.started:
+            if process.poll() is None:
+                process.kill()
+            process.wait()
+        for group in self.groups:
+            try:
+                os.killpg(group, signal.SIGKILL)
+            except ProcessLookupError:
+                pass
+        self.started.clear()
+        self.groups.clear()
+
+
+class Server:
+    """`femem serve` with its own socket, store and settings."""
+
+    def __init__(self, place, name="s", **settings):
+        self.place = place
+        self.name = name
+        self.socket = place.path(f"{name}.socket")
+        self.store = settings.pop("store", place.path(f"{name}.store"))
+        self.settings = {"format": True, **settings}
+        self.process = None
+
+    def start(self, env=None, waits=True, limit=None):
+        """Starts the server; it is ready once its socket is there."""
+        lines = [f'socket = "{self.socket}"', f'store = "{self.store}"']
+        lines += [f"{key} = {str(value).lower()}" for key, value in self.settings.items()]
+        file = self.place.write(f"{self.name}.toml", "".join(line + "\n" for line in lines).encode())
+        self.process = self.place.start([self.place.program, "serve", "--settings", file], self.name, env, limit=limit)
+        if waits:
+            until(self.is_there, 30, "the socket is there")
+        return self
+
+    def is_there(self):
+        if self.process.poll() is not None:
+            raise Wrong(f"the server ended with status {self.process.returncode}: {self.errors()}")
+        return os.path.exists(self.socket)
+
+    def connect(self, **how):
+        return wire.Connection(self.socket, **how)
+
+    def attached(self, session, **how):
+        """A connection that has attached the session."""
+        conn = self.connect(**how)
+        reply = conn.ask(wire.attach(session))
+        same(reply[:2], ("welcome", session))
+        return conn
+
+    def output(self):
+        return self.place.read(f"{self.name}.out").decode()
+
+    def errors(self):
+        return self.place.read(f"{self.name}.err").decode()
+
+    def ended(self, seconds=30):
+        """Waits for the server's end: its status, output and errors."""
+        try:
+            self.process.wait(seconds)
+        except subprocess.TimeoutExpired:
+            raise Wrong(f"the server has not ended within {seconds} seconds") from None
+        return self.process.returncode, self.output(), self.errors()
+
+    def is_running(self):
+        return self.process.poll() is None
+
+    def stop(self, signal_number=signal.SIGKILL):
+        """Ends the server where it is, and removes its socket, as its operator has to."""
+        self.process.send_signal(signal_number)
+        self.process.wait(30)
+        if os.path.exists(self.socket):
+            os.unlink(self.socket)
+
+    def looks(self):
+        """What `femem look` prints of the store."""
+        status, output, errors = self.place.run("look", "--store", self.store)
+        same((status, errors), (0, b""), "look")
+        return output.decode()
+
+
+class Runner:
+    """Runs checks, prints a line for each, and counts."""
+
+    def __init__(self, program, folder, options):
+        self.program = program
+        self.folder = folder
+        self.options = options
+        self.passed = 0
+        self.failed = 0
+
+    def run(self, part, check):
+        place = Place(self.program, os.path.join(self.folder, "c"), self.options)
+        os.mkdir(place.folder)
+        began = time.monotonic()
+        seconds = getattr(check, "seconds", USUAL_SECONDS) * self.options.patience
+        signal.signal(signal.SIGALRM, late)
+        signal.alarm(seconds)
+        why = note = None
+        try:
+            note = check(place)
+        except Skipped as lack:
+            print(f"skipped {part}: {named(check)}: {lack}", flush=True)
+            return
+        except Late:
+            why = f"no end within {seconds} seconds"
+        except Exception as error:
+            why = f"{type(error).__name__}: {error}{where(error)}"
+        finally:
+            signal.alarm(0)
+            place.end()
+            shutil.rmtree(place.folder, ignore_errors=True)
+        took = f"{time.monotonic() - began:.1f} s"
+        self.passed += why is None
+        self.failed += why is not None
+        if why is None:
+            print(f"ok      {part}: {named(check)} ({note + ', ' if note else ''}{took})", flush=True)
+        else:
+            print(f"FAILED  {part}: {named(check)} ({took})\n        {why}", flush=True)
+
+
+def named(check):
+    return check.__doc__.strip()
+
+
+def compiler():
+    """The C compiler of this machine."""
+    for name in (os.environ.get("CC", "cc"), "gcc", "clang"):
+        if shutil.which(name):
+            return name
+    raise Skipped("there is no C compiler")
+
+
+def late(*_):
+    raise Late
+
+
+def where(error):
+    """The line of a check that an error came from."""
+    lines = []
+    at = error.__traceback__
+    while at:
+        lines.append(f"{os.path.basename(at.tb_frame.f_code.co_filename)}:{at.tb_lineno}")
+        at = at.tb_next
+    return f" ({' '.join(lines[-4:])})"
+
+
+def within(seconds):
+    """Gives a check another deadline than the usual one."""
+
+    def give(check):
+        check.seconds = seconds
+        return check
+
+    return give

@@ -1,0 +1,476 @@
+"""A server that is killed under load again and again, and started on the same store."""
+
+import os
+import random
+import threading
+import time
+
+from . import store, wire
+from .harness import Server, Wrong, holds, same, until, within
+from .history import History
+from .model import State
+
+ENTRIES_A_ROUND = 5500  # so that at most one checkpoint begins in it
+SECONDS_A_KILL = 0.4  # what is aimed at
+MIGRATIONS = 12
+COUNTERS, HANDS = 1, 2
+SETTER = 99  # the session that makes the arrays
+
+
+class Client:
+    """A client that keeps its session, its numbers and what is unanswered over the stops of the server."""
+
+    window = 1
+    most = None  # how many requests there are at most, once it is told to come to an end
+
+    def __init__(self, session):
+        self.session = session
+        self.life = 0  # how often it said good-bye
+        self.welcomes = 0
+        self.told = []  # (life, number, request, answer)
+        self.sent = {}  # (life, number): the requests that were sent under the number
+        self.begin_life()
+
+    def begin_life(self):
+        self.floor = 1
+        self.next = 1
+        self.open = {}  # number: request that is not answered
+        self.answers = {}  # number: answer
+        self.settling = None
+        self.is_leaving = False
+
+    def request(self):
+        """The next request, or None."""
+
+    def take(self, request, answer):
+        """What an answer does."""
+
+    def is_done(self):
+        """Whether nothing more is wanted, once it is told to come to an end."""
+        return not self.open and self.settling is None and not self.is_leaving
+
+    def is_cancelled(self, request):
+        return False
+
+    def wants_to_leave(self):
+        return False
+
+    def over(self, conn, load):
+        """Goes on over a new connection, until it ends or all is done."""
+        self.attach(conn)
+        # what is unanswered goes again, under the same numbers
+        for number, request in sorted(self.open.items()):
+            self.send(conn, number, request)
+        while True:
+            self.fill(conn, load)
+            if load.is_ending and self.is_done():
+                return
+            self.handle(conn, conn.reply())
+            load.answered += 1
+
+    def attach(self, conn):
+        reply = conn.ask(wire.attach(self.session))
+        same(reply[:2], ("welcome", self.session))
+        self.welcomes += 1
+        floor = reply[2]
+        if self.is_leaving and floor == 1:
+            self.life += 1
+            self.begin_life()
+        elif floor == self.settling:
+            self.floor = floor
+        same(floor, self.floor, f"the floor of session {self.session}")
+        self.settling = None
+        self.is_leaving = False
+
+    def send(self, conn, number, request):
+        conn.send(wire.call(number, request) + (wire.cancel(number) if self.is_cancelled(request) else b""))
+
+    def fill(self, conn, load):
+        while not self.is_leaving and len(self.open) < self.window and self.next < self.floor + 32 and load.allows():
+            request = self.request() if self.most is not None or not load.is_ending else None
+            if request is None:
+                break
+            self.open[self.next] = request
+            self.sent.setdefault((self.life, self.next), []).append(request)
+            self.next += 1
+            self.send(conn, self.next - 1, request)
+        least = min(self.open, default=self.next)
+        if self.settling is None and not self.is_leaving and least - self.floor >= 16:
+            self.settling = least
+            conn.send(wire.settle(least))
+        if self.wants_to_leave() and not load.is_ending and not self.open and self.settling is None and self.floor > 1 and not self.is_leaving:
+            self.is_leaving = True
+            conn.send(wire.bye())
+
+    def handle(self, conn, reply):
+        kind, *rest = reply
+        if kind == "answer" and rest[0] in self.open:
+            number, answer = rest
+            request = self.open.pop(number)
+            self.answers[number] = answer
+            self.told.append((self.life, number, request, answer))
+            self.take(request, answer)
+        elif kind == "answer":
+            same(rest[1], self.answers.get(rest[0]), "an answer that came again")
+        elif kind == "settled":
+            same(rest[0], self.settling)
+            self.floor, self.settling = self.settling, None
+        elif kind == "goodbye":
+            self.attach(conn)
+        elif kind == "withdrawn" and self.is_cancelled(self.open.get(rest[0])):
+            del self.open[rest[0]]
+        else:
+            raise Wrong(f"session {self.session}: {reply}")
+
+
+class Adder(Client):
+    """Adds 1 to a word, with several requests under way."""
+
+    window = 8
+
+    def __init__(self, session, index):
+        super().__init__(session)
+        self.index = index
+        self.values = []
+
+    def request(self):
+        return ("access", 23, COUNTERS, self.index, 1, False)
+
+    def take(self, request, answer):
+        self.values.append(answer[1])
+
+
+class Hand(Client):
+    """One side of a word that is filled and emptied in turn."""
+
+    def __init__(self, session, index, window):
+        super().__init__(session)
+        self.index = index
+        self.window = window
+        self.count = 0
+        self.values = []
+
+    def request(self):
+        if self.count == self.most:
+            return None
+        self.count += 1
+        return self.asked()
+
+    def is_done(self):
+        return super().is_done() and self.count == self.most
+
+
+class Producer(Hand):
+    """Fills a word with 1, 2, 3 and so on, as often as it is emptied."""
+
+    def asked(self):
+        return ("access", 19, HANDS, self.index, self.count, False)
+
+
+class Consumer(Hand):
+    """Empties that word."""
+
+    def asked(self):
+        return ("access", 16, HANDS, self.index, 0, False)
+
+    def take(self, request, answer):
+        self.values.append(answer[1])
+
+
+class Restless(Client):
+    """Makes arrays and removes them, lets requests be withdrawn, and says good-bye."""
+
+    def __init__(self, session):
+        super().__init__(session)
+        self.cycle = 0
+        self.plan = []
+        self.array = None
+
+    def request(self):
+        if not self.plan:
+            self.cycle += 1
+            name = b"restless_%d_%d" % (self.session, self.cycle)
+            word = lambda op, operand=0, nowait=False: lambda: ("access", op, self.array, 0, operand, nowait)
+            self.plan = [
+                lambda: ("create", name, 1 + self.cycle % 700, 0),
+                word(19, self.cycle),
+                word(17),
+                word(16),
+                word(16, nowait=True),
+                word(17),  # waits for ever, and is withdrawn
+                lambda: ("find", name),
+                lambda: ("remove", self.array),
+                lambda: ("find", name),
+            ]
+        return self.plan.pop(0)()
+
+    def is_cancelled(self, request):
+        # (after three requests that are answered at once the word is empty)
+        return request is not None and request[0] == "access" and request[1] == 17 and len(self.plan) == 3
+
+    def wants_to_leave(self):
+        return not self.plan and self.cycle % 3 == 0
+
+    def take(self, request, answer):
+        wanted = {
+            "create": ("array", self.array_id(answer), 1 + self.cycle % 700),
+            "remove": ("done",),
+            "find": ("array", self.array, 1 + self.cycle % 700) if self.plan else ("no-array",),
+        }.get(request[0])
+        if request[0] == "access":
+            wanted = ("done",) if request[1] == 19 else ("not-now",) if request[5] else ("value", self.cycle)
+        same(answer, wanted, f"{request}")
+        if request[0] == "create":
+            self.array = answer[1]
+
+    @staticmethod
+    def array_id(answer):
+        return answer[1] if len(answer) == 3 else None
+
+
+class Storm(Client):
+    """Attaches its session again and again, which fills the journal, so that checkpoints come."""
+
+    burst = 100
+
+    def over(self, conn, load):
+        welcomes = wire.framed(65, self.session.to_bytes(8, "big") + (1).to_bytes(8, "big")) * self.burst
+        while not load.is_ending:
+            if load.allows(self.burst):
+                conn.send(wire.attach(self.session) * self.burst)
+                same(conn.piece(len(welcomes)), welcomes)
+                self.welcomes += self.burst
+            else:
+                # (where the server is gone it is seen here)
+                conn.ask(wire.report())
+                time.sleep(0.005)
+
+
+class Load:
+    """Clients over one life of the server after the other."""
+
+    def __init__(self, server, clients):
+        self.server = server
+        self.clients = clients
+        self.is_ending = False
+        self.left = 0
+        self.answered = 0
+        self.raised = []
+
+    def allows(self, count=1):
+        """Whether so many entries more may be asked for in this round."""
+        if self.left < count:
+            return False
+        self.left -= count
+        return True
+
+    def begin(self):
+        self.left = ENTRIES_A_ROUND
+        self.answered = 0
+        self.threads = [threading.Thread(target=self.work, args=(client,), daemon=True) for client in self.clients]
+        for thread in self.threads:
+            thread.start()
+
+    def work(self, client):
+        try:
+            with self.server.connect(seconds=30) as conn:
+                client.over(conn, self)
+        except wire.Ended as why:
+            if self.is_ending or "timed out" in str(why):
+                self.raised.append(Wrong(f"session {client.session}: {why}, with {client.open}"))
+        except Exception as error:
+            self.raised.append(error)
+
+    def wait_for(self, condition, seconds):
+        """Waits until the condition holds, or so much time has passed."""
+        ends = time.monotonic() + seconds
+        while not condition() and time.monotonic() < ends and not self.raised:
+            time.sleep(0.001)
+
+    def wait_for_some(self, seconds):
+        """Waits until some answers came in this round."""
+        wanted = random.randrange(1500)
+        self.wait_for(lambda: self.answered >= wanted, random.uniform(0.2, 1) * seconds)
+
+    def wait_for_checkpoint(self, seconds):
+        """Waits until a checkpoint has begun, and then for a part of it."""
+        with open(self.server.store, "rb") as file:
+            generations = lambda: [os.pread(file.fileno(), 8, at + 8) for at in (0, store.SLOT)]
+            before = generations()
+            self.wait_for(lambda: generations() != before, seconds)
+        time.sleep(random.uniform(0, 0.02))
+
+    def join(self):
+        for thread in self.threads:
+            thread.join(40)
+            holds(not thread.is_alive(), "a client does not come to an end")
+        if self.raised:
+            raise self.raised[0]
+
+    def compare(self, history):
+        """What clients were told, against the history: kept, once, and only what was asked."""
+        for client in self.clients:
+            for life, number, request, answer in client.told:
+                found = history.finished.get((client.session, life, number))
+                same(found, (request, answer), f"what session {client.session} was told of its number {number}")
+            client.told.clear()
+            holds(history.attached.get(client.session, 0) >= client.welcomes, "a welcome was told and its entry is gone")
+
+
+def asked_for(history, load):
+    """Every entry is of a request that its client sent, under that number."""
+    sent = {(client.session, *key): requests for client in load.clients for key, requests in client.sent.items()}
+    for key, (request, _) in history.finished.items():
+        if key[0] != SETTER:
+            holds(request in sent.get(key, ()), f"{request} under {key} was never asked for")
+
+
+def make_arrays(server):
+    with server.attached(SETTER) as conn:
+        for number, (name, length, full) in enumerate(((b"counters", 3, 1), (b"hands", 3, 0), (b"big", 30000, 1)), 1):
+            same(conn.ask(wire.call(number, ("create", name, length, full))), ("answer", number, ("array", number, length)))
+
+
+class Crew:
+    """Who is there while the server is killed a hundred times."""
+
+    def __init__(self):
+        self.adders = [Adder(session, session % 3) for session in range(1, 5)]
+        self.pairs = [(Producer(10 + k, k, w), Consumer(20 + k, k, w)) for k, w in enumerate((1, 1, 6))]
+        self.others = [Restless(30), Restless(31), Storm(40), Storm(41), Storm(42)]
+        self.all = [*self.adders, *(it for pair in self.pairs for it in pair), *self.others]
+
+    def finish(self, load):
+        """A last life of the server, in which all that is open comes to its end."""
+        for producer, consumer in self.pairs:
+            producer.most = consumer.most = max(producer.count, consumer.count)
+        finish(load)
+
+    def sums(self, state):
+        """What the words hold at the end, and what was handed over."""
+        for index in range(3):
+            counted(state, index, [it for it in self.adders if it.index == index])
+        for producer, consumer in self.pairs:
+            values = consumer.values if consumer.window == 1 else sorted(consumer.values)
+            same(values, list(range(1, producer.count + 1)), f"what was handed over by word {producer.index}")
+            same(state.arrays[HANDS].words[producer.index][1], 0)
+        for client in self.all:
+            holds(not client.open, f"{client.open} is open")
+
+
+def counted(state, index, adders):
+    """A counter has been raised once for each answer, and each answer has another value."""
+    values = sorted(value for it in adders for value in it.values)
+    same(values, list(range(len(values))), f"what was answered of counter {index}")
+    same(state.arrays[COUNTERS].words[index], (len(values), 1), f"counter {index}")
+
+
+def finish(load):
+    load.is_ending = True
+    load.begin()
+    load.join()
+
+
+@within(420)
+def killed(place):
+    """the server is killed under load and started again: every answer is kept, each number took effect once, nothing is skipped"""
+    server = Server(place, connections=100).start()
+    make_arrays(server)
+    crew = Crew()
+    history, load = History(), Load(server, crew.all)
+    began = time.monotonic()
+    kills = place.options.kills
+    for left in range(kills, 0, -1):
+        load.begin()
+        pace = (kills * SECONDS_A_KILL - (time.monotonic() - began)) / left
+        random.choice((load.wait_for_some, load.wait_for_checkpoint))(min(max(pace, 0.05), 0.5))
+        server.stop()
+        load.join()
+        read(server, history, load)
+        server.start(waits=False)
+        if random.random() < 0.1:
+            # within its start
+            time.sleep(random.uniform(0, 0.02))
+            server.stop()
+            server.start(waits=False)
+        until(server.is_there, 30, "the socket is there")
+    crew.finish(load)
+    server.stop()
+    read(server, history, load)
+    asked_for(history, load)
+    crew.sums(history.state)
+    same(server.looks(), history.state.looks())
+    seconds = time.monotonic() - began
+    return f"{kills} kills in {seconds:.0f} s, {history.cut_checkpoints} of them within one of {history.checkpoints} checkpoints, {history.state.place} entries"
+
+
+def store_of_format_1():
+    """A store whose first checkpoint, which moves it to format 2, begins after a few hundred entries."""
+    state = State()
+    for entry in (
+        ("attached", SETTER, 1),
+        ("finished", SETTER, 1, ("create", b"counters", 3, 1), ("array", 1, 3)),
+        ("finished", SETTER, 2, ("create", b"hands", 3, 0), ("array", 2, 3)),
+        ("finished", SETTER, 3, ("create", b"big", 30000, 1), ("array", 3, 30000)),
+    ):
+        state.apply(entry)
+    return bytes(store.device_of(store.ONE, state, [[("attached", SETTER, 1)] * 4000] * 2, 2, 1))
+
+
+@within(120)
+def killed_in_migrations(place):
+    """stores of format 1 whose server is killed as they move to format 2, with the same"""
+    first = store_of_format_1()
+    cut = 0
+    for turn in range(MIGRATIONS):
+        server = Server(place, f"{turn}", store=place.write("store", first)).start()
+        adders = [Adder(1, 0), Adder(2, 0)]
+        history, load = History(first), Load(server, [*adders, Storm(40)])
+        load.begin()
+        load.wait_for_checkpoint(1)
+        server.stop()
+        load.join()
+        read(server, history, load)
+        cut += history.cut_checkpoints
+        server.start()
+        finish(load)
+        server.stop()
+        read(server, history, load)
+        asked_for(history, load)
+        counted(history.state, 0, adders)
+        same(server.looks(), history.state.looks())
+    return f"{MIGRATIONS} kills, {cut} of them within the move"
+
+
+def read(server, history, load):
+    with open(server.store, "rb") as file:
+        history.read(file.read())
+    load.compare(history)
+
+
+@within(90)
+def killed_in_its_beginning(place):
+    """a server that is killed while it makes its store: the next one makes it again, or tells the size of what was begun"""
+    begun = whole = 0
+    for turn in range(25):
+        server = Server(place, f"{turn}").start(waits=False)
+        time.sleep(random.uniform(0, 0.04))
+        server.stop()
+        again = Server(place, f"{turn}").start(waits=False)
+        until(lambda: os.path.exists(again.socket) or not again.is_running(), 30, "the server serves or ends")
+        if again.is_running():
+            again.attached(7).close()
+            again.stop()
+            same(again.looks(), "place 1\nsession 7 floor 1 kept 0\n")
+            whole += 1
+            continue
+        size = os.path.getsize(again.store)
+        same(again.ended(), (3, "", f"femem: store size {size}\n"))
+        begun += 1
+        os.unlink(again.store)
+        again.start()
+        again.stop()
+    return f"{whole} went on, {begun} were begun"
+
+
+CHECKS = (killed_in_its_beginning, killed_in_migrations, killed)

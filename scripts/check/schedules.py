@@ -1,0 +1,117 @@
+"""The schedules of examples/ through a real server: by `femem call` where one client can send them, and by sockets."""
+
+import os
+import time
+
+from . import wire
+from .harness import Server, holds, same, within
+
+EXAMPLES = os.path.join(os.path.dirname(os.path.realpath(__file__)), "..", "..", "examples")
+
+
+def schedules():
+    """Each schedule that runs to its end: its name, lines and output."""
+    for file in sorted(os.listdir(EXAMPLES)):
+        name = file[: -len(".txt")]
+        if file.endswith(".txt") and not os.path.exists(os.path.join(EXAMPLES, f"{name}.err")):
+            with open(os.path.join(EXAMPLES, file), "rb") as text, open(os.path.join(EXAMPLES, f"{name}.out"), "rb") as out:
+                yield name, text.read().splitlines(), out.read().splitlines()
+
+
+def one_client_can_send(lines, output):
+    """Whether all lines are messages of c1, and each is answered before the next."""
+    if any(line.split()[0] != b"c1" or line.endswith(b" gone") for line in lines):
+        return False
+    # (a line that has no reply of its own keeps `call` waiting; a report has several lines)
+    return len(lines) == len(output) and not any(line.endswith(b"report") for line in lines)
+
+
+def by_call(place):
+    """schedules that one client can send, through `femem call`, each over a new store"""
+    count = 0
+    for name, lines, output in schedules():
+        if not one_client_can_send(lines, output):
+            continue
+        count += 1
+        server = Server(place, f"{count}").start()
+        strip = lambda lines: b"".join(line[3:] + b"\n" for line in lines)
+        same(place.run("call", "--socket", server.socket, given=strip(lines)), (0, strip(output), b""), name)
+        server.stop()
+    holds(count >= 9, f"{count} schedules alone")
+    return f"{count} schedules"
+
+
+class Clients:
+    """The connections of a schedule over a server, and the lines that they were told and that are not compared yet."""
+
+    def __init__(self, server):
+        self.server = server
+        self.conns = {}
+        self.told = {}
+
+    def do(self, words, wanted):
+        """Does a line of a schedule, and compares what it prints."""
+        if words == [b"stop"]:
+            self.server.stop()
+            self.conns, self.told = {}, {}
+            self.server.start()
+            return
+        name = words[0]
+        if words[1:] == [b"gone"]:
+            self.conns.pop(name).close()
+            return
+        if name not in self.conns:
+            self.conns[name], self.told[name] = self.server.connect(seconds=10), []
+        self.conns[name].send(wire.message_of(words[1:]))
+        if not wanted:
+            # (messages of one connection are handled in their order, and a report is answered at once)
+            same(self.conns[name].ask(wire.report())[0], "report")
+        # (a schedule sorts by number what one line gives)
+        told = [(line.split()[0], self.next_line(line.split()[0])) for line in wanted]
+        same(sorted(b" ".join(it) for it in told), sorted(wanted))
+
+    def next_line(self, name):
+        if not self.told[name]:
+            self.told[name] = wire.lines_of(self.conns[name].reply())
+        return self.told[name].pop(0).encode()
+
+
+def expected(place, lines):
+    """What each line prints, by one run in which a report of another connection follows each line."""
+    marked = b"".join(line + b"\nc999 report\n" for line in lines)
+    status, output, _ = place.run("run", given=marked)
+    same(status, 0)
+    told, found = [], []
+    for line in output.splitlines():
+        if line.startswith(b"c999 waiting "):
+            told.append(found)
+            found = []
+        elif not line.startswith(b"c999 "):
+            found.append(line)
+    return told
+
+
+@within(60)
+def by_sockets(place):
+    """schedules without `hold`, a connection for each of their clients, a kill for each `stop`; and nothing else comes"""
+    count = 0
+    for name, lines, output in schedules():
+        if any(line in (b"hold", b"check") for line in lines):
+            continue
+        count += 1
+        clients = Clients(Server(place, f"{count}", connections=100).start())
+        told = expected(place, lines)
+        same([line for it in told for line in it], output, name)
+        for line, wanted in zip(lines, told):
+            try:
+                clients.do(line.split(), wanted)
+            except (wire.Ended, wire.BadReply) as why:
+                holds(False, f"{name}: {line.decode()}: {why}")
+        time.sleep(0.05)
+        for conn in clients.conns.values():
+            holds(conn.is_quiet(0.01), f"{name}: more came than the schedule prints")
+        clients.server.stop()
+    return f"{count} schedules"
+
+
+CHECKS = (by_call, by_sockets)
