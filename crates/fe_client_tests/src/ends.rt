@@ -1,0 +1,207 @@
+//! How a talk ends before its input: bad lines, bad frames, connections that end, and streams that fail.
+use crate::talking::{prints, talk};
+use fe_client::{MemoryConnection, call_over};
+use fe_server::Fault;
+use std::io;
+use std::io::{Error, ErrorKind, Read, Write};
+use std::process::Abort;
+use std::test::Fail;
+
+const WELCOME: &[u8] =
+    b"\x00\x00\x00\x11\x41\x00\x00\x00\x00\x00\x00\x00\x07\x00\x00\x00\x00\x00\x00\x00\x01";
+
+/// Lines outside the syntax.
+const STRAY: [&[u8]; 24] = [
+    b"gone",
+    b"c1 bye",
+    b"c1 gone",
+    b"c1 attach 7",
+    b"hold",
+    b"flush",
+    b"stop",
+    b"check",
+    b"jump",
+    b" ",
+    b"bye ",
+    b" bye",
+    b"Bye",
+    b"bye\r",
+    b"attach",
+    b"attach ",
+    b"attach 07",
+    b"attach  7",
+    b"attach 7 8",
+    b"attach 18446744073709551616",
+    b"1",
+    b"1 readfe 1",
+    b"1 create a 1",
+    b"18446744073709551615 int_fetch_add 18446744073709551615 4294967295 18446744073709551615 nowait ",
+];
+
+/// Frames that are none of a reply, as soon as their last byte is there.
+const BAD: [&[u8]; 12] = [
+    b"\x00\x00\x00\x00",
+    b"\x00\x04\x00\x02",
+    b"\xff\xff\xff\xff",
+    b"\x00\x00\x00\x01\x41",
+    b"\x00\x00\x00\x01\x47",
+    b"\x00\x00\x00\x01\x08",
+    b"\x00\x00\x00\x09\x01\x00\x00\x00\x00\x00\x00\x00\x07",
+    b"\x00\x00\x00\x0a\x45\x00\x00\x00\x00\x00\x00\x00\x07\x00",
+    b"\x00\x00\x00\x0a\x46\x00\x00\x00\x00\x00\x00\x00\x02\x00",
+    b"\x00\x00\x00\x0a\x46\x00\x00\x00\x00\x00\x00\x00\x02\x0b",
+    b"\x00\x00\x00\x16\x42\x00\x00\x00\x00\x00\x00\x00\x02\x0c\x00\x00\x00\x00\x00\x00\x00\x00\x00\x00\x00\x00",
+    b"\x00\x00\x00\x02\x47\xff",
+];
+
+/// A bad line behind an exchange: nothing of it is sent, and what was printed before stays.
+#[test]
+fn bad_lines(rt: HostRuntime) -> Result<(), Fail> {
+    for line in STRAY {
+        let mut input = Vec::from_slice(rt.alloc(), b"attach 7\n\n")?;
+        input.extend_from_slice(line)?;
+        for end in [b"".as_slice(), b"\n", b"\nbye\n"] {
+            let mut lines = Vec::from_slice(rt.alloc(), input.as_slice())?;
+            lines.extend_from_slice(end)?;
+            let talked = talk(rt.alloc(), lines.as_slice(), WELCOME, 4096)?;
+            assert_eq!(rt; talked.end, Err(Fault::Line(3)), "{line:?}");
+            assert_eq!(rt;
+                talked.printed.as_slice(),
+                b"welcome 7 1\n".as_slice(),
+                "{line:?}"
+            );
+            assert_eq!(rt; talked.sent.as_slice().len(), 13, "{line:?}");
+        }
+    }
+    Ok(())
+}
+
+/// A bad frame behind an exchange, whatever comes behind it.
+#[test]
+fn bad_frames(rt: HostRuntime) -> Result<(), Fail> {
+    for frame in BAD {
+        for behind in [b"".as_slice(), WELCOME] {
+            let mut answers = Vec::from_slice(rt.alloc(), WELCOME)?;
+            answers.extend_from_slice(frame)?;
+            answers.extend_from_slice(behind)?;
+            let end = Err(Fault::Socket);
+            let printed = b"welcome 7 1\n";
+            prints(
+                &rt,
+                b"attach 7\nattach 7\nbye\n",
+                answers.as_slice(),
+                printed,
+                end,
+            )?;
+        }
+    }
+    Ok(())
+}
+
+/// The server closes the connection before its reply is whole.
+#[test]
+fn connection_ends(rt: HostRuntime) -> Result<(), Fail> {
+    for count in 0..WELCOME.len() {
+        let mut answers = Vec::from_slice(rt.alloc(), WELCOME)?;
+        answers.extend_from_slice(&WELCOME[..count])?;
+        let talked = talk(
+            rt.alloc(),
+            b"attach 7\nattach 7\nattach 7\n",
+            answers.as_slice(),
+            4,
+        )?;
+        assert_eq!(rt; talked.end, Err(Fault::Socket), "{count}");
+        assert_eq!(rt;
+            talked.printed.as_slice(),
+            b"welcome 7 1\n".as_slice(),
+            "{count}"
+        );
+        assert_eq!(rt; talked.sent.as_slice().len(), 26, "{count}");
+    }
+    Ok(())
+}
+
+/// A reader that gives its bytes one by one and then fails.
+#[derive(Drop)]
+struct Halting<'a> {
+    bytes: &'a [u8],
+}
+
+impl Read for Halting<'_> {
+    fn read(&mut self, buf: &mut [u8]) -> io::Result<usize> {
+        if buf.is_empty() {
+            return Ok(0);
+        }
+        match self.bytes.split_first() {
+            Some((first, rest)) => {
+                buf[0] = *first;
+                self.bytes = rest;
+                Ok(1)
+            }
+            None => Err(Error::from(ErrorKind::Other)),
+        }
+    }
+}
+
+/// A writer that takes two bytes at most in one call, and fails once it has no room.
+#[derive(Drop)]
+struct Narrow {
+    written: Vec<u8>,
+    room: usize,
+}
+
+impl Write for Narrow {
+    fn write(&mut self, buf: &[u8]) -> io::Result<usize> {
+        if self.room == 0 {
+            return Err(Error::from(ErrorKind::Other));
+        }
+        let count = buf.len().min(self.room).min(2);
+        self.written.extend_from_slice(&buf[..count])?;
+        self.room -= count;
+        Ok(count)
+    }
+
+    fn flush(&mut self) -> io::Result<()> {
+        Ok(())
+    }
+}
+
+/// Where a reply can't be printed, the next message is not sent.
+#[test]
+fn streams_fail(rt: HostRuntime) -> Result<(), Fail> {
+    let mut replies = Vec::from_slice(rt.alloc(), WELCOME)?;
+    replies.extend_from_slice(WELCOME)?;
+    let answers = Vec::from_slice(rt.alloc(), replies.as_slice())?;
+    let mut connection = MemoryConnection::new(rt.alloc(), answers, 3);
+    let mut halting = Halting {
+        bytes: b"attach 7\nattach 7\nby",
+    };
+    let mut printed = Vec::new(rt.alloc());
+    let end = call_over(rt.alloc(), &mut connection, &mut halting, &mut printed);
+    assert_eq!(rt; end, Err(Fault::Input));
+    assert_eq!(rt;
+        printed.as_slice(),
+        b"welcome 7 1\nwelcome 7 1\n".as_slice()
+    );
+    assert_eq!(rt; connection.sent().len(), 26);
+    for (room, sent, end) in [
+        (0, 13, Err(Fault::Input)),
+        (11, 13, Err(Fault::Input)),
+        (12, 26, Err(Fault::Input)),
+        (23, 26, Err(Fault::Input)),
+        (24, 26, Ok(())),
+    ] {
+        let answers = Vec::from_slice(rt.alloc(), replies.as_slice())?;
+        let mut connection = MemoryConnection::new(rt.alloc(), answers, 3);
+        let mut reader = b"attach 7\nattach 7\n".as_slice();
+        let mut narrow = Narrow {
+            written: Vec::new(rt.alloc()),
+            room,
+        };
+        let ended = call_over(rt.alloc(), &mut connection, &mut reader, &mut narrow);
+        assert_eq!(rt; ended, end, "{room}");
+        assert_eq!(rt; narrow.written.as_slice().len(), room, "{room}");
+        assert_eq!(rt; connection.sent().len(), sent, "{room}");
+    }
+    Ok(())
+}
