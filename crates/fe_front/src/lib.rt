@@ -2,6 +2,7 @@
 //! entry once its batch is posted.
 #![tactic(auto)]
 
+mod asked;
 mod boxes;
 mod calling;
 mod front;
@@ -12,6 +13,7 @@ mod posting;
 mod sessions;
 mod tables;
 
+pub use asked::is_same;
 pub use fe_mail::{Books, Mail, Refusal, ReportText};
 pub use front::{Front, ROOM};
 pub use laws::{books_rise, steps_are_legal};

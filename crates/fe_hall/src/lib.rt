@@ -4,7 +4,6 @@
 //! and each side of a connection has a seat that says what it did, so that the books can be compared with the seats.
 #![tactic(auto)]
 
-mod asked;
 mod closing;
 mod commit_end;
 mod committing;

@@ -9,8 +9,8 @@ ghost use Rattle.fe_state.specs.declared.kept.Kept.{Kept};
 ghost use Rattle.fe_wire.specs.declared.client_message.ClientMessage.TheVariants.{Call};
 ghost use Rattle.fe_hall.specs.Receipts.{IsAsTold, IsCalledBehind, WasSent, AreWhole, IsStrange, IsBorneOut, IsFirstStrange, Keeps};
 
-use crate::asked::is_same;
 use crate::receipt::Receipt;
+use fe_front::is_same;
 use fe_state::{Kept, Request, Session, State};
 use fe_wire::ClientMessage;
 

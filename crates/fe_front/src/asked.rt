@@ -5,8 +5,8 @@ ghost use Rattle.std.specs.Prelude.{◌≡◌, ◌↔◌, IsTrue};
 use fe_state::{Name, Request};
 use fe_words::{Op, Tag};
 
-/// Whether two requests ask the same.
-pub(crate) fn is_same(before: &Request, request: &Request) -> bool
+/// Whether two requests ask the same, in every part: what a number that comes again has to do.
+pub fn is_same(before: &Request, request: &Request) -> bool
     ensures { IsTrue result ↔ (before.now ≡ request.now) }
 {
     match (before, request) {
