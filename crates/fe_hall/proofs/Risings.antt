@@ -1,5 +1,5 @@
 -- The ledgers of a hall follow the front's books through each event.
-use Rattle.std.proofs.Common.{◌≡◌, ◌⊎◌, inl, inr, ℕ, ◌+◌, ◌-◌, ◌^◌, ◌<◌, ◌≤◌, Bool, true, false, List, [], length, Option, Some, None, Result, Ok, Err, IsErr, ◌↔◌, OnOk, OnErr, refl, sym, ap, subst, ◌∙◌, arith, ltb, leb}
+use Rattle.std.proofs.Common.{◌≡◌, inl, inr, ℕ, ◌+◌, ◌-◌, ◌^◌, ◌<◌, ◌≤◌, true, List, [], length, Option, Some, Result, Ok, Err, IsErr, ◌↔◌, OnOk, OnErr, refl, sym, subst, arith}
 use Rattle.std.proofs.lemmas.Bool.{and_parts}
 use Rattle.std.proofs.lemmas.Bool.Decides.{nat_tests}
 use Rattle.std.specs.Prelude.{IsTrue, nat_lt, nat_le, slice_get}
@@ -15,7 +15,7 @@ use Rattle.fe_wire.specs.declared.client_message.ClientMessage.TheVariants as me
 use Rattle.fe_front.specs.Front.{FrontState, IsFront}
 use Rattle.fe_front.specs.Event as event
 use Rattle.fe_front.specs.Step.{FrontStep}
-use Rattle.fe_front.specs.Rising.{HaveRoom, Rise, calls_of, taken_of, most_mails_of, refused_to, BooksRise}
+use Rattle.fe_front.specs.Rising.{HaveRoom, Rise, calls_of, taken_of, most_mails_of, refused_to}
 use Rattle.fe_front.specs.Posting.{IsOut, posted}
 use Rattle.fe_front.specs.Steps.{taken}
 use Rattle.fe_mail.specs.Connections.{mails_on}

@@ -14,7 +14,7 @@ use Rattle.fe_hall.specs.declared.receipt.Receipt.{Receipt}
 use Rattle.fe_hall.specs.declared.write_end.WriteEnd.{WriteEnd}
 use Rattle.fe_hall.specs.declared.write_end.WriteEnd.TheVariants.{Gone, Device, Stopped, Spent, NoMemory}
 use Rattle.fe_hall.specs.Seats.{Seat, risen}
-use Rattle.fe_hall.specs.Writes.{receipt_of, receipts_with, IsBatch, BreaksOff, MayLackLast, IsWritten, AreTaken, TakesOn, AreSpelled}
+use Rattle.fe_hall.specs.Writes.{receipt_of, receipts_with, IsBatch, BreaksOff, MayLackLast, IsWritten, AreTaken, TakesOn, IsNoFault, AreSpelled}
 
 -- ---- lists
 
@@ -112,50 +112,58 @@ spelled_one frames same after m r is reply put =
 pub spelled_more : (frames after : List ℕ) (mails more : List Mail) → frames ≡ spelled mails → after ≡ frames ++ spelled more → after ≡ spelled (mails ++ more)
 spelled_more frames after mails more so_far is = is ∙ ap (λ t. t ++ spelled more) so_far ∙ sym (spelled-append mails more)
 
-pub lacks : (frames after : List ℕ) (mails more : List Mail) → frames ≡ spelled mails → length more ≤ 1 → after ≡ frames → MayLackLast [] (mails ++ more) after
-lacks frames after mails more so_far few same = record { earlier = mails; last = more; all = refl; few = few; got = same ∙ so_far }
+-- a mail that was not spelled, and no mail
+pub lacks_one : (before same : List ℕ) (mails : List Mail) → length mails ≤ 1 → same ≡ before → MayLackLast before mails same
+lacks_one before same mails few is = record { earlier = []; last = mails; all = refl; few = few; got = is ∙ sym (append-nil before) }
 
-breaks : {A E : Type 0} (taken : Result A E) (before frames after : List ℕ) (mails : List Mail) (n : ℕ) → IsBatch mails → AreSpelled taken mails frames → n ≤ length frames
-    → after ≡ before ++ take n frames → BreaksOff before mails after
-breaks (Ok a) before frames after mails n batch spelling few got = record {
-  earlier = [];
-  last = mails;
-  all = refl;
-  batch = batch;
-  count = n;
-  got = got ∙ ap (λ (f : List ℕ). before ++ take n f) spelling;
-}
-breaks (Err e) before frames after mails n batch spelling few got = record {
-  earlier = [];
-  last = mails;
-  all = refl;
-  batch = batch;
-  count = n;
-  got =
-      let split : spelled mails ≡ frames ++ spelled spelling.last =
-      ap spelled spelling.all ∙ spelled-append spelling.earlier spelling.last ∙ ap (λ t. t ++ spelled spelling.last) (sym spelling.got) in
-      got ∙ ap (λ t. before ++ t) (sym (ap (λ t. take n t) split ∙ take-append-le n frames (spelled spelling.last) few));
+pub spells_none : (A : Type 0) (end : WriteEnd) (before same : List ℕ) → IsNoFault end → same ≡ before → AreSpelled {A = A} before (Err end) [] same
+spells_none A Gone before same fine is = is ∙ sym (append-nil before)
+spells_none A Stopped before same fine is = is ∙ sym (append-nil before)
+spells_none A Spent before same fine is = is ∙ sym (append-nil before)
+spells_none A Device before same fine is = absurd fine
+spells_none A NoMemory before same fine is = absurd fine
+
+-- behind mails that are spelled others were taken, when the side ends
+pub spells_on : (A B : Type 0) (end : WriteEnd) (frames after : List ℕ) (mails more : List Mail) → frames ≡ spelled mails → AreSpelled {A = A} frames (Err end) more after
+    → AreSpelled {A = B} [] (Err end) (mails ++ more) after
+spells_on A B Gone frames after mails more so_far is = spelled_more frames after mails more so_far is
+spells_on A B Stopped frames after mails more so_far is = spelled_more frames after mails more so_far is
+spells_on A B Spent frames after mails more so_far is = spelled_more frames after mails more so_far is
+spells_on A B Device frames after mails more so_far is = absurd is
+spells_on A B NoMemory frames after mails more so_far w = record {
+  earlier = mails ++ w.earlier;
+  last = w.last;
+  all = ap (λ t. mails ++ t) w.all ∙ sym (append_assoc mails w.earlier w.last);
+  few = w.few;
+  got = spelled_more frames after mails w.earlier so_far w.got;
 }
 
-pub breaks_off : {A E : Type 0} (taken : Result A E) (before frames bytes after : List ℕ) (mails : List Mail) (n : ℕ) → bytes ≡ frames → IsBatch mails → AreSpelled taken mails frames → n ≤ length bytes
-    → after ≡ before ++ take n bytes → BreaksOff before mails after
+-- what is spelled when a side ends is a front of the mails' frames
+rest_of : {A : Type 0} (taken : Result A WriteEnd) (mails : List Mail) (frames : List ℕ) → AreSpelled [] taken mails frames → (rest : List ℕ) × (spelled mails ≡ frames ++ rest)
+rest_of (Ok a) mails frames is = ([], sym is ∙ sym (append-nil frames))
+rest_of (Err Gone) mails frames is = ([], sym is ∙ sym (append-nil frames))
+rest_of (Err Stopped) mails frames is = ([], sym is ∙ sym (append-nil frames))
+rest_of (Err Spent) mails frames is = ([], sym is ∙ sym (append-nil frames))
+rest_of (Err Device) mails frames is = absurd is
+rest_of (Err NoMemory) mails frames w = (
+  spelled w.last,
+  ap spelled w.all ∙ spelled-append w.earlier w.last ∙ ap (λ t. t ++ spelled w.last) (sym w.got),
+)
+
+pub breaks_off : {A : Type 0} (taken : Result A WriteEnd) (before frames bytes after : List ℕ) (mails : List Mail) (n : ℕ) → bytes ≡ frames → IsBatch mails
+    → AreSpelled [] taken mails frames → n ≤ length bytes → after ≡ before ++ take n bytes → BreaksOff before mails after
 breaks_off taken before frames bytes after mails n same batch spelling few got =
-    breaks taken before frames after mails n batch spelling (subst (λ (f : List ℕ). n ≤ length f) same few) (got ∙ ap (λ (f : List ℕ). before ++ take n f) same)
-
--- all was written, whatever the end
-pub written_all : (end : WriteEnd) (before after : List ℕ) (mails : List Mail) → after ≡ before ++ spelled mails → IsWritten before mails end after
-written_all Gone before after mails got = got
-written_all Stopped before after mails got = got
-written_all Spent before after mails got = got
-written_all Device before after mails got = record {
-  earlier = mails;
-  last = [];
-  all = sym (append-nil mails);
-  batch = batch_none;
-  count = 0;
-  got = got ∙ ap (λ t. before ++ t) (sym (append-nil (spelled mails)));
-}
-written_all NoMemory before after mails got = record { earlier = mails; last = []; all = sym (append-nil mails); few = omega arith; got = got }
+    let rest = rest_of taken mails frames spelling in record {
+      earlier = [];
+      last = mails;
+      all = refl;
+      batch = batch;
+      count = n;
+      got =
+          got
+          ∙ ap (λ (f : List ℕ). before ++ take n f) same
+          ∙ ap (λ t. before ++ t) (sym (ap (λ t. take n t) rest.1 ∙ take-append-le n frames rest.0 (subst (λ (f : List ℕ). n ≤ length f) same few)));
+    }
 
 pub wrote_more : (before mid after : List ℕ) (ms ns : List Mail) → mid ≡ before ++ spelled ms → after ≡ mid ++ spelled ns → after ≡ before ++ spelled (ms ++ ns)
 wrote_more before mid after ms ns so_far got =

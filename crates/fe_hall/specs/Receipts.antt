@@ -1,5 +1,5 @@
 -- Receipts for answers that were taken, and which of them are strange: what is kept and what was sent speak against them.
-use Rattle.std.specs.Prelude.{◌≡◌, ℕ, ◌<◌, ◌≤◌, List, length, take, map, slice_get, Some, All, Any}
+use Rattle.std.specs.Prelude.{◌≡◌, ℕ, ◌<◌, ◌≤◌, List, length, take, slice_get, Some, All, Any}
 use Rattle.std.specs.FinMap.{get}
 use Rattle.fe_state.specs.Sessions.{kept_in}
 use Rattle.fe_state.specs.State.{ServerState}

@@ -1,5 +1,5 @@
 -- What the write side of a connection takes out of its box, and what its client gets.
-use Rattle.std.specs.Prelude.{◌≡◌, ℕ, ◌-◌, ◌<◌, ◌≤◌, List, [], ◌++◌, length, take, Option, Some, None, Result, Ok, Err}
+use Rattle.std.specs.Prelude.{◌≡◌, ℕ, ◌-◌, ◌<◌, ◌≤◌, List, ◌++◌, length, take, Option, Some, None, Result, Ok, Err}
 use Rattle.std.specs.List.{filter_map}
 use Rattle.fe_mail.specs.declared.mail.Mail.{Mail}
 use Rattle.fe_mail.specs.declared.mail.Mail.TheVariants as mail
@@ -73,7 +73,19 @@ pub record TakesOn (before after : Seat) (kept kept_after : List Receipt) (mails
   pub seat : after ≡ risen before (length mails)
   pub receipts : kept_after ≡ receipts_with kept mails
 
--- the frames of mails that were taken, all of them unless memory was short
-abbrev pub AreSpelled : {A E : Type 0} → Result A E → List Mail → List ℕ → Type 0
-AreSpelled (Ok a) mails frames = frames ≡ spelled mails
-AreSpelled (Err e) mails frames = MayLackLast [] mails frames
+-- why a side ends that has no mail: not for a fault of its half, and not for want of memory
+abbrev pub IsNoFault : WriteEnd → Type 0
+IsNoFault Gone = Unit {0}
+IsNoFault Stopped = Unit {0}
+IsNoFault Spent = Unit {0}
+IsNoFault Device = ⊥
+IsNoFault NoMemory = ⊥
+
+-- the frames of mails that were taken, behind those of before: all of them, unless memory was short
+abbrev pub AreSpelled : {A : Type 0} → List ℕ → Result A WriteEnd → List Mail → List ℕ → Type 0
+AreSpelled before (Ok a) mails frames = frames ≡ before ++ spelled mails
+AreSpelled before (Err Gone) mails frames = frames ≡ before ++ spelled mails
+AreSpelled before (Err Stopped) mails frames = frames ≡ before ++ spelled mails
+AreSpelled before (Err Spent) mails frames = frames ≡ before ++ spelled mails
+AreSpelled before (Err Device) mails frames = ⊥
+AreSpelled before (Err NoMemory) mails frames = MayLackLast before mails frames

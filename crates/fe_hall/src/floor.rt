@@ -1,6 +1,6 @@
 //! What lies under the lock of a hall: the front, with a ledger of its calls and one of the mails that were taken.
 
-ghost use Rattle.std.specs.Prelude.{◌≡◌, ◌≢◌, ◌+◌, ◌≤◌, ◌↔◌, ℕ, List, [], true, false, Ok, Err, Some, None, IsTrue, IfOk, IfErr, OnOk, OnErr, IfSome, MatchOption, slice_get, length, nat_lt};
+ghost use Rattle.std.specs.Prelude.{◌≡◌, ◌≢◌, ◌+◌, ◌≤◌, ◌↔◌, ℕ, List, [], true, false, Ok, Err, Some, None, IsTrue, IfOk, IfErr, OnOk, OnErr, IfSome, MatchOption, slice_get, length};
 ghost use Rattle.std.specs.FinMap.{get};
 ghost use Rattle.fe_state.specs.declared.entry.Entry.{Entry};
 ghost use Rattle.fe_front.specs.Front.{has_room, is_connected};
@@ -8,10 +8,12 @@ ghost use Rattle.fe_mail.specs.Books.{AddUp, first_books};
 ghost use Rattle.fe_front.specs.Event as event;
 ghost use Rattle.fe_front.specs.Step.{FrontStep};
 ghost use Rattle.fe_messages.specs.Taking.{Takes};
-ghost use Rattle.fe_hall.specs.Seats.{IsOpen, calls_in, risen, takes_more, posts_more, most_connections, most_counted};
+ghost use Rattle.fe_hall.specs.Seats.{IsOpen, calls_in, risen, takes_more, posts_more, most_connections};
+ghost use Rattle.fe_hall.specs.Writes.{IsNoFault};
 
 use crate::seat::{CallSeat, MailSeat};
 use crate::tally::Tally;
+use crate::write_end::WriteEnd;
 use fe_front::{Books, Front, Mail, StrangeBatch};
 use fe_messages::take_message;
 use fe_state::Batch;
@@ -187,11 +189,25 @@ impl<C: Tally, M: Tally> Floor<C, M> {
         }
     }
 
-    /// Whether one mail more that is taken stays within the books of a hall.
-    pub(crate) fn gives_more(&self) -> bool
-        ensures { result ≡ nat_lt self.now.front.books.taken most_counted }
+    /// How many mails were made, also those that met a full box.
+    pub(crate) fn mails_made(&self) -> u64 {
+        self.front.books().mails
+    }
+
+    /// Why the write side of a connection without mail ends, if it does.
+    pub(crate) fn end_of_writer(&self, conn: u64) -> Option<WriteEnd>
+        ensures { IfSome result IsNoFault }
     {
-        self.front.books().taken < MOST
+        if !self.front.connected(conn) {
+            return Some(WriteEnd::Gone);
+        }
+        if self.stopped {
+            return Some(WriteEnd::Stopped);
+        }
+        if self.front.books().taken >= MOST {
+            return Some(WriteEnd::Spent);
+        }
+        None
     }
 
     /// Takes the first mail out of a connection's box.

@@ -1,7 +1,8 @@
-ghost use Rattle.std.specs.Prelude.{◌≡◌, ◌≢◌, ◌+◌, IfOk, IfErr, Some, None, MatchOption, length};
+ghost use Rattle.std.specs.Prelude.{◌≡◌, ◌≢◌, ◌+◌, IfOk, IfErr, OnOk, OnErr, length};
 ghost use Rattle.fe_mail.specs.Books.{first_books};
 ghost use Rattle.fe_hall.specs.Seats.{calls_in, risen, most_connections};
 ghost use Rattle.fe_hall.specs.Commits.{IsStored};
+ghost use Rattle.fe_hall.specs.Writes.{IsNoFault};
 
 use crate::floor::{BELLS, Floor, Handled, Unconnected};
 use crate::seat::{CallSeat, MailSeat};
@@ -15,6 +16,9 @@ use fe_wire::ClientMessage;
 use std::alloc::{AllocError, Global};
 use std::sync::ledger::Blank;
 use std::sync::{Condvar, Mutex, MutexGuard, Wait};
+
+/// How often a thread tries to take the lock before it sleeps: a hold is shorter than a sleep and a wake-up.
+const LOOKS: u64 = 100;
 
 /// A front for many threads. Whoever has the lock makes one event of it.
 ///
@@ -77,6 +81,16 @@ impl<C: Tally, M: Tally> Hall<C, M> {
         }
     }
 
+    /// Takes the lock. The standard library's `lock` sleeps at once where another thread sleeps already, so it tries for a while first.
+    fn enter<R: Wait>(&self, rt: &R) -> MutexGuard<'_, Floor<C, M>> {
+        for _k in 0..LOOKS {
+            if let Some(floor) = self.floor.try_lock() {
+                return floor;
+            }
+        }
+        self.floor.lock(rt)
+    }
+
     /// Rings for the write side of a connection.
     fn ring(&self, conn: u64) {
         self.bells[(conn % BELLS) as usize].notify_all();
@@ -94,10 +108,11 @@ impl<C: Tally, M: Tally> Hall<C, M> {
         ensures taken { result ≡ Handled.Taken → seat.new ≡ risen seat.old (calls_in message.now) }
         ensures other { result ≢ Handled.Taken → seat.new ≡ seat.old }
     {
-        let mut floor = self.floor.lock(rt);
+        let mut floor = self.enter(rt);
         for _ in rt.forever() {
+            let mails = floor.mails_made();
             if let Some(handled) = floor.handle(alloc, conn, message, seat) {
-                let told = floor.calls_writer(conn);
+                let told = floor.mails_made() != mails;
                 MutexGuard::unlock(floor);
                 self.work.notify_one();
                 if told {
@@ -116,42 +131,33 @@ impl<C: Tally, M: Tally> Hall<C, M> {
         self.ring(conn);
     }
 
-    /// Waits for a mail of a connection. `None` where there is one; else why its write side ends.
-    pub(crate) fn wait_mail<R: Wait>(&self, rt: &R, conn: u64) -> Option<WriteEnd> {
-        let mut floor = self.floor.lock(rt);
+    /// Waits for a mail of a connection and takes it; with it, whether more are in its box. The error is why its write side ends.
+    pub(crate) fn take_mail<R: Wait>(
+        &self,
+        rt: &R,
+        conn: u64,
+        seat: &mut MailSeat<M>,
+    ) -> Result<(Mail, bool), WriteEnd>
+        ensures seat { OnOk result (seat.new ≡ risen seat.old 1) }
+        ensures untaken { OnErr result (seat.new ≡ seat.old) }
+        ensures end { IfErr result IsNoFault }
+    {
+        let mut floor = self.enter(rt);
         for _ in rt.forever() {
-            if floor.front.has_mail(conn) {
-                return None;
+            if let Some(mail) = floor.take_mail(conn, seat) {
+                return Ok((mail, floor.front.has_mail(conn)));
             }
-            if !floor.front.connected(conn) {
-                return Some(WriteEnd::Gone);
-            }
-            if floor.stopped {
-                return Some(WriteEnd::Stopped);
-            }
-            if !floor.gives_more() {
-                return Some(WriteEnd::Spent);
+            if let Some(end) = floor.end_of_writer(conn) {
+                return Err(end);
             }
             floor = self.bells[(conn % BELLS) as usize].wait(rt, floor);
         }
         unreachable!()
     }
 
-    /// Takes the first mail of a connection, if there is one.
-    pub(crate) fn take_mail<R: Wait>(
-        &self,
-        rt: &R,
-        conn: u64,
-        seat: &mut MailSeat<M>,
-    ) -> Option<Mail>
-        ensures seat { MatchOption result (seat.new ≡ seat.old) (λ mail. seat.new ≡ risen seat.old 1) }
-    {
-        self.floor.lock(rt).take_mail(conn, seat)
-    }
-
     /// Waits for entries, and cuts them. `None` where the hall is stopped and none is pending.
     pub(crate) fn next_batch<R: Wait>(&self, rt: &R) -> Option<Batch> {
-        let mut floor = self.floor.lock(rt);
+        let mut floor = self.enter(rt);
         for _ in rt.forever() {
             if let Some(batch) = floor.cut() {
                 return Some(batch);
@@ -174,7 +180,7 @@ impl<C: Tally, M: Tally> Hall<C, M> {
         requires stored { IsStored batch _keeper.now.state }
     {
         let mut wakes = [false; BELLS as usize];
-        let mut floor = self.floor.lock(rt);
+        let mut floor = self.enter(rt);
         if !floor.posts_more(&batch) {
             return None;
         }

@@ -16,7 +16,7 @@ use std::alloc::Global;
 use std::sync::Wait;
 
 /// How many bytes a read may bring.
-const PIECE_BYTES: usize = 65536;
+const PIECE_BYTES: usize = 8192;
 
 /// How many messages the list of a side has at most.
 const LISTED: usize = 1024;

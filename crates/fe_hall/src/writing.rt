@@ -82,14 +82,11 @@ impl<M: Tally> Writing<M> {
             if let Some(end) = self.write_box(rt, hall, half) {
                 return end;
             }
-            if let Some(end) = hall.wait_mail(rt, self.conn) {
-                return end;
-            }
         }
         unreachable!()
     }
 
-    /// Takes the mails of the box, or enough of them for a write, and writes them. Why the side ends, if it does.
+    /// Waits for mail, takes what is in the box, or enough of it for a write, and writes it. Why the side ends, if it does.
     fn write_box<C: Tally, H: WriteHalf, R: Wait>(
         &mut self,
         rt: &R,
@@ -107,46 +104,40 @@ impl<M: Tally> Writing<M> {
             return Some(WriteEnd::Device);
         }
         self.frames.clear();
-        match taken {
-            Ok(()) => None,
-            Err(_) => Some(WriteEnd::NoMemory),
-        }
+        taken.err()
     }
 
-    /// Takes mails and spells them, until the box is empty or enough bytes are spelled for a write. Where memory is short, at
-    /// most the last mail that was taken is not spelled.
-    fn take_mails<C: Tally, R: Wait>(&mut self, rt: &R, hall: &Hall<C, M>) -> Result<(), AllocError>
+    /// Waits for a mail, and takes and spells mails until the box is empty or enough bytes are spelled for a write. Where memory is
+    /// short, at most the last mail that was taken is not spelled.
+    fn take_mails<C: Tally, R: Wait>(&mut self, rt: &R, hall: &Hall<C, M>) -> Result<(), WriteEnd>
         requires { self.old.frames.items ≡ [] }
         ensures { (mails : List Told) × TakesOn self.old.seat self.new.seat self.old.receipts.items self.new.receipts.items mails
-            × IsBatch mails × AreSpelled result mails self.new.frames.items }
+            × IsBatch mails × AreSpelled [] result mails self.new.frames.items }
     {
+        let mut more = true;
         for _ in rt.forever() {
-            if self.frames.len() >= BATCH_BYTES {
+            if !more || self.frames.len() >= BATCH_BYTES {
                 return Ok(());
             }
-            if !self.take_mail(rt, hall)? {
-                return Ok(());
-            }
+            more = self.take_mail(rt, hall)?;
         }
         unreachable!()
     }
 
-    /// Takes a mail, keeps its receipt, and spells it. Whether there was one.
-    fn take_mail<C: Tally, R: Wait>(
-        &mut self,
-        rt: &R,
-        hall: &Hall<C, M>,
-    ) -> Result<bool, AllocError>
+    /// Waits for a mail, takes it, keeps its receipt, and spells it. Whether more are in the box.
+    fn take_mail<C: Tally, R: Wait>(&mut self, rt: &R, hall: &Hall<C, M>) -> Result<bool, WriteEnd>
         ensures { (mails : List Told) × TakesOn self.old.seat self.new.seat self.old.receipts.items self.new.receipts.items mails
-            × (length mails ≤ 1) × OnOk result (self.new.frames.items ≡ self.old.frames.items ++ spelled mails) × OnErr result (self.new.frames.items ≡ self.old.frames.items) }
+            × (length mails ≤ 1) × AreSpelled self.old.frames.items result mails self.new.frames.items }
     {
-        self.make_room()?;
-        let Some(mail) = hall.take_mail(rt, self.conn, &mut self.seat) else {
-            return Ok(false);
-        };
+        if self.make_room().is_err() {
+            return Err(WriteEnd::NoMemory);
+        }
+        let (mail, more) = hall.take_mail(rt, self.conn, &mut self.seat)?;
         self.keep_receipt(&mail);
-        Reply::of(mail).put(&mut self.frames)?;
-        Ok(true)
+        match Reply::of(mail).put(&mut self.frames) {
+            Ok(()) => Ok(more),
+            Err(_) => Err(WriteEnd::NoMemory),
+        }
     }
 
     /// Makes room for the receipt of the next mail, where one may be kept.

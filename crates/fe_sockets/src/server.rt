@@ -128,7 +128,10 @@ fn serve_as<
     let house = House::new(alloc, hall, settings.accepts > 0);
     let (keeper, end) = run(rt, alloc, &house, listener, settings, keeper, gate);
     match fault_of_end(end) {
-        Some(fault) => Err((fault, Some(keeper))),
+        Some(fault) => {
+            drop(house);
+            Err((fault, Some(keeper)))
+        }
         None => house.close(keeper),
     }
 }
@@ -156,7 +159,10 @@ fn hall_over<C: Tally, M: Tally>(
     let front = Front::new(alloc, state.copy()?)?;
     match Hall::new(alloc, front, calls, mails) {
         Ok(hall) => Ok(hall),
-        Err((short, _)) => Err(short),
+        Err((short, front)) => {
+            drop(front);
+            Err(short)
+        }
     }
 }
 

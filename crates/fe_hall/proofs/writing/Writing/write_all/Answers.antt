@@ -1,6 +1,6 @@
 use Rattle.std.proofs.Common.{[], ◌++◌, sym}
 use Rattle.std.proofs.lemmas.List.{append-nil}
-use Rattle.fe_hall.proofs.Written.{takes_none, takes_on, wrote_more, written_more, written_all}
+use Rattle.fe_hall.proofs.Written.{takes_none, takes_on, wrote_more, written_more}
 use Rattle.fe_hall.proofs.writing.Writing.write_all.Goals as goal
 
 pub loop-init : goal.loop-init
@@ -19,21 +19,6 @@ returns-in-Some-write_box-clause-wrote g c =
       i.0 ++ w.0,
       takes_on s.seat l.seat n.seat s.receipts.items l.receipts.items n.receipts.items i.0 w.0 i.1 w.1,
       (λ told. written_more c.in-Some-write_box.end (got c.args.half.now) (got c.loop.half) (got c.write_box.new.half) i.0 w.0 (i.2 told) (w.2 (c.loop.invariant.2 told))),
-    )
-
-pub returns-in-Some-wait_mail-clause-wrote : goal.returns-in-Some-wait_mail-clause-wrote
-returns-in-Some-wait_mail-clause-wrote g c =
-    let s = c.args.self.now in
-    let l = c.loop.self in
-    let n = c.write_box.new.self in
-    let i = c.loop.invariant.0 in
-    let w = c.in_default.ensures.wrote in
-    let got = g.H.WriteHalf.got in (
-      i.0 ++ w.0,
-      takes_on s.seat l.seat n.seat s.receipts.items l.receipts.items n.receipts.items i.0 w.0 i.1 w.1,
-      (λ told.
-          written_all c.in-Some-wait_mail.end (got c.args.half.now) (got c.write_box.new.half) (i.0 ++ w.0)
-          (wrote_more (got c.args.half.now) (got c.loop.half) (got c.write_box.new.half) i.0 w.0 (i.2 told) (w.2 (c.loop.invariant.2 told)))),
     )
 
 pub loop-preserved : goal.loop-preserved
