@@ -42,8 +42,9 @@ install: $(PROGRAM) ## puts femem into PREFIX/bin, /usr/local/bin if PREFIX is n
 examples: $(PROGRAM) ## runs every schedule of examples/, and compares what it prints
 	@scripts/run_examples $(PROGRAM)
 
-faults: $(PROGRAM) ## the same, with each allocation refused in turn
+faults: $(PROGRAM) ## the same, with each allocation refused in turn, and so each test of what stands where memory ends
 	@scripts/refuse_each $(PROGRAM)
+	@scripts/refuse_test
 
 check-programs: $(PROGRAM) ## real processes: crowds, kills under load, damaged stores, faults, both clients
 	@scripts/check_programs $(PROGRAM)
