@@ -1,6 +1,6 @@
 //! The committing side: it stores the batches of a hall, and posts them.
 
-ghost use Rattle.std.specs.Prelude.{◌≡◌, ◌↔◌, true, false, Some, None, Ok, Err, OnOk, IfErr};
+ghost use Rattle.std.specs.Prelude.{◌≡◌, ◌≢◌, ◌↔◌, true, false, Some, None, Ok, Err, OnOk, IfErr};
 ghost use Rattle.fe_keeper.specs.Stands.{EachStandsFor};
 ghost use Rattle.fe_keeper.specs.declared.fault.Fault.TheVariants.{Device};
 ghost use Rattle.fe_hall.specs.Commits.{Commits, Rests, IsStill, HasFailed, TellsEnd, end_of};
@@ -74,6 +74,8 @@ fn commit<C: Tally, M: Tally, D: Disk, R: Wait>(
     ensures stands { D.honest keeper.new.store.disk → keeper.new.store.has_failed ≡ false → EachStandsFor D.may_leave keeper.new.store.disk keeper.new.state }
     ensures tells { TellsEnd D.failures keeper.old keeper.new result }
     ensures works { result ≡ None → keeper.old.store.has_failed ≡ false }
+    // What was not stored, or not posted, is not told as stopped.
+    ensures unstopped { result ≢ Some CommitEnd.Stopped }
     ensures honesty { D.honest keeper.new.store.disk ↔ D.honest keeper.old.store.disk }
 {
     match keeper.append(batch) {
@@ -88,7 +90,8 @@ fn commit<C: Tally, M: Tally, D: Disk, R: Wait>(
 
 /// What a fault of an append is to the side.
 fn end_of(fault: Fault) -> CommitEnd
-    ensures { result ≡ end_of fault }
+    ensures end { result ≡ end_of fault }
+    ensures unstopped { result ≢ CommitEnd.Stopped }
 {
     match fault {
         Fault::Mismatch { .. } => CommitEnd::Strange,

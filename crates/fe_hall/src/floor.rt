@@ -1,11 +1,12 @@
 //! What lies under the lock of a hall: the front, with a ledger of its calls and one of the mails that were taken.
 
-ghost use Rattle.std.specs.Prelude.{◌≡◌, ◌≢◌, ◌+◌, ◌≤◌, ◌↔◌, ℕ, List, [], true, false, Ok, Err, Some, None, IsTrue, IfOk, IfErr, OnOk, OnErr, IfSome, MatchOption, slice_get, length};
+ghost use Rattle.std.specs.Prelude.{◌≡◌, ◌≢◌, ◌+◌, ◌≤◌, ◌↔◌, ℕ, List, [], true, false, Ok, Err, Some, None, IsTrue, IsErr, IfOk, IfErr, OnOk, OnErr, IfSome, MatchOption, slice_get, length};
 ghost use Rattle.std.specs.FinMap.{get};
 ghost use Rattle.fe_state.specs.declared.entry.Entry.{Entry};
 ghost use Rattle.fe_front.specs.Front.{has_room, is_connected};
 ghost use Rattle.fe_mail.specs.Books.{AddUp, first_books};
 ghost use Rattle.fe_front.specs.Event as event;
+ghost use Rattle.fe_front.specs.Posting.{IsOut};
 ghost use Rattle.fe_front.specs.Step.{FrontStep};
 ghost use Rattle.fe_messages.specs.Taking.{Takes};
 ghost use Rattle.fe_hall.specs.Seats.{IsOpen, calls_in, risen, takes_more, posts_more, most_connections};
@@ -100,6 +101,10 @@ impl<C: Tally, M: Tally> Floor<C, M> {
         ensures step { OnOk result (FrontStep self.old.front (event.Connect conn) [] self.new.front) }
         ensures err { OnErr result (self.new.front ≡ self.old.front) }
         ensures in_use { (result ≡ Err Unconnected.InUse) ↔ (is_connected self.old.front conn ≡ true) }
+        ensures spent { result ≡ Err Unconnected.Spent → self.old.made ≡ most_connections }
+        ensures made { OnOk result (self.new.made ≡ self.old.made + 1) }
+        ensures unmade { OnErr result (self.new.made ≡ self.old.made) }
+        ensures still { self.new.stopped ≡ self.old.stopped }
         ensures calls { IfOk result (λ seats. seats.0 ≡ record { connections = 1; amount = 0 }) }
         ensures mails { IfOk result (λ seats. seats.1 ≡ record { connections = 1; amount = 0 }) }
     {
@@ -141,6 +146,7 @@ impl<C: Tally, M: Tally> Floor<C, M> {
         requires more { IsTrue (takes_more self.old.front.books) }
         ensures taken { (es : List Entry) × Takes self.old.front conn message es self.new.front }
         ensures seat { seat.new ≡ risen seat.old (calls_in message) }
+        ensures still { self.new.stopped ≡ self.old.stopped }
     {
         // It names what is always true of the front (`docs/DECISIONS.md`, "Toolchain").
         let _ = self.front.state();
@@ -158,6 +164,12 @@ impl<C: Tally, M: Tally> Floor<C, M> {
     ) -> Option<Handled>
         ensures taken { result ≡ Some Handled.Taken → ((es : List Entry) × Takes self.old.front conn message.now es self.new.front) × (seat.new ≡ risen seat.old (calls_in message.now)) }
         ensures other { result ≢ Some Handled.Taken → (self.new.front ≡ self.old.front) × (seat.new ≡ seat.old) }
+        // Each other answer has its reason, and stopped comes first.
+        ensures stopped { (result ≡ Some Handled.Stopped) ↔ (self.old.stopped ≡ true) }
+        ensures gone { result ≡ Some Handled.Gone → is_connected self.old.front conn ≡ false }
+        ensures spent { result ≡ Some Handled.Spent → takes_more self.old.front.books ≡ false }
+        ensures full { result ≡ None → has_room self.old.front ≡ false }
+        ensures still { self.new.stopped ≡ self.old.stopped }
     {
         if self.stopped {
             return Some(Handled::Stopped);
@@ -261,6 +273,7 @@ impl<C: Tally, M: Tally> Floor<C, M> {
     /// Takes the batch that is out as stored, and mails its entries.
     pub(crate) fn post(&mut self, batch: Batch) -> Result<(), StrangeBatch>
         requires { IsTrue (posts_more self.old.front.books batch) }
+        ensures refused { IsErr result ↔ (¬ IsOut self.old.front.out batch) }
         ensures step { OnOk result (FrontStep self.old.front (event.Post batch) [] self.new.front) }
         ensures err { OnErr result (self.new.front ≡ self.old.front) }
     {
@@ -275,6 +288,8 @@ impl<C: Tally, M: Tally> Floor<C, M> {
         ensures all { IfSome result (λ books. (books.calls ≡ calls.amount) × (books.taken ≡ mails.amount) × (books ≡ self.front.books)) }
         ensures add_up { IfSome result (λ books. AddUp books) }
         ensures unspent { IfSome result (λ books. books.spent ≡ false) }
+        // No book is kept back where the seats are those of all connections that were made.
+        ensures missing { result ≡ None → calls.connections ≡ self.made → mails.connections ≡ self.made → ⊥ }
     {
         if calls.connections() != self.made || mails.connections() != self.made {
             return None;

@@ -1,6 +1,6 @@
 //! The two directions of a connection, and what stands before each message.
 
-ghost use Rattle.std.specs.Prelude.{◌≡◌, ◌≤◌, ◌++◌, ℕ, List, length, take, IfOk, OnOk, OnErr};
+ghost use Rattle.std.specs.Prelude.{◌≡◌, ◌≤◌, ◌++◌, [], ℕ, List, length, take, IfOk, OnOk, OnErr};
 
 use std::alloc::Global;
 use std::sync::Wait;
@@ -65,7 +65,9 @@ pub struct MemoryRead {
 
 impl MemoryRead {
     /// These bytes, in pieces of at most so many.
-    pub fn new(bytes: Vec<u8>, piece: usize) -> MemoryRead {
+    pub fn new(bytes: Vec<u8>, piece: usize) -> MemoryRead
+        ensures { ⟦<MemoryRead as ReadHalf>⟧.told result ≡ [] }
+    {
         MemoryRead {
             bytes,
             next: 0,
@@ -101,7 +103,9 @@ pub struct MemoryWrite {
 
 impl MemoryWrite {
     /// Nothing is written.
-    pub fn new(alloc: Global) -> MemoryWrite {
+    pub fn new(alloc: Global) -> MemoryWrite
+        ensures { ⟦<MemoryWrite as WriteHalf>⟧.got result ≡ [] }
+    {
         MemoryWrite {
             bytes: Vec::new(alloc),
         }
@@ -109,7 +113,7 @@ impl MemoryWrite {
 
     /// What was written.
     pub fn as_slice(&self) -> &[u8]
-        ensures { result.now ≡ self.now.bytes.items }
+        ensures { result.now ≡ ⟦<MemoryWrite as WriteHalf>⟧.got self.now }
     {
         self.bytes.as_slice()
     }

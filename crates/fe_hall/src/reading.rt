@@ -1,6 +1,6 @@
 //! The read side of a connection: the messages of its stream go to the hall, one after the other.
 
-ghost use Rattle.std.specs.Prelude.{◌≡◌, ◌≢◌, ◌↔◌, ◌++◌, [], ℕ, List, IsNone, IsSome, IfNone, IfSome, OnSome, MatchOption};
+ghost use Rattle.std.specs.Prelude.{◌≡◌, ◌≢◌, ◌↔◌, ◌++◌, [], ℕ, List, IsNone, IsSome, Some, IfNone, IfSome, OnSome, MatchOption};
 ghost use Rattle.fe_wire.specs.declared.client_message.ClientMessage.{ClientMessage as Message};
 ghost use Rattle.fe_hall.specs.Seats.{Seat, calls_in, risen};
 ghost use Rattle.fe_hall.specs.Reads.{is_sent, listed_with, AreHandled, BreaksOff, EndsAmong, HandlesStream, IsAt};
@@ -203,6 +203,9 @@ impl<C: Tally> Reading<C> {
 /// Why a side ends whose message was not taken. `None` where it was.
 fn end_of(handled: Handled) -> Option<ReadEnd>
     ensures taken { IsNone result ↔ (handled ≡ Handled.Taken) }
+    ensures gone { handled ≡ Handled.Gone → result ≡ Some ReadEnd.Gone }
+    ensures stopped { handled ≡ Handled.Stopped → result ≡ Some ReadEnd.Stopped }
+    ensures spent { handled ≡ Handled.Spent → result ≡ Some ReadEnd.Spent }
     ensures end { IfSome result BreaksOff }
 {
     match handled {

@@ -34,6 +34,6 @@ returns-in-Ok-clause-commits g c =
 pub returns-clause-commits : goal.returns-clause-commits
 returns-clause-commits g c =
     let e = c.in-Err.ensures in
-    subst (λ (end : CommitEnd). Commits g.D.Disk.honest g.D.Disk.moment g.D.Disk.left_since c.args.keeper.now c.append.new.self (Some end)) (sym c.end_of.ensures)
+    subst (λ (end : CommitEnd). Commits g.D.Disk.honest g.D.Disk.moment g.D.Disk.left_since c.args.keeper.now c.append.new.self (Some end)) (sym c.end_of.ensures.end)
     (commits_fault g.D.Disk.honest g.D.Disk.may_leave g.D.Disk.moment g.D.Disk.left_since g.met.D.Disk.only_now c.args.keeper.now c.append.new.self c.append.ensures.stands
     c.in-Err.fault c.args.batch.first c.args.batch.entries e.faults e.short e.unmatched e.untouched e.continued e.err c.append.ensures.any_moment)
