@@ -1,0 +1,290 @@
+//! The clients of a play, under one lock: what they said, and what was written to them.
+
+use crate::play::{Play, Replies, Script, Step};
+use crate::saying::{Say, put_said};
+use fe_disk::Hold;
+use fe_hall::{ReadEnd, WriteEnd};
+use fe_words::Op;
+use std::alloc::{AllocError, Global};
+use std::sync::Wait;
+
+/// The calls of a window, and how many replies a client gets that says one: one more is of the attach or the settling.
+const WINDOW: u64 = 32;
+
+const REPLIES: usize = 33;
+
+/// How many words the windows are about.
+const WORDS: u64 = 16;
+
+/// A client of a play.
+#[derive(Drop)]
+pub struct Client {
+    /// The frames that were written to it; of windows none is kept.
+    pub written: Vec<u8>,
+    /// How many frames were.
+    heard: usize,
+    /// How many windows it said.
+    said: usize,
+    pub read_end: Option<ReadEnd>,
+    pub write_end: Option<WriteEnd>,
+}
+
+/// What becomes of a client that asks what to say.
+#[derive(Clone, Copy, PartialEq, Eq)]
+pub enum Told {
+    /// It says something.
+    Line,
+    /// Nothing for now.
+    Nothing,
+    /// Nothing any more.
+    End,
+}
+
+/// The clients of a play.
+#[derive(Drop)]
+pub struct Board {
+    script: Script,
+    is_deaf: bool,
+    clients: Vec<Client>,
+    /// How many steps were made.
+    made: usize,
+    /// The connection that made the last one, until that is handled.
+    speaker: Option<u64>,
+    /// How many replies came, and how many should have come by now.
+    heard: usize,
+    awaited: usize,
+    /// The committing side has ended.
+    pub over: bool,
+}
+
+impl Board {
+    /// Nothing was said.
+    pub fn new(alloc: Global, play: &Play) -> Result<Board, AllocError> {
+        let mut clients = Vec::new(alloc);
+        for _ in 0..play.connections {
+            clients.push(Client {
+                written: Vec::new(alloc),
+                heard: 0,
+                said: 0,
+                read_end: None,
+                write_end: None,
+            })?;
+        }
+        Ok(Board {
+            script: play.script,
+            is_deaf: play.is_deaf,
+            clients,
+            made: 0,
+            speaker: None,
+            heard: 0,
+            awaited: 0,
+            over: false,
+        })
+    }
+
+    pub fn clients(&self) -> &[Client] {
+        self.clients.as_slice()
+    }
+
+    fn client(&mut self, conn: u64) -> Option<&mut Client> {
+        self.clients
+            .as_mut_slice()
+            .get_mut(conn.saturating_sub(1) as usize)
+    }
+
+    /// A connection has handled what it said, and asks what to say next, which is put to the line.
+    pub fn next(
+        &mut self,
+        rt: &impl Wait,
+        hold: &Hold,
+        conn: u64,
+        line: &mut Vec<u8>,
+    ) -> Result<Told, AllocError> {
+        self.handled(conn);
+        match self.script {
+            Script::Windows(count) => self.next_window(conn, count, line),
+            Script::Steps(steps) => {
+                if self.speaker.is_some() || self.heard < self.awaited {
+                    return Ok(Told::Nothing);
+                }
+                match steps.get(self.made) {
+                    Some(step) if self.heard == self.awaited => {
+                        self.make(rt, hold, conn, step, line)
+                    }
+                    _ => Ok(Told::End),
+                }
+            }
+        }
+    }
+
+    fn handled(&mut self, conn: u64) {
+        if self.speaker == Some(conn) {
+            self.speaker = None;
+        }
+    }
+
+    /// Makes a step, if it is this connection's or nobody's.
+    fn make(
+        &mut self,
+        rt: &impl Wait,
+        hold: &Hold,
+        conn: u64,
+        step: &Step,
+        line: &mut Vec<u8>,
+    ) -> Result<Told, AllocError> {
+        let is_made = match step {
+            Step::Says(by, say, _) => return self.say(conn, *by, *say, 1, step.replies(), line),
+            Step::Repeats(by, say, times) => return self.say(conn, *by, *say, *times, &[], line),
+            Step::Spells(by, bytes) => return self.spell(conn, *by, bytes, line),
+            Step::Holds => {
+                hold.hold(rt);
+                true
+            }
+            Step::IsHeld => hold.is_holding(rt),
+            Step::LetsGo(replies) => {
+                hold.let_go(rt);
+                self.awaited = self.awaited.saturating_add(replies.len());
+                true
+            }
+            Step::HasEnded => self.over,
+        };
+        if is_made {
+            self.made = self.made.saturating_add(1);
+        }
+        Ok(Told::Nothing)
+    }
+
+    fn say(
+        &mut self,
+        conn: u64,
+        by: u64,
+        say: Say,
+        times: usize,
+        replies: Replies,
+        line: &mut Vec<u8>,
+    ) -> Result<Told, AllocError> {
+        if by != conn {
+            return Ok(Told::Nothing);
+        }
+        for _ in 0..times {
+            put_said(line, say)?;
+        }
+        self.awaited = self.awaited.saturating_add(replies.len());
+        Ok(self.speaks(conn))
+    }
+
+    fn spell(
+        &mut self,
+        conn: u64,
+        by: u64,
+        bytes: &[u8],
+        line: &mut Vec<u8>,
+    ) -> Result<Told, AllocError> {
+        if by != conn {
+            return Ok(Told::Nothing);
+        }
+        line.extend_from_slice(bytes)?;
+        Ok(self.speaks(conn))
+    }
+
+    fn speaks(&mut self, conn: u64) -> Told {
+        self.made = self.made.saturating_add(1);
+        self.speaker = Some(conn);
+        Told::Line
+    }
+
+    /// The next window of a connection, once all that it said before is answered.
+    fn next_window(
+        &mut self,
+        conn: u64,
+        count: usize,
+        line: &mut Vec<u8>,
+    ) -> Result<Told, AllocError> {
+        let Some(client) = self.client(conn) else {
+            return Ok(Told::End);
+        };
+        let window = client.said;
+        if client.heard < window.saturating_mul(REPLIES) {
+            return Ok(Told::Nothing);
+        }
+        if window >= count {
+            return Ok(Told::End);
+        }
+        client.said = window.saturating_add(1);
+        put_window(conn, window as u64, line)?;
+        Ok(Told::Line)
+    }
+
+    /// Frames were written to a connection.
+    pub fn hear(&mut self, conn: u64, bytes: &[u8]) -> Result<(), AllocError> {
+        let keeps = matches!(self.script, Script::Steps(_));
+        let count = frames_in(bytes);
+        self.heard = self.heard.saturating_add(count);
+        let Some(client) = self.client(conn) else {
+            return Ok(());
+        };
+        client.heard = client.heard.saturating_add(count);
+        if keeps {
+            client.written.extend_from_slice(bytes)?;
+        }
+        Ok(())
+    }
+
+    /// Whether the writes of a connection return.
+    pub fn takes(&mut self, conn: u64) -> bool {
+        let waits = self.is_deaf;
+        match self.client(conn) {
+            Some(client) => !waits || client.read_end.is_some(),
+            None => true,
+        }
+    }
+
+    /// The read side of a connection has ended.
+    pub fn read_ended(&mut self, conn: u64, end: ReadEnd) {
+        self.handled(conn);
+        if let Some(client) = self.client(conn) {
+            client.read_end = Some(end);
+        }
+    }
+
+    /// The write side of a connection has ended.
+    pub fn write_ended(&mut self, conn: u64, end: WriteEnd) {
+        if let Some(client) = self.client(conn) {
+            client.write_end = Some(end);
+        }
+    }
+}
+
+/// How many frames these bytes are. None of them has 65,536 bytes.
+fn frames_in(bytes: &[u8]) -> usize {
+    let mut rest = bytes;
+    for count in 0..bytes.len() {
+        if rest.len() < 4 {
+            return count;
+        }
+        let length = 4 + usize::from(rest[2]) * 256 + usize::from(rest[3]);
+        rest = &rest[length.min(rest.len())..];
+    }
+    0
+}
+
+/// Puts a window of a connection: it comes, or settles the window before; then it empties a word and fills it again, for
+/// sixteen words.
+fn put_window(conn: u64, window: u64, line: &mut Vec<u8>) -> Result<(), AllocError> {
+    let first = window.saturating_mul(WINDOW).saturating_add(1);
+    if window == 0 {
+        put_said(line, Say::Attach(conn))?;
+    } else {
+        put_said(line, Say::Settle(first))?;
+    }
+    for k in 0..WINDOW {
+        let op = if k % 2 == 0 {
+            Op::ReadFe
+        } else {
+            Op::WriteEf(conn)
+        };
+        let index = conn.saturating_add(k / 2) % WORDS;
+        put_said(line, Say::Does(first.saturating_add(k), index as u32, op))?;
+    }
+    Ok(())
+}

@@ -1,0 +1,152 @@
+//! Halls that are closed with receipts that no side of theirs gave.
+
+ghost use Rattle.std.specs.Prelude.{◌≡◌, ◌+◌};
+ghost use Rattle.fe_hall.specs.Seats.{most_connections};
+
+use crate::rows::FIRST_PATH;
+use crate::saying::{Say, message_of};
+use crate::stage::{PARTS, hall_over};
+use crate::tests::store_after;
+use fe_disk::MemoryDisk;
+use fe_hall::{CallSeat, Hall, MailSeat, Receipt, Tally, Unclosed, Unconnected, close};
+use fe_keeper::Keeper;
+use fe_state::{Answer, Request};
+use fe_wire::ClientMessage;
+use fe_words::Op;
+use std::alloc::{AllocError, Global};
+use std::marker::Brand;
+use std::process::Abort;
+use std::sync::Wait;
+use std::sync::ledger::Blank;
+use std::thread::Threads;
+use std::time::Clock;
+
+/// A hall with connections, of which the first one's seats are handed in, what that one is told to have sent, a receipt, and
+/// how the hall is closed.
+struct Case {
+    connections: u64,
+    sent: &'static [Say],
+    receipt: Receipt,
+    closed: Result<(), Unclosed>,
+}
+
+/// The receipt of the first path's write.
+const WRITTEN: Receipt = Receipt {
+    session: 7,
+    number: 2,
+    answer: Answer::Done,
+    place: 2,
+};
+
+/// One that nobody can have, since the store is at its place.
+const AHEAD: Receipt = Receipt {
+    session: 7,
+    number: 5,
+    answer: Answer::Done,
+    place: 5,
+};
+
+const CASES: [Case; 4] = [
+    Case {
+        connections: 1,
+        sent: &[],
+        receipt: AHEAD,
+        closed: Err(Unclosed::StrangeReceipt { place: 5 }),
+    },
+    Case {
+        connections: 1,
+        sent: &[],
+        receipt: WRITTEN,
+        closed: Err(Unclosed::StrangeReceipt { place: 2 }),
+    },
+    Case {
+        connections: 1,
+        sent: &[Say::Attach(7), Say::Does(2, 0, Op::WriteEf(42))],
+        receipt: WRITTEN,
+        closed: Ok(()),
+    },
+    Case {
+        connections: 2,
+        sent: &[Say::Attach(7), Say::Does(2, 0, Op::WriteEf(42))],
+        receipt: WRITTEN,
+        closed: Err(Unclosed::SeatMissing),
+    },
+];
+
+fn messages(alloc: Global, said: &[Say]) -> Result<Vec<ClientMessage>, AllocError> {
+    // It names what a message holds (`docs/DECISIONS.md`, "Toolchain").
+    let _named: Option<Request> = None;
+    let mut messages = Vec::new(alloc);
+    for say in said {
+        if let Some(message) = message_of(*say) {
+            messages.push(message)?;
+        }
+    }
+    Ok(messages)
+}
+
+/// Makes connections, and gives the seats of the first one.
+fn connect<C: Tally, M: Tally, R: Wait>(
+    rt: &R,
+    hall: &Hall<C, M>,
+    connections: u64,
+) -> Result<(CallSeat<C>, MailSeat<M>), Unconnected> {
+    let seats = hall.connect(rt, 1)?;
+    for k in 1..connections {
+        drop(hall.connect(rt, k.saturating_add(1))?);
+    }
+    Ok(seats)
+}
+
+fn close_as<C: Tally, M: Tally, R: Abort + Wait>(
+    rt: &R,
+    alloc: Global,
+    keeper: Keeper<MemoryDisk>,
+    connections: u64,
+    sent: Vec<Vec<ClientMessage>>,
+    receipts: Vec<Receipt>,
+    calls: Blank,
+    mails: Blank,
+) -> Result<(), Unclosed>
+    requires calls { (calls.name ≡ C.name) × (calls.parts ≡ C.parts) × (C.all ≡ C.parts) × (C.all ≡ most_connections + 1) }
+    requires mails { (mails.name ≡ M.name) × (mails.parts ≡ M.parts) × (M.all ≡ M.parts) × (M.all ≡ most_connections + 1) }
+{
+    let hall = hall_over::<C, M>(alloc, keeper.state(), calls, mails)
+        .ok()
+        .expect(rt, "a hall");
+    let (calls, mails) = connect(rt, &hall, connections).ok().expect(rt, "connected");
+    match close(hall, calls, mails, sent, receipts, keeper) {
+        Ok(closing) => {
+            drop(closing);
+            Ok(())
+        }
+        Err(why) => Err(why),
+    }
+}
+
+/// The store of the first path, opened.
+fn stored<R: Abort + Clock + Threads + Wait + Sync>(rt: &R, alloc: Global) -> Keeper<MemoryDisk> {
+    let disk = store_after(rt, alloc, &FIRST_PATH).into_disk();
+    Keeper::open(alloc, disk).ok().expect(rt, "opened")
+}
+
+fn closed<R: Abort + Clock + Threads + Wait + Sync>(
+    rt: &R,
+    alloc: Global,
+    case: &Case,
+) -> Result<Result<(), Unclosed>, AllocError> {
+    let mut sent = Vec::new(alloc);
+    sent.push(messages(alloc, case.sent)?)?;
+    let receipts = Vec::from_slice(alloc, &[case.receipt])?;
+    let keeper = stored(rt, alloc);
+    let (calls, mails) = (Blank::new(PARTS), Blank::new(PARTS));
+    let count = case.connections;
+    Ok(close_as::<Brand, Brand, R>(rt, alloc, keeper, count, sent, receipts, calls, mails))
+}
+
+#[test]
+fn strange_receipt(rt: HostRuntime) {
+    for case in &CASES {
+        assert!(&rt; closed(&rt, rt.alloc(), case) == Ok(case.closed));
+    }
+}

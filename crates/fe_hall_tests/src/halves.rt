@@ -1,0 +1,121 @@
+//! The two directions of a client's connection.
+
+use crate::board::{Board, Told};
+use fe_disk::Hold;
+use fe_hall::{LineFault, ReadHalf, WriteHalf};
+use std::alloc::Global;
+use std::sync::{Mutex, Wait};
+use std::thread;
+use std::time::{Clock, Duration};
+
+/// How often a half looks whether it goes on, with a millisecond between.
+const TURNS: usize = 100_000;
+
+/// What a client says.
+#[derive(Drop)]
+pub struct ClientRead<'r, 'b, 'h, R> {
+    rt: &'r R,
+    board: &'b Mutex<Board>,
+    hold: &'h Hold,
+    conn: u64,
+    /// How many bytes a read gives at most.
+    piece: usize,
+    /// What it says now, and how much of it was read.
+    line: Vec<u8>,
+    next: usize,
+}
+
+impl<'r, 'b, 'h, R: Clock + Wait> ClientRead<'r, 'b, 'h, R> {
+    pub fn new(
+        rt: &'r R,
+        alloc: Global,
+        board: &'b Mutex<Board>,
+        hold: &'h Hold,
+        conn: u64,
+        piece: usize,
+    ) -> ClientRead<'r, 'b, 'h, R> {
+        ClientRead {
+            rt,
+            board,
+            hold,
+            conn,
+            piece,
+            line: Vec::new(alloc),
+            next: 0,
+        }
+    }
+
+    /// Waits until it says something. Whether it does.
+    fn wait(&mut self) -> Result<bool, LineFault> {
+        self.next = 0;
+        self.line.clear();
+        for _ in 0..TURNS {
+            let told = self
+                .board
+                .lock(self.rt)
+                .next(self.rt, self.hold, self.conn, &mut self.line);
+            match told {
+                Ok(Told::Line) => return Ok(true),
+                Ok(Told::End) => return Ok(false),
+                Ok(Told::Nothing) => {}
+                Err(_) => return Err(LineFault),
+            }
+            thread::sleep(self.rt, Duration::from_millis(1));
+        }
+        Err(LineFault)
+    }
+}
+
+impl<'r, 'b, 'h, R: Clock + Wait> ReadHalf for ClientRead<'r, 'b, 'h, R> {
+    ghost use Rattle.std.specs.Prelude.{[]};
+
+    ghost tells = { λ _. ⊥ };
+
+    ghost told = { λ _. [] };
+
+    fn read(&mut self, buffer: &mut [u8]) -> Result<usize, LineFault> {
+        if self.next >= self.line.len() && !self.wait()? {
+            return Ok(0);
+        }
+        let rest = &self.line.as_slice()[self.next.min(self.line.len())..];
+        let count = rest.len().min(self.piece).min(buffer.len());
+        buffer[..count].copy_from_slice(&rest[..count]);
+        self.next = self.next.saturating_add(count);
+        Ok(count)
+    }
+}
+
+/// What is written to a client.
+#[derive(Drop)]
+pub struct ClientWrite<'r, 'b, R> {
+    rt: &'r R,
+    board: &'b Mutex<Board>,
+    conn: u64,
+}
+
+impl<'r, 'b, R: Clock + Wait> ClientWrite<'r, 'b, R> {
+    pub fn new(rt: &'r R, board: &'b Mutex<Board>, conn: u64) -> ClientWrite<'r, 'b, R> {
+        ClientWrite { rt, board, conn }
+    }
+}
+
+impl<'r, 'b, R: Clock + Wait> WriteHalf for ClientWrite<'r, 'b, R> {
+    ghost use Rattle.std.specs.Prelude.{[]};
+
+    ghost tells = { λ _. ⊥ };
+
+    ghost got = { λ _. [] };
+
+    fn write(&mut self, bytes: &[u8]) -> Result<usize, LineFault> {
+        if self.board.lock(self.rt).hear(self.conn, bytes).is_err() {
+            return Err(LineFault);
+        }
+        for _ in 0..TURNS {
+            if self.board.lock(self.rt).takes(self.conn) {
+                return Ok(bytes.len());
+            }
+            thread::sleep(self.rt, Duration::from_millis(1));
+        }
+        Err(LineFault)
+    }
+}

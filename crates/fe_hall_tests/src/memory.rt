@@ -1,0 +1,113 @@
+//! Groups that are stored one by one, until a checkpoint is made.
+//!
+//! `rt try --test --fail-alloc N`, for N from 1 on, takes each allocation away in turn: what could not be done for want of it is
+//! done when it is tried again, and the committing side goes on where a checkpoint can't be begun.
+
+ghost use Rattle.std.specs.Prelude.{◌≡◌, ◌+◌};
+ghost use Rattle.fe_hall.specs.Seats.{most_connections};
+
+use crate::saying::{Say, put_said};
+use crate::stage::{PARTS, hall_over};
+use fe_disk::MemoryDisk;
+use fe_hall::{
+    CallSeat, CommitEnd, Hall, MemoryRead, Open, ReadEnd, Tally, commit_side, read_side,
+};
+use fe_keeper::Keeper;
+use std::alloc::{AllocError, Global};
+use std::marker::Brand;
+use std::process::Abort;
+use std::sync::Wait;
+use std::sync::ledger::Blank;
+
+/// How many entries a group has, of 80 bytes each. With the fourth group a checkpoint is due, and the seventh has no room but
+/// behind it.
+const ENTRIES: usize = 2000;
+
+/// What the journal has behind the checkpoint: a group of all that came since it was begun, and the seventh. It has one group's
+/// entries fewer where it could be begun only behind the fifth.
+const USED: [u32; 2] = [480_010, 320_010];
+
+/// A client that attaches again and again.
+fn stream(alloc: Global) -> Result<Vec<u8>, AllocError> {
+    let mut bytes = Vec::new(alloc);
+    for _ in 0..ENTRIES {
+        put_said(&mut bytes, Say::Attach(7))?;
+    }
+    Ok(bytes)
+}
+
+/// Reads the client's stream to its end, and stores what it did. `None` where there was no memory; nothing is stored then.
+fn store<C: Tally, M: Tally, R: Wait>(
+    rt: &R,
+    alloc: Global,
+    hall: &Hall<C, M>,
+    keeper: &mut Keeper<MemoryDisk>,
+) -> Option<CommitEnd> {
+    let bytes = stream(alloc).ok()?;
+    let (seat, _) = hall.connect(rt, 1).ok()?;
+    let mut half = MemoryRead::new(bytes, 4096);
+    let (_, _, end) = read_side(rt, alloc, hall, seat, 1, &mut half, &Open, None);
+    match end {
+        ReadEnd::Closed => {
+            hall.stop(rt);
+            Some(commit_side(rt, hall, keeper))
+        }
+        _ => None,
+    }
+}
+
+fn store_as<C: Tally, M: Tally, R: Wait>(
+    rt: &R,
+    alloc: Global,
+    keeper: &mut Keeper<MemoryDisk>,
+    calls: Blank,
+    mails: Blank,
+) -> Option<CommitEnd>
+    requires calls { (calls.name ≡ C.name) × (calls.parts ≡ C.parts) × (C.all ≡ C.parts) × (C.all ≡ most_connections + 1) }
+    requires mails { (mails.name ≡ M.name) × (mails.parts ≡ M.parts) × (M.all ≡ M.parts) × (M.all ≡ most_connections + 1) }
+{
+    let hall = hall_over::<C, M>(alloc, keeper.state(), calls, mails).ok()?;
+    let end = store(rt, alloc, &hall, keeper);
+    drop(hall);
+    end
+}
+
+/// A hall for one group.
+fn store_group<R: Wait>(
+    rt: &R,
+    alloc: Global,
+    keeper: &mut Keeper<MemoryDisk>,
+) -> Option<CommitEnd> {
+    let blanks = (Blank::new(PARTS), Blank::new(PARTS));
+    store_as::<Brand, Brand, R>(rt, alloc, keeper, blanks.0, blanks.1)
+}
+
+fn check<R: Abort + Wait>(rt: &R, alloc: Global, keeper: &mut Keeper<MemoryDisk>) {
+    for _ in 0..7 {
+        let end = match store_group(rt, alloc, keeper) {
+            Some(end) => Some(end),
+            None => store_group(rt, alloc, keeper),
+        };
+        assert!(rt; end == Some(CommitEnd::Stopped));
+    }
+    assert!(rt; keeper.state().place() == 14_000);
+    assert!(rt; USED.contains(&keeper.used()));
+}
+
+fn new_store_at_last(alloc: Global) -> Option<Keeper<MemoryDisk>> {
+    for _ in 0..2 {
+        if let Ok(disk) = MemoryDisk::new(alloc, 4_202_496) {
+            if let Ok(keeper) = Keeper::format(alloc, disk) {
+                return Some(keeper);
+            }
+        }
+    }
+    None
+}
+
+#[test]
+fn where_memory_ends(rt: HostRuntime) {
+    let mut keeper = new_store_at_last(rt.alloc()).expect(&rt, "a store");
+    check(&rt, rt.alloc(), &mut keeper);
+    drop(keeper);
+}

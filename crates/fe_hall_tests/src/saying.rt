@@ -1,0 +1,92 @@
+//! What clients say and hear, in few words: one array, `cells`, whose id is 1.
+
+use fe_front::{Mail, Refusal};
+use fe_messages::Reply;
+use fe_state::{Answer, Name, Request};
+use fe_wire::{ClientMessage, put_message};
+use fe_words::{Op, Tag};
+use std::alloc::AllocError;
+
+/// A message of a client.
+#[derive(Clone, Copy)]
+pub enum Say {
+    Attach(u64),
+    /// A call of that number makes the array, of so many words.
+    Create(u64, u32, Tag),
+    /// One finds it.
+    Find(u64),
+    /// One makes an operation on the word of that index.
+    Does(u64, u32, Op),
+    Settle(u64),
+    Bye,
+}
+
+/// A reply to a client. The floor of a welcome is 1.
+#[derive(Clone, Copy)]
+pub enum Hear {
+    Welcome(u64),
+    /// The answers of the call of that number: the array, of so many words; that it is done; and the value.
+    Array(u64, u32),
+    Done(u64),
+    Value(u64, u64),
+    Refused(u64, Refusal),
+    Goodbye(u64),
+}
+
+/// The message that is said. `None`: the name is none.
+pub fn message_of(say: Say) -> Option<ClientMessage> {
+    let (number, request) = match say {
+        Say::Attach(session) => return Some(ClientMessage::Attach { session }),
+        Say::Settle(floor) => return Some(ClientMessage::Settle { floor }),
+        Say::Bye => return Some(ClientMessage::Bye),
+        Say::Create(number, length, tag) => {
+            let name = Name::new(b"cells")?;
+            (number, Request::Create { name, length, tag })
+        }
+        Say::Find(number) => {
+            let name = Name::new(b"cells")?;
+            (number, Request::Find { name })
+        }
+        Say::Does(number, index, op) => {
+            let request = Request::Access {
+                array: 1,
+                index,
+                op,
+                no_wait: false,
+            };
+            (number, request)
+        }
+    };
+    Some(ClientMessage::Call { number, request })
+}
+
+/// Puts the frame of what is said.
+pub fn put_said(line: &mut Vec<u8>, say: Say) -> Result<(), AllocError> {
+    match message_of(say) {
+        Some(message) => put_message(line, &message),
+        None => Ok(()),
+    }
+}
+
+/// Puts the frame of what is heard.
+pub fn put_heard(line: &mut Vec<u8>, hear: Hear) -> Result<(), AllocError> {
+    let mail = match hear {
+        Hear::Welcome(session) => Mail::Welcome { session, floor: 1 },
+        Hear::Array(number, length) => answered(number, Answer::Array { id: 1, length }),
+        Hear::Done(number) => answered(number, Answer::Done),
+        Hear::Value(number, value) => answered(number, Answer::Value(value)),
+        Hear::Refused(number, refusal) => Mail::Refused { number, refusal },
+        Hear::Goodbye(session) => Mail::Goodbye { session },
+    };
+    Reply::of(mail).put(line)
+}
+
+/// Session and place of an answer are not told.
+fn answered(number: u64, answer: Answer) -> Mail {
+    Mail::Answer {
+        session: 0,
+        number,
+        answer,
+        place: 0,
+    }
+}

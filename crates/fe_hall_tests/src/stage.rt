@@ -1,0 +1,300 @@
+//! Plays in a hall: each client has two threads, and one stores.
+
+ghost use Rattle.std.specs.Prelude.{◌≡◌, ◌+◌};
+ghost use Rattle.fe_hall.specs.Seats.{most_connections};
+
+use crate::board::Board;
+use crate::halves::{ClientRead, ClientWrite};
+use crate::play::Play;
+use crate::register::Register;
+use fe_disk::{Disk, Hold};
+use fe_front::Front;
+use fe_hall::{
+    CallSeat, Closing, CommitEnd, Hall, MailSeat, Open, Tally, Unclosed, commit_side, read_side,
+    write_side,
+};
+use fe_keeper::Keeper;
+use fe_state::State;
+use std::alloc::{AllocError, Global};
+use std::marker::Brand;
+use std::process::Abort;
+use std::sync::ledger::Blank;
+use std::sync::{Mutex, Wait};
+use std::thread;
+use std::thread::{Scope, Threads};
+use std::time::Clock;
+
+/// How many parts the ledgers of a hall have, 2^62 + 1.
+pub const PARTS: u64 = 4611686018427387905;
+
+/// How many bytes a read gives at most: less than a window, so that its frames are cut.
+const PIECE: usize = 1000;
+
+/// What the threads of a play share.
+#[derive(Drop)]
+struct Stage<'a, C: Tally, M: Tally> {
+    play: &'a Play,
+    hold: &'a Hold,
+    hall: Hall<C, M>,
+    register: Mutex<Register<C, M>>,
+    board: Mutex<Board>,
+}
+
+/// What came of a play.
+#[derive(Drop)]
+pub struct Played<D: Disk + Drop> {
+    pub board: Board,
+    pub commit_end: CommitEnd,
+    /// How many answers were taken.
+    pub receipts: usize,
+    pub closed: Result<Closing<D>, Unclosed>,
+}
+
+/// Plays over the store of a keeper, whose syncs the hold holds back where they are held. At its end the hall is closed.
+pub fn perform<D: Disk + Drop + Send, R: Abort + Clock + Threads + Wait + Sync>(
+    rt: &R,
+    alloc: Global,
+    play: &Play,
+    hold: &Hold,
+    keeper: Keeper<D>,
+) -> Played<D> {
+    perform_as::<Brand, Brand, D, R>(
+        rt,
+        alloc,
+        play,
+        hold,
+        keeper,
+        Blank::new(PARTS),
+        Blank::new(PARTS),
+    )
+}
+
+fn perform_as<
+    C: Tally + Send + Sync,
+    M: Tally + Send + Sync,
+    D: Disk + Drop + Send,
+    R: Abort + Clock + Threads + Wait + Sync,
+>(
+    rt: &R,
+    alloc: Global,
+    play: &Play,
+    hold: &Hold,
+    keeper: Keeper<D>,
+    calls: Blank,
+    mails: Blank,
+) -> Played<D>
+    requires calls { (calls.name ≡ C.name) × (calls.parts ≡ C.parts) × (C.all ≡ C.parts) × (C.all ≡ most_connections + 1) }
+    requires mails { (mails.name ≡ M.name) × (mails.parts ≡ M.parts) × (M.all ≡ M.parts) × (M.all ≡ most_connections + 1) }
+{
+    let hall = hall_over::<C, M>(alloc, keeper.state(), calls, mails)
+        .ok()
+        .expect(rt, "a hall");
+    let board = Board::new(alloc, play).ok().expect(rt, "a board");
+    let stage = Stage {
+        play,
+        hold,
+        hall,
+        register: Mutex::new(Register::new(alloc)),
+        board: Mutex::new(board),
+    };
+    let (keeper, commit_end) = run(rt, alloc, &stage, keeper);
+    finish(stage, keeper, commit_end)
+}
+
+/// Closes the hall of a play.
+fn finish<C: Tally, M: Tally, D: Disk + Drop>(
+    stage: Stage<C, M>,
+    keeper: Keeper<D>,
+    commit_end: CommitEnd,
+) -> Played<D>
+    requires calls { C.all ≡ C.parts }
+    requires mails { M.all ≡ M.parts }
+{
+    let Stage {
+        hall,
+        register,
+        board,
+        ..
+    } = stage;
+    let register = register.into_inner();
+    Played {
+        board: board.into_inner(),
+        commit_end,
+        receipts: register.receipts(),
+        closed: register.close(hall, keeper),
+    }
+}
+
+/// A hall round a front over a copy of a state.
+pub fn hall_over<C: Tally, M: Tally>(
+    alloc: Global,
+    state: &State,
+    calls: Blank,
+    mails: Blank,
+) -> Result<Hall<C, M>, AllocError>
+    requires calls { (calls.name ≡ C.name) × (calls.parts ≡ C.parts) × (C.all ≡ C.parts) × (C.all ≡ most_connections + 1) }
+    requires mails { (mails.name ≡ M.name) × (mails.parts ≡ M.parts) × (M.all ≡ M.parts) × (M.all ≡ most_connections + 1) }
+{
+    let front = Front::new(alloc, state.copy()?)?;
+    match Hall::new(alloc, front, calls, mails) {
+        Ok(hall) => Ok(hall),
+        Err((short, _)) => Err(short),
+    }
+}
+
+/// Serves the clients and stores what they do, until all of them have ended.
+fn run<
+    C: Tally + Send + Sync,
+    M: Tally + Send + Sync,
+    D: Disk + Drop + Send,
+    R: Clock + Threads + Wait + Sync,
+>(rt: &R, alloc: Global, stage: &Stage<C, M>, keeper: Keeper<D>) -> (Keeper<D>, CommitEnd)
+    requires { (C.all ≡ C.parts) × (M.all ≡ M.parts) }
+{
+    thread::scope(
+        thread::scope_env(),
+        rt,
+        move |scope| -> (Keeper<D>, CommitEnd)
+            requires { (C.all ≡ C.parts) × (M.all ≡ M.parts) }
+        { run_in(rt, alloc, scope, stage, keeper) },
+    )
+}
+
+fn run_in<
+    's,
+    E,
+    C: Tally + Send + Sync,
+    M: Tally + Send + Sync,
+    D: Disk + Drop + Send + 's,
+    R: Clock + Threads + Wait + Sync,
+>(
+    rt: &'s R,
+    alloc: Global,
+    scope: &Scope<'s, E>,
+    stage: &'s Stage<C, M>,
+    keeper: Keeper<D>,
+) -> (Keeper<D>, CommitEnd)
+    requires { (C.all ≡ C.parts) × (M.all ≡ M.parts) }
+{
+    match scope.spawn(move || -> (Keeper<D>, CommitEnd) { commit(rt, stage, keeper) }) {
+        Ok(committing) => {
+            serve(rt, alloc, stage);
+            stage.hall.stop(rt);
+            committing.join(rt)
+        }
+        Err(refused) => {
+            stage.hall.stop(rt);
+            (refused.value)()
+        }
+    }
+}
+
+/// The committing side.
+fn commit<C: Tally, M: Tally, D: Disk, R: Wait>(
+    rt: &R,
+    stage: &Stage<C, M>,
+    keeper: Keeper<D>,
+) -> (Keeper<D>, CommitEnd) {
+    let mut keeper = keeper;
+    let end = commit_side(rt, &stage.hall, &mut keeper);
+    stage.board.lock(rt).over = true;
+    (keeper, end)
+}
+
+/// Serves the clients, until all of them have ended.
+fn serve<C: Tally + Send + Sync, M: Tally + Send + Sync, R: Clock + Threads + Wait + Sync>(
+    rt: &R,
+    alloc: Global,
+    stage: &Stage<C, M>,
+)
+    requires { (C.all ≡ C.parts) × (M.all ≡ M.parts) }
+{
+    thread::scope(
+        thread::scope_env(),
+        rt,
+        move |scope|
+            requires { (C.all ≡ C.parts) × (M.all ≡ M.parts) }
+        { serve_all(rt, alloc, scope, stage) },
+    );
+}
+
+fn serve_all<
+    's,
+    E,
+    C: Tally + Send + Sync,
+    M: Tally + Send + Sync,
+    R: Clock + Threads + Wait + Sync,
+>(rt: &'s R, alloc: Global, scope: &Scope<'s, E>, stage: &'s Stage<C, M>)
+    requires { (C.all ≡ C.parts) × (M.all ≡ M.parts) }
+{
+    for k in 0..stage.play.connections {
+        serve_one(rt, alloc, scope, stage, k.saturating_add(1));
+    }
+}
+
+/// Makes a connection, and starts its threads. Where one can't be started it is served once the hall is stopped.
+fn serve_one<
+    's,
+    E,
+    C: Tally + Send + Sync,
+    M: Tally + Send + Sync,
+    R: Clock + Threads + Wait + Sync,
+>(rt: &'s R, alloc: Global, scope: &Scope<'s, E>, stage: &'s Stage<C, M>, conn: u64)
+    requires { (C.all ≡ C.parts) × (M.all ≡ M.parts) }
+{
+    let Ok((calls, mails)) = stage.hall.connect(rt, conn) else {
+        return;
+    };
+    let reading = scope.spawn(
+        move ||
+            requires { C.all ≡ C.parts }
+        { read(rt, alloc, stage, calls, conn) },
+    );
+    if let Err(refused) = reading {
+        stage.hall.stop(rt);
+        (refused.value)();
+    }
+    let writing = scope.spawn(
+        move ||
+            requires { M.all ≡ M.parts }
+        { write(rt, alloc, stage, mails, conn) },
+    );
+    if let Err(refused) = writing {
+        stage.hall.stop(rt);
+        (refused.value)();
+    }
+}
+
+/// The read side of a client.
+fn read<C: Tally, M: Tally, R: Clock + Wait>(
+    rt: &R,
+    alloc: Global,
+    stage: &Stage<C, M>,
+    seat: CallSeat<C>,
+    conn: u64,
+)
+    requires { C.all ≡ C.parts }
+{
+    let reads = stage.play.reads;
+    let piece = if reads.is_some() { 1 } else { PIECE };
+    let mut half = ClientRead::new(rt, alloc, &stage.board, stage.hold, conn, piece);
+    let (seat, sent, end) = read_side(rt, alloc, &stage.hall, seat, conn, &mut half, &Open, reads);
+    stage.board.lock(rt).read_ended(conn, end);
+    stage.register.lock(rt).add_calls(seat, sent);
+}
+
+/// The write side of a client.
+fn write<C: Tally, M: Tally, R: Clock + Wait>(
+    rt: &R,
+    alloc: Global,
+    stage: &Stage<C, M>,
+    seat: MailSeat<M>,
+    conn: u64,
+)
+    requires { M.all ≡ M.parts }
+{
+    let mut half = ClientWrite::new(rt, &stage.board, conn);
+    let (seat, receipts, end) = write_side(rt, alloc, &stage.hall, seat, conn, &mut half);
+    stage.board.lock(rt).write_ended(conn, end);
+    stage.register.lock(rt).add_mails(seat, receipts);
+}

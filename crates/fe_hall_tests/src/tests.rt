@@ -1,0 +1,146 @@
+//! Plays over stores in memory.
+
+use crate::board::Client;
+use crate::play::Play;
+use crate::rows::{
+    ARITHMETIC, BAD_FRAME, BROADCAST, FAULT, FEW_TURNS, FIRST_PATH, FULL_BOX, PURGE, RESENT,
+    TAKEN_OVER, TURNS_OF_WRITERS, TWO_LIVES, WINDOWS, WORDS,
+};
+use crate::stage::{Played, perform};
+use crate::stores::{new_disk, new_store};
+use fe_disk::{Disk, Fuse, Held, Hold, MemoryDisk};
+use fe_front::Books;
+use fe_hall::{ReadEnd, WriteEnd};
+use fe_keeper::Keeper;
+use std::alloc::{AllocError, Global};
+use std::process::Abort;
+use std::sync::{Arc, Wait};
+use std::test::Fail;
+use std::thread::Threads;
+use std::time::Clock;
+
+/// Paths of several calls, on to the end of what is said.
+const PATHS: [Play; 5] = [FIRST_PATH, BROADCAST, TURNS_OF_WRITERS, ARITHMETIC, PURGE];
+
+/// More device calls than are made to open a store and to append a group, and fewer than are made for two.
+const CALLS: u64 = 10;
+
+fn is_written(alloc: Global, play: &Play, conn: u64, client: &Client) -> Result<bool, AllocError> {
+    let mut frames = Vec::new(alloc);
+    play.script.put(conn, &mut frames)?;
+    Ok(frames.as_slice() == client.written.as_slice())
+}
+
+fn are_written(alloc: Global, play: &Play, clients: &[Client]) -> bool {
+    (1..).zip(clients).all(|(conn, client)| is_written(alloc, play, conn, client) == Ok(true))
+}
+
+fn have_ended(clients: &[Client], ends: (ReadEnd, WriteEnd)) -> bool {
+    clients.iter().all(|client| client.read_end == Some(ends.0) && client.write_end == Some(ends.1))
+}
+
+fn are_booked(books: &Books, play: &Play) -> bool {
+    let calls = [
+        books.calls,
+        books.completed,
+        books.waiting,
+        books.withdrawn,
+        books.repeated,
+        books.refused,
+    ];
+    calls == play.calls && [books.mails, books.taken, books.dropped, books.left] == play.mails
+}
+
+fn check<D: Disk + Drop>(rt: &impl Abort, alloc: Global, play: &Play, played: &Played<D>) {
+    let clients = played.board.clients();
+    assert!(rt; clients.len() as u64 == play.connections);
+    assert!(rt; are_written(alloc, play, clients));
+    assert!(rt; have_ended(clients, play.ends));
+    assert!(rt; played.commit_end == play.commit_end);
+    assert!(rt; played.receipts == play.receipts);
+    match &played.closed {
+        Ok(closing) => assert!(rt; are_booked(&closing.books, play)),
+        Err(_) => assert!(rt; false),
+    }
+}
+
+/// Plays over a store, and checks what comes of it. The keeper comes back.
+fn keeper_after<D: Disk + Drop + Send, R: Abort + Clock + Threads + Wait + Sync>(
+    rt: &R,
+    alloc: Global,
+    play: &Play,
+    hold: &Hold,
+    keeper: Keeper<D>,
+) -> Keeper<D> {
+    let played = perform(rt, alloc, play, hold, keeper);
+    check(rt, alloc, play, &played);
+    let Played { closed, board, .. } = played;
+    drop(board);
+    closed.ok().expect(rt, "closed").keeper
+}
+
+/// The store of a play that begins with a new one.
+pub fn store_after<R: Abort + Clock + Threads + Wait + Sync>(
+    rt: &R,
+    alloc: Global,
+    play: &Play,
+) -> Keeper<MemoryDisk> {
+    keeper_after(rt, alloc, play, &Hold::new(), new_store(rt, alloc))
+}
+
+#[test]
+fn rows_over_threads(rt: HostRuntime) {
+    for play in &PATHS {
+        drop(store_after(&rt, rt.alloc(), play));
+    }
+}
+
+#[test]
+fn taken_over(rt: HostRuntime) {
+    drop(store_after(&rt, rt.alloc(), &TAKEN_OVER));
+}
+
+#[test]
+fn two_lives(rt: HostRuntime) {
+    drop(store_after(&rt, rt.alloc(), &TWO_LIVES));
+}
+
+#[test]
+fn bad_frame(rt: HostRuntime) {
+    drop(store_after(&rt, rt.alloc(), &BAD_FRAME));
+}
+
+#[test]
+fn few_turns(rt: HostRuntime) {
+    drop(store_after(&rt, rt.alloc(), &FEW_TURNS));
+}
+
+#[test]
+fn full_box(rt: HostRuntime) {
+    drop(store_after(&rt, rt.alloc(), &FULL_BOX));
+}
+
+#[test]
+fn resend_between(rt: HostRuntime) -> Result<(), Fail> {
+    let hold = Arc::new(rt.alloc(), Hold::new())?;
+    let disk = Held::new(new_disk(&rt, rt.alloc()), rt, Arc::try_clone(&hold)?);
+    let keeper = Keeper::format(rt.alloc(), disk)
+        .ok()
+        .expect(&rt, "formatted");
+    drop(keeper_after(&rt, rt.alloc(), &RESENT, &hold, keeper));
+    Ok(())
+}
+
+#[test]
+fn store_fault(rt: HostRuntime) {
+    let disk = Fuse::new(new_store(&rt, rt.alloc()).into_disk(), CALLS);
+    let keeper = Keeper::open(rt.alloc(), disk).ok().expect(&rt, "opened");
+    drop(keeper_after(&rt, rt.alloc(), &FAULT, &Hold::new(), keeper));
+}
+
+#[test]
+fn windows(rt: HostRuntime) {
+    let keeper = store_after(&rt, rt.alloc(), &WORDS);
+    let keeper = keeper_after(&rt, rt.alloc(), &WINDOWS, &Hold::new(), keeper);
+    drop(keeper);
+}
