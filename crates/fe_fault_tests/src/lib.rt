@@ -1,0 +1,30 @@
+//! Tests of faults: a device that stops or fails at each call, streams that are cut, memory that is refused, and sizes at which memory that is there might be refused.
+//!
+//! A desk is not dropped here: it gives its disk back, as a run does. What is large is made by one function and lent to those
+//! that have the assertions.
+#![tactic(auto)]
+
+#[cfg(test)]
+mod allowed;
+#[cfg(test)]
+mod counting;
+#[cfg(test)]
+mod fail_once_each;
+#[cfg(test)]
+mod files;
+#[cfg(test)]
+mod fuse_each;
+#[cfg(test)]
+mod keeper_refused;
+#[cfg(test)]
+mod messages;
+#[cfg(test)]
+mod paths;
+#[cfg(test)]
+mod refused;
+#[cfg(test)]
+mod runs;
+#[cfg(test)]
+mod sizes;
+#[cfg(test)]
+mod streams;

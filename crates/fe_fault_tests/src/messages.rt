@@ -1,0 +1,122 @@
+//! Messages of clients and replies, and their frames.
+
+use fe_state::{Answer, Name, Request};
+use fe_wire::{ClientMessage, put_message};
+use fe_words::{Op, Tag};
+use std::alloc::Global;
+use std::process::Abort;
+
+/// What a client sends. All but an attach is about array `cells`, or the array of an id.
+#[derive(Clone, Copy)]
+pub enum Said {
+    Attach(u64),
+    /// The array of so many words, under a number.
+    Create(u64, u32, Tag),
+    /// Array 1 goes.
+    Remove(u64),
+    /// A word of array 1.
+    Access(u64, u32, Op),
+    Settle(u64),
+    Report,
+}
+
+/// What a client is told.
+#[derive(Clone, Copy)]
+pub enum Told {
+    /// A session, whose floor is 1.
+    Welcome(u64),
+    /// A value, done, an array, no array or a bad index, under a number.
+    Answer(u64, Answer),
+}
+
+fn request_of(rt: &impl Abort, said: Said) -> Request {
+    match said {
+        Said::Create(_, length, tag) => Request::Create {
+            name: Name::new(b"cells").expect(rt, "a name"),
+            length,
+            tag,
+        },
+        Said::Access(_, index, op) => Request::Access {
+            array: 1,
+            index,
+            op,
+            no_wait: false,
+        },
+        _ => Request::Remove { array: 1 },
+    }
+}
+
+fn message_of(rt: &impl Abort, said: Said) -> ClientMessage {
+    match said {
+        Said::Attach(session) => ClientMessage::Attach { session },
+        Said::Settle(floor) => ClientMessage::Settle { floor },
+        Said::Report => ClientMessage::Report,
+        Said::Create(number, ..) | Said::Remove(number) | Said::Access(number, ..) => {
+            ClientMessage::Call {
+                number,
+                request: request_of(rt, said),
+            }
+        }
+    }
+}
+
+/// Appends the frame. Where one allocation is refused it is done at the second try.
+pub fn put_said(rt: &impl Abort, out: &mut Vec<u8>, said: Said) {
+    let message = message_of(rt, said);
+    if put_message(out, &message).is_err() {
+        assert!(rt; put_message(out, &message).is_ok());
+    }
+}
+
+/// The frame of what is said.
+pub fn frame_of(rt: &impl Abort, alloc: Global, said: Said) -> Vec<u8> {
+    let mut frame = Vec::new(alloc);
+    put_said(rt, &mut frame, said);
+    frame
+}
+
+fn put(rt: &impl Abort, out: &mut Vec<u8>, bytes: &[u8]) {
+    if out.extend_from_slice(bytes).is_err() {
+        assert!(rt; out.extend_from_slice(bytes).is_ok());
+    }
+}
+
+// The code of an answer, with its value or id, and its length.
+fn parts_of(answer: Answer) -> (u8, u64, u32) {
+    match answer {
+        Answer::Value(value) => (1, value, 0),
+        Answer::Done => (2, 0, 0),
+        Answer::Array { id, length } => (3, id, length),
+        Answer::NoArray => (4, 0, 0),
+        _ => (5, 0, 0),
+    }
+}
+
+fn put_answer(rt: &impl Abort, out: &mut Vec<u8>, number: u64, answer: Answer) {
+    let (code, value, length) = parts_of(answer);
+    put(rt, out, &[0, 0, 0, 22, 66]);
+    put(rt, out, &number.to_be_bytes());
+    put(rt, out, &[code]);
+    put(rt, out, &value.to_be_bytes());
+    put(rt, out, &length.to_be_bytes());
+}
+
+/// Appends the frame, as `docs/formats.md` spells it. Where one allocation is refused it is done at the second try.
+pub fn put_told(rt: &impl Abort, out: &mut Vec<u8>, told: Told) {
+    match told {
+        Told::Welcome(session) => {
+            put(rt, out, &[0, 0, 0, 17, 65]);
+            put(rt, out, &session.to_be_bytes());
+            put(rt, out, &1u64.to_be_bytes());
+        }
+        Told::Answer(number, answer) => put_answer(rt, out, number, answer),
+    }
+}
+
+/// The first of the frames of at most 255 bytes, and those behind it.
+pub fn first_frame<'a>(rt: &impl Abort, frames: &'a [u8]) -> (&'a [u8], &'a [u8]) {
+    assert!(rt; frames.len() >= 4 && &frames[..3] == [0, 0, 0].as_slice());
+    let length = 4 + frames[3] as usize;
+    assert!(rt; length <= frames.len());
+    frames.split_at(length)
+}

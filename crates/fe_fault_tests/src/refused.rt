@@ -1,0 +1,229 @@
+//! A desk where memory ends. The tests whose names end so are run again and again with the first allocation refused, then
+//! the second, and so on (`scripts/refuse_test`), and once with memory enough.
+
+use crate::messages::{Said, first_frame, put_said, put_told};
+use crate::paths::{BROADCAST, FIRST, LARGEST, Path, REMOVAL};
+use crate::runs::DEVICE_BYTES;
+use fe_desk::{Desk, DeskFault, Step};
+use fe_disk::Liar;
+use std::alloc::Global;
+use std::process::Abort;
+
+/// The refusals of a creation and of a report for want of memory, up to the number.
+const NO_MEMORY: u8 = 8;
+
+/// What a report tells where nothing waits.
+const NONE_WAITS: &[u8] = b"\0\0\0\x0b\x47waiting 0\n";
+
+/// The bytes of a new store, but for those that are zero: slot 0 has generation 1 and the image of the first state
+/// (`docs/formats.md`, "Device").
+const STORE: [(usize, &'static [u8]); 4] = [
+    (0, b"FEMEMST2"),
+    (8, &[0, 0, 0, 0, 0, 0, 0, 1, 0, 0, 0, 24]),
+    (4095, &[1]),
+    (4111, &[1]),
+];
+
+// Zeros, at the second try if not at the first.
+fn zeros(rt: &impl Abort, alloc: Global) -> Vec<u8> {
+    match vec![in alloc; 0; DEVICE_BYTES] {
+        Ok(bytes) => bytes,
+        Err(_) => vec![in alloc; 0; DEVICE_BYTES].ok().expect(rt, "bytes"),
+    }
+}
+
+/// A disk that takes no memory, and reads a new store whatever is written.
+pub fn new_liar(rt: &impl Abort, alloc: Global) -> Liar {
+    let mut bytes = zeros(rt, alloc);
+    assert!(rt; bytes.len() == DEVICE_BYTES);
+    for (at, piece) in STORE {
+        assert!(rt; bytes.len() == DEVICE_BYTES && at <= 4111 && piece.len() <= 12);
+        bytes[at..at + piece.len()].copy_from_slice(piece);
+    }
+    Liar::new(bytes)
+}
+
+fn open_at_last(rt: &impl Abort, alloc: Global) -> Desk<Liar> {
+    match Desk::open(alloc, new_liar(rt, alloc)) {
+        Ok(desk) => desk,
+        Err((fault, liar)) => {
+            assert!(rt; fault == DeskFault::NoMemory { fed: false });
+            Desk::open(alloc, liar).ok().expect(rt, "opened")
+        }
+    }
+}
+
+// Takes a step that takes no bytes, at the second try if not at the first. What is stored and written then stands.
+fn take(rt: &impl Abort, desk: &mut Desk<Liar>, step: &Step) {
+    let place = desk.keeper().state().place();
+    match desk.step(step) {
+        Ok(()) => {}
+        Err(fault) => {
+            assert!(rt;
+                fault == DeskFault::NoMemory { fed: false } || fault == DeskFault::Unwritten
+            );
+            if fault != DeskFault::Unwritten {
+                assert!(rt; desk.keeper().state().place() == place);
+                assert!(rt; desk.step(step).is_ok());
+            }
+        }
+    }
+}
+
+// Bytes come: what is left of them is taken by a step without bytes, where they were read.
+fn take_bytes(rt: &impl Abort, desk: &mut Desk<Liar>, step: &Step, empty: &Step) {
+    match desk.step(step) {
+        Ok(()) => {}
+        Err(DeskFault::NoMemory { fed }) => {
+            let again = if fed { empty } else { step };
+            assert!(rt; desk.step(again).is_ok());
+        }
+        Err(fault) => assert!(rt; fault == DeskFault::Unwritten),
+    }
+}
+
+fn take_line(rt: &impl Abort, alloc: Global, desk: &mut Desk<Liar>, conn: u64, said: Said) {
+    let mut piece = Vec::new(alloc);
+    put_said(rt, &mut piece, said);
+    let empty = Step::Bytes {
+        conn,
+        piece: Vec::new(alloc),
+    };
+    take(rt, desk, &Step::Connect { conn });
+    take_bytes(rt, desk, &Step::Bytes { conn, piece }, &empty);
+    for step in [Step::Cut, Step::Append, Step::Post, Step::Cut] {
+        take(rt, desk, &step);
+    }
+}
+
+// Whether the frame refuses something for want of memory.
+fn is_refusal(frame: &[u8]) -> bool {
+    frame.len() == 14 && frame[4] == 70 && frame[13] == NO_MEMORY
+}
+
+// How often something was refused so. All else that was written is these frames, or the first of them.
+fn refusals_in(rt: &impl Abort, written: &[u8], frames: &[u8]) -> usize {
+    let mut found: usize = 0;
+    let (mut written, mut frames) = (written, frames);
+    for _ in 0..64 {
+        if written.is_empty() {
+            return found;
+        }
+        let (frame, behind) = first_frame(rt, written);
+        written = behind;
+        if is_refusal(frame) {
+            found = found.saturating_add(1);
+        } else {
+            assert!(rt; frames.starts_with(frame));
+            frames = &frames[frame.len().min(frames.len())..];
+        }
+    }
+    assert!(rt; written.is_empty());
+    found
+}
+
+// The bytes that were written to the connection.
+fn written_to(desk: &Desk<Liar>, conn: u64) -> &[u8] {
+    for port in desk.trace().ports.iter() {
+        if port.conn == conn {
+            return port.written.as_slice();
+        }
+    }
+    &[]
+}
+
+// Takes a line. Where it is refused for want of memory it is said again, and that is a creation or a report.
+fn take_told(
+    rt: &impl Abort,
+    alloc: Global,
+    desk: &mut Desk<Liar>,
+    conn: u64,
+    said: Said,
+    frames: &[u8],
+) {
+    let before = refusals_in(rt, written_to(desk, conn), frames);
+    take_line(rt, alloc, desk, conn, said);
+    if refusals_in(rt, written_to(desk, conn), frames) > before {
+        assert!(rt; matches!(said, Said::Create(..) | Said::Report));
+        take_line(rt, alloc, desk, conn, said);
+    }
+}
+
+fn put_bytes(rt: &impl Abort, out: &mut Vec<u8>, bytes: &[u8]) {
+    if out.extend_from_slice(bytes).is_err() {
+        assert!(rt; out.extend_from_slice(bytes).is_ok());
+    }
+}
+
+// What a connection is told. Connection 1 asks for a report last.
+fn frames_for(rt: &impl Abort, alloc: Global, path: &Path, conn: u64) -> Vec<u8> {
+    let mut frames = Vec::new(alloc);
+    for (to, told) in path.replies {
+        if *to == conn {
+            put_told(rt, &mut frames, *told);
+        }
+    }
+    if conn == 1 {
+        put_bytes(rt, &mut frames, NONE_WAITS);
+    }
+    frames
+}
+
+// How long what was written to the connection is, without what was refused it, for want of memory.
+fn check_written(rt: &impl Abort, desk: &Desk<Liar>, conn: u64, frames: &[u8]) {
+    let written = written_to(desk, conn);
+    let refused = refusals_in(rt, written, frames).min(1);
+    assert!(rt; written.len() == frames.len().saturating_add(14 * refused));
+}
+
+// The path, a report and a checkpoint.
+fn take_path(rt: &impl Abort, alloc: Global, desk: &mut Desk<Liar>, path: &Path) {
+    for (conn, said) in path.lines {
+        let frames = frames_for(rt, alloc, path, *conn);
+        take_told(rt, alloc, desk, *conn, *said, frames.as_slice());
+    }
+    let frames = frames_for(rt, alloc, path, 1);
+    take_told(rt, alloc, desk, 1, Said::Report, frames.as_slice());
+    for step in [Step::CheckBegin, Step::CheckStep, Step::CheckFinish] {
+        take(rt, desk, &step);
+    }
+}
+
+fn check_end(rt: &impl Abort, alloc: Global, desk: &Desk<Liar>, path: &Path) {
+    for conn in 1..5 {
+        let frames = frames_for(rt, alloc, path, conn);
+        if !frames.is_empty() {
+            check_written(rt, desk, conn, frames.as_slice());
+        }
+    }
+    let trace = desk.trace();
+    assert!(rt; trace.synced == path.groups && trace.groups.len() as u64 == path.groups);
+    assert!(rt; desk.keeper().used() == 0);
+}
+
+fn check_path(rt: &impl Abort, alloc: Global, path: &Path) {
+    let mut desk = open_at_last(rt, alloc);
+    take_path(rt, alloc, &mut desk, path);
+    check_end(rt, alloc, &desk, path);
+    drop(desk.into_disk());
+}
+
+#[test]
+fn first_path_where_memory_ends(rt: HostRuntime) {
+    check_path(&rt, rt.alloc(), &FIRST);
+}
+
+#[test]
+fn broadcast_where_memory_ends(rt: HostRuntime) {
+    check_path(&rt, rt.alloc(), &BROADCAST);
+}
+
+#[test]
+fn removal_where_memory_ends(rt: HostRuntime) {
+    check_path(&rt, rt.alloc(), &REMOVAL);
+}
+
+#[test]
+fn largest_checkpoint_where_memory_ends(rt: HostRuntime) {
+    check_path(&rt, rt.alloc(), &LARGEST);
+}
