@@ -17,6 +17,8 @@ mod fuse_each;
 #[cfg(test)]
 mod keeper_refused;
 #[cfg(test)]
+mod lies;
+#[cfg(test)]
 mod messages;
 #[cfg(test)]
 mod paths;

@@ -25,8 +25,9 @@ pub enum Said {
 pub enum Told {
     /// A session, whose floor is 1.
     Welcome(u64),
-    /// A value, done, an array, no array or a bad index, under a number.
     Answer(u64, Answer),
+    /// A refusal, by its number.
+    Refused(u64, u8),
 }
 
 fn request_of(rt: &impl Abort, said: Said) -> Request {
@@ -88,7 +89,13 @@ fn parts_of(answer: Answer) -> (u8, u64, u32) {
         Answer::Done => (2, 0, 0),
         Answer::Array { id, length } => (3, id, length),
         Answer::NoArray => (4, 0, 0),
-        _ => (5, 0, 0),
+        Answer::BadIndex => (5, 0, 0),
+        Answer::NameTaken => (6, 0, 0),
+        Answer::ArrayLimit => (7, 0, 0),
+        Answer::WordLimit => (8, 0, 0),
+        Answer::BadName => (9, 0, 0),
+        Answer::BadLength => (10, 0, 0),
+        Answer::NotNow => (11, 0, 0),
     }
 }
 
@@ -110,6 +117,11 @@ pub fn put_told(rt: &impl Abort, out: &mut Vec<u8>, told: Told) {
             put(rt, out, &1u64.to_be_bytes());
         }
         Told::Answer(number, answer) => put_answer(rt, out, number, answer),
+        Told::Refused(number, refusal) => {
+            put(rt, out, &[0, 0, 0, 10, 70]);
+            put(rt, out, &number.to_be_bytes());
+            put(rt, out, &[refusal]);
+        }
     }
 }
 

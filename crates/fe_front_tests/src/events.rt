@@ -13,6 +13,14 @@ pub(crate) fn new_front(alloc: Global) -> Result<Front, AllocError> {
     Front::new(alloc, state)
 }
 
+/// The same, at the second try where the first finds no memory.
+pub(crate) fn front_at_last(alloc: Global) -> Result<Front, AllocError> {
+    match new_front(alloc) {
+        Ok(front) => Ok(front),
+        Err(_) => new_front(alloc),
+    }
+}
+
 pub(crate) fn connect(rt: &impl Abort, front: &mut Front, conn: u64) {
     assert!(rt; !front.connected(conn));
     assert!(rt; front.connect(conn).is_ok());
@@ -26,6 +34,16 @@ pub(crate) fn attach(
 ) -> Result<(), Refusal> {
     assert!(rt; front.room());
     front.attach(conn, session)
+}
+
+/// A connection comes, at the second try where the first finds no memory.
+pub(crate) fn connect_at_last(rt: &impl Abort, front: &mut Front, conn: u64) {
+    assert!(rt; !front.connected(conn));
+    if let Err(refusal) = front.connect(conn) {
+        assert!(rt; refusal == Refusal::NoMemory);
+        connect(rt, front, conn);
+    }
+    assert!(rt; front.connected(conn));
 }
 
 /// A connection that comes and attaches a session.

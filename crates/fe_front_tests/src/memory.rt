@@ -1,24 +1,15 @@
-//! Where memory ends. `rt try --test --fail-alloc N`, for N from 1 on, takes the allocation N away from each test: the
-//! call that finds no memory leaves all as it was, and does its work when it is made again.
+//! Where memory ends. `scripts/refuse_test` takes each allocation away in turn: the call that finds no memory leaves all as it
+//! was, and does its work when it is made again.
 
-use crate::events::{access, attach, call, commit, create, new_front, take_all};
+use crate::events::{
+    access, attach, call, commit, connect_at_last, create, front_at_last, take_all,
+};
 use fe_front::{Front, Outcome};
 use fe_mail::Refusal;
 use fe_state::Request;
 use fe_words::Op;
-use std::alloc::{AllocError, Global};
 use std::process::Abort;
 use std::test::Fail;
-
-fn connect_at_last(rt: &impl Abort, front: &mut Front) {
-    assert!(rt; !front.connected(1));
-    if let Err(refusal) = front.connect(1) {
-        assert!(rt; refusal == Refusal::NoMemory);
-        assert!(rt; !front.connected(1));
-        assert!(rt; front.connect(1).is_ok());
-    }
-    assert!(rt; front.connected(1));
-}
 
 /// Nothing came of the refused creation of number 1.
 fn check_refused(rt: &impl Abort, front: &Front) {
@@ -53,15 +44,8 @@ fn check_served(rt: &impl Abort, front: &mut Front) {
     assert!(rt; take_all(front, 1) == 4);
 }
 
-fn front_at_last(alloc: Global) -> Result<Front, AllocError> {
-    match new_front(alloc) {
-        Ok(front) => Ok(front),
-        Err(_) => new_front(alloc),
-    }
-}
-
 fn check_front(rt: &impl Abort, front: &mut Front) {
-    connect_at_last(rt, front);
+    connect_at_last(rt, front, 1);
     assert!(rt; attach(rt, front, 1, 7) == Ok(()));
     create_at_last(rt, front);
     check_served(rt, front);

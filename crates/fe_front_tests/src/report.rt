@@ -1,6 +1,9 @@
 //! The report of what waits.
 
-use crate::events::{access, bye, call, come, commit, create, mail, new_front};
+use crate::events::{
+    access, attach, bye, call, come, commit, connect_at_last, create, front_at_last, mail,
+    new_front,
+};
 use fe_front::{Front, Outcome};
 use fe_mail::{Mail, ReportText};
 use fe_report::report;
@@ -25,11 +28,15 @@ fn waits(rt: &impl Abort, front: &mut Front, conn: u64, number: u64, index: u32,
 const TWO_WAIT: &str =
     "waiting 2\nword 1 0 session 8 number 1 readff\nword 1 1 session 9 number 1 readfe\nsession 8 waits 1\nsession 9 waits 1\nall-wait no\n";
 
+fn begin_to_wait(rt: &impl Abort, front: &mut Front) {
+    waits(rt, front, 2, 1, 0, Op::ReadFf);
+    waits(rt, front, 3, 1, 1, Op::ReadFe);
+}
+
 /// Two sessions wait, beside two that do not.
 fn two_wait(rt: &impl Abort, front: &mut Front) {
     four_come(rt, front);
-    waits(rt, front, 2, 1, 0, Op::ReadFf);
-    waits(rt, front, 3, 1, 1, Op::ReadFe);
+    begin_to_wait(rt, front);
 }
 
 /// The report has these lines.
@@ -86,6 +93,18 @@ fn report_at_last(alloc: Global, front: &Front) -> Result<String, AllocError> {
     }
 }
 
+/// The same, at the second try of what finds no memory.
+fn two_wait_at_last(rt: &impl Abort, front: &mut Front) {
+    for conn in 1..5 {
+        connect_at_last(rt, front, conn);
+        assert!(rt; attach(rt, front, conn, conn + 6).is_ok());
+    }
+    if call(rt, front, 1, 1, create(rt, 2)).is_err() {
+        assert!(rt; call(rt, front, 1, 1, create(rt, 2)).is_ok());
+    }
+    begin_to_wait(rt, front);
+}
+
 fn check_at_last(rt: &impl Abort, alloc: Global, front: &Front) -> Result<(), Fail> {
     let text = report_at_last(alloc, front)?;
     assert!(rt; text.as_str() == TWO_WAIT);
@@ -95,8 +114,8 @@ fn check_at_last(rt: &impl Abort, alloc: Global, front: &Front) -> Result<(), Fa
 
 #[test]
 fn report_where_memory_ends(rt: HostRuntime) -> Result<(), Fail> {
-    let mut front = new_front(rt.alloc())?;
-    two_wait(&rt, &mut front);
+    let mut front = front_at_last(rt.alloc())?;
+    two_wait_at_last(&rt, &mut front);
     let checked = check_at_last(&rt, rt.alloc(), &front);
     drop(front);
     checked

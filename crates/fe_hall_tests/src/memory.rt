@@ -1,23 +1,35 @@
 //! Groups that are stored one by one, until a checkpoint is made.
 //!
-//! `rt try --test --fail-alloc N`, for N from 1 on, takes each allocation away in turn: what could not be done for want of it is
-//! done when it is tried again, and the committing side goes on where a checkpoint can't be begun.
+//! `scripts/refuse_test` takes each allocation away in turn: what could not be done for want of it is done when it is tried
+//! again, a read side whose stream or list found none says so, and the committing side goes on where a checkpoint can't be begun.
 
 ghost use Rattle.std.specs.Prelude.{◌≡◌, ◌+◌};
 ghost use Rattle.fe_hall.specs.Seats.{most_connections};
 
 use crate::saying::{Say, put_said};
 use crate::stage::{PARTS, hall_over};
-use fe_disk::MemoryDisk;
+use fe_disk::Liar;
 use fe_hall::{
     CallSeat, CommitEnd, Hall, MemoryRead, Open, ReadEnd, Tally, commit_side, read_side,
 };
-use fe_keeper::Keeper;
+use fe_keeper::{Fault, Keeper};
 use std::alloc::{AllocError, Global};
 use std::marker::Brand;
 use std::process::Abort;
 use std::sync::Wait;
 use std::sync::ledger::Blank;
+
+/// The bytes of a store.
+const DEVICE_BYTES: usize = 4_202_496;
+
+/// The bytes of a new store, but for those that are zero: slot 0 has generation 1 and the image of the first state
+/// (`docs/formats.md`, "Device").
+const STORE: [(usize, &'static [u8]); 4] = [
+    (0, b"FEMEMST2"),
+    (8, &[0, 0, 0, 0, 0, 0, 0, 1, 0, 0, 0, 24]),
+    (4095, &[1]),
+    (4111, &[1]),
+];
 
 /// How many entries a group has, of 80 bytes each. With the fourth group a checkpoint is due, and the seventh has no room but
 /// behind it.
@@ -37,11 +49,11 @@ fn stream(alloc: Global) -> Result<Vec<u8>, AllocError> {
 }
 
 /// Reads the client's stream to its end, and stores what it did. `None` where there was no memory; nothing is stored then.
-fn store<C: Tally, M: Tally, R: Wait>(
+fn store<C: Tally, M: Tally, R: Abort + Wait>(
     rt: &R,
     alloc: Global,
     hall: &Hall<C, M>,
-    keeper: &mut Keeper<MemoryDisk>,
+    keeper: &mut Keeper<Liar>,
 ) -> Option<CommitEnd> {
     let bytes = stream(alloc).ok()?;
     let (seat, _) = hall.connect(rt, 1).ok()?;
@@ -52,14 +64,17 @@ fn store<C: Tally, M: Tally, R: Wait>(
             hall.stop(rt);
             Some(commit_side(rt, hall, keeper))
         }
-        _ => None,
+        _ => {
+            assert!(rt; end == ReadEnd::NoMemory);
+            None
+        }
     }
 }
 
-fn store_as<C: Tally, M: Tally, R: Wait>(
+fn store_as<C: Tally, M: Tally, R: Abort + Wait>(
     rt: &R,
     alloc: Global,
-    keeper: &mut Keeper<MemoryDisk>,
+    keeper: &mut Keeper<Liar>,
     calls: Blank,
     mails: Blank,
 ) -> Option<CommitEnd>
@@ -73,41 +88,59 @@ fn store_as<C: Tally, M: Tally, R: Wait>(
 }
 
 /// A hall for one group.
-fn store_group<R: Wait>(
+fn store_group<R: Abort + Wait>(
     rt: &R,
     alloc: Global,
-    keeper: &mut Keeper<MemoryDisk>,
+    keeper: &mut Keeper<Liar>,
 ) -> Option<CommitEnd> {
     let blanks = (Blank::new(PARTS), Blank::new(PARTS));
     store_as::<Brand, Brand, R>(rt, alloc, keeper, blanks.0, blanks.1)
 }
 
-fn check<R: Abort + Wait>(rt: &R, alloc: Global, keeper: &mut Keeper<MemoryDisk>) {
+fn check<R: Abort + Wait>(rt: &R, alloc: Global, keeper: &mut Keeper<Liar>) {
     for _ in 0..7 {
         let end = match store_group(rt, alloc, keeper) {
             Some(end) => Some(end),
             None => store_group(rt, alloc, keeper),
         };
-        assert!(rt; end == Some(CommitEnd::Stopped));
+        assert!(rt; end == Some(CommitEnd::Stopped), "{end:?}");
     }
     assert!(rt; keeper.state().place() == 14_000);
     assert!(rt; USED.contains(&keeper.used()));
 }
 
-fn new_store_at_last(alloc: Global) -> Option<Keeper<MemoryDisk>> {
-    for _ in 0..2 {
-        if let Ok(disk) = MemoryDisk::new(alloc, 4_202_496) {
-            if let Ok(keeper) = Keeper::format(alloc, disk) {
-                return Some(keeper);
-            }
+// Zeros, at the second try if not at the first.
+fn zeros(rt: &impl Abort, alloc: Global) -> Vec<u8> {
+    match vec![in alloc; 0; DEVICE_BYTES] {
+        Ok(bytes) => bytes,
+        Err(_) => vec![in alloc; 0; DEVICE_BYTES].ok().expect(rt, "bytes"),
+    }
+}
+
+// A disk that takes no memory, and reads a new store whatever is written.
+fn new_liar(rt: &impl Abort, alloc: Global) -> Liar {
+    let mut bytes = zeros(rt, alloc);
+    assert!(rt; bytes.len() == DEVICE_BYTES);
+    for (at, piece) in STORE {
+        assert!(rt; bytes.len() == DEVICE_BYTES && at <= 4111 && piece.len() <= 12);
+        bytes[at..at + piece.len()].copy_from_slice(piece);
+    }
+    Liar::new(bytes)
+}
+
+fn open_at_last(rt: &impl Abort, alloc: Global) -> Keeper<Liar> {
+    match Keeper::open(alloc, new_liar(rt, alloc)) {
+        Ok(keeper) => keeper,
+        Err((fault, liar)) => {
+            assert!(rt; fault == Fault::NoMemory);
+            Keeper::open(alloc, liar).ok().expect(rt, "opened")
         }
     }
-    None
 }
 
 #[test]
-fn where_memory_ends(rt: HostRuntime) {
-    let mut keeper = new_store_at_last(rt.alloc()).expect(&rt, "a store");
+fn groups_where_memory_ends(rt: HostRuntime) {
+    let mut keeper = open_at_last(&rt, rt.alloc());
     check(&rt, rt.alloc(), &mut keeper);
     drop(keeper);
 }
