@@ -39,6 +39,13 @@ const FIELDS: [(usize, usize); 6] = [
 /// What is done to a byte, so that it is another.
 const CHANGES: [u8; 3] = [0x01, 0x80, 0xff];
 
+// The image has its length, and the last of the groups stands before the closed gate.
+fn check_fields(rt: &impl Abort, bytes: &[u8]) {
+    assert!(rt; bytes.get(SLOT + 16..SLOT + 20) == Some([0, 0, 1, 203].as_slice()));
+    assert!(rt; bytes.get(SLOT + AREA + 255) == Some(&1));
+    assert!(rt; bytes.get(SLOT + AREA + 340) == Some(&0));
+}
+
 // The bytes of a store whose second slot counts: the first path, a checkpoint, and four groups.
 fn store(rt: &impl Abort, alloc: Global) -> Vec<u8> {
     let mut steps = steps_of(rt, alloc, FIRST.lines);
@@ -166,6 +173,7 @@ fn later_steps(rt: &impl Abort, alloc: Global) -> Vec<Step> {
 fn changed_bytes(rt: HostRuntime) {
     let alloc = rt.alloc();
     let bytes = store(&rt, alloc);
+    check_fields(&rt, bytes.as_slice());
     let steps = later_steps(&rt, alloc);
     for (first, count) in FIELDS {
         check_field(&rt, alloc, bytes.as_slice(), steps.as_slice(), first, count);
