@@ -17,7 +17,7 @@ run: $(PROGRAM) ## proves and builds femem, and runs the schedule examples/first
 	@$(PROGRAM) run < $(SCHEDULE)
 
 $(PROGRAM): $(SOURCES) | toolchain
-	@echo "the first time this proves all that femem stands on: 75 to 100 minutes of a processor, half an hour or more on four."
+	@echo "the first time this proves all that femem stands on: 75 to 105 minutes of a processor, half an hour or more on four."
 	@echo "'make try' shows the same schedule in a minute or two, and proves nothing"
 	@scripts/prove femem
 	@touch $(PROGRAM)
