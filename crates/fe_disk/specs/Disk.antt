@@ -1,5 +1,6 @@
 -- What the calls of a disk do to its bytes, and what a stop leaves of them.
 use Rattle.std.specs.Prelude.{◌≡◌, ◌⊎◌, ℕ, ◌+◌, ◌-◌, ◌^◌, ◌<◌, ◌≤◌, List, ◌++◌, length, take, drop, slice_index}
+use Rattle.fe_disk.specs.declared.calls.Calls.{Calls}
 
 -- an image of a disk: so many bytes
 pub record IsImage (size : ℕ) (image : List ℕ) : Type 0 where
@@ -41,6 +42,20 @@ pub record Elapses (before now : ℕ) (past since : ℕ → List ℕ → Type 0)
 -- A count of faults rose in a call. At the top of a `u64` it stands still, and that counts as a rise.
 abbrev pub Rises : ℕ → ℕ → Type 0
 Rises before now = (before < now) ⊎ ((before ≡ 2 ^ 64 - 1) × (now ≡ before))
+
+-- a count went up by so many or fewer
+abbrev pub RisesAtMost : ℕ → ℕ → ℕ → Type 0
+RisesAtMost most before now = (before ≤ now) × (now ≤ before + most)
+
+-- So many reads, writes and syncs, or fewer, were made between two counts.
+abbrev pub MakesAtMost : ℕ → ℕ → ℕ → Calls → Calls → Type 0
+MakesAtMost reads writes syncs before now =
+    RisesAtMost reads before.reads now.reads × RisesAtMost writes before.writes now.writes × RisesAtMost syncs before.syncs now.syncs
+
+-- Just so many were made.
+abbrev pub MakesJust : ℕ → ℕ → ℕ → Calls → Calls → Type 0
+MakesJust reads writes syncs before now =
+    (now.reads ≡ before.reads + reads) × (now.writes ≡ before.writes + writes) × (now.syncs ≡ before.syncs + syncs)
 
 -- A stop at any moment of a run of calls, from `old` to `new`, leaves an image that has P.
 pub record LeavesOnly {D : Type 0} (moment : D → ℕ) (left_since : D → ℕ → List ℕ → Type 0) (old new : D) (P : List ℕ → Type 0) : Type 0 where

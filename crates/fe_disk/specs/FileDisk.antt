@@ -1,5 +1,6 @@
 -- What a `FileDisk` shows. Nothing is said of the bytes of its file.
 use Rattle.std.specs.Prelude.{ℕ}
+use Rattle.fe_disk.specs.declared.calls.Calls.{Calls}
 use Rattle.fe_disk.specs.declared.file_disk.FileDisk.{FileDisk}
 
 abbrev pub file_size : FileDisk → ℕ
@@ -7,3 +8,7 @@ file_size disk = disk.size
 
 abbrev pub fault_count : FileDisk → ℕ
 fault_count disk = disk.failures
+
+-- the calls that were made of it
+abbrev pub calls_of : FileDisk → Calls
+calls_of disk = disk.calls

@@ -1,7 +1,15 @@
 -- What a `Liar` shows.
 use Rattle.std.specs.Prelude.{ℕ, List}
+use Rattle.fe_disk.specs.declared.calls.Calls.{Calls}
 use Rattle.fe_disk.specs.declared.liar.Liar.{Liar}
 
 -- the bytes that it reads, whatever is written
 abbrev pub told : Liar → List ℕ
 told disk = disk.bytes.items
+
+-- the calls that were made of it
+abbrev pub calls_of : Liar → Calls
+calls_of disk = disk.calls
+
+abbrev pub fault_count : Liar → ℕ
+fault_count disk = disk.failures

@@ -1,6 +1,8 @@
 -- What a `MemoryDisk` is, and which images its record of calls says that a stop may leave.
 use Rattle.std.specs.Prelude.{◌≡◌, ◌⊎◌, ℕ, ◌+◌, ◌-◌, ◌^◌, ◌<◌, ◌≤◌, min, List, [], ◌∷◌, length, slice_index}
 use Rattle.fe_disk.specs.Disk.{IsImage, bytes_at, after_write}
+use Rattle.fe_disk.specs.Calls.{none}
+use Rattle.fe_disk.specs.declared.calls.Calls.{Calls}
 use Rattle.fe_disk.specs.declared.memory_disk.Torn.{Torn}
 use Rattle.fe_disk.specs.declared.memory_disk.Torn.TheVariants.{Kept, Lost, Byte}
 
@@ -9,10 +11,11 @@ pub data Event : Type 0 where
   Write : (at : ℕ) → (before : List ℕ) → Event
   Sync : Event
 
--- what a disk in memory is: its bytes, the calls since it was made with the last of them first, and its count of faults
+-- what a disk in memory is: its bytes, the calls since it was made that change it with the last of them first, how many succeeded of each kind, and its count of faults
 pub record MemoryState : Type 0 where
   pub image : List ℕ
   pub events : List Event
+  pub calls : Calls
   pub failures : ℕ
 
 -- the image before a call, from the one after it
@@ -72,7 +75,12 @@ pub record IsBlank (size : ℕ) (disk : MemoryState) : Type 0 where
   pub whole : length disk.image ≡ size
   pub zeros : (i : ℕ) → slice_index disk.image i ≡ 0
   pub events : disk.events ≡ []
+  pub calls : disk.calls ≡ none
   pub failures : disk.failures ≡ 0
+
+-- the disk after a read that succeeds
+abbrev pub disk_after_read : MemoryState → MemoryState
+disk_after_read disk = record disk { calls = record disk.calls { reads = disk.calls.reads + 1 } }
 
 -- the disk after a write that succeeds, which keeps the bytes that it replaced
 abbrev pub disk_after_write : MemoryState → ℕ → List ℕ → MemoryState
@@ -80,13 +88,20 @@ disk_after_write disk at bytes =
     record {
       image = after_write disk.image at bytes;
       events = Write at (bytes_at disk.image at (length bytes)) ∷ disk.events;
+      calls = record disk.calls { writes = disk.calls.writes + 1 };
       failures = disk.failures;
     }
 
 -- the disk after a sync that succeeds
 abbrev pub disk_after_sync : MemoryState → MemoryState
-disk_after_sync disk = record { image = disk.image; events = Sync ∷ disk.events; failures = disk.failures }
+disk_after_sync disk =
+    record {
+      image = disk.image;
+      events = Sync ∷ disk.events;
+      calls = record disk.calls { syncs = disk.calls.syncs + 1 };
+      failures = disk.failures;
+    }
 
 -- the disk after a call that fails: the fault is counted, and nothing else is done
 abbrev pub disk_after_fault : MemoryState → MemoryState
-disk_after_fault disk = record { image = disk.image; events = disk.events; failures = min (disk.failures + 1) (2 ^ 64 - 1) }
+disk_after_fault disk = record { image = disk.image; events = disk.events; calls = disk.calls; failures = min (disk.failures + 1) (2 ^ 64 - 1) }

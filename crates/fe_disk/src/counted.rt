@@ -1,6 +1,6 @@
 //! What the disks share that pass calls on to a disk, and fail some that it is never asked.
 ghost use Rattle.std.specs.Prelude.{◌≡◌, ◌↔◌, ◌+◌, ◌≤◌, length, IsErr, OnOk};
-ghost use Rattle.fe_disk.specs.Disk.{bytes_at, after_write, IsTorn, Follows, AddsNone, LeavesJust, Elapses, Rises};
+ghost use Rattle.fe_disk.specs.Disk.{bytes_at, after_write, IsTorn, Follows, AddsNone, LeavesJust, Elapses, Rises, MakesAtMost, MakesJust};
 
 use crate::faults::{count, fault};
 use crate::{DeviceFault, Disk};
@@ -31,6 +31,7 @@ impl<D: Disk> Counted<D> {
     /// Counts a fault of a call that the disk isn't asked.
     pub fn refuse(&mut self) -> DeviceFault
         ensures fault { Rises self.old.failures self.new.failures }
+        ensures one_fault { self.new.failures ≤ self.old.failures + 1 }
         ensures disk { self.new.inner ≡ self.old.inner }
     {
         fault(&mut self.failures)
@@ -39,12 +40,14 @@ impl<D: Disk> Counted<D> {
 
 impl<D: Disk> Disk for Counted<D> {
     ghost use Rattle.std.specs.Prelude.{◌≡◌, ◌↔◌, ◌+◌, ◌≤◌, length, IsErr, OnOk};
-    ghost use Rattle.fe_disk.specs.Disk.{bytes_at, after_write, IsTorn, Follows, AddsNone, LeavesJust, Elapses, Rises};
+    ghost use Rattle.fe_disk.specs.Disk.{bytes_at, after_write, IsTorn, Follows, AddsNone, LeavesJust, Elapses, Rises, MakesAtMost, MakesJust};
     ghost use Rattle.fe_disk.specs.within.Counted.{Passes};
 
     ghost size = { λ disk. D.size disk.inner };
 
     ghost failures = { λ disk. disk.failures };
+
+    ghost calls = { λ disk. D.calls disk.inner };
 
     ghost honest = { λ disk. D.honest disk.inner };
 
@@ -83,6 +86,9 @@ impl<D: Disk> Disk for Counted<D> {
 
         ensures fault { IsErr result ↔ Rises self.old.failures self.new.failures }
         ensures still { OnOk result (self.new.failures ≡ self.old.failures) }
+        ensures one_fault { self.new.failures ≤ self.old.failures + 1 }
+        ensures made { OnOk result (MakesJust 1 0 0 (D.calls self.old.inner) (D.calls self.new.inner)) }
+        ensures calls { MakesAtMost 1 0 0 (D.calls self.old.inner) (D.calls self.new.inner) }
         ensures honesty { D.honest self.new.inner ↔ D.honest self.old.inner }
         ensures size { D.size self.new.inner ≡ D.size self.old.inner }
         ensures passed { Passes D.failures result self.old self.new }
@@ -103,6 +109,9 @@ impl<D: Disk> Disk for Counted<D> {
 
         ensures fault { IsErr result ↔ Rises self.old.failures self.new.failures }
         ensures still { OnOk result (self.new.failures ≡ self.old.failures) }
+        ensures one_fault { self.new.failures ≤ self.old.failures + 1 }
+        ensures made { OnOk result (MakesJust 0 1 0 (D.calls self.old.inner) (D.calls self.new.inner)) }
+        ensures calls { MakesAtMost 0 1 0 (D.calls self.old.inner) (D.calls self.new.inner) }
         ensures honesty { D.honest self.new.inner ↔ D.honest self.old.inner }
         ensures size { D.size self.new.inner ≡ D.size self.old.inner }
         ensures passed { Passes D.failures result self.old self.new }
@@ -122,6 +131,9 @@ impl<D: Disk> Disk for Counted<D> {
 
         ensures fault { IsErr result ↔ Rises self.old.failures self.new.failures }
         ensures still { OnOk result (self.new.failures ≡ self.old.failures) }
+        ensures one_fault { self.new.failures ≤ self.old.failures + 1 }
+        ensures made { OnOk result (MakesJust 0 0 1 (D.calls self.old.inner) (D.calls self.new.inner)) }
+        ensures calls { MakesAtMost 0 0 1 (D.calls self.old.inner) (D.calls self.new.inner) }
         ensures honesty { D.honest self.new.inner ↔ D.honest self.old.inner }
         ensures size { D.size self.new.inner ≡ D.size self.old.inner }
         ensures passed { Passes D.failures result self.old self.new }

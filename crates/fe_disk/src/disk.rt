@@ -1,6 +1,7 @@
 // A disk as its users see it. `docs/model.md` has the model in plain words.
 ghost use Rattle.std.specs.Prelude.{◌≡◌, ◌↔◌, ◌+◌, ◌≤◌, ℕ, List, length, IsErr, OnOk};
-ghost use Rattle.fe_disk.specs.Disk.{IsImage, bytes_at, after_write, IsTorn, Follows, AddsNone, LeavesJust, Elapses, Rises};
+ghost use Rattle.fe_disk.specs.Disk.{IsImage, bytes_at, after_write, IsTorn, Follows, AddsNone, LeavesJust, Elapses, Rises, MakesAtMost, MakesJust};
+ghost use Rattle.fe_disk.specs.declared.calls.Calls.{Calls};
 
 /// The device did not do what it was asked to. It says no more than that.
 #[derive(Clone, Copy, Debug, PartialEq, Eq)]
@@ -16,6 +17,9 @@ pub trait Disk {
 
     /// How many device calls have failed. It stands still at the top of a `u64`.
     ghost failures: { Self → ℕ };
+
+    /// How many reads, writes and syncs were made of it.
+    ghost calls: { Self → Calls };
 
     /// The disk does what this model says. It is the premise of every fact about bytes and stops.
     ghost honest: { Self → Type 0 };
@@ -53,6 +57,9 @@ pub trait Disk {
 
         ensures fault { IsErr result ↔ Rises (failures self.old) (failures self.new) }
         ensures still { OnOk result (failures self.new ≡ failures self.old) }
+        ensures one_fault { failures self.new ≤ failures self.old + 1 }
+        ensures made { OnOk result (MakesJust 1 0 0 (calls self.old) (calls self.new)) }
+        ensures calls { MakesAtMost 1 0 0 (calls self.old) (calls self.new) }
         ensures honesty { honest self.new ↔ honest self.old }
         ensures size { size self.new ≡ size self.old };
 
@@ -68,6 +75,9 @@ pub trait Disk {
 
         ensures fault { IsErr result ↔ Rises (failures self.old) (failures self.new) }
         ensures still { OnOk result (failures self.new ≡ failures self.old) }
+        ensures one_fault { failures self.new ≤ failures self.old + 1 }
+        ensures made { OnOk result (MakesJust 0 1 0 (calls self.old) (calls self.new)) }
+        ensures calls { MakesAtMost 0 1 0 (calls self.old) (calls self.new) }
         ensures honesty { honest self.new ↔ honest self.old }
         ensures size { size self.new ≡ size self.old };
 
@@ -81,6 +91,9 @@ pub trait Disk {
 
         ensures fault { IsErr result ↔ Rises (failures self.old) (failures self.new) }
         ensures still { OnOk result (failures self.new ≡ failures self.old) }
+        ensures one_fault { failures self.new ≤ failures self.old + 1 }
+        ensures made { OnOk result (MakesJust 0 0 1 (calls self.old) (calls self.new)) }
+        ensures calls { MakesAtMost 0 0 1 (calls self.old) (calls self.new) }
         ensures honesty { honest self.new ↔ honest self.old }
         ensures size { size self.new ≡ size self.old };
 

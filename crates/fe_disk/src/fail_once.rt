@@ -63,12 +63,14 @@ impl<D: Disk> FailOnce<D> {
 
 impl<D: Disk> Disk for FailOnce<D> {
     ghost use Rattle.std.specs.Prelude.{◌≡◌, ◌↔◌, ◌+◌, ◌≤◌, length, IsErr, OnOk};
-    ghost use Rattle.fe_disk.specs.Disk.{bytes_at, after_write, IsTorn, Follows, AddsNone, LeavesJust, Elapses, Rises};
+    ghost use Rattle.fe_disk.specs.Disk.{bytes_at, after_write, IsTorn, Follows, AddsNone, LeavesJust, Elapses, Rises, MakesAtMost, MakesJust};
     ghost use Rattle.fe_disk.specs.FailOnce.{disk_of, fault_count, FailsOne};
 
     ghost size = { λ disk. D.size (disk_of disk) };
 
     ghost failures = { fault_count };
+
+    ghost calls = { λ disk. D.calls (disk_of disk) };
 
     ghost honest = { λ disk. D.honest (disk_of disk) };
 
@@ -107,6 +109,9 @@ impl<D: Disk> Disk for FailOnce<D> {
 
         ensures fault { IsErr result ↔ Rises (fault_count self.old) (fault_count self.new) }
         ensures still { OnOk result (fault_count self.new ≡ fault_count self.old) }
+        ensures one_fault { fault_count self.new ≤ fault_count self.old + 1 }
+        ensures made { OnOk result (MakesJust 1 0 0 (D.calls (disk_of self.old)) (D.calls (disk_of self.new))) }
+        ensures calls { MakesAtMost 1 0 0 (D.calls (disk_of self.old)) (D.calls (disk_of self.new)) }
         ensures honesty { D.honest (disk_of self.new) ↔ D.honest (disk_of self.old) }
         ensures size { D.size (disk_of self.new) ≡ D.size (disk_of self.old) }
         ensures once { FailsOne D.failures result self.old self.new }
@@ -126,6 +131,9 @@ impl<D: Disk> Disk for FailOnce<D> {
 
         ensures fault { IsErr result ↔ Rises (fault_count self.old) (fault_count self.new) }
         ensures still { OnOk result (fault_count self.new ≡ fault_count self.old) }
+        ensures one_fault { fault_count self.new ≤ fault_count self.old + 1 }
+        ensures made { OnOk result (MakesJust 0 1 0 (D.calls (disk_of self.old)) (D.calls (disk_of self.new))) }
+        ensures calls { MakesAtMost 0 1 0 (D.calls (disk_of self.old)) (D.calls (disk_of self.new)) }
         ensures honesty { D.honest (disk_of self.new) ↔ D.honest (disk_of self.old) }
         ensures size { D.size (disk_of self.new) ≡ D.size (disk_of self.old) }
         ensures once { FailsOne D.failures result self.old self.new }
@@ -144,6 +152,9 @@ impl<D: Disk> Disk for FailOnce<D> {
 
         ensures fault { IsErr result ↔ Rises (fault_count self.old) (fault_count self.new) }
         ensures still { OnOk result (fault_count self.new ≡ fault_count self.old) }
+        ensures one_fault { fault_count self.new ≤ fault_count self.old + 1 }
+        ensures made { OnOk result (MakesJust 0 0 1 (D.calls (disk_of self.old)) (D.calls (disk_of self.new))) }
+        ensures calls { MakesAtMost 0 0 1 (D.calls (disk_of self.old)) (D.calls (disk_of self.new)) }
         ensures honesty { D.honest (disk_of self.new) ↔ D.honest (disk_of self.old) }
         ensures size { D.size (disk_of self.new) ≡ D.size (disk_of self.old) }
         ensures once { FailsOne D.failures result self.old self.new }

@@ -1,12 +1,14 @@
 //! The count of faults that a disk keeps for itself.
-ghost use Rattle.std.specs.Prelude.{◌≡◌, ◌↔◌, ◌-◌, ◌^◌, ◌<◌, OnOk, IsErr};
+ghost use Rattle.std.specs.Prelude.{◌≡◌, ◌↔◌, ◌+◌, ◌-◌, ◌^◌, ◌<◌, ◌≤◌, min, OnOk, IsErr};
 ghost use Rattle.fe_disk.specs.Disk.{Rises};
 
 use crate::DeviceFault;
 
 /// Counts a fault. At the top of a `u64` the count stands still.
 pub fn fault(failures: &mut u64) -> DeviceFault
-    ensures { Rises failures.old failures.new }
+    ensures value { failures.new ≡ min (failures.old + 1) (2 ^ 64 - 1) }
+    ensures fault { Rises failures.old failures.new }
+    ensures one_fault { failures.new ≤ failures.old + 1 }
 {
     *failures = failures.saturating_add(1);
     DeviceFault
@@ -18,6 +20,7 @@ pub fn count<E: Drop>(failures: &mut u64, outcome: Result<(), E>) -> Result<(), 
     ensures same { IsErr result ↔ IsErr outcome }
     ensures fault { IsErr result ↔ Rises failures.old failures.new }
     ensures still { OnOk result (failures.new ≡ failures.old) }
+    ensures one_fault { failures.new ≤ failures.old + 1 }
 {
     match outcome {
         Ok(()) => Ok(()),

@@ -3,7 +3,7 @@ ghost use Rattle.std.specs.Prelude.{◌≡◌, ◌≢◌, ℕ, [], IfOk, IfErr, 
 ghost use Rattle.fe_disk.specs.declared.file_fault.FileFault.TheVariants.{WrongSize, Device};
 
 use crate::faults::{count, fault};
-use crate::{DeviceFault, Disk, FileFault};
+use crate::{Calls, DeviceFault, Disk, FileFault};
 use std::fs::{File, OpenOptions};
 use std::io;
 use std::io::{ErrorKind, Write};
@@ -27,6 +27,7 @@ const STREAMS: i32 = 3;
 pub struct FileDisk {
     file: File,
     size: usize,
+    calls: Calls,
     failures: u64,
 }
 
@@ -50,6 +51,7 @@ impl FileDisk {
                 Ok(FileDisk {
                     file,
                     size,
+                    calls: Calls::NONE,
                     failures: 0,
                 })
             }
@@ -81,6 +83,7 @@ impl FileDisk {
         Ok(FileDisk {
             file,
             size,
+            calls: Calls::NONE,
             failures: 0,
         })
     }
@@ -124,11 +127,13 @@ fn folder_of(path: &str) -> Path<'_> {
 }
 
 impl Disk for FileDisk {
-    ghost use Rattle.fe_disk.specs.FileDisk.{file_size, fault_count};
+    ghost use Rattle.fe_disk.specs.FileDisk.{file_size, fault_count, calls_of};
 
     ghost size = { file_size };
 
     ghost failures = { fault_count };
+
+    ghost calls = { calls_of };
 
     ghost honest = { λ disk. ⊥ };
 
@@ -159,25 +164,28 @@ impl Disk for FileDisk {
     }
 
     fn read_at(&mut self, at: usize, buffer: &mut [u8]) -> Result<(), DeviceFault> {
-        if self.failures == u64::MAX {
+        if self.failures == u64::MAX || self.calls.reads == u64::MAX {
             return Err(fault(&mut self.failures));
         }
+        self.calls.reads += 1;
         let outcome = self.file.read_exact_at(buffer, at as u64);
         count(&mut self.failures, outcome)
     }
 
     fn write_at(&mut self, at: usize, bytes: &[u8]) -> Result<(), DeviceFault> {
-        if self.failures == u64::MAX {
+        if self.failures == u64::MAX || self.calls.writes == u64::MAX {
             return Err(fault(&mut self.failures));
         }
+        self.calls.writes += 1;
         let outcome = self.file.write_all_at(bytes, at as u64);
         count(&mut self.failures, outcome)
     }
 
     fn sync(&mut self) -> Result<(), DeviceFault> {
-        if self.failures == u64::MAX {
+        if self.failures == u64::MAX || self.calls.syncs == u64::MAX {
             return Err(fault(&mut self.failures));
         }
+        self.calls.syncs += 1;
         let outcome = self.file.sync_data();
         count(&mut self.failures, outcome)
     }

@@ -54,12 +54,14 @@ impl<D: Disk> Fuse<D> {
 
 impl<D: Disk> Disk for Fuse<D> {
     ghost use Rattle.std.specs.Prelude.{◌≡◌, ◌↔◌, ◌+◌, ◌≤◌, length, IsErr, OnOk};
-    ghost use Rattle.fe_disk.specs.Disk.{bytes_at, after_write, IsTorn, Follows, AddsNone, LeavesJust, Elapses, Rises};
+    ghost use Rattle.fe_disk.specs.Disk.{bytes_at, after_write, IsTorn, Follows, AddsNone, LeavesJust, Elapses, Rises, MakesAtMost, MakesJust};
     ghost use Rattle.fe_disk.specs.Fuse.{disk_of, fault_count, Burns};
 
     ghost size = { λ fuse. D.size (disk_of fuse) };
 
     ghost failures = { fault_count };
+
+    ghost calls = { λ fuse. D.calls (disk_of fuse) };
 
     ghost honest = { λ fuse. D.honest (disk_of fuse) };
 
@@ -98,6 +100,9 @@ impl<D: Disk> Disk for Fuse<D> {
 
         ensures fault { IsErr result ↔ Rises (fault_count self.old) (fault_count self.new) }
         ensures still { OnOk result (fault_count self.new ≡ fault_count self.old) }
+        ensures one_fault { fault_count self.new ≤ fault_count self.old + 1 }
+        ensures made { OnOk result (MakesJust 1 0 0 (D.calls (disk_of self.old)) (D.calls (disk_of self.new))) }
+        ensures calls { MakesAtMost 1 0 0 (D.calls (disk_of self.old)) (D.calls (disk_of self.new)) }
         ensures honesty { D.honest (disk_of self.new) ↔ D.honest (disk_of self.old) }
         ensures size { D.size (disk_of self.new) ≡ D.size (disk_of self.old) }
         ensures fuse { Burns D.failures result self.old self.new }
@@ -117,6 +122,9 @@ impl<D: Disk> Disk for Fuse<D> {
 
         ensures fault { IsErr result ↔ Rises (fault_count self.old) (fault_count self.new) }
         ensures still { OnOk result (fault_count self.new ≡ fault_count self.old) }
+        ensures one_fault { fault_count self.new ≤ fault_count self.old + 1 }
+        ensures made { OnOk result (MakesJust 0 1 0 (D.calls (disk_of self.old)) (D.calls (disk_of self.new))) }
+        ensures calls { MakesAtMost 0 1 0 (D.calls (disk_of self.old)) (D.calls (disk_of self.new)) }
         ensures honesty { D.honest (disk_of self.new) ↔ D.honest (disk_of self.old) }
         ensures size { D.size (disk_of self.new) ≡ D.size (disk_of self.old) }
         ensures fuse { Burns D.failures result self.old self.new }
@@ -135,6 +143,9 @@ impl<D: Disk> Disk for Fuse<D> {
 
         ensures fault { IsErr result ↔ Rises (fault_count self.old) (fault_count self.new) }
         ensures still { OnOk result (fault_count self.new ≡ fault_count self.old) }
+        ensures one_fault { fault_count self.new ≤ fault_count self.old + 1 }
+        ensures made { OnOk result (MakesJust 0 0 1 (D.calls (disk_of self.old)) (D.calls (disk_of self.new))) }
+        ensures calls { MakesAtMost 0 0 1 (D.calls (disk_of self.old)) (D.calls (disk_of self.new)) }
         ensures honesty { D.honest (disk_of self.new) ↔ D.honest (disk_of self.old) }
         ensures size { D.size (disk_of self.new) ≡ D.size (disk_of self.old) }
         ensures fuse { Burns D.failures result self.old self.new }

@@ -46,6 +46,8 @@ impl<D: Disk, R: Wait> Disk for Held<D, R> {
 
     ghost failures = { λ disk. D.failures (disk_of disk) };
 
+    ghost calls = { λ disk. D.calls (disk_of disk) };
+
     ghost honest = { λ disk. D.honest (disk_of disk) };
 
     ghost seen = { λ disk. D.seen (disk_of disk) };

@@ -1,33 +1,44 @@
 //! A disk that says whatever it was told to, so that a store can be tried over any bytes.
-ghost use Rattle.std.specs.Prelude.{◌≡◌, ◌+◌, ◌≤◌, length, IsOk};
-ghost use Rattle.fe_disk.specs.Disk.{bytes_at};
+ghost use Rattle.std.specs.Prelude.{◌≡◌, ◌⊎◌, ◌↔◌, ◌+◌, ◌-◌, ◌^◌, ◌≤◌, length, IsErr, OnOk};
+ghost use Rattle.fe_disk.specs.Disk.{bytes_at, Rises, MakesAtMost, MakesJust};
 
-use crate::{DeviceFault, Disk};
+use crate::faults::fault;
+use crate::{Calls, DeviceFault, Disk};
 
-/// A disk that reads what a list of bytes says, whatever was written. No call of it fails, and
-/// nothing is claimed of what a stop leaves: it is not honest.
+/// A disk that reads what a list of bytes says, whatever was written. No call of it fails before a count
+/// of its calls is at the top of a `u64`, and nothing is claimed of what a stop leaves: it is not honest.
 #[derive(Drop)]
 pub struct Liar {
     bytes: Vec<u8>,
+    calls: Calls,
+    failures: u64,
 }
 
 impl Liar {
-    ghost use Rattle.fe_disk.specs.Liar.{told};
+    ghost use Rattle.fe_disk.specs.Liar.{told, calls_of};
+    ghost use Rattle.fe_disk.specs.Calls.{none};
 
     /// A disk of as many bytes as the list has.
     pub fn new(bytes: Vec<u8>) -> Liar
-        ensures { told result ≡ bytes.items }
+        ensures told { told result ≡ bytes.items }
+        ensures calls { calls_of result ≡ none }
     {
-        Liar { bytes }
+        Liar {
+            bytes,
+            calls: Calls::NONE,
+            failures: 0,
+        }
     }
 }
 
 impl Disk for Liar {
-    ghost use Rattle.fe_disk.specs.Liar.{told};
+    ghost use Rattle.fe_disk.specs.Liar.{told, calls_of, fault_count};
 
     ghost size = { λ disk. length (told disk) };
 
-    ghost failures = { λ disk. 0 };
+    ghost failures = { fault_count };
+
+    ghost calls = { calls_of };
 
     ghost honest = { λ disk. ⊥ };
 
@@ -54,31 +65,58 @@ impl Disk for Liar {
     }
 
     fn failures(&self) -> u64 {
-        0
+        self.failures
     }
 
     fn read_at(&mut self, at: usize, buffer: &mut [u8]) -> Result<(), DeviceFault>
         requires { at + length buffer.old ≤ length (told self.old) }
-        ensures told { buffer.new ≡ bytes_at (told self.old) at (length buffer.old) }
-        ensures ok { IsOk result }
-        ensures same { self.new ≡ self.old }
+        ensures told { OnOk result (buffer.new ≡ bytes_at (told self.old) at (length buffer.old)) }
+        ensures fault { IsErr result ↔ Rises (fault_count self.old) (fault_count self.new) }
+        ensures still { OnOk result (fault_count self.new ≡ fault_count self.old) }
+        ensures one_fault { fault_count self.new ≤ fault_count self.old + 1 }
+        ensures same { told self.new ≡ told self.old }
+        ensures only_at_top { IsErr result → (fault_count self.old ≡ 2 ^ 64 - 1) ⊎ ((calls_of self.old).reads ≡ 2 ^ 64 - 1) }
+        ensures made { OnOk result (MakesJust 1 0 0 (calls_of self.old) (calls_of self.new)) }
+        ensures calls { MakesAtMost 1 0 0 (calls_of self.old) (calls_of self.new) }
     {
+        if self.failures == u64::MAX || self.calls.reads == u64::MAX {
+            return Err(fault(&mut self.failures));
+        }
+        self.calls.reads += 1;
         buffer.copy_from_slice(&self.bytes[at..at + buffer.len()]);
         Ok(())
     }
 
     fn write_at(&mut self, _at: usize, bytes: &[u8]) -> Result<(), DeviceFault>
         requires { _at + length bytes.now ≤ length (told self.old) }
-        ensures ok { IsOk result }
-        ensures same { self.new ≡ self.old }
+        ensures fault { IsErr result ↔ Rises (fault_count self.old) (fault_count self.new) }
+        ensures still { OnOk result (fault_count self.new ≡ fault_count self.old) }
+        ensures one_fault { fault_count self.new ≤ fault_count self.old + 1 }
+        ensures same { told self.new ≡ told self.old }
+        ensures only_at_top { IsErr result → (fault_count self.old ≡ 2 ^ 64 - 1) ⊎ ((calls_of self.old).writes ≡ 2 ^ 64 - 1) }
+        ensures made { OnOk result (MakesJust 0 1 0 (calls_of self.old) (calls_of self.new)) }
+        ensures calls { MakesAtMost 0 1 0 (calls_of self.old) (calls_of self.new) }
     {
+        if self.failures == u64::MAX || self.calls.writes == u64::MAX {
+            return Err(fault(&mut self.failures));
+        }
+        self.calls.writes += 1;
         Ok(())
     }
 
     fn sync(&mut self) -> Result<(), DeviceFault>
-        ensures ok { IsOk result }
-        ensures same { self.new ≡ self.old }
+        ensures fault { IsErr result ↔ Rises (fault_count self.old) (fault_count self.new) }
+        ensures still { OnOk result (fault_count self.new ≡ fault_count self.old) }
+        ensures one_fault { fault_count self.new ≤ fault_count self.old + 1 }
+        ensures same { told self.new ≡ told self.old }
+        ensures only_at_top { IsErr result → (fault_count self.old ≡ 2 ^ 64 - 1) ⊎ ((calls_of self.old).syncs ≡ 2 ^ 64 - 1) }
+        ensures made { OnOk result (MakesJust 0 0 1 (calls_of self.old) (calls_of self.new)) }
+        ensures calls { MakesAtMost 0 0 1 (calls_of self.old) (calls_of self.new) }
     {
+        if self.failures == u64::MAX || self.calls.syncs == u64::MAX {
+            return Err(fault(&mut self.failures));
+        }
+        self.calls.syncs += 1;
         Ok(())
     }
 }

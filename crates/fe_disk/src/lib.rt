@@ -1,6 +1,7 @@
 //! The disk model: what a read gives, and which images a stop at any moment may leave.
 #![tactic(auto)]
 
+mod calls;
 mod counted;
 mod disk;
 mod fail_once;
@@ -14,6 +15,7 @@ mod liar;
 mod memory_disk;
 mod record;
 
+pub use calls::Calls;
 pub use disk::{DeviceFault, Disk};
 pub use fail_once::FailOnce;
 pub use file_disk::FileDisk;

@@ -1,11 +1,13 @@
 //! A disk in memory that keeps the record of its calls, so that each stop it allows can be made.
-ghost use Rattle.std.specs.Prelude.{◌≡◌, ◌+◌, ◌-◌, ◌^◌, ◌≤◌, ◌↔◌, [], length, IfOk, IsErr, OnOk, OnErr};
-ghost use Rattle.fe_disk.specs.Disk.{bytes_at, after_write, IsTorn, Follows, AddsNone, LeavesJust, Elapses, Rises};
-ghost use Rattle.fe_disk.specs.Memory.{IsHonest, LeavesNow, LeavesSince, IsLeftBy, IsBlank, disk_after_write, disk_after_sync, disk_after_fault};
+ghost use Rattle.std.specs.Prelude.{◌≡◌, ◌⊎◌, ◌+◌, ◌-◌, ◌^◌, ◌≤◌, ◌↔◌, [], length, IfOk, IsErr, OnOk, OnErr};
+ghost use Rattle.fe_disk.specs.Disk.{bytes_at, after_write, IsTorn, Follows, AddsNone, LeavesJust, Elapses, Rises, MakesAtMost, MakesJust};
+ghost use Rattle.fe_disk.specs.Memory.{IsHonest, LeavesNow, LeavesSince, IsLeftBy, IsBlank, disk_after_read, disk_after_write, disk_after_sync, disk_after_fault};
+ghost use Rattle.fe_disk.specs.Calls.{none};
 ghost use Rattle.fe_disk.specs.within.MemoryLaws.{seen_may_stay_law, left_is_image_law, counts_now_law, only_now_law};
 
+use crate::faults::fault;
 use crate::record::{Call, record_sync, record_write, replace, torn_copy};
-use crate::{DeviceFault, Disk};
+use crate::{Calls, DeviceFault, Disk};
 use std::alloc::{AllocError, Global};
 use std::marker::Model;
 
@@ -26,7 +28,8 @@ pub enum Torn {
 pub struct MemoryDisk {
     alloc: Global,
     bytes: Vec<u8>,
-    calls: Vec<Call>,
+    record: Vec<Call>,
+    calls: Calls,
     failures: u64,
 }
 
@@ -52,7 +55,8 @@ impl MemoryDisk {
         Ok(MemoryDisk {
             alloc,
             bytes: vec![in alloc; 0; size]?,
-            calls: Vec::new(alloc),
+            record: Vec::new(alloc),
+            calls: Calls::NONE,
             failures: 0,
         })
     }
@@ -66,29 +70,34 @@ impl MemoryDisk {
         ensures allowed { IfOk result (λ disk. LeavesNow self.now disk.image) }
 
         ensures size { IfOk result (λ disk. length disk.image ≡ length self.now.image) }
-        ensures calls { IfOk result (λ disk. disk.events ≡ []) }
+        ensures events { IfOk result (λ disk. disk.events ≡ []) }
+        ensures calls { IfOk result (λ disk. disk.calls ≡ none) }
         ensures failures { IfOk result (λ disk. disk.failures ≡ 0) }
         ensures honest { IfOk result IsHonest }
         ensures durable { IfOk result (λ disk. LeavesJust disk.image (LeavesNow disk)) }
     {
         Ok(MemoryDisk {
             alloc: self.alloc,
-            bytes: torn_copy(self.alloc, torn, &self.calls, &self.bytes)?,
-            calls: Vec::new(self.alloc),
+            bytes: torn_copy(self.alloc, torn, &self.record, &self.bytes)?,
+            record: Vec::new(self.alloc),
+            calls: Calls::NONE,
             failures: 0,
         })
     }
 
     fn get(&mut self, at: usize, buffer: &mut [u8]) -> Result<(), DeviceFault>
         requires { at + length buffer.old ≤ length self.old.image }
-        ensures ok { OnOk result (self.new ≡ self.old) }
+        ensures ok { OnOk result (self.new ≡ disk_after_read self.old) }
         ensures read { OnOk result (buffer.new ≡ bytes_at self.old.image at (length buffer.old)) }
+        ensures made { OnOk result (MakesJust 1 0 0 self.old.calls self.new.calls) }
         ensures err { OnErr result (self.new ≡ disk_after_fault self.old) }
-        ensures only_at_top { IsErr result ↔ (self.old.failures ≡ 2 ^ 64 - 1) }
+        ensures fault { IsErr result ↔ Rises self.old.failures self.new.failures }
+        ensures only_at_top { IsErr result ↔ ((self.old.failures ≡ 2 ^ 64 - 1) ⊎ (self.old.calls.reads ≡ 2 ^ 64 - 1)) }
     {
-        if self.failures == u64::MAX {
-            return Err(DeviceFault);
+        if self.failures == u64::MAX || self.calls.reads == u64::MAX {
+            return Err(fault(&mut self.failures));
         }
+        self.calls.reads += 1;
         buffer.copy_from_slice(&self.bytes[at..at + buffer.len()]);
         Ok(())
     }
@@ -96,29 +105,35 @@ impl MemoryDisk {
     fn put(&mut self, at: usize, bytes: &[u8]) -> Result<(), DeviceFault>
         requires { at + length bytes.now ≤ length self.old.image }
         ensures ok { OnOk result (self.new ≡ disk_after_write self.old at bytes.now) }
+        ensures made { OnOk result (MakesJust 0 1 0 self.old.calls self.new.calls) }
         ensures err { OnErr result (self.new ≡ disk_after_fault self.old) }
         ensures fault { IsErr result ↔ Rises self.old.failures self.new.failures }
         ensures honest { IsHonest self.old }
     {
         if self.failures == u64::MAX
-            || record_write(self.alloc, &mut self.calls, &self.bytes, at, bytes.len()).is_err()
+            || self.calls.writes == u64::MAX
+            || record_write(self.alloc, &mut self.record, &self.bytes, at, bytes.len()).is_err()
         {
-            self.failures = self.failures.saturating_add(1);
-            return Err(DeviceFault);
+            return Err(fault(&mut self.failures));
         }
+        self.calls.writes += 1;
         replace(&mut self.bytes, at, bytes);
         Ok(())
     }
 
     fn settle(&mut self) -> Result<(), DeviceFault>
         ensures ok { OnOk result (self.new ≡ disk_after_sync self.old) }
+        ensures made { OnOk result (MakesJust 0 0 1 self.old.calls self.new.calls) }
         ensures err { OnErr result (self.new ≡ disk_after_fault self.old) }
         ensures fault { IsErr result ↔ Rises self.old.failures self.new.failures }
     {
-        if self.failures == u64::MAX || record_sync(&mut self.calls).is_err() {
-            self.failures = self.failures.saturating_add(1);
-            return Err(DeviceFault);
+        if self.failures == u64::MAX
+            || self.calls.syncs == u64::MAX
+            || record_sync(&mut self.record).is_err()
+        {
+            return Err(fault(&mut self.failures));
         }
+        self.calls.syncs += 1;
         Ok(())
     }
 }
@@ -127,6 +142,8 @@ impl Disk for MemoryDisk {
     ghost size = { λ disk. length disk.image };
 
     ghost failures = { λ disk. disk.failures };
+
+    ghost calls = { λ disk. disk.calls };
 
     ghost honest = { IsHonest };
 
@@ -165,12 +182,15 @@ impl Disk for MemoryDisk {
 
         ensures fault { IsErr result ↔ Rises self.old.failures self.new.failures }
         ensures still { OnOk result (self.new.failures ≡ self.old.failures) }
+        ensures one_fault { self.new.failures ≤ self.old.failures + 1 }
+        ensures made { OnOk result (MakesJust 1 0 0 self.old.calls self.new.calls) }
+        ensures calls { MakesAtMost 1 0 0 self.old.calls self.new.calls }
         ensures honesty { IsHonest self.new ↔ IsHonest self.old }
         ensures size { length self.new.image ≡ length self.old.image }
 
-        // A read takes no memory, so it fails only once the count of faults is at its top.
-        ensures only_at_top { IsErr result ↔ (self.old.failures ≡ 2 ^ 64 - 1) }
-        ensures ok { OnOk result (self.new ≡ self.old) }
+        // A read takes no memory, so it fails only once the count of faults, or that of reads, is at its top.
+        ensures only_at_top { IsErr result ↔ ((self.old.failures ≡ 2 ^ 64 - 1) ⊎ (self.old.calls.reads ≡ 2 ^ 64 - 1)) }
+        ensures ok { OnOk result (self.new ≡ disk_after_read self.old) }
         ensures err { OnErr result (self.new ≡ disk_after_fault self.old) }
     {
         self.get(at, buffer)
@@ -185,6 +205,9 @@ impl Disk for MemoryDisk {
 
         ensures fault { IsErr result ↔ Rises self.old.failures self.new.failures }
         ensures still { OnOk result (self.new.failures ≡ self.old.failures) }
+        ensures one_fault { self.new.failures ≤ self.old.failures + 1 }
+        ensures made { OnOk result (MakesJust 0 1 0 self.old.calls self.new.calls) }
+        ensures calls { MakesAtMost 0 1 0 self.old.calls self.new.calls }
         ensures honesty { IsHonest self.new ↔ IsHonest self.old }
         ensures size { length self.new.image ≡ length self.old.image }
 
@@ -203,6 +226,9 @@ impl Disk for MemoryDisk {
 
         ensures fault { IsErr result ↔ Rises self.old.failures self.new.failures }
         ensures still { OnOk result (self.new.failures ≡ self.old.failures) }
+        ensures one_fault { self.new.failures ≤ self.old.failures + 1 }
+        ensures made { OnOk result (MakesJust 0 0 1 self.old.calls self.new.calls) }
+        ensures calls { MakesAtMost 0 0 1 self.old.calls self.new.calls }
         ensures honesty { IsHonest self.new ↔ IsHonest self.old }
         ensures size { length self.new.image ≡ length self.old.image }
 

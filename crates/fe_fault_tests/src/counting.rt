@@ -26,6 +26,8 @@ impl<D: Disk> Disk for Counting<D> {
 
     ghost failures = { λ counting. D.failures counting.inner };
 
+    ghost calls = { λ counting. D.calls counting.inner };
+
     ghost honest = { λ counting. D.honest counting.inner };
 
     ghost seen = { λ counting. D.seen counting.inner };

@@ -1,6 +1,6 @@
 // The two orders of writing on which all crash promises rest.
 ghost use Rattle.std.specs.Prelude.{◌≡◌, ◌↔◌, ◌+◌, ◌≤◌, [], ◌∷◌, length, IsErr, OnOk};
-ghost use Rattle.fe_disk.specs.Disk.{IsTorn, LeavesJust, LeavesOnly, Rises, after_write};
+ghost use Rattle.fe_disk.specs.Disk.{IsTorn, LeavesJust, LeavesOnly, Rises, MakesAtMost, MakesJust, after_write};
 ghost use Rattle.fe_journal.specs.Layout.{IsShut};
 ghost use Rattle.fe_journal.specs.Steps.{after_commit, IsLeftInCommit, IsLeftInShutting};
 
@@ -23,6 +23,8 @@ pub fn commit<D: Disk>(
 
     ensures fault { IsErr result ↔ Rises (D.failures disk.old) (D.failures disk.new) }
     ensures still { OnOk result (D.failures disk.new ≡ D.failures disk.old) }
+    ensures made { OnOk result (MakesJust 0 2 2 (D.calls disk.old) (D.calls disk.new)) }
+    ensures calls { MakesAtMost 0 2 2 (D.calls disk.old) (D.calls disk.new) }
     ensures honesty { D.honest disk.new ↔ D.honest disk.old }
     ensures size { D.size disk.new ≡ D.size disk.old }
 {
@@ -41,6 +43,8 @@ fn open_gate<D: Disk>(disk: &mut D, gate: usize) -> Result<(), DeviceFault>
 
     ensures fault { IsErr result ↔ Rises (D.failures disk.old) (D.failures disk.new) }
     ensures still { OnOk result (D.failures disk.new ≡ D.failures disk.old) }
+    ensures made { OnOk result (MakesJust 0 1 1 (D.calls disk.old) (D.calls disk.new)) }
+    ensures calls { MakesAtMost 0 1 1 (D.calls disk.old) (D.calls disk.new) }
     ensures honesty { D.honest disk.new ↔ D.honest disk.old }
     ensures size { D.size disk.new ≡ D.size disk.old }
 {
@@ -62,6 +66,7 @@ pub fn shut<D: Disk>(disk: &mut D, gate: usize) -> Result<(), DeviceFault>
 
     ensures fault { IsErr result ↔ Rises (D.failures disk.old) (D.failures disk.new) }
     ensures still { OnOk result (D.failures disk.new ≡ D.failures disk.old) }
+    ensures calls { MakesAtMost 1 1 1 (D.calls disk.old) (D.calls disk.new) }
     ensures honesty { D.honest disk.new ↔ D.honest disk.old }
     ensures size { D.size disk.new ≡ D.size disk.old }
 {

@@ -1,5 +1,5 @@
 ghost use Rattle.std.specs.Prelude.{◌≡◌, ◌≢◌, ◌↔◌, None, IfOk, IfErr, IsErr, OnOk, vec_len};
-ghost use Rattle.fe_disk.specs.Disk.{LeavesJust, Rises};
+ghost use Rattle.fe_disk.specs.Disk.{LeavesJust, Rises, MakesAtMost, MakesJust};
 ghost use Rattle.fe_journal.specs.Layout.{device_bytes, area_bytes};
 ghost use Rattle.fe_journal.specs.Journal.{Keeps, new_journal};
 ghost use Rattle.fe_journal.specs.Contents.{Holds, first_contents};
@@ -35,6 +35,8 @@ impl<D: Disk> Journal<D> {
         ensures device { IfErr result (λ e. e.0 ≡ Device → Rises (D.failures disk) (D.failures e.1)) }
         ensures untouched { IfErr result (λ e. e.0 ≢ Device → e.1 ≡ disk) }
         ensures refused { IfErr result (λ e. IsFormatFault e.0) }
+        ensures made { IfOk result (λ journal. MakesJust 0 6 3 (D.calls disk) (D.calls journal.disk)) }
+        ensures calls_back { IfErr result (λ e. MakesAtMost 0 6 3 (D.calls disk) (D.calls e.1)) }
         ensures honesty { IfOk result (λ journal. D.honest journal.disk ↔ D.honest disk) }
         ensures honesty_back { IfErr result (λ e. D.honest e.1 ↔ D.honest disk) }
         ensures size { IfOk result (λ journal. D.size journal.disk ≡ D.size disk) }
@@ -55,6 +57,8 @@ impl<D: Disk> Journal<D> {
         ensures device { IfErr result (λ e. e.0 ≡ Device → Rises (D.failures disk) (D.failures e.1)) }
         ensures untouched { IfErr result (λ e. e.0 ≢ Device → e.1 ≡ disk) }
         ensures refused { IfErr result (λ e. IsFormatFault e.0) }
+        ensures made { IfOk result (λ journal. MakesJust 0 6 3 (D.calls disk) (D.calls journal.disk)) }
+        ensures calls_back { IfErr result (λ e. MakesAtMost 0 6 3 (D.calls disk) (D.calls e.1)) }
         ensures honesty { IfOk result (λ journal. D.honest journal.disk ↔ D.honest disk) }
         ensures honesty_back { IfErr result (λ e. D.honest e.1 ↔ D.honest disk) }
         ensures size { IfOk result (λ journal. D.size journal.disk ≡ D.size disk) }
@@ -79,6 +83,8 @@ fn write_store<D: Disk>(alloc: Global, format: Format, disk: &mut D) -> Result<V
     ensures untouched { IfErr result (λ fault. fault ≢ Device → disk.new ≡ disk.old) }
     ensures refused { IfErr result IsFormatFault }
     ensures still { OnOk result (D.failures disk.new ≡ D.failures disk.old) }
+    ensures made { OnOk result (MakesJust 0 6 3 (D.calls disk.old) (D.calls disk.new)) }
+    ensures calls { MakesAtMost 0 6 3 (D.calls disk.old) (D.calls disk.new) }
     ensures honesty { D.honest disk.new ↔ D.honest disk.old }
     ensures size { D.size disk.new ≡ D.size disk.old }
 {
@@ -100,6 +106,8 @@ fn shut_both<D: Disk>(disk: &mut D) -> Result<(), DeviceFault>
 
     ensures fault { IsErr result ↔ Rises (D.failures disk.old) (D.failures disk.new) }
     ensures still { OnOk result (D.failures disk.new ≡ D.failures disk.old) }
+    ensures made { OnOk result (MakesJust 0 2 1 (D.calls disk.old) (D.calls disk.new)) }
+    ensures calls { MakesAtMost 0 2 1 (D.calls disk.old) (D.calls disk.new) }
     ensures honesty { D.honest disk.new ↔ D.honest disk.old }
     ensures size { D.size disk.new ≡ D.size disk.old }
 {
@@ -117,6 +125,8 @@ fn write_first<D: Disk>(disk: &mut D, format: Format) -> Result<(), DeviceFault>
 
     ensures fault { IsErr result ↔ Rises (D.failures disk.old) (D.failures disk.new) }
     ensures still { OnOk result (D.failures disk.new ≡ D.failures disk.old) }
+    ensures made { OnOk result (MakesJust 0 2 0 (D.calls disk.old) (D.calls disk.new)) }
+    ensures calls { MakesAtMost 0 2 0 (D.calls disk.old) (D.calls disk.new) }
     ensures honesty { D.honest disk.new ↔ D.honest disk.old }
     ensures size { D.size disk.new ≡ D.size disk.old }
 {

@@ -1,6 +1,6 @@
 ghost use Rattle.std.specs.Prelude.{◌≡◌, ◌↔◌, ◌⊎◌, ◌+◌, ◌-◌, ◌≤◌, ◌<◌, ◌^◌, ℕ, [], ◌∷◌, ◌++◌, List, length, Option, Some, None, false, true, vec_len, IsTrue, IsSome, IfSome, OnOk, OnErr, IsErrOf};
 ghost use Rattle.std.specs.Option.{ForSome};
-ghost use Rattle.fe_disk.specs.Disk.{LeavesOnly, Rises};
+ghost use Rattle.fe_disk.specs.Disk.{LeavesOnly, Rises, MakesAtMost, MakesJust};
 ghost use Rattle.fe_journal.specs.Layout.{device_bytes, area_bytes, other_than};
 ghost use Rattle.fe_format.specs.Layout.{IsPayloadLength, IsImageLength};
 ghost use Rattle.fe_journal.specs.Groups.{room_at, end_of};
@@ -150,6 +150,8 @@ impl<D: Disk> Journal<D> {
         ensures failed { IsErrOf result Failed ↔ IsTrue self.old.has_failed }
         ensures untouched { IsErrOf result Failed → self.new ≡ self.old }
         ensures err { OnErr result (self.new ≡ record self.old { disk = self.new.disk; has_failed = true }) }
+        ensures made { OnOk result (MakesJust 0 2 2 (D.calls self.old.disk) (D.calls self.new.disk)) }
+        ensures calls { MakesAtMost 0 2 2 (D.calls self.old.disk) (D.calls self.new.disk) }
         ensures honesty { D.honest self.new.disk ↔ D.honest self.old.disk }
     {
         if self.has_failed {
@@ -193,6 +195,7 @@ impl<D: Disk> Journal<D> {
         ensures failed { IsErrOf result Failed ↔ IsTrue self.old.has_failed }
         ensures untouched { IsErrOf result Failed → self.new ≡ self.old }
         ensures err { OnErr result (self.new ≡ record self.old { disk = self.new.disk; has_failed = true }) }
+        ensures calls { MakesAtMost 1 2 1 (D.calls self.old.disk) (D.calls self.new.disk) }
         ensures honesty { D.honest self.new.disk ↔ D.honest self.old.disk }
     {
         if self.has_failed {
@@ -234,6 +237,8 @@ impl<D: Disk> Journal<D> {
         ensures failed { IsErrOf result Failed ↔ IsTrue self.old.has_failed }
         ensures untouched { IsErrOf result Failed → self.new ≡ self.old }
         ensures err { OnErr result (self.new ≡ record self.old { disk = self.new.disk; has_failed = true }) }
+        ensures made { OnOk result (MakesJust 0 1 0 (D.calls self.old.disk) (D.calls self.new.disk)) }
+        ensures calls { MakesAtMost 0 1 0 (D.calls self.old.disk) (D.calls self.new.disk) }
         ensures honesty { D.honest self.new.disk ↔ D.honest self.old.disk }
     {
         if self.has_failed {
@@ -280,6 +285,8 @@ impl<D: Disk> Journal<D> {
         ensures failed { IsErrOf result Failed ↔ IsTrue self.old.has_failed }
         ensures untouched { IsErrOf result Failed → self.new ≡ self.old }
         ensures err { OnErr result (self.new ≡ record self.old { disk = self.new.disk; has_failed = true }) }
+        ensures made { OnOk result (MakesJust 0 2 2 (D.calls self.old.disk) (D.calls self.new.disk)) }
+        ensures calls { MakesAtMost 0 2 2 (D.calls self.old.disk) (D.calls self.new.disk) }
         ensures honesty { D.honest self.new.disk ↔ D.honest self.old.disk }
     {
         if self.has_failed {

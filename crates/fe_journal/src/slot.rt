@@ -1,6 +1,6 @@
 // The beginning of a slot that does not count.
 ghost use Rattle.std.specs.Prelude.{◌≡◌, ◌≢◌, ◌⊎◌, ◌↔◌, ◌+◌, ◌≤◌, ◌<◌, ◌^◌, ℕ, List, length, IsErr, OnOk};
-ghost use Rattle.fe_disk.specs.Disk.{LeavesJust, LeavesOnly, Rises};
+ghost use Rattle.fe_disk.specs.Disk.{LeavesJust, LeavesOnly, Rises, MakesAtMost};
 ghost use Rattle.fe_journal.specs.Layout.{device_bytes};
 ghost use Rattle.fe_journal.specs.Steps.{header_fields, IsHeaderTorn, IsLeftInBeginning, IsBegun};
 
@@ -29,6 +29,7 @@ pub fn begin_slot<D: Disk>(
 
     ensures fault { IsErr result ↔ Rises (D.failures disk.old) (D.failures disk.new) }
     ensures still { OnOk result (D.failures disk.new ≡ D.failures disk.old) }
+    ensures calls { MakesAtMost 1 2 1 (D.calls disk.old) (D.calls disk.new) }
     ensures honesty { D.honest disk.new ↔ D.honest disk.old }
     ensures size { D.size disk.new ≡ D.size disk.old }
 {

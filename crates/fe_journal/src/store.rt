@@ -1,6 +1,6 @@
 // A store as it is read from its device.
 ghost use Rattle.std.specs.Prelude.{◌≡◌, ◌⊎◌, ◌↔◌, ◌+◌, ◌≤◌, ◌<◌, length, Some, IfSome, IfOk, IfErr, IsErr, IsErrOf, OnOk, vec_len};
-ghost use Rattle.fe_disk.specs.Disk.{LeavesJust, Rises, bytes_at};
+ghost use Rattle.fe_disk.specs.Disk.{LeavesJust, Rises, MakesAtMost, bytes_at};
 ghost use Rattle.fe_journal.specs.Layout.{device_bytes, header_of};
 ghost use Rattle.fe_format.specs.Layout.{IsImageLength};
 ghost use Rattle.fe_journal.specs.Damage.{TellsFound};
@@ -44,6 +44,7 @@ pub fn read_store<D: Disk>(alloc: Global, disk: &mut D) -> Result<Store, StoreFa
     ensures device { OnOk result (D.size disk.new ≡ device_bytes) }
     ensures fault { IsErrOf result Device ↔ Rises (D.failures disk.old) (D.failures disk.new) }
     ensures still { OnOk result (D.failures disk.new ≡ D.failures disk.old) }
+    ensures calls { MakesAtMost 4 0 1 (D.calls disk.old) (D.calls disk.new) }
     ensures honesty { D.honest disk.new ↔ D.honest disk.old }
     ensures size { D.size disk.new ≡ D.size disk.old }
 {
@@ -65,6 +66,7 @@ fn read_synced<D: Disk>(alloc: Global, disk: &mut D) -> Result<Store, StoreFault
 
     ensures fault { IsErrOf result Device → Rises (D.failures disk.old) (D.failures disk.new) }
     ensures still { (IsErrOf result Device → ⊥) → D.failures disk.new ≡ D.failures disk.old }
+    ensures calls { MakesAtMost 4 0 0 (D.calls disk.old) (D.calls disk.new) }
     ensures honesty { D.honest disk.new ↔ D.honest disk.old }
     ensures size { D.size disk.new ≡ D.size disk.old }
 {
@@ -89,6 +91,7 @@ fn read_sound<D: Disk>(disk: &mut D) -> Result<(usize, Header), StoreFault>
 
     ensures fault { IsErrOf result Device → Rises (D.failures disk.old) (D.failures disk.new) }
     ensures still { (IsErrOf result Device → ⊥) → D.failures disk.new ≡ D.failures disk.old }
+    ensures calls { MakesAtMost 2 0 0 (D.calls disk.old) (D.calls disk.new) }
     ensures honesty { D.honest disk.new ↔ D.honest disk.old }
     ensures size { D.size disk.new ≡ D.size disk.old }
 {
@@ -113,6 +116,7 @@ fn read_header<D: Disk>(
 
     ensures fault { IsErr result ↔ Rises (D.failures disk.old) (D.failures disk.new) }
     ensures still { OnOk result (D.failures disk.new ≡ D.failures disk.old) }
+    ensures calls { MakesAtMost 1 0 0 (D.calls disk.old) (D.calls disk.new) }
     ensures honesty { D.honest disk.new ↔ D.honest disk.old }
     ensures size { D.size disk.new ≡ D.size disk.old }
     ensures same { length bytes.new ≡ length bytes.old }
@@ -130,6 +134,7 @@ fn read_counting<D: Disk>(disk: &mut D) -> Result<Option<(usize, Header)>, Devic
 
     ensures fault { IsErr result ↔ Rises (D.failures disk.old) (D.failures disk.new) }
     ensures still { OnOk result (D.failures disk.new ≡ D.failures disk.old) }
+    ensures calls { MakesAtMost 2 0 0 (D.calls disk.old) (D.calls disk.new) }
     ensures honesty { D.honest disk.new ↔ D.honest disk.old }
     ensures size { D.size disk.new ≡ D.size disk.old }
 {
@@ -173,6 +178,7 @@ fn read_bytes<D: Disk>(
 
     ensures fault { IsErrOf result Device → Rises (D.failures disk.old) (D.failures disk.new) }
     ensures still { (IsErrOf result Device → ⊥) → D.failures disk.new ≡ D.failures disk.old }
+    ensures calls { MakesAtMost 1 0 0 (D.calls disk.old) (D.calls disk.new) }
     ensures honesty { D.honest disk.new ↔ D.honest disk.old }
     ensures size { D.size disk.new ≡ D.size disk.old }
 {
@@ -216,6 +222,7 @@ fn read_slot<D: Disk>(
 
     ensures fault { IsErrOf result Device → Rises (D.failures disk.old) (D.failures disk.new) }
     ensures still { (IsErrOf result Device → ⊥) → D.failures disk.new ≡ D.failures disk.old }
+    ensures calls { MakesAtMost 2 0 0 (D.calls disk.old) (D.calls disk.new) }
     ensures honesty { D.honest disk.new ↔ D.honest disk.old }
     ensures size { D.size disk.new ≡ D.size disk.old }
 {

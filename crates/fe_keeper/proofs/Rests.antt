@@ -1,12 +1,14 @@
 -- What holds as the slices that are left are written.
-use Rattle.std.proofs.Common.{◌≡◌, ◌↔◌, ℕ, ◌+◌, ◌-◌, ◌<◌, List, Option, Some, None, Bool, true, false, not, nat_le, if◌then◌else◌, IsSome, ◌∙◌, ap, subst, refl, sym, arith}
+use Rattle.std.proofs.Common.{◌≡◌, ◌↔◌, ℕ, ◌+◌, ◌-◌, ◌<◌, ◌≤◌, ◌/◌, List, Option, Some, None, Bool, true, false, not, nat_le, if◌then◌else◌, IsSome, ◌∙◌, ap, subst, refl, sym, arith, inl, inr}
+use Rattle.std.proofs.lemmas.Bool.{cases_lt}
 use Rattle.std.proofs.lemmas.Bool.Decides.{nat_tests}
 use Rattle.std.specs.Option.{option_map_or}
-use Rattle.fe_disk.specs.Disk.{LeavesOnly, Rises}
+use Rattle.fe_disk.specs.Disk.{LeavesOnly, Rises, MakesAtMost}
+use Rattle.fe_disk.specs.declared.calls.Calls.{Calls}
 use Rattle.fe_disk.proofs.Moments.{joined}
 use Rattle.fe_state.specs.State.{ServerState}
 use Rattle.fe_format.specs.declared.format.Format.{Format}
-use Rattle.fe_keeper.specs.Keeper.{Progress, StoreState, stepped, finished, has_slices}
+use Rattle.fe_keeper.specs.Keeper.{Progress, StoreState, stepped, finished, has_slices, slices_of, slices_left}
 use Rattle.fe_keeper.specs.Stands.{StandsFor}
 use Rattle.fe_keeper.specs.within.Upholds.{IsStore, Upholds, store_of}
 use Rattle.fe_keeper.specs.declared.store.Store.{Store}
@@ -22,7 +24,7 @@ pub record GoesOn {D : Type 0} (moment : D → ℕ) (left_since : D → ℕ → 
   pub upheld : Upholds seen may_leave now s
 
 -- What slices leave of a store: nothing that a finish takes is changed.
-pub record IsWriting {D : Type 0} (moment : D → ℕ) (left_since : D → ℕ → List ℕ → Type 0) (seen : D → List ℕ) (may_leave : D → List ℕ → Type 0) (honest : D → Type 0) (failures : D → ℕ) (old now : Store D) : Type 0 where
+pub record IsWriting {D : Type 0} (moment : D → ℕ) (left_since : D → ℕ → List ℕ → Type 0) (seen : D → List ℕ) (may_leave : D → List ℕ → Type 0) (honest : D → Type 0) (failures : D → ℕ) (calls : D → Calls) (old now : Store D) : Type 0 where
   pub sound : IsStore now
   pub under_way : IsSome now.checkpoint
   pub works : now.journal.has_failed ≡ false
@@ -30,6 +32,10 @@ pub record IsWriting {D : Type 0} (moment : D → ℕ) (left_since : D → ℕ �
   pub value : finished (store_of now) ≡ record (finished (store_of old)) { disk = now.journal.disk }
   pub still : failures now.journal.disk ≡ failures old.journal.disk
   pub place : now.place ≡ old.place
+  pub reads : (calls now.journal.disk).reads ≡ (calls old.journal.disk).reads
+  pub more : (calls old.journal.disk).writes ≤ (calls now.journal.disk).writes
+  pub writes : (calls now.journal.disk).writes + slices_left (store_of now).checkpoint ≤ (calls old.journal.disk).writes + slices_left (store_of old).checkpoint
+  pub syncs : (calls now.journal.disk).syncs ≡ (calls old.journal.disk).syncs
   pub honesty : honest now.journal.disk ↔ honest old.journal.disk
 
 -- what a store has of each of its parts
@@ -65,10 +71,43 @@ fewer_left {D = D} store new disk more is more_is has =
     subst (λ (o : Option Progress). bytes_left o < bytes_left store.checkpoint) (sym same)
     (less_parts store.disk store.place store.format store.used store.has_failed store.checkpoint (ap has_slices (sym same) ∙ sym more_is ∙ has))
 
-module _ {D : Type 0} (moment : D → ℕ) (left_since : D → ℕ → List ℕ → Type 0) (seen : D → List ℕ) (may_leave : D → List ℕ → Type 0) (honest : D → Type 0) (failures : D → ℕ) where
+below : (a b : ℕ) → a ≤ b → not (nat_le a b) ≡ false
+below a b is = grind (arith, nat_tests)
+
+slices_fewer : (size written : ℕ) (short : Bool) → nat_le (size - written) 65536 ≡ short → written < size → slices_of (size - (written + (if short then size - written else 65536))) + 1 ≤ slices_of (size - written)
+slices_fewer size written true is less = omega arith
+slices_fewer size written false is less = let long = above (size - written) 65536 (ap not is) in omega (arith, long)
+
+no_more : (size written n : ℕ) → size ≤ written → slices_of (size - (written + n)) ≤ slices_of (size - written)
+no_more size written n is = let none : size - (written + n) ≡ size - written = omega arith in subst (λ (k : ℕ). slices_of k ≤ slices_of (size - written)) (sym none) (omega arith)
+
+counted_parts : {D : Type 0} (disk : D) (place : ℕ) (format : Format) (used : ℕ) (failed : Bool) (checkpoint : Option Progress) (before after : ℕ)
+    → after ≤ before + 1 → (has_slices checkpoint ≡ false → after ≡ before) → after + slices_left (stepped (of_parts disk place format used failed checkpoint)).checkpoint ≤ before + slices_left checkpoint
+counted_parts disk place format used failed None before after one rests = let same = rests refl in omega (arith, same)
+counted_parts disk place format used failed (Some p) before after one rests = elim (cases_lt p.written p.size) [
+  | inl less ↦ let fewer = slices_fewer p.size p.written (nat_le (p.size - p.written) 65536) refl less in omega (arith, fewer, one)
+  | inr whole ↦
+      let same = rests (below p.size p.written whole) in
+      let fewer = no_more p.size p.written (if nat_le (p.size - p.written) 65536 then p.size - p.written else 65536) whole in
+      omega (arith, same, fewer)
+]
+
+-- with a slice written one fewer is left
+counted : {D : Type 0} (store new : StoreState D) (disk : D) (before after : ℕ) → new ≡ record (stepped store) { disk = disk } → after ≤ before + 1 → (has_slices store.checkpoint ≡ false → after ≡ before)
+    → after + slices_left new.checkpoint ≤ before + slices_left store.checkpoint
+counted {D = D} store new disk before after is one rests =
+    let same : new.checkpoint ≡ (stepped store).checkpoint = ap (λ (t : StoreState D). t.checkpoint) is in
+    subst (λ (o : Option Progress). after + slices_left o ≤ before + slices_left store.checkpoint) (sym same)
+    (counted_parts store.disk store.place store.format store.used store.has_failed store.checkpoint before after one rests)
+
+some_left : (checkpoint : Option Progress) → has_slices checkpoint ≡ true → 1 ≤ slices_left checkpoint
+some_left None is = cc
+some_left (Some p) is = let far = above p.size p.written is in omega (arith, far)
+
+module _ {D : Type 0} (moment : D → ℕ) (left_since : D → ℕ → List ℕ → Type 0) (seen : D → List ℕ) (may_leave : D → List ℕ → Type 0) (honest : D → Type 0) (failures : D → ℕ) (calls : D → Calls) where
   -- before the first slice
   pub none_yet : (old : Store D) → ((image : List ℕ) → honest old.journal.disk → left_since old.journal.disk (moment old.journal.disk) image → may_leave old.journal.disk image) → IsStore old → IsSome old.checkpoint
-      → old.journal.has_failed ≡ false → IsWriting moment left_since seen may_leave honest failures old old
+      → old.journal.has_failed ≡ false → IsWriting moment left_since seen may_leave honest failures calls old old
   none_yet old only_now sound under_way works =
       record {
         sound = sound;
@@ -78,11 +117,15 @@ module _ {D : Type 0} (moment : D → ℕ) (left_since : D → ℕ → List ℕ 
         value = finished_parts old.journal.disk old.place old.journal.format old.journal.used old.journal.has_failed (store_of old).checkpoint;
         still = refl;
         place = refl;
+        reads = refl;
+        more = omega arith;
+        writes = omega arith;
+        syncs = refl;
         honesty = (λ is. is, λ is. is);
       }
 
   -- a run that went on by one call
-  pub moments_more : (old now new : Store D) → IsWriting moment left_since seen may_leave honest failures old now
+  pub moments_more : (old now new : Store D) → IsWriting moment left_since seen may_leave honest failures calls old now
       → (honest now.journal.disk → (s : ServerState) → Upholds seen may_leave now s → LeavesOnly moment left_since now.journal.disk new.journal.disk (λ image. StandsFor image s))
       → honest old.journal.disk → (s : ServerState) → Upholds seen may_leave old s → LeavesOnly moment left_since old.journal.disk new.journal.disk (λ image. StandsFor image s)
   moments_more old now new so_far any_moment is s upholds =
@@ -90,15 +133,18 @@ module _ {D : Type 0} (moment : D → ℕ) (left_since : D → ℕ → List ℕ 
       joined moment left_since old.journal.disk now.journal.disk new.journal.disk (λ image. StandsFor image s) on.run (any_moment (so_far.honesty.1 is) s on.upheld)
 
   -- a slice more
-  pub one_more : (old now new : Store D) → IsWriting moment left_since seen may_leave honest failures old now → IsStore new → IsSome new.checkpoint → new.journal.has_failed ≡ false
+  pub one_more : (old now new : Store D) → IsWriting moment left_since seen may_leave honest failures calls old now → IsStore new → IsSome new.checkpoint → new.journal.has_failed ≡ false
       → (honest now.journal.disk → (s : ServerState) → Upholds seen may_leave now s → LeavesOnly moment left_since now.journal.disk new.journal.disk (λ image. StandsFor image s))
       → (honest now.journal.disk → (s : ServerState) → Upholds seen may_leave now s → Upholds seen may_leave new s)
       → store_of new ≡ record (stepped (store_of now)) { disk = new.journal.disk } → failures new.journal.disk ≡ failures now.journal.disk → new.place ≡ now.place
-      → (honest new.journal.disk ↔ honest now.journal.disk) → IsWriting moment left_since seen may_leave honest failures old new
-  one_more old now new so_far sound under_way works any_moment upheld value still place honesty =
+      → MakesAtMost 0 1 0 (calls now.journal.disk) (calls new.journal.disk) → (has_slices (store_of now).checkpoint ≡ false → new ≡ now)
+      → (honest new.journal.disk ↔ honest now.journal.disk) → IsWriting moment left_since seen may_leave honest failures calls old new
+  one_more old now new so_far sound under_way works any_moment upheld value still place made rests honesty =
       let finishes = ap (λ (t : StoreState D). finished t) value ∙ stepped_parts now.journal.disk new.journal.disk now.place now.journal.format now.journal.used now.journal.has_failed (store_of now).checkpoint in
       let taken : StoreState D → StoreState D = λ t. record t { disk = new.journal.disk } in
       let again = ap taken so_far.value in
+      let fewer = counted (store_of now) (store_of new) new.journal.disk (calls now.journal.disk).writes (calls new.journal.disk).writes value made.1.1
+      (λ none. ap (λ (t : Store D). (calls t.journal.disk).writes) (rests none)) in
       record {
         sound = sound;
         under_way = under_way;
@@ -110,9 +156,25 @@ module _ {D : Type 0} (moment : D → ℕ) (left_since : D → ℕ → List ℕ 
         value = finishes ∙ again;
         still = still ∙ so_far.still;
         place = place ∙ so_far.place;
+        reads = omega (arith, made.0.0, made.0.1, so_far.reads);
+        more = omega (arith, made.1.0, so_far.more);
+        writes = omega (arith, fewer, so_far.writes);
+        syncs = omega (arith, made.2.0, made.2.1, so_far.syncs);
         honesty = (λ is. so_far.honesty.0 (honesty.0 is), λ is. honesty.1 (so_far.honesty.1 is));
       }
 
   -- a fault in a later call is one since the first
   pub rises_since : (old now new : D) → failures now ≡ failures old → Rises (failures now) (failures new) → Rises (failures old) (failures new)
   rises_since old now new still rises = subst (λ (n : ℕ). Rises n (failures new)) still rises
+
+  -- the calls of a run that a slice ended
+  pub calls_more : (old now new : Store D) → IsWriting moment left_since seen may_leave honest failures calls old now → MakesAtMost 0 1 0 (calls now.journal.disk) (calls new.journal.disk)
+      → has_slices (store_of now).checkpoint ≡ true → MakesAtMost 0 (slices_left (store_of old).checkpoint) 0 (calls old.journal.disk) (calls new.journal.disk)
+  calls_more old now new so_far made is =
+      let some = some_left (store_of now).checkpoint is in
+      let reads = so_far.reads in
+      let syncs = so_far.syncs in (
+        (omega (arith, made.0.0, reads), omega (arith, made.0.1, reads)),
+        (omega (arith, made.1.0, so_far.more), omega (arith, made.1.1, so_far.writes, some)),
+        (omega (arith, made.2.0, syncs), omega (arith, made.2.1, syncs)),
+      )

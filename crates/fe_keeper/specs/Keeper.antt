@@ -1,5 +1,5 @@
 -- A keeper as its callers see it, and what its calls leave of it.
-use Rattle.std.specs.Prelude.{ℕ, zero, suc, ◌+◌, ◌-◌, ◌*◌, Bool, true, false, ◌&&◌, nat_le, if◌then◌else◌, List, length, Option, Some, None, is_none, not}
+use Rattle.std.specs.Prelude.{ℕ, zero, suc, ◌+◌, ◌-◌, ◌*◌, ◌/◌, Bool, true, false, ◌&&◌, nat_le, if◌then◌else◌, List, length, Option, Some, None, is_none, not}
 use Rattle.std.specs.Option.{option_map_or}
 use Rattle.std.specs.List.{list_all}
 use Rattle.fe_state.specs.State.{ServerState}
@@ -85,6 +85,14 @@ stepped store = option_map_or (stepped_by store) store.checkpoint store
 -- slices are left
 abbrev pub has_slices : Option Progress → Bool
 has_slices checkpoint = option_map_or (λ p. not (nat_le p.size p.written)) checkpoint false
+
+-- as many slices are so many bytes
+abbrev pub slices_of : ℕ → ℕ
+slices_of bytes = (bytes + 65535) / 65536
+
+-- as many slices are left
+abbrev pub slices_left : Option Progress → ℕ
+slices_left checkpoint = option_map_or (λ p. slices_of (p.size - p.written)) checkpoint 0
 
 -- a checkpoint under way is finished: its slot counts, with what came since its beginning as the first group
 abbrev pub finished_by : {D : Type 0} → StoreState D → Progress → StoreState D

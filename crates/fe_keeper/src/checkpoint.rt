@@ -1,5 +1,5 @@
 ghost use Rattle.std.specs.Prelude.{◌≡◌, ◌↔◌, ◌+◌, ◌<◌, ◌≤◌, true, false, not, nat_le, length, IfOk, IfErr, OnOk, OnErr, IsErrOf, vec_len};
-ghost use Rattle.fe_disk.specs.Disk.{LeavesOnly, Rises};
+ghost use Rattle.fe_disk.specs.Disk.{LeavesOnly, Rises, MakesAtMost};
 ghost use Rattle.fe_state.specs.State.{ServerState};
 ghost use Rattle.fe_codec.specs.Image.{image_spelling};
 ghost use Rattle.fe_format.specs.declared.format.Format.TheVariants.{Two};
@@ -85,6 +85,7 @@ impl Checkpoint {
         ensures device { IsErrOf result journal_fault.Device → Rises (D.failures journal.old.disk) (D.failures journal.new.disk) }
         ensures still { OnOk result (D.failures journal.new.disk ≡ D.failures journal.old.disk) }
         ensures faults { OnErr result (IsErrOf result journal_fault.Device) }
+        ensures calls { MakesAtMost 0 1 0 (D.calls journal.old.disk) (D.calls journal.new.disk) }
         ensures honesty { D.honest journal.new.disk ↔ D.honest journal.old.disk }
     {
         let end = self.slice_end();

@@ -1,13 +1,13 @@
 //! Checkpoints: the image of the state is written beside the slot that counts, slice by slice.
 
-ghost use Rattle.std.specs.Prelude.{◌≡◌, ◌≤◌, ◌↔◌, true, false, length, is_some, vec_len, IsTrue, IfOk, IfSome, OnOk, OnErr, IsErrOf, IsSome};
-ghost use Rattle.fe_disk.specs.Disk.{LeavesOnly, Rises};
+ghost use Rattle.std.specs.Prelude.{◌≡◌, ◌+◌, ◌≤◌, ◌↔◌, true, false, length, is_some, vec_len, IsTrue, IfOk, IfSome, OnOk, OnErr, IsErrOf, IsSome};
+ghost use Rattle.fe_disk.specs.Disk.{LeavesOnly, Rises, MakesAtMost};
 ghost use Rattle.fe_state.specs.State.{ServerState};
-ghost use Rattle.fe_keeper.specs.within.Fresh.{IsFresh, IsImageOf};
+ghost use Rattle.fe_keeper.specs.within.Fresh.{IsFresh, IsImageOf, whole_slices};
 ghost use Rattle.fe_keeper.specs.Stands.{StandsFor};
 ghost use Rattle.fe_keeper.specs.within.Upholds.{IsStore, Upholds, store_of};
 ghost use Rattle.fe_keeper.specs.Keeper as effect;
-ghost use Rattle.fe_keeper.specs.Keeper.{fits, can_begin, has_slices, stepped, finished, renewed, made_room, must_begin};
+ghost use Rattle.fe_keeper.specs.Keeper.{fits, can_begin, has_slices, slices_of, slices_left, stepped, finished, renewed, made_room, must_begin};
 ghost use Rattle.fe_journal.specs.declared.fault.JournalFault.TheVariants as journal;
 
 use crate::Format;
@@ -36,6 +36,7 @@ impl<D: Disk> Store<D> {
         ensures faults { OnErr result (IsErrOf result journal.Device) }
         ensures failing { OnErr result (self.new.journal.has_failed ≡ true) }
         ensures place { self.new.place ≡ self.old.place }
+        ensures calls { MakesAtMost 1 2 1 (D.calls self.old.journal.disk) (D.calls self.new.journal.disk) }
         ensures honesty { D.honest self.new.journal.disk ↔ D.honest self.old.journal.disk }
     {
         let generation = self.journal.generation() + 1;
@@ -65,6 +66,7 @@ impl<D: Disk> Store<D> {
         ensures faults { OnErr result (IsErrOf result journal.Device) }
         ensures failing { OnErr result (self.new.journal.has_failed ≡ true) }
         ensures place { self.new.place ≡ self.old.place }
+        ensures calls { MakesAtMost 0 1 0 (D.calls self.old.journal.disk) (D.calls self.new.journal.disk) }
         ensures honesty { D.honest self.new.journal.disk ↔ D.honest self.old.journal.disk }
     {
         let Some(checkpoint) = &mut self.checkpoint else {
@@ -91,6 +93,7 @@ impl<D: Disk> Store<D> {
         ensures faults { OnErr result (IsErrOf result journal.Device) }
         ensures failing { OnErr result (self.new.journal.has_failed ≡ true) }
         ensures place { self.new.place ≡ self.old.place }
+        ensures calls { MakesAtMost 0 (slices_left (store_of self.old).checkpoint) 0 (D.calls self.old.journal.disk) (D.calls self.new.journal.disk) }
         ensures honesty { D.honest self.new.journal.disk ↔ D.honest self.old.journal.disk }
     {
         while self.step()? {}
@@ -113,6 +116,7 @@ impl<D: Disk> Store<D> {
         ensures faults { OnErr result (IsErrOf result journal.Device) }
         ensures failing { OnErr result (self.new.journal.has_failed ≡ true) }
         ensures place { self.new.place ≡ self.old.place }
+        ensures calls { MakesAtMost 0 2 2 (D.calls self.old.journal.disk) (D.calls self.new.journal.disk) }
         ensures honesty { D.honest self.new.journal.disk ↔ D.honest self.old.journal.disk }
     {
         let Some(checkpoint) = &self.checkpoint else {
@@ -138,6 +142,7 @@ impl<D: Disk> Store<D> {
         ensures faults { OnErr result (IsErrOf result journal.Device) }
         ensures failing { OnErr result (self.new.journal.has_failed ≡ true) }
         ensures place { self.new.place ≡ self.old.place }
+        ensures calls { MakesAtMost 0 (slices_left (store_of self.old).checkpoint + 2) 2 (D.calls self.old.journal.disk) (D.calls self.new.journal.disk) }
         ensures honesty { D.honest self.new.journal.disk ↔ D.honest self.old.journal.disk }
     {
         self.write_rest()?;
@@ -160,6 +165,7 @@ impl<D: Disk> Store<D> {
         ensures faults { OnErr result (IsErrOf result journal.Device) }
         ensures failing { OnErr result (self.new.journal.has_failed ≡ true) }
         ensures place { self.new.place ≡ self.old.place }
+        ensures calls { MakesAtMost 1 (slices_of (vec_len whole.image) + 4) 3 (D.calls self.old.journal.disk) (D.calls self.new.journal.disk) }
         ensures honesty { D.honest self.new.journal.disk ↔ D.honest self.old.journal.disk }
     {
         self.begin(whole)?;
@@ -191,6 +197,9 @@ impl<D: Disk> Store<D> {
         ensures faults { OnErr result (IsErrOf result journal.Device) }
         ensures failing { OnErr result (self.new.journal.has_failed ≡ true) }
         ensures place { self.new.place ≡ self.old.place }
+        ensures rests { IsTrue (fits (store_of self.old) entries.now) → self.new ≡ self.old }
+        ensures calls_to_finish { is_some whole ≡ false → MakesAtMost 0 (slices_left (store_of self.old).checkpoint + 2) 2 (D.calls self.old.journal.disk) (D.calls self.new.journal.disk) }
+        ensures calls { MakesAtMost 1 (slices_left (store_of self.old).checkpoint + (whole_slices whole + 6)) 5 (D.calls self.old.journal.disk) (D.calls self.new.journal.disk) }
         ensures honesty { D.honest self.new.journal.disk ↔ D.honest self.old.journal.disk }
     {
         if self.fits(entries) {

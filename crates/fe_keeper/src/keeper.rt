@@ -1,5 +1,5 @@
 ghost use Rattle.std.specs.Prelude.{◌≡◌, ◌⊎◌, ◌↔◌, ℕ, true, false, IsTrue, ◌+◌, ◌≤◌, length, is_some, IfOk, IfErr, OnOk, OnErr, IsErrOf};
-ghost use Rattle.fe_disk.specs.Disk.{LeavesOnly, Rises};
+ghost use Rattle.fe_disk.specs.Disk.{LeavesOnly, Rises, MakesAtMost};
 ghost use Rattle.fe_state.specs.State.{after_all};
 ghost use Rattle.fe_replica.specs.Taking.{Continues, IsMismatch, MakesSomeArray};
 ghost use Rattle.fe_codec.specs.Image.{image_spelling};
@@ -7,7 +7,7 @@ ghost use Rattle.fe_format.specs.declared.format.Format.TheVariants.{Two};
 ghost use Rattle.fe_journal.specs.Layout.{device_bytes};
 ghost use Rattle.fe_keeper.specs.Stands.{StandsFor, StandsForEither, EachStandsFor};
 ghost use Rattle.fe_keeper.specs.Keeper as effect;
-ghost use Rattle.fe_keeper.specs.Keeper.{appended, made_room, must_begin, can_begin, has_slices, stepped, finished};
+ghost use Rattle.fe_keeper.specs.Keeper.{appended, made_room, must_begin, can_begin, fits, has_slices, slices_of, slices_left, stepped, finished};
 ghost use Rattle.fe_keeper.specs.within.Upholds.{IsStore, Upholds, store_of};
 ghost use Rattle.fe_state.specs.UndoLog.{empty_log};
 ghost use Rattle.fe_keeper.specs.declared.fault.Fault.TheVariants.{Device, Failed, NoMemory, Mismatch};
@@ -104,6 +104,9 @@ impl<D: Disk> Keeper<D> {
         ensures device { IfErr result (λ e. e.0 ≡ Device → Rises (D.failures self.old.store.disk) (D.failures self.new.store.disk) × (self.new.store.has_failed ≡ true)) }
         ensures still { OnOk result (D.failures self.new.store.disk ≡ D.failures self.old.store.disk) }
         ensures faults { IfErr result (λ e. (e.0 ≡ Device) ⊎ ((e.0 ≡ Failed) ⊎ ((e.0 ≡ NoMemory) ⊎ ((place : ℕ) × (e.0 ≡ Mismatch place))))) }
+        ensures calls_to_append { IsTrue (fits self.old.store batch.entries) → MakesAtMost 0 2 2 (D.calls self.old.store.disk) (D.calls self.new.store.disk) }
+        ensures calls_to_finish { must_begin self.old.store batch.entries ≡ false → MakesAtMost 0 (slices_left self.old.store.checkpoint + 4) 4 (D.calls self.old.store.disk) (D.calls self.new.store.disk) }
+        ensures calls { MakesAtMost 1 (slices_left self.old.store.checkpoint + (slices_of (length (image_spelling Two self.old.state)) + 8)) 7 (D.calls self.old.store.disk) (D.calls self.new.store.disk) }
         ensures honesty { D.honest self.new.store.disk ↔ D.honest self.old.store.disk }
     {
         match self.parts.append(batch.first, batch.entries.as_slice()) {
@@ -131,6 +134,7 @@ impl<D: Disk> Keeper<D> {
         ensures still { OnOk result (D.failures self.new.store.disk ≡ D.failures self.old.store.disk) }
         ensures failing { IsErrOf result Device → self.new.store.has_failed ≡ true }
         ensures faults { OnErr result (IsErrOf result Device ⊎ (IsErrOf result Failed ⊎ IsErrOf result NoMemory)) }
+        ensures calls { MakesAtMost 1 2 1 (D.calls self.old.store.disk) (D.calls self.new.store.disk) }
         ensures honesty { D.honest self.new.store.disk ↔ D.honest self.old.store.disk }
     {
         if self.parts.store.journal.has_failed() {
@@ -162,6 +166,7 @@ impl<D: Disk> Keeper<D> {
         ensures still { OnOk result (D.failures self.new.store.disk ≡ D.failures self.old.store.disk) }
         ensures failing { IsErrOf result Device → self.new.store.has_failed ≡ true }
         ensures faults { OnErr result (IsErrOf result Device ⊎ IsErrOf result Failed) }
+        ensures calls { MakesAtMost 0 1 0 (D.calls self.old.store.disk) (D.calls self.new.store.disk) }
         ensures honesty { D.honest self.new.store.disk ↔ D.honest self.old.store.disk }
     {
         if self.parts.store.journal.has_failed() {
@@ -192,6 +197,7 @@ impl<D: Disk> Keeper<D> {
         ensures still { OnOk result (D.failures self.new.store.disk ≡ D.failures self.old.store.disk) }
         ensures failing { IsErrOf result Device → self.new.store.has_failed ≡ true }
         ensures faults { OnErr result (IsErrOf result Device ⊎ IsErrOf result Failed) }
+        ensures calls { MakesAtMost 0 (slices_left self.old.store.checkpoint + 2) 2 (D.calls self.old.store.disk) (D.calls self.new.store.disk) }
         ensures honesty { D.honest self.new.store.disk ↔ D.honest self.old.store.disk }
     {
         if self.parts.store.journal.has_failed() {

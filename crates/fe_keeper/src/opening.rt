@@ -1,5 +1,5 @@
 ghost use Rattle.std.specs.Prelude.{◌≡◌, ◌≢◌, ◌⊎◌, ◌↔◌, ℕ, false, IfOk, IfErr, IsErrAnd};
-ghost use Rattle.fe_disk.specs.Disk.{Rises};
+ghost use Rattle.fe_disk.specs.Disk.{Rises, MakesAtMost, MakesJust};
 ghost use Rattle.fe_state.specs.State.{ServerState, first_state};
 ghost use Rattle.fe_journal.specs.Damage.{IsUnformatted};
 ghost use Rattle.fe_journal.specs.Steps.{OnlyReads};
@@ -51,6 +51,7 @@ impl<D: Disk> Keeper<D> {
         ensures still { IfOk result (λ keeper. D.failures keeper.store.disk ≡ D.failures disk) }
         // Nor was it a call of a device whose count stands still at its top.
         ensures calm { IfOk result (λ keeper. Rises (D.failures disk) (D.failures keeper.store.disk) → ⊥) }
+        ensures calls { MakesAtMost 4 0 1 (D.calls disk) (D.calls (disk_after result)) }
         ensures honesty { D.honest (disk_after result) ↔ D.honest disk }
         ensures size { D.size (disk_after result) ≡ D.size disk }
         ensures sized { IfOk result (λ keeper. D.size disk ≡ device_bytes) }
@@ -86,6 +87,8 @@ impl<D: Disk> Keeper<D> {
         ensures device { IfErr result (λ e. e.0 ≡ Device → Rises (D.failures disk) (D.failures e.1)) }
         ensures untouched { IfErr result (λ e. e.0 ≢ Device → e.1 ≡ disk) }
         ensures faults { IfErr result (λ e. (e.0 ≡ Device) ⊎ ((e.0 ≡ Unformatted) ⊎ (e.0 ≡ NoMemory))) }
+        ensures made { IfOk result (λ keeper. MakesJust 0 6 3 (D.calls disk) (D.calls keeper.store.disk)) }
+        ensures calls { MakesAtMost 0 6 3 (D.calls disk) (D.calls (disk_after result)) }
         ensures honesty { D.honest (disk_after result) ↔ D.honest disk }
         ensures size { D.size (disk_after result) ≡ D.size disk }
     {

@@ -1,11 +1,13 @@
-ghost use Rattle.std.specs.Prelude.{◌≡◌, ◌⊎◌, ◌↔◌, ℕ, ◌≤◌, length, true, false, is_some, IsTrue, IfOk, IfSome, OnOk, OnErr, IsErrOf};
-ghost use Rattle.fe_disk.specs.Disk.{LeavesOnly, Rises};
+ghost use Rattle.std.specs.Prelude.{◌≡◌, ◌⊎◌, ◌↔◌, ℕ, ◌+◌, ◌≤◌, length, true, false, is_some, IsTrue, IfOk, IfSome, OnOk, OnErr, IsErrOf};
+ghost use Rattle.fe_disk.specs.Disk.{LeavesOnly, Rises, MakesAtMost};
 ghost use Rattle.fe_state.specs.State.{IsWithinLimits, after_all};
 ghost use Rattle.fe_state.specs.UndoLog.{empty_log, rewound};
 ghost use Rattle.fe_replica.specs.Taking.{Continues, IsMismatch, MakesSomeArray};
+ghost use Rattle.fe_codec.specs.Image.{image_spelling};
+ghost use Rattle.fe_format.specs.declared.format.Format.TheVariants.{Two};
 ghost use Rattle.fe_keeper.specs.Stands.{StandsForEither};
-ghost use Rattle.fe_keeper.specs.within.Fresh.{IsFresh, IsImageOf};
-ghost use Rattle.fe_keeper.specs.Keeper.{appended, made_room, must_begin};
+ghost use Rattle.fe_keeper.specs.within.Fresh.{IsFresh, IsImageOf, whole_slices};
+ghost use Rattle.fe_keeper.specs.Keeper.{appended, made_room, must_begin, fits, slices_of, slices_left};
 ghost use Rattle.fe_keeper.specs.within.Upholds.{IsStore, Upholds, store_of};
 ghost use Rattle.fe_keeper.specs.within.Parts.{HasTaken, IsKept, kept_of};
 ghost use Rattle.fe_keeper.specs.declared.fault.Fault.TheVariants.{Device, Failed, NoMemory, Mismatch};
@@ -89,6 +91,9 @@ impl<D: Disk> Parts<D> {
         ensures device { IsErrOf result journal.Device → Rises (D.failures self.old.store.journal.disk) (D.failures self.new.store.journal.disk) }
         ensures still { OnOk result (D.failures self.new.store.journal.disk ≡ D.failures self.old.store.journal.disk) }
         ensures faults { OnErr result (IsErrOf result journal.Device) }
+        ensures calls_to_append { IsTrue (fits (store_of self.old.store) entries.now) → MakesAtMost 0 2 2 (D.calls self.old.store.journal.disk) (D.calls self.new.store.journal.disk) }
+        ensures calls_to_finish { is_some whole ≡ false → MakesAtMost 0 (slices_left (store_of self.old.store).checkpoint + 4) 4 (D.calls self.old.store.journal.disk) (D.calls self.new.store.journal.disk) }
+        ensures calls { MakesAtMost 1 (slices_left (store_of self.old.store).checkpoint + (whole_slices whole + 8)) 7 (D.calls self.old.store.journal.disk) (D.calls self.new.store.journal.disk) }
         ensures honesty { D.honest self.new.store.journal.disk ↔ D.honest self.old.store.journal.disk }
     {
         self.limits();
@@ -123,6 +128,9 @@ impl<D: Disk> Parts<D> {
         ensures device { IsErrOf result Device → Rises (D.failures self.old.store.journal.disk) (D.failures self.new.store.journal.disk) × (self.new.store.journal.has_failed ≡ true) }
         ensures still { OnOk result (D.failures self.new.store.journal.disk ≡ D.failures self.old.store.journal.disk) }
         ensures faults { OnErr result (IsErrOf result Device ⊎ (IsErrOf result Failed ⊎ (IsErrOf result NoMemory ⊎ ((place : ℕ) × IsErrOf result (Mismatch place))))) }
+        ensures calls_to_append { IsTrue (fits (store_of self.old.store) entries.now) → MakesAtMost 0 2 2 (D.calls self.old.store.journal.disk) (D.calls self.new.store.journal.disk) }
+        ensures calls_to_finish { must_begin (store_of self.old.store) entries.now ≡ false → MakesAtMost 0 (slices_left (store_of self.old.store).checkpoint + 4) 4 (D.calls self.old.store.journal.disk) (D.calls self.new.store.journal.disk) }
+        ensures calls { MakesAtMost 1 (slices_left (store_of self.old.store).checkpoint + (slices_of (length (image_spelling Two self.old.state)) + 8)) 7 (D.calls self.old.store.journal.disk) (D.calls self.new.store.journal.disk) }
         ensures honesty { D.honest self.new.store.journal.disk ↔ D.honest self.old.store.journal.disk }
     {
         if self.store.journal.has_failed() {

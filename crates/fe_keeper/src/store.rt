@@ -1,7 +1,7 @@
 ghost use Rattle.std.specs.Prelude.{◌≡◌, ◌⊎◌, ◌+◌, ◌<◌, ◌≤◌, ◌^◌, ◌*◌, ◌++◌, ◌↔◌, true, false, length, Some, IsTrue, IfSome, OnOk, OnErr, IsErrOf, is_some, vec_len, vec_capacity};
 ghost use Rattle.std.specs.List.{AllByRecursion, list_all};
 ghost use Rattle.fe_state.specs.Format.{entry_fits_format_1};
-ghost use Rattle.fe_disk.specs.Disk.{LeavesOnly, Rises};
+ghost use Rattle.fe_disk.specs.Disk.{LeavesOnly, Rises, MakesAtMost};
 ghost use Rattle.fe_state.specs.State.{ServerState, after_all};
 ghost use Rattle.fe_state.specs.History.{AreLegal};
 ghost use Rattle.fe_codec.specs.Record.{CanPut, FitsGroup, group_spelling};
@@ -11,9 +11,9 @@ ghost use Rattle.fe_format.specs.declared.format.Format.TheVariants.{Two};
 ghost use Rattle.fe_keeper.specs.Stands.{StandsFor, StandsForEither};
 ghost use Rattle.fe_keeper.specs.within.Upholds.{IsStore, Upholds, store_of};
 ghost use Rattle.fe_keeper.specs.Keeper as effect;
-ghost use Rattle.fe_keeper.specs.within.Fresh.{IsFresh, IsImageOf};
+ghost use Rattle.fe_keeper.specs.within.Fresh.{IsFresh, IsImageOf, whole_slices};
 ghost use Rattle.fe_journal.specs.Groups.{room_at};
-ghost use Rattle.fe_keeper.specs.Keeper.{fits, is_spellable, catches_up, caught_up_bytes, can_begin, has_slices, stepped, finished, appended, made_room, must_begin};
+ghost use Rattle.fe_keeper.specs.Keeper.{fits, is_spellable, catches_up, caught_up_bytes, can_begin, has_slices, slices_left, stepped, finished, appended, made_room, must_begin};
 ghost use Rattle.fe_keeper.specs.declared.fault.Fault.TheVariants.{Device, Failed, NoMemory};
 ghost use Rattle.fe_journal.specs.declared.fault.JournalFault.TheVariants as journal;
 
@@ -191,6 +191,7 @@ impl<D: Disk> Store<D> {
         ensures still { OnOk result (D.failures self.new.journal.disk ≡ D.failures self.old.journal.disk) }
         ensures failed { IsErrOf result journal.Failed ↔ IsTrue self.old.journal.has_failed }
         ensures untouched { IsErrOf result journal.Failed → self.new.journal ≡ self.old.journal }
+        ensures calls { MakesAtMost 0 2 2 (D.calls self.old.journal.disk) (D.calls self.new.journal.disk) }
         ensures honesty { D.honest self.new.journal.disk ↔ D.honest self.old.journal.disk }
     {
         let format = self.journal.store_format();
@@ -228,6 +229,9 @@ impl<D: Disk> Store<D> {
         ensures device { IsErrOf result journal.Device → Rises (D.failures self.old.journal.disk) (D.failures self.new.journal.disk) }
         ensures still { OnOk result (D.failures self.new.journal.disk ≡ D.failures self.old.journal.disk) }
         ensures faults { OnErr result (IsErrOf result journal.Device) }
+        ensures calls_to_append { IsTrue (fits (store_of self.old) entries.now) → MakesAtMost 0 2 2 (D.calls self.old.journal.disk) (D.calls self.new.journal.disk) }
+        ensures calls_to_finish { is_some whole ≡ false → MakesAtMost 0 (slices_left (store_of self.old).checkpoint + 4) 4 (D.calls self.old.journal.disk) (D.calls self.new.journal.disk) }
+        ensures calls { MakesAtMost 1 (slices_left (store_of self.old).checkpoint + (whole_slices whole + 8)) 7 (D.calls self.old.journal.disk) (D.calls self.new.journal.disk) }
         ensures honesty { D.honest self.new.journal.disk ↔ D.honest self.old.journal.disk }
     {
         self.make_room(entries, whole)?;

@@ -39,6 +39,8 @@ impl<D: Disk> Disk for Tally<D> {
 
     ghost failures = { λ tally. D.failures tally.inner };
 
+    ghost calls = { λ tally. D.calls tally.inner };
+
     ghost honest = { λ tally. D.honest tally.inner };
 
     ghost seen = { λ tally. D.seen tally.inner };

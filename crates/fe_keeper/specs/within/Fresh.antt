@@ -1,9 +1,11 @@
 -- A checkpoint that is made and not begun: all memory that it takes is there.
-use Rattle.std.specs.Prelude.{◌≡◌, ℕ, ◌≤◌, [], vec_len, vec_capacity}
+use Rattle.std.specs.Prelude.{◌≡◌, ℕ, ◌≤◌, [], Option, vec_len, vec_capacity}
+use Rattle.std.specs.Option.{option_map_or}
 use Rattle.fe_state.specs.State.{ServerState}
 use Rattle.fe_codec.specs.Image.{image_spelling, FitsImage}
 use Rattle.fe_format.specs.Layout.{IsImageLength}
 use Rattle.fe_format.specs.declared.format.Format.TheVariants.{Two}
+use Rattle.fe_keeper.specs.Keeper.{slices_of}
 use Rattle.fe_keeper.specs.declared.checkpoint.Checkpoint.{Checkpoint}
 
 -- nothing of its image is written and nothing came since this place, and it has room for the longest group
@@ -19,3 +21,7 @@ pub record IsImageOf (c : Checkpoint) (s : ServerState) : Type 0 where
   pub fits : FitsImage Two s
   pub image_is : c.image.items ≡ image_spelling Two s
   pub place_is : c.place ≡ s.place
+
+-- as many slices its image has, where one is made
+abbrev pub whole_slices : Option Checkpoint → ℕ
+whole_slices whole = option_map_or (λ made. slices_of (vec_len made.image)) whole 0

@@ -85,3 +85,7 @@ returns-in_err-buffer-clause-faults g c = λ honest.
 pub returns-in_err-parts-clause-honesty : goal.returns-in_err-parts-clause-honesty
 returns-in_err-parts-clause-honesty g c =
     (λ honest. c.read_sound.ensures.honesty.0 (c.read_slot.ensures.honesty.0 honest), λ honest. c.read_slot.ensures.honesty.1 (c.read_sound.ensures.honesty.1 honest))
+
+pub returns-clause-honesty : goal.returns-clause-honesty
+returns-clause-honesty g c =
+    (λ honest. c.read_sound.ensures.honesty.0 (c.read_slot.ensures.honesty.0 honest), λ honest. c.read_slot.ensures.honesty.1 (c.read_sound.ensures.honesty.1 honest))

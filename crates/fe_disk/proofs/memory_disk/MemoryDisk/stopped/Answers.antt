@@ -22,15 +22,15 @@ returns-clause-left c =
     let torn = c.args.torn in
     let is = c.in_ok-torn_copy.ensures.torn ∙ ap (λ (l : List ℕ). image_with_tears torn l (newest_first c.deref.result.now)) c.deref-2.ensures.value
     ∙ ap (λ (l : List Call). image_with_tears torn c.self.inside.bytes.items (newest_first l)) c.deref.ensures.value in
-    let left = subst (λ (l : List ℕ). IsLeftBy torn c.self.inside.bytes.items (newest_first c.self.inside.calls.items) l) (sym is)
-    (left_by_tear torn c.self.inside.bytes.items (newest_first c.self.inside.calls.items) c.self.invariant.within) in
+    let left = subst (λ (l : List ℕ). IsLeftBy torn c.self.inside.bytes.items (newest_first c.self.inside.record.items) l) (sym is)
+    (left_by_tear torn c.self.inside.bytes.items (newest_first c.self.inside.record.items) c.self.invariant.within) in
     subst (λ (s : MemoryState). IsLeftBy torn s.image s.events c.in_ok-torn_copy.field-0.items) c.self.view_is left
 
 pub returns-clause-allowed : goal.returns-clause-allowed
 returns-clause-allowed c =
     let torn = c.args.torn in
     let old = c.self.inside.bytes.items in
-    let events = newest_first c.self.inside.calls.items in
+    let events = newest_first c.self.inside.record.items in
     let is = c.in_ok-torn_copy.ensures.torn ∙ ap (λ (l : List ℕ). image_with_tears torn l (newest_first c.deref.result.now)) c.deref-2.ensures.value
     ∙ ap (λ (l : List Call). image_with_tears torn c.self.inside.bytes.items (newest_first l)) c.deref.ensures.value in
     let bytes = subst (λ (l : List ℕ). IsImage (length l) c.in_ok-torn_copy.field-0.items) c.deref-2.ensures.value c.in_ok-torn_copy.ensures.bytes in
