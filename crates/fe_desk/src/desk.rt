@@ -146,8 +146,16 @@ impl<D: Disk> Desk<D> {
         ensures stands { D.honest (disk_of self) → (begun : ServerState) → IsFrom begun self → (image : List ℕ) → D.may_leave (disk_of self) image
             → LeavesPrefix begun self.standing.groups self.synced image }
     {
-        let Desk { parts, .. } = self;
-        let Parts { keeper, trace, .. } = parts;
+        let Desk { parts, quiet: _ } = self;
+        let Parts {
+            keeper,
+            trace,
+            front,
+            handed,
+            ..
+        } = parts;
+        drop(front);
+        drop(handed);
         (trace, keeper.into_disk())
     }
 
@@ -156,8 +164,8 @@ impl<D: Disk> Desk<D> {
         ensures disk { result ≡ disk_of self }
         ensures size { D.size result ≡ device_bytes }
     {
-        let Desk { parts, .. } = self;
-        let Parts { keeper, .. } = parts;
-        keeper.into_disk()
+        let (trace, disk) = self.into_parts();
+        drop(trace);
+        disk
     }
 }

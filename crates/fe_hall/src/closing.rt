@@ -58,9 +58,15 @@ pub fn close<C: Tally, M: Tally, D: Disk + Drop>(
     ensures refused { result ≢ Err SeatMissing → IsErr result ↔ Any (IsStrange keeper.state (map (λ v. v.items) sent.items)) receipts.items }
 {
     let Some(books) = hall.into_floor().audit(calls, mails) else {
+        drop(sent);
+        drop(receipts);
+        drop(keeper);
         return Err(Unclosed::SeatMissing);
     };
-    match first_strange(keeper.state(), sent.as_slice(), receipts.as_slice()) {
+    let strange = first_strange(keeper.state(), sent.as_slice(), receipts.as_slice());
+    drop(sent);
+    drop(receipts);
+    match strange {
         Some(place) => Err(Unclosed::StrangeReceipt { place }),
         None => Ok(Closing { books, keeper }),
     }

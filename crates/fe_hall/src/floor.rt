@@ -281,6 +281,13 @@ impl<C: Tally, M: Tally> Floor<C, M> {
         self.front.post(batch)
     }
 
+    // Whether the seats are those of all connections that were made.
+    fn made_all(&self, calls: &CallSeat<C>, mails: &MailSeat<M>) -> bool
+        ensures { IsTrue result ↔ ((calls.now.connections ≡ self.now.made) × (mails.now.connections ≡ self.now.made)) }
+    {
+        calls.connections() == self.made && mails.connections() == self.made
+    }
+
     /// The books, once all seats of the hall are here.
     pub(crate) fn audit(self, calls: CallSeat<C>, mails: MailSeat<M>) -> Option<Books>
         requires calls { C.all ≡ C.parts }
@@ -291,7 +298,10 @@ impl<C: Tally, M: Tally> Floor<C, M> {
         // No book is kept back where the seats are those of all connections that were made.
         ensures missing { result ≡ None → calls.connections ≡ self.made → mails.connections ≡ self.made → ⊥ }
     {
-        if calls.connections() != self.made || mails.connections() != self.made {
+        if !self.made_all(&calls, &mails) {
+            drop(self);
+            drop(calls);
+            drop(mails);
             return None;
         }
         let Floor {
@@ -300,11 +310,17 @@ impl<C: Tally, M: Tally> Floor<C, M> {
             mails: mut taken,
             spare_calls,
             spare_mails,
-            ..
+            made: _,
+            present,
+            stopped: _,
         } = self;
+        drop(present);
         let books = front.books();
+        drop(front);
         calls.audit(&mut called, spare_calls);
+        drop(called);
         mails.audit(&mut taken, spare_mails);
+        drop(taken);
         Some(books)
     }
 }

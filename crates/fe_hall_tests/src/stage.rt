@@ -138,7 +138,10 @@ pub fn hall_over<C: Tally, M: Tally>(
     let front = Front::new(alloc, state.copy()?)?;
     match Hall::new(alloc, front, calls, mails) {
         Ok(hall) => Ok(hall),
-        Err((short, _)) => Err(short),
+        Err((short, front)) => {
+            drop(front);
+            Err(short)
+        }
     }
 }
 

@@ -60,8 +60,14 @@ fn with_option<'a>(
 fn commands<'a>(alloc: Global) -> Result<Command<'a>, AllocError>
     ensures { IfOk result (λ command. app_of command ≡ femem) }
 {
+    let program = Command::new(alloc, "femem")
+        .about("A recoverable server of full/empty memory")
+        .version(VERSION)
+        .subcommand_required(true);
     let run = Command::new(alloc, "run").about(RUN);
+    let with_run = program.subcommand(run)?;
     let serve = with_option(alloc, "serve", SERVE, "settings", "FILE", "The settings")?;
+    let with_serve = with_run.subcommand(serve)?;
     let call = with_option(
         alloc,
         "call",
@@ -70,6 +76,7 @@ fn commands<'a>(alloc: Global) -> Result<Command<'a>, AllocError>
         "PATH",
         "The socket of the server",
     )?;
+    let with_call = with_serve.subcommand(call)?;
     let look = with_option(
         alloc,
         "look",
@@ -78,14 +85,7 @@ fn commands<'a>(alloc: Global) -> Result<Command<'a>, AllocError>
         "PATH",
         "The file of the store",
     )?;
-    Command::new(alloc, "femem")
-        .about("A recoverable server of full/empty memory")
-        .version(VERSION)
-        .subcommand_required(true)
-        .subcommand(run)?
-        .subcommand(serve)?
-        .subcommand(call)?
-        .subcommand(look)
+    with_call.subcommand(look)
 }
 
 /// The value that was found for an option.

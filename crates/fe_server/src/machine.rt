@@ -142,7 +142,8 @@ impl Machine {
         let between = new_desk(self.alloc)?;
         let desk = mem::replace(&mut self.desk, between);
         self.printed.clear();
-        self.desk = stopped(self.alloc, desk)?;
+        let opened = stopped(self.alloc, desk)?;
+        drop(mem::replace(&mut self.desk, opened));
         Ok(())
     }
 

@@ -26,7 +26,10 @@ pub fn run_schedule<R: Read, W: Write>(
 {
     let mut piece = buffer(alloc, PIECE)?;
     let mut run = Run::new(alloc)?;
-    run_all(&mut run, piece.as_mut_slice(), reader, writer)
+    let ended = run_all(&mut run, piece.as_mut_slice(), reader, writer);
+    drop(run);
+    drop(piece);
+    ended
 }
 
 /// Runs the lines that the reader gives to its end.

@@ -166,19 +166,30 @@ impl<C: Tally, M: Tally> Register<C, M> {
         ensures refused { IfErr result (λ e. e.1 ≡ None → e.0 ≡ fault.Strange) }
     {
         if self.short {
+            drop(self);
+            drop(hall);
             return Err((Fault::Memory, Some(keeper)));
         }
         if self.spent {
+            drop(self);
+            drop(hall);
+            drop(keeper);
             return Err((Fault::Strange, None));
         }
         let Register {
+            newcomers,
             calls,
             mails,
             sent,
             receipts,
             ..
         } = self;
+        drop(newcomers);
         let (Some(calls), Some(mails)) = (calls, mails) else {
+            drop(sent);
+            drop(receipts);
+            drop(hall);
+            drop(keeper);
             return Err((Fault::Strange, None));
         };
         match close(hall, calls, mails, sent, receipts, keeper) {

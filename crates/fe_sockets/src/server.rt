@@ -46,10 +46,22 @@ pub fn serve<R: Files<File = File> + Net + Clock + Threads + Wait + Sync, G: Gat
     ensures faults { IfErr result (λ end. IsServeFault end) }
 {
     let keeper = open_store(rt, alloc, settings.store.as_str(), settings.format)?;
-    let listener = bind(rt, settings.socket.as_str())?;
+    let listener = match bind(rt, settings.socket.as_str()) {
+        Ok(listener) => listener,
+        Err(fault) => {
+            drop(keeper);
+            return Err(fault);
+        }
+    };
     match serve_store(rt, alloc, listener, settings, keeper, gate) {
-        Ok(closing) => Ok(closing.books),
-        Err((fault, _)) => Err(fault),
+        Ok(Closing { books, keeper }) => {
+            drop(keeper);
+            Ok(books)
+        }
+        Err((fault, keeper)) => {
+            drop(keeper);
+            Err(fault)
+        }
     }
 }
 

@@ -2,17 +2,17 @@ use Rattle.std.proofs.Common.{refl, sym, true≢false}
 use Rattle.fe_hall.proofs.BorneOut.{one_strange, all_borne_out, none_is}
 use Rattle.fe_hall.proofs.closing.close.Goals as goal
 
-pub returns-in-Some-first_strange-clause-refused : goal.returns-in-Some-first_strange-clause-refused
-returns-in-Some-first_strange-clause-refused g c = λ _. (
-  λ _. one_strange c.state.result.now c.args.keeper.state c.as_slice.result.now c.args.sent.items c.as_slice-2.result.now c.args.receipts.items (λ v. v.items) c.state.ensures.state c.as_slice.ensures.value c.as_slice-2.ensures.value c.in-Some-first_strange.place c.in-Some-first_strange.ensures.some,
+pub returns-in-Some-strange-clause-refused : goal.returns-in-Some-strange-clause-refused
+returns-in-Some-strange-clause-refused g c = λ _. (
+  λ _. one_strange c.state.result.now c.args.keeper.state c.as_slice.result.now c.args.sent.items c.as_slice-2.result.now c.args.receipts.items (λ v. v.items) c.state.ensures.state c.as_slice.ensures.value c.as_slice-2.ensures.value c.in-Some-strange.place c.in-Some-strange.ensures.some,
   λ _. refl,
 )
 
-pub returns-clause-receipts : goal.returns-clause-receipts
-returns-clause-receipts g c = all_borne_out c.state.result.now c.args.keeper.state c.as_slice.result.now c.args.sent.items c.as_slice-2.result.now c.args.receipts.items (λ v. v.items) c.state.ensures.state c.as_slice.ensures.value c.as_slice-2.ensures.value c.in-None.ensures.none
+pub returns-in-None-clause-receipts : goal.returns-in-None-clause-receipts
+returns-in-None-clause-receipts g c = all_borne_out c.state.result.now c.args.keeper.state c.as_slice.result.now c.args.sent.items c.as_slice-2.result.now c.args.receipts.items (λ v. v.items) c.state.ensures.state c.as_slice.ensures.value c.as_slice-2.ensures.value c.in-None.ensures.none
 
-pub returns-clause-refused : goal.returns-clause-refused
-returns-clause-refused g c = λ _. (
+pub returns-in-None-clause-refused : goal.returns-in-None-clause-refused
+returns-in-None-clause-refused g c = λ _. (
   λ err. absurd (true≢false (sym err)),
   λ one. absurd (none_is c.state.result.now c.args.keeper.state c.as_slice.result.now c.args.sent.items c.as_slice-2.result.now c.args.receipts.items (λ v. v.items) c.state.ensures.state c.as_slice.ensures.value c.as_slice-2.ensures.value c.in-None.ensures.none one),
 )

@@ -12,7 +12,7 @@ returns-in_err-run-clause-fault g c =
     let end = c.in_err-run.field-0.0 in
     rw (failed c.from_residual-in_err-run.result end c.from_residual-in_err-run.ensures.1) (no_desk end (g.R.Read.remaining c.args.reader.now) (g.W.Write.contents c.args.writer.now) c.in_err-run.ensures.err)
 
-pub run_all-requires-clause-begins : goal.run_all-requires-clause-begins
-run_all-requires-clause-begins g c =
+pub run_all-ended-requires-clause-begins : goal.run_all-ended-requires-clause-begins
+run_all-ended-requires-clause-begins g c =
     let e = c.in_ok-run.ensures in
     begins (g.W.Write.contents c.args.writer.now) c.in_ok-run.run' e.start.0 e.start.1 e.start.2 e.lines e.begun e.text

@@ -1,6 +1,7 @@
 use Rattle.std.proofs.Common.{List, ℕ, [], refl, sym, subst, rules}
 use Rattle.fe_desk.specs.Crash.{IsFrom}
 use Rattle.fe_desk.specs.Standing.{IsFirstStanding}
+use Rattle.fe_server.specs.Ready.{IsReady}
 use Rattle.fe_server.specs.Runs.{ArePrinted}
 use Rattle.fe_server.specs.Schedule.{writings}
 use Rattle.fe_server.proofs.Moving.{moves_none}
@@ -8,12 +9,22 @@ use Rattle.fe_server.proofs.machine.Machine.stop.Goals as goal
 
 pub returns-clause-machine : goal.returns-clause-machine
 returns-clause-machine c =
-    record { ready = c.in_ok-self.ensures.ready; printed = subst (λ (ns : List ℕ). ArePrinted ns (writings c.in_ok-self.field-0.standing)) (sym c.clear.ensures.items) tt }
+    let is = sym c.replace.ensures.after in
+    let printed : ArePrinted [] (writings c.replace.new.dest.standing) = tt in
+    record { ready = subst IsReady is c.in_ok-opened.ensures.ready; printed = subst (λ (ns : List ℕ). ArePrinted ns (writings c.replace.new.dest.standing)) (sym c.clear.ensures.items) printed }
 
 pub returns-clause-acts : goal.returns-clause-acts
 returns-clause-acts c =
     let d = c.args.self.now.desk in
-    let e = c.in_ok-self.field-0 in
-    let first : IsFirstStanding d.keeper.state e.standing = search rules in
-    let from : IsFrom d.keeper.state e = search rules in
-    record { mid = e; begins = (first, from); steps = []; are = refl; moves = moves_none e; printed = c.clear.ensures.items }
+    let e = c.replace.new.dest in
+    let is = sym c.replace.ensures.after in
+    let first : IsFirstStanding d.keeper.state c.in_ok-opened.opened.standing = search rules in
+    let from : IsFrom d.keeper.state c.in_ok-opened.opened = search rules in
+    record {
+      mid = e;
+      begins = (subst (λ d2. IsFirstStanding d.keeper.state d2.standing) is first, subst (IsFrom d.keeper.state) is from);
+      steps = [];
+      are = refl;
+      moves = moves_none e;
+      printed = c.clear.ensures.items;
+    }
