@@ -58,21 +58,33 @@ const BAD: [&[u8]; 12] = [
 #[test]
 fn bad_lines(rt: HostRuntime) -> Result<(), Fail> {
     for line in STRAY {
-        let mut input = Vec::from_slice(rt.alloc(), b"attach 7\n\n")?;
-        input.extend_from_slice(line)?;
         for end in [b"".as_slice(), b"\n", b"\nbye\n"] {
-            let mut lines = Vec::from_slice(rt.alloc(), input.as_slice())?;
-            lines.extend_from_slice(end)?;
-            let talked = talk(rt.alloc(), lines.as_slice(), WELCOME, 4096)?;
-            assert_eq!(rt; talked.end, Err(Fault::Line(3)), "{line:?}");
-            assert_eq!(rt;
-                talked.printed.as_slice(),
-                b"welcome 7 1\n".as_slice(),
-                "{line:?}"
-            );
-            assert_eq!(rt; talked.sent.as_slice().len(), 13, "{line:?}");
+            let lines = joined(&rt, &[b"attach 7\n\n".as_slice(), line, end])?;
+            ends_at_third(&rt, lines.as_slice())?;
         }
     }
+    Ok(())
+}
+
+/// These pieces, one behind the other.
+fn joined(rt: &impl AllocGlobal, pieces: &[&[u8]]) -> Result<Vec<u8>, Fail> {
+    let mut bytes = Vec::new(rt.alloc());
+    for piece in pieces {
+        bytes.extend_from_slice(piece)?;
+    }
+    Ok(bytes)
+}
+
+/// Of these lines the third is bad, and the first is answered.
+fn ends_at_third(rt: &(impl Abort + AllocGlobal), lines: &[u8]) -> Result<(), Fail> {
+    let talked = talk(rt.alloc(), lines, WELCOME, 4096)?;
+    assert_eq!(rt; talked.end, Err(Fault::Line(3)), "{lines:?}");
+    assert_eq!(rt;
+        talked.printed.as_slice(),
+        b"welcome 7 1\n".as_slice(),
+        "{lines:?}"
+    );
+    assert_eq!(rt; talked.sent.as_slice().len(), 13, "{lines:?}");
     Ok(())
 }
 
@@ -81,9 +93,7 @@ fn bad_lines(rt: HostRuntime) -> Result<(), Fail> {
 fn bad_frames(rt: HostRuntime) -> Result<(), Fail> {
     for frame in BAD {
         for behind in [b"".as_slice(), WELCOME] {
-            let mut answers = Vec::from_slice(rt.alloc(), WELCOME)?;
-            answers.extend_from_slice(frame)?;
-            answers.extend_from_slice(behind)?;
+            let answers = joined(&rt, &[WELCOME, frame, behind])?;
             let end = Err(Fault::Socket);
             let printed = b"welcome 7 1\n";
             prints(
