@@ -11,7 +11,7 @@ pub data Event : Type 0 where
   Write : (at : ℕ) → (before : List ℕ) → Event
   Sync : Event
 
--- what a disk in memory is: its bytes, the calls since it was made that change it with the last of them first, how many succeeded of each kind, and its count of faults
+-- what a disk in memory is: its bytes, the writes and syncs since it was made with the last of them first, how many calls of each kind succeeded, and its count of faults
 pub record MemoryState : Type 0 where
   pub image : List ℕ
   pub events : List Event

@@ -34,7 +34,7 @@ pub struct Client {
 pub enum Told {
     /// It says something.
     Line,
-    /// Nothing for now.
+    /// It waits, and asks again.
     Nothing,
     /// Nothing any more.
     End,

@@ -86,11 +86,11 @@ stepped store = option_map_or (stepped_by store) store.checkpoint store
 abbrev pub has_slices : Option Progress → Bool
 has_slices checkpoint = option_map_or (λ p. not (nat_le p.size p.written)) checkpoint false
 
--- as many slices are so many bytes
+-- how many slices so many bytes take
 abbrev pub slices_of : ℕ → ℕ
 slices_of bytes = (bytes + 65535) / 65536
 
--- as many slices are left
+-- how many slices of a checkpoint under way are left
 abbrev pub slices_left : Option Progress → ℕ
 slices_left checkpoint = option_map_or (λ p. slices_of (p.size - p.written)) checkpoint 0
 

@@ -22,6 +22,6 @@ pub record IsImageOf (c : Checkpoint) (s : ServerState) : Type 0 where
   pub image_is : c.image.items ≡ image_spelling Two s
   pub place_is : c.place ≡ s.place
 
--- as many slices its image has, where one is made
+-- how many slices the image takes, where a checkpoint is made
 abbrev pub whole_slices : Option Checkpoint → ℕ
 whole_slices whole = option_map_or (λ made. slices_of (vec_len made.image)) whole 0
