@@ -1,6 +1,7 @@
 //! The settings of a server.
 
-use fe_server::{Fault, Key, read_settings};
+use fe_options::read_settings;
+use fe_server::{Fault, Key};
 use std::process::Abort;
 use std::test::Fail;
 

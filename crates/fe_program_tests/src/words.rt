@@ -1,7 +1,7 @@
 //! The words of a command line.
 
 use clap::error::ErrorKind;
-use fe_server::{Invocation, arguments, not_text};
+use fe_options::{Invocation, arguments, not_text};
 use std::process::Abort;
 use std::test::Fail;
 

@@ -12,4 +12,3 @@ pub mod Taking
 pub mod Starting
 pub mod TextLemmas
 pub mod LookLemmas
-pub mod Asking

@@ -9,7 +9,6 @@ pub mod Told
 pub mod Ready
 pub mod Schedule
 pub mod Runs
-pub mod CommandLine
 pub mod Look
-pub mod Settings
+pub mod Key
 pub mod within

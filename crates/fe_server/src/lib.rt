@@ -1,8 +1,7 @@
-//! The commands of `femem`: what a command line asks for, the settings of a server, schedules over a store in memory,
-//! and what a store holds.
+//! The commands of `femem` that need no server: schedules over a store in memory, and what a store holds; and the faults of all of
+//! its commands.
 #![tactic(auto)]
 
-mod command_line;
 mod fault;
 mod input;
 mod key;
@@ -22,7 +21,6 @@ mod stream;
 mod told;
 mod word;
 
-pub use command_line::{Invocation, arguments, not_text};
 pub use fault::Fault;
 pub use input::first_line;
 pub use key::Key;
@@ -31,5 +29,5 @@ pub use line::{Line, message_in, parse};
 pub use looking::{look, look_at};
 pub use printing::print_reply;
 pub use schedule::run_schedule;
-pub use settings::{Settings, read_settings};
+pub use settings::Settings;
 pub use stream::{PIECE, READS, buffer, read_once, stream_fault, write_out};

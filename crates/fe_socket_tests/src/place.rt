@@ -1,7 +1,8 @@
 //! Where a test's server is, and what it left.
 
 use fe_front::Books;
-use fe_server::{Fault, Settings, look, read_settings};
+use fe_options::read_settings;
+use fe_server::{Fault, Settings, look};
 use fe_sockets::books_text;
 use std::fs::File;
 use std::process::Abort;

@@ -15,9 +15,8 @@ use clap::error::ErrorKind;
 use fe_client::call;
 use fe_front::Books;
 use fe_hall::Open;
-use fe_server::{
-    Fault, Invocation, Settings, arguments, look, not_text, read_settings, run_schedule, write_out,
-};
+use fe_options::{Invocation, arguments, not_text, read_settings};
+use fe_server::{Fault, Settings, look, run_schedule, write_out};
 use fe_sockets::{books_text, serve};
 use std::alloc::Global;
 use std::fs::File;

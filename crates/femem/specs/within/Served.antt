@@ -4,7 +4,7 @@ use Rattle.std.specs.Io.KnownBytes.{Appends}
 use Rattle.toml.specs.Data.{Members}
 use Rattle.toml.specs.Parse.{parse_document}
 use Rattle.fe_mail.specs.Books.{Books, AddUp}
-use Rattle.fe_server.specs.Settings.{IsSettingsOf, RefusesText}
+use Rattle.fe_options.specs.Settings.{IsSettingsOf, RefusesText}
 use Rattle.fe_server.specs.declared.fault.Fault.{Fault}
 use Rattle.fe_server.specs.declared.fault.Fault.TheVariants as fault
 use Rattle.fe_server.specs.declared.settings.Settings.{Settings}

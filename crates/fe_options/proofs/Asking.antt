@@ -1,10 +1,10 @@
 -- What no command line asks for.
-use Rattle.std.proofs.Common.{◌≡◌, ℕ, List, Option, Some, None, IfNone, codes, slice_index, option_map, sym, ap, ◌∙◌, arith}
+use Rattle.std.proofs.Common.{◌≡◌, ℕ, List, Option, Some, None, IfNone, codes, slice_index, sym, ap, ◌∙◌, arith}
 use Rattle.std.proofs.lemmas.Option.{none-some}
 use Rattle.clap.specs.Words.{Row, Text, first_of}
-use Rattle.fe_server.specs.CommandLine.{IsCommand}
-use Rattle.fe_server.specs.declared.command_line.Invocation.{Invocation}
-use Rattle.fe_server.specs.declared.command_line.Invocation.TheVariants.{Run, Serve, Call, Look}
+use Rattle.fe_options.specs.CommandLine.{IsCommand}
+use Rattle.fe_options.specs.declared.command_line.Invocation.{Invocation}
+use Rattle.fe_options.specs.declared.command_line.Invocation.TheVariants.{Run, Serve, Call, Look}
 
 pub if_none : {X : Type 0} (o : Option X) (P : Type 0) → P → IfNone o P
 if_none (Some x) P p = tt

@@ -1,7 +1,7 @@
 use Rattle.std.proofs.Common.{◌≡◌, None, codes, rules}
 use Rattle.clap.specs.Words.{first_of, found_of, rows_of}
-use Rattle.fe_server.proofs.Asking.{if_none, no_serve, no_call, no_look}
-use Rattle.fe_server.proofs.command_line.asked.Goals as goal
+use Rattle.fe_options.proofs.Asking.{if_none, no_serve, no_call, no_look}
+use Rattle.fe_options.proofs.command_line.asked.Goals as goal
 
 pub returns-in_err-settings-clause-none : goal.returns-in_err-settings-clause-none
 returns-in_err-settings-clause-none c =

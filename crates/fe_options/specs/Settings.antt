@@ -1,23 +1,15 @@
 -- The settings of a server.
-use Rattle.std.specs.Prelude.{◌≡◌, ◌^◌, ◌||◌, ◌&&◌, ℕ, ℤ, pos, List, Bool, true, false, codes, nat_le, if◌then◌else◌, string_bytes, Option, Some, None, option_and_then, Result, Ok, Err}
+use Rattle.std.specs.Prelude.{◌≡◌, ◌^◌, ◌||◌, ◌&&◌, ℕ, ℤ, pos, List, Bool, true, false, codes, nat_le, if◌then◌else◌, string_bytes, Option, Some, None, option_and_then}
 use Rattle.std.specs.Option.{option_map_or}
 use Rattle.std.specs.Str.{bytes_eq}
 use Rattle.toml.specs.Data.{Data, as_str, as_integer, as_bool, get_member, Members, no_members, member}
 use Rattle.toml.specs.Parse.{parse_document}
+use Rattle.fe_server.specs.Key.{name_of}
 use Rattle.fe_server.specs.declared.key.Key.{Key}
 use Rattle.fe_server.specs.declared.key.Key.TheVariants as key
 use Rattle.fe_server.specs.declared.fault.Fault.{Fault}
 use Rattle.fe_server.specs.declared.fault.Fault.TheVariants as fault
 use Rattle.fe_server.specs.declared.settings.Settings.{Settings}
-
--- the name of a key in a document
-abbrev pub name_of : Key → List ℕ
-name_of key.Socket = codes "socket"
-name_of key.Store = codes "store"
-name_of key.Connections = codes "connections"
-name_of key.Format = codes "format"
-name_of key.Accepts = codes "accepts"
-name_of key.Turns = codes "turns"
 
 -- the value at a key
 abbrev pub value_of : Key → Members → Option Data

@@ -1,10 +1,11 @@
 //! The words of the command line.
 
-ghost use Rattle.std.specs.Prelude.{◌≡◌, ◌⊎◌, false, map, IfNone, IfSome, IfOk, IfErr, option_map};
-ghost use Rattle.clap.specs.Words.{HasKind, app_of, fault_of, first_of, found_of, kind_of, rows_of, subcommand_of, subcommand_rows_of};
+ghost use Rattle.std.specs.Prelude.{◌≡◌, ◌⊎◌, false, map, IfNone, IfSome, IfOk, IfErr, Ok, option_map};
+ghost use Rattle.clap.specs.Words.{AddsSubcommand, HasKind, app_of, fault_of, first_of, found_of, kind_of, rows_of, subcommand_of, subcommand_rows_of};
+ghost use Rattle.clap.specs.declared.builder.command.Command.{Command};
 ghost use Rattle.clap.specs.declared.builder.command.Command.TheViews.{out-Command as fields_of};
-ghost use Rattle.fe_server.specs.CommandLine.{femem, with_option, IsCommand, IsAsked, AsksNone};
-ghost use Rattle.fe_server.specs.declared.command_line.Invocation.{Invocation};
+ghost use Rattle.fe_options.specs.CommandLine.{femem, program_with_run, with_option, IsCommand, IsAsked, AsksNone};
+ghost use Rattle.fe_options.specs.declared.command_line.Invocation.{Invocation};
 
 use clap::error::ErrorKind;
 use clap::{Arg, ArgMatches, Command, Error};
@@ -56,18 +57,40 @@ fn with_option<'a>(
     Command::new(alloc, name).about(about).arg(option)
 }
 
-/// The commands of the program.
-fn commands<'a>(alloc: Global) -> Result<Command<'a>, AllocError>
-    ensures { IfOk result (λ command. app_of command ≡ femem) }
+/// A program with a command more.
+fn with<'a>(
+    program: Command<'a>,
+    command: Result<Command<'a>, AllocError>,
+) -> Result<Command<'a>, AllocError>
+    ensures { IfOk result (λ more. (added : Command) × (command.entry ≡ Ok added) × AddsSubcommand program.entry added more) }
+{
+    match command {
+        Ok(command) => program.subcommand(command),
+        Err(short) => {
+            drop(program);
+            Err(short)
+        }
+    }
+}
+
+/// The program, with its one command that takes no option.
+fn program_with_run<'a>(alloc: Global) -> Result<Command<'a>, AllocError>
+    ensures { IfOk result (λ command. app_of command ≡ program_with_run) }
 {
     let program = Command::new(alloc, "femem")
         .about("A recoverable server of full/empty memory")
         .version(VERSION)
         .subcommand_required(true);
-    let run = Command::new(alloc, "run").about(RUN);
-    let with_run = program.subcommand(run)?;
-    let serve = with_option(alloc, "serve", SERVE, "settings", "FILE", "The settings")?;
-    let with_serve = with_run.subcommand(serve)?;
+    program.subcommand(Command::new(alloc, "run").about(RUN))
+}
+
+/// The commands of the program.
+fn commands<'a>(alloc: Global) -> Result<Command<'a>, AllocError>
+    ensures { IfOk result (λ command. app_of command ≡ femem) }
+{
+    let with_run = program_with_run(alloc)?;
+    let serve = with_option(alloc, "serve", SERVE, "settings", "FILE", "The settings");
+    let with_serve = with(with_run, serve)?;
     let call = with_option(
         alloc,
         "call",
@@ -75,8 +98,8 @@ fn commands<'a>(alloc: Global) -> Result<Command<'a>, AllocError>
         "socket",
         "PATH",
         "The socket of the server",
-    )?;
-    let with_call = with_serve.subcommand(call)?;
+    );
+    let with_call = with(with_serve, call)?;
     let look = with_option(
         alloc,
         "look",
@@ -84,8 +107,18 @@ fn commands<'a>(alloc: Global) -> Result<Command<'a>, AllocError>
         "store",
         "PATH",
         "The file of the store",
-    )?;
-    with_call.subcommand(look)
+    );
+    with(with_call, look)
+}
+
+/// An error of the program's command line.
+fn error_of(alloc: Global, kind: ErrorKind, text: &str) -> Result<Error, AllocError>
+    ensures { IfOk result (λ error. kind_of error ≡ kind) }
+{
+    let mut program = commands(alloc)?;
+    let error = program.error(kind, text);
+    drop(program);
+    error
 }
 
 /// The value that was found for an option.
@@ -133,11 +166,13 @@ pub fn arguments<'a, S: AsStr>(alloc: Global, words: &'a [S]) -> Result<Invocati
     // The words are refused only as `clap` refuses them, or where it finds none of the commands.
     ensures refused { IfErr result (λ error. HasKind (fault_of femem (map S.text words.entry.now)) error ⊎ AsksNone (subcommand_of femem (map S.text words.entry.now))) }
 {
-    let command = commands(alloc)?;
-    let matches = command.try_get_matches_from(words)?;
-    match asked_by(&matches) {
+    let program = commands(alloc)?;
+    let matches = program.try_get_matches_from(words)?;
+    let asked = asked_by(&matches);
+    drop(matches);
+    match asked {
         Some(asked) => Ok(asked),
-        None => Err(commands(alloc)?.error(ErrorKind::MissingSubcommand, "a command is wanted")?),
+        None => Err(error_of(alloc, ErrorKind::MissingSubcommand, "a command is wanted")?),
     }
 }
 
@@ -145,18 +180,9 @@ pub fn arguments<'a, S: AsStr>(alloc: Global, words: &'a [S]) -> Result<Invocati
 pub fn not_text(alloc: Global) -> Error
     ensures { (kind_of result ≡ ErrorKind.InvalidValue) ⊎ (kind_of result ≡ ErrorKind.OutOfMemory) }
 {
-    match refused(alloc) {
+    let told = "invalid UTF-8 was detected in one or more arguments";
+    match error_of(alloc, ErrorKind::InvalidValue, told) {
         Ok(error) => error,
         Err(short) => Error::from(short),
     }
-}
-
-fn refused(alloc: Global) -> Result<Error, AllocError>
-    ensures { IfOk result (λ error. kind_of error ≡ ErrorKind.InvalidValue) }
-{
-    let mut command = commands(alloc)?;
-    command.error(
-        ErrorKind::InvalidValue,
-        "invalid UTF-8 was detected in one or more arguments",
-    )
 }

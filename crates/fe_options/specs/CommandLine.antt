@@ -1,9 +1,9 @@
 -- The command line: its commands, and what they ask for.
-use Rattle.std.specs.Prelude.{◌≡◌, ℕ, List, codes, true, Option, Some, None}
+use Rattle.std.specs.Prelude.{◌≡◌, List, codes, true, Option, Some, None}
 use Rattle.clap.specs.Words.{App, Row, Rule, Text, first_of, new_app, new_rule, with_rule, with_subcommand}
 use Rattle.clap.specs.Simple.{on_top}
-use Rattle.fe_server.specs.declared.command_line.Invocation.{Invocation}
-use Rattle.fe_server.specs.declared.command_line.Invocation.TheVariants.{Run, Serve, Call, Look}
+use Rattle.fe_options.specs.declared.command_line.Invocation.{Invocation}
+use Rattle.fe_options.specs.declared.command_line.Invocation.TheVariants.{Run, Serve, Call, Look}
 
 -- an option that has to be given, with one value
 abbrev pub option_rule : Text → Rule
@@ -17,13 +17,16 @@ with_option name option = with_rule (new_app name) (option_rule option)
 abbrev pub program : App
 program = on_top (λ s. record s { has_version = true; subcommand_required = true }) (new_app (codes "femem"))
 
+-- with `run`, which has no option
+abbrev pub program_with_run : App
+program_with_run = with_subcommand program (new_app (codes "run")).top
+
 -- `run`, `serve --settings FILE`, `call --socket PATH` and `look --store PATH`
 abbrev pub femem : App
 femem =
     with_subcommand
     (with_subcommand
-    (with_subcommand
-    (with_subcommand program (new_app (codes "run")).top)
+    (with_subcommand program_with_run
     (with_option (codes "serve") (codes "settings")).top)
     (with_option (codes "call") (codes "socket")).top)
     (with_option (codes "look") (codes "store")).top
