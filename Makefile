@@ -1,5 +1,5 @@
 # `make help` lists the targets. `make test` is the gate.
-.PHONY: help run try serve install examples faults check-programs client bench bench-serve test toolchain
+.PHONY: help run try serve install examples faults check-programs client bench bench-serve edits test toolchain
 
 SCHEDULE := examples/first_path.txt
 PROGRAM := crates/femem/out/femem
@@ -62,6 +62,9 @@ bench-serve: $(PROGRAM) ## measures a server, beside Redis where it is installed
 
 test: toolchain ## the gate: proves every crate from nothing, tries the must-fail edits, runs every test
 	@scripts/gate
+
+edits: toolchain ## tries the must-fail edits that the gate leaves out
+	@scripts/try_edits
 
 toolchain:
 	@command -v rt >/dev/null 2>&1 || { echo "femem: 'rt', the command of the Rattle toolchain, is not on the PATH" >&2; exit 1; }
