@@ -3,7 +3,7 @@ use Rattle.std.proofs.Common.{◌≡◌, ℕ, Bool, true, false, List, [], ◌�
 use Rattle.std.specs.Prelude.{MatchBool, is_some}
 use Rattle.fe_wire.specs.Stream.{Decoding}
 use Rattle.fe_wire.specs.declared.client_message.ClientMessage.{ClientMessage}
-use Rattle.fe_front.specs.Front.{FrontState, is_connected, has_room}
+use Rattle.fe_front.specs.Front.{FrontState, is_connected}
 use Rattle.fe_desk.specs.declared.handed.Handed.{Handed}
 use Rattle.fe_desk.specs.declared.handed.Handed.TheVariants.{Nothing, Cut, Stored}
 use Rattle.fe_desk.specs.declared.step.Step.{Step}
@@ -12,9 +12,10 @@ use Rattle.fe_desk.specs.Mails.{emptied_box}
 use Rattle.fe_desk.specs.Messages.{outputs}
 use Rattle.fe_desk.specs.Output.{output_of, Extends}
 use Rattle.fe_desk.specs.Standing.{Client, Standing, unwritten, all_told}
-use Rattle.fe_desk.specs.Storing.{cut, stored, stored_from, posted, posted_from, cleared, made, with_room, begun_room, roomy, is_making}
+use Rattle.fe_desk.specs.Storing.{stored, stored_from, posted, posted_from, is_making}
 use Rattle.fe_desk.specs.Taking.{TakesAll}
 use Rattle.fe_desk.specs.Steps.{find, on_client, with_left, with_decoder, new_client, clients_with, unmade, Connects, gone, TakesPiece, TakesFrom, TakesBytes, after_frame, Acts}
+use Rattle.fe_desk.proofs.Reading.{roomy-keeps}
 
 pub extends_itself : (xs : List (ℕ × List ℕ)) → Extends xs xs
 extends_itself [] = tt
@@ -69,34 +70,29 @@ came cs conn d = by (is_some (find conn cs))
     by true = extends_as (map output_of cs) (map output_of (on_client conn (λ c. record c { decoder = d; left = [] }) cs)) (changed conn (λ c. record c { decoder = d; left = [] }) (λ c. refl) cs)
     by false = extends_behind cs (new_client conn d)
 
-chosen : (b : Bool) (s t u : Standing) → t.clients ≡ s.clients → u.clients ≡ s.clients → (if b then t else u).clients ≡ s.clients
-chosen true s t u e f = e
-chosen false s t u e f = f
-
-stored_clients : (h : Handed) (s : Standing) → (stored_from h s).clients ≡ s.clients
+-- the parts of a step that leave the clients
+pub stored_clients : (h : Handed) (s : Standing) → (stored_from h s).clients ≡ s.clients
 stored_clients Nothing s = refl
 stored_clients (Cut batch) s = refl
 stored_clients (Stored batch) s = refl
 
-posted_clients : (h : Handed) (s : Standing) → (posted_from h s).clients ≡ s.clients
+pub posted_clients : (h : Handed) (s : Standing) → (posted_from h s).clients ≡ s.clients
 posted_clients Nothing s = refl
 posted_clients (Cut batch) s = refl
 posted_clients (Stored batch) s = refl
 
-cleared_clients : (s : Standing) → (cleared s).clients ≡ s.clients
-cleared_clients s = posted_clients (stored s).handed (stored s) ∙ stored_clients s.handed s
-
-roomy_clients : (s : Standing) (conn : ℕ) → (roomy s conn).clients ≡ s.clients
-roomy_clients s conn = with_clients (begun_room s conn) ∙ chosen (is_making s conn) s (made (cleared s)) s (cleared_clients s) refl
+pub unmade_clients : (s : Standing) (conn : ℕ) → (unmade s conn).clients ≡ s.clients
+unmade_clients s conn = by (is_making s conn)
   where
-    with_clients : (u : Standing) → (with_room u).clients ≡ u.clients
-    with_clients u = chosen (has_room u.front) u u (made (cleared (cut (cleared u)))) refl (cleared_clients (cut (cleared u)) ∙ cleared_clients u)
+    by : (b : Bool) → (if b then record s { making = None } else s).clients ≡ s.clients
+    by true = refl
+    by false = refl
 
 pub takes_clients : (ms : List ClientMessage) (s : Standing) (conn : ℕ) (t : Standing) → TakesAll s conn ms t → t.clients ≡ s.clients
 takes_clients [] s conn t e = ap (λ (u : Standing). u.clients) e
 takes_clients (m ∷ ms) s conn t e =
     let u = e.0 in
-    let one : u.clients ≡ s.clients = ap (λ (u : Standing). u.clients) e.1.after ∙ roomy_clients s conn in
+    let one : u.clients ≡ s.clients = ap (λ (u : Standing). u.clients) e.1.after ∙ roomy-keeps s conn in
     takes_clients ms u conn t e.2 ∙ one
 
 -- ---- output over what a step does
@@ -109,7 +105,7 @@ left_output : (s : Standing) (conn : ℕ) (left : List ClientMessage) → output
 left_output s conn left = changed conn (λ c. record c { left = left }) (λ c. refl) s.clients
 
 gone_output : (s : Standing) (conn : ℕ) → outputs (gone s conn) ≡ outputs s
-gone_output s conn = left_output (unmade s conn) conn [] ∙ same s (unmade s conn) (chosen (is_making s conn) s (record s { making = None }) s refl refl)
+gone_output s conn = left_output (unmade s conn) conn [] ∙ same s (unmade s conn) (unmade_clients s conn)
 
 frame_output : (bad : Bool) (s : Standing) (conn : ℕ) → outputs (after_frame bad s conn) ≡ outputs s
 frame_output true s conn = gone_output s conn

@@ -3,16 +3,14 @@ use Rattle.std.proofs.Common.{◌≡◌, ℕ, zero, suc, Bool, true, false, true
 use Rattle.std.specs.Prelude.{MatchBool, is_some}
 use Rattle.fe_wire.specs.Stream.{Decoding}
 use Rattle.fe_wire.specs.declared.client_message.ClientMessage.{ClientMessage}
-use Rattle.fe_front.specs.Front.{FrontState, is_connected, has_room}
-use Rattle.fe_desk.specs.declared.handed.Handed.{Handed}
-use Rattle.fe_desk.specs.declared.handed.Handed.TheVariants.{Nothing, Cut, Stored}
+use Rattle.fe_front.specs.Front.{FrontState, is_connected}
 use Rattle.fe_desk.specs.declared.step.Step.{Step}
 use Rattle.fe_desk.specs.declared.step.Step.TheVariants as step
 use Rattle.fe_desk.specs.Mails.{emptied_box}
-use Rattle.fe_desk.specs.Standing.{Client, Standing, unwritten, told, all_told, emptied, discharged}
-use Rattle.fe_desk.specs.Storing.{cut, stored, stored_from, posted, posted_from, cleared, made, with_room, begun_room, roomy, is_making}
-use Rattle.fe_desk.specs.Taking.{TakesOne, TakesAll}
+use Rattle.fe_desk.specs.Standing.{Client, Standing, unwritten, all_told, emptied, discharged}
+use Rattle.fe_desk.specs.Storing.{stored, posted}
 use Rattle.fe_desk.specs.Steps.{find, on_client, with_left, with_decoder, new_client, clients_with, unmade, Connects, gone, TakesPiece, TakesFrom, TakesBytes, after_frame, Acts, DeskStep, DeskRun}
+use Rattle.fe_desk.proofs.Outputs.{stored_clients, posted_clients, unmade_clients, takes_clients}
 use Rattle.fe_server.specs.Ready.{AreWritten}
 
 -- Each client is written what it was written before and perhaps more, no reply waits, and new clients come behind.
@@ -69,39 +67,6 @@ all_told-extends f [] = tt
 all_told-extends f (c ∷ cs) = (refl, (unwritten f c, refl), all_told-extends (emptied_box f c.conn) cs)
 
 -- ---- the clients over what a step does
-
-chosen : (b : Bool) (s t u : Standing) → t.clients ≡ s.clients → u.clients ≡ s.clients → (if b then t else u).clients ≡ s.clients
-chosen true s t u e f = e
-chosen false s t u e f = f
-
-stored_clients : (h : Handed) (s : Standing) → (stored_from h s).clients ≡ s.clients
-stored_clients Nothing s = refl
-stored_clients (Cut batch) s = refl
-stored_clients (Stored batch) s = refl
-
-posted_clients : (h : Handed) (s : Standing) → (posted_from h s).clients ≡ s.clients
-posted_clients Nothing s = refl
-posted_clients (Cut batch) s = refl
-posted_clients (Stored batch) s = refl
-
-cleared_clients : (s : Standing) → (cleared s).clients ≡ s.clients
-cleared_clients s = posted_clients (stored s).handed (stored s) ∙ stored_clients s.handed s
-
-roomy_clients : (s : Standing) (conn : ℕ) → (roomy s conn).clients ≡ s.clients
-roomy_clients s conn = with_clients (begun_room s conn) ∙ chosen (is_making s conn) s (made (cleared s)) s (cleared_clients s) refl
-  where
-    with_clients : (u : Standing) → (with_room u).clients ≡ u.clients
-    with_clients u = chosen (has_room u.front) u u (made (cleared (cut (cleared u)))) refl (cleared_clients (cut (cleared u)) ∙ cleared_clients u)
-
-takes_clients : (ms : List ClientMessage) (s : Standing) (conn : ℕ) (t : Standing) → TakesAll s conn ms t → t.clients ≡ s.clients
-takes_clients [] s conn t e = ap (λ (u : Standing). u.clients) e
-takes_clients (m ∷ ms) s conn t e =
-    let u = e.0 in
-    let one : u.clients ≡ s.clients = ap (λ (u : Standing). u.clients) e.1.after ∙ roomy_clients s conn in
-    takes_clients ms u conn t e.2 ∙ one
-
-unmade_clients : (s : Standing) (conn : ℕ) → (unmade s conn).clients ≡ s.clients
-unmade_clients s conn = chosen (is_making s conn) s (record s { making = None }) s refl refl
 
 -- the same clients, and then what extends them
 same : (xs ys zs : List Client) → ys ≡ xs → Extends ys zs → Extends xs zs
