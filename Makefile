@@ -63,8 +63,8 @@ bench-serve: $(PROGRAM) ## measures a server, beside Redis where it is installed
 test: toolchain ## the gate: proves every crate from nothing, tries the must-fail edits, runs every test
 	@scripts/gate
 
-edits: toolchain ## tries the must-fail edits that the gate leaves out
-	@scripts/try_edits
+edits: $(PROGRAM) ## tries the must-fail edits one by one, each over all proofs of its crate; the gate tries them in rounds
+	@rt must-fail
 
 toolchain:
 	@command -v rt >/dev/null 2>&1 || { echo "femem: 'rt', the command of the Rattle toolchain, is not on the PATH" >&2; exit 1; }
