@@ -1,13 +1,15 @@
 """Copies of a store: of one that a server left, and of one that a server is writing."""
 
 import os
+import shutil
 import signal
+import subprocess
 import threading
 import time
 
 from . import store, wire
 from .crowds import adding
-from .harness import Server, holds, same, until, within
+from .harness import Server, Skipped, holds, same, until, within
 
 HEADERS = ((0, store.IMAGE), (store.SLOT, store.IMAGE))
 
@@ -131,4 +133,29 @@ def left_by_a_kill(place):
     same(first, store.read_store(content)[2].looks())
 
 
-CHECKS = (left_by_serve, taken_in_mid_run, left_by_a_kill)
+def may_only_be_read(place):
+    """a store that may only be read is looked at, by a user who may do no more; a pipe is no store, and nobody waits for its writer"""
+    os.mkfifo(place.path("pipe"))
+    same(place.run("look", "--store", place.path("pipe")), (3, b"", b"femem: store device\n"))
+    server = Server(place).start()
+    server.attached(7).close()
+    server.stop()
+    program = shutil.copy(place.program, place.path("femem"))
+    os.chmod(program, 0o755)
+    os.chmod(server.store, 0o444)
+    how = {"capture_output": True, "timeout": 30}
+    if os.geteuid() == 0:
+        # (root may write what may only be read)
+        how.update(user=65534, group=65534, extra_groups=[])
+        for folder in (place.folder, os.path.dirname(place.folder)):
+            os.chmod(folder, 0o711)
+    try:
+        may_write = subprocess.run(["test", "-w", server.store], **how).returncode == 0
+        look = subprocess.run([program, "look", "--store", server.store], **how)
+    except PermissionError:
+        raise Skipped("the folder of temporary files is open to its owner alone") from None
+    holds(not may_write, "the user may write the store")
+    same((look.returncode, look.stdout, look.stderr), (0, b"place 1\nsession 7 floor 1 kept 0\n", b""))
+
+
+CHECKS = (left_by_serve, taken_in_mid_run, left_by_a_kill, may_only_be_read)

@@ -5,12 +5,12 @@ ghost use Rattle.fe_disk.specs.declared.file_fault.FileFault.TheVariants.{WrongS
 use crate::faults::{count, fault};
 use crate::{Calls, DeviceFault, Disk, FileFault};
 use std::fs::{File, OpenOptions};
-use std::io;
 use std::io::{ErrorKind, Write};
 use std::os::fd::AsRawFd;
 use std::os::unix::fs::FileExt;
 use std::path::Path;
 use std::rt::Files;
+use std::{fs, io};
 
 /// How many zeros are written at a time.
 const PIECE: usize = 4096;
@@ -21,8 +21,8 @@ const STREAMS: i32 = 3;
 /// A disk over a file of a fixed size. Each read and write is made at its offset, with no buffer
 /// between, and a sync puts the file's bytes on its device.
 ///
-/// Nothing is claimed of what a file gives or keeps, so it is not honest. It has the advisory lock of
-/// its file for as long as it lives, so no second disk is made over the file meanwhile.
+/// Nothing is claimed of what a file gives or keeps, so it is not honest. It has an advisory lock of
+/// its file for as long as it lives: a disk that writes is the only one over its file meanwhile.
 #[derive(Drop)]
 pub struct FileDisk {
     file: File,
@@ -65,12 +65,43 @@ impl FileDisk {
         ensures failures { IfOk result (λ disk. fault_count disk ≡ 0) }
         ensures wrong { (found : ℕ) → IsErrOf result (WrongSize found) → found ≢ size }
     {
-        let file = match OpenOptions::new().read(true).write(true).open(rt, path) {
-            Ok(file) => file,
-            Err(error) if error.kind() == ErrorKind::NotFound => return Err(FileFault::Missing),
-            Err(_) => return Err(FileFault::Device),
-        };
-        let Ok(file) = locked(file) else {
+        match OpenOptions::new().read(true).write(true).open(rt, path) {
+            Ok(file) => FileDisk::over(locked(file), size),
+            Err(error) => Err(unopened(&error)),
+        }
+    }
+
+    /// The disk over the file at the path, which has so many bytes, to be read alone: the file need
+    /// not be writable, and each write is a fault. Several such disks may be made over it, but none
+    /// beside one that writes.
+    pub fn read_only<R: Files<File = File>>(
+        rt: &R,
+        path: &str,
+        size: usize,
+    ) -> Result<FileDisk, FileFault>
+        ensures size { IfOk result (λ disk. file_size disk ≡ size) }
+        ensures failures { IfOk result (λ disk. fault_count disk ≡ 0) }
+        ensures wrong { (found : ℕ) → IsErrOf result (WrongSize found) → found ≢ size }
+    {
+        // (to open a pipe to read it alone would wait for who writes it)
+        match fs::metadata(rt, path) {
+            Ok(metadata) if metadata.is_file() => {}
+            Ok(_) => return Err(FileFault::Device),
+            Err(error) => return Err(unopened(&error)),
+        }
+        match File::open(rt, path) {
+            Ok(file) => FileDisk::over(shared(file), size),
+            Err(error) => Err(unopened(&error)),
+        }
+    }
+
+    // The disk over a file that has its lock.
+    fn over(file: io::Result<File>, size: usize) -> Result<FileDisk, FileFault>
+        ensures size { IfOk result (λ disk. file_size disk ≡ size) }
+        ensures failures { IfOk result (λ disk. fault_count disk ≡ 0) }
+        ensures wrong { (found : ℕ) → IsErrOf result (WrongSize found) → found ≢ size }
+    {
+        let Ok(file) = file else {
             return Err(FileFault::Device);
         };
         let Ok(metadata) = file.metadata() else {
@@ -86,6 +117,16 @@ impl FileDisk {
             calls: Calls::NONE,
             failures: 0,
         })
+    }
+}
+
+// Why a file was not opened.
+fn unopened(error: &io::Error) -> FileFault
+    ensures { (found : ℕ) → result ≢ WrongSize found }
+{
+    match error.kind() {
+        ErrorKind::NotFound => FileFault::Missing,
+        _ => FileFault::Device,
     }
 }
 
@@ -107,16 +148,28 @@ fn fill(mut file: &File, size: u64) -> io::Result<()> {
     file.write_all(&zeros[..(size % PIECE as u64) as usize])
 }
 
-// The file with its lock, above the standard streams: where one of those is closed, what is meant
-// for it must not be written into the file.
+// The file with its lock, which no other disk has meanwhile.
 fn locked(file: File) -> io::Result<File> {
-    let file = if file.as_raw_fd() < STREAMS {
-        file.try_clone()?
-    } else {
-        file
-    };
+    let file = above_streams(file)?;
     file.try_lock()?;
     Ok(file)
+}
+
+// The file with a lock that only disks which read alone have beside it.
+fn shared(file: File) -> io::Result<File> {
+    let file = above_streams(file)?;
+    file.try_lock_shared()?;
+    Ok(file)
+}
+
+// The file above the standard streams: where one of those is closed, what is meant for it must not
+// be written into the file.
+fn above_streams(file: File) -> io::Result<File> {
+    if file.as_raw_fd() < STREAMS {
+        file.try_clone()
+    } else {
+        Ok(file)
+    }
 }
 
 fn folder_of(path: &str) -> Path<'_> {

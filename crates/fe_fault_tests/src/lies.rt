@@ -1,5 +1,5 @@
 //! A desk over a disk that reads a store with one byte changed. What a keeper is opened with over such bytes is tried in
-//! `fe_keeper_tests`, byte by byte: a desk tells the same, and then takes every step.
+//! `fe_store_tests`, byte by byte: a desk tells the same, and then takes every step.
 
 use crate::messages::Said;
 use crate::paths::{BROADCAST, FIRST};

@@ -55,6 +55,12 @@ pub fn add_bytes(rt: &impl Abort, steps: &mut Vec<Step>, conn: u64, piece: Vec<u
     add(rt, steps, Step::Post);
 }
 
+/// The same, of these bytes.
+pub fn add_frames(rt: &impl Abort, alloc: Global, steps: &mut Vec<Step>, conn: u64, bytes: &[u8]) {
+    let piece = Vec::from_slice(alloc, bytes).ok().expect(rt, "a piece");
+    add_bytes(rt, steps, conn, piece);
+}
+
 /// Adds that a connection, which comes if it is not there, says this, and that what it makes is stored and posted.
 pub fn add_line(rt: &impl Abort, alloc: Global, steps: &mut Vec<Step>, conn: u64, said: Said) {
     add(rt, steps, Step::Connect { conn });

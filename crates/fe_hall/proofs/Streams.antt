@@ -18,7 +18,7 @@ use Rattle.fe_wire.proofs.StreamLaws.{one_reading, nothing_unfinished}
 use Rattle.fe_hall.specs.declared.ends.ReadEnd.{ReadEnd}
 use Rattle.fe_hall.specs.declared.ends.ReadEnd.TheVariants.{Closed, Device, BadFrame, Gone, Turns, Stopped, Spent, NoMemory}
 use Rattle.fe_hall.specs.Seats.{Seat}
-use Rattle.fe_hall.specs.Reads.{AreHandled, BreaksOff, EndsAmong, EndsAt, HandlesStream, IsAt}
+use Rattle.fe_hall.specs.Reads.{AreHandled, EndsEarly, EndsAmong, EndsAt, HandlesStream, IsAt}
 
 -- what begins with a message's frame is no rest
 not_rest : (v : Version) (m : ClientMessage) (ms : List ClientMessage) (rest stream : List ℕ) → FitsIn v m → stream ≡ flat_map spelling (m ∷ ms) ++ rest → IsUnfinished v stream ⊎ IsBad v stream → ⊥
@@ -103,7 +103,7 @@ module _ (before after : Seat) (list : List ClientMessage) where
         ends = inl (completes 0 bytes at.messages whole.messages whole.rest at.reads whole.is_stream);
       }
 
-  ends_before : (end : ReadEnd) (messages : List ClientMessage) (rest : List ℕ) (count : ℕ) → BreaksOff end → count < length messages → EndsAt end messages rest count
+  ends_before : (end : ReadEnd) (messages : List ClientMessage) (rest : List ℕ) (count : ℕ) → EndsEarly end → count < length messages → EndsAt end messages rest count
   ends_before Closed messages rest count breaks less = absurd breaks
   ends_before Device messages rest count breaks less = absurd breaks
   ends_before (BadFrame offset) messages rest count breaks less = absurd breaks

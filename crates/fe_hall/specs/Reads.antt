@@ -66,15 +66,15 @@ abbrev pub listed_with : List ClientMessage → ClientMessage → List ClientMes
 listed_with list message = if is_sent message && nat_lt (length list) most_listed then list ++ message ∷ [] else list
 
 -- the side ended before a message
-abbrev pub BreaksOff : ReadEnd → Type 0
-BreaksOff Closed = ⊥
-BreaksOff Device = ⊥
-BreaksOff Turns = ⊥
-BreaksOff (BadFrame offset) = ⊥
-BreaksOff Gone = Unit {0}
-BreaksOff Stopped = Unit {0}
-BreaksOff Spent = Unit {0}
-BreaksOff NoMemory = Unit {0}
+abbrev pub EndsEarly : ReadEnd → Type 0
+EndsEarly Closed = ⊥
+EndsEarly Device = ⊥
+EndsEarly Turns = ⊥
+EndsEarly (BadFrame offset) = ⊥
+EndsEarly Gone = Unit {0}
+EndsEarly Stopped = Unit {0}
+EndsEarly Spent = Unit {0}
+EndsEarly NoMemory = Unit {0}
 
 -- All messages of the bytes that came so far were handled, and more bytes are waited for.
 pub record IsAt (bytes : List ℕ) (before : Seat) (decoder : Decoding) (after : Seat) (list : List ClientMessage) : Type 0 where
@@ -87,7 +87,7 @@ pub record IsAt (bytes : List ℕ) (before : Seat) (decoder : Decoding) (after :
 
 -- The side ended before one of these messages, which came behind the earlier ones.
 pub record EndsAmong (before after : Seat) (list earlier messages : List ClientMessage) (end : ReadEnd) : Type 0 where
-  pub breaks : BreaksOff end
+  pub breaks : EndsEarly end
   pub count : ℕ
   pub fewer : count < length messages
   pub handled : AreHandled before after list (earlier ++ take count messages)

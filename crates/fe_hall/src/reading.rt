@@ -3,7 +3,7 @@
 ghost use Rattle.std.specs.Prelude.{◌≡◌, ◌≢◌, ◌↔◌, ◌++◌, [], ℕ, List, IsNone, IsSome, Some, IfNone, IfSome, OnSome, MatchOption};
 ghost use Rattle.fe_wire.specs.declared.client_message.ClientMessage.{ClientMessage as Message};
 ghost use Rattle.fe_hall.specs.Seats.{Seat, calls_in, risen};
-ghost use Rattle.fe_hall.specs.Reads.{is_sent, listed_with, AreHandled, BreaksOff, EndsAmong, HandlesStream, IsAt};
+ghost use Rattle.fe_hall.specs.Reads.{is_sent, listed_with, AreHandled, EndsEarly, EndsAmong, HandlesStream, IsAt};
 
 use crate::ends::ReadEnd;
 use crate::floor::Handled;
@@ -181,7 +181,7 @@ impl<C: Tally> Reading<C> {
         ensures seat { IfNone result (self.new.seat ≡ risen self.old.seat (calls_in message.now)) }
         ensures listed { IfNone result (self.new.listed.items ≡ listed_with self.old.listed.items message.now) }
         ensures untaken { OnSome result ((self.new.seat ≡ self.old.seat) × (self.new.listed.items ≡ self.old.listed.items)) }
-        ensures end { IfSome result BreaksOff }
+        ensures end { IfSome result EndsEarly }
         ensures decoder { self.new.decoder ≡ self.old.decoder }
     {
         let lists = is_sent(message) && self.listed.len() < LISTED;
@@ -206,7 +206,7 @@ fn end_of(handled: Handled) -> Option<ReadEnd>
     ensures gone { handled ≡ Handled.Gone → result ≡ Some ReadEnd.Gone }
     ensures stopped { handled ≡ Handled.Stopped → result ≡ Some ReadEnd.Stopped }
     ensures spent { handled ≡ Handled.Spent → result ≡ Some ReadEnd.Spent }
-    ensures end { IfSome result BreaksOff }
+    ensures end { IfSome result EndsEarly }
 {
     match handled {
         Handled::Taken => None,

@@ -2,9 +2,15 @@
 #![tactic(auto)]
 
 #[cfg(test)]
+mod calls;
+#[cfg(test)]
 mod faults;
 #[cfg(test)]
+mod halting;
+#[cfg(test)]
 mod looks;
+#[cfg(test)]
+mod schedules;
 #[cfg(test)]
 mod settings;
 #[cfg(test)]

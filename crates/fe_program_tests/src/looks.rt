@@ -28,8 +28,8 @@ fn check(
     end: Result<(), Fault>,
 ) -> Result<(), Fail> {
     let (written, ended) = shown(rt.alloc(), disk);
-    assert_eq!(rt; ended, end, "{name}");
-    assert_eq!(rt; written.as_slice(), output, "{name}");
+    assert!(rt; ended == end, "{name}");
+    assert!(rt; written.as_slice() == output, "{name}");
     Ok(())
 }
 
@@ -77,8 +77,8 @@ fn check_shown(
     output: &[u8],
     end: Result<(), Fault>,
 ) {
-    assert_eq!(rt; shown.1, end);
-    assert_eq!(rt; shown.0.as_slice(), output);
+    assert!(rt; shown.1 == end);
+    assert!(rt; shown.0.as_slice() == output);
 }
 
 // A file is shown the same twice, and not while another disk has it.

@@ -11,15 +11,15 @@ type Values = (u64, bool, u64, u64);
 fn sets(rt: &(impl Abort + AllocGlobal), text: &str, values: Values) -> Result<(), Fail> {
     match read_settings(rt.alloc(), text) {
         Ok(settings) => {
-            assert_eq!(rt; settings.socket.as_str(), "s", "{text}");
-            assert_eq!(rt; settings.store.as_str(), "a b", "{text}");
+            assert!(rt; settings.socket.as_str() == "s", "{text}");
+            assert!(rt; settings.store.as_str() == "a b", "{text}");
             let found = (
                 settings.connections,
                 settings.format,
                 settings.accepts,
                 settings.turns,
             );
-            assert_eq!(rt; found, values, "{text}");
+            assert!(rt; found == values, "{text}");
         }
         Err(fault) => assert!(rt; false, "{text}: {fault}"),
     }
@@ -27,9 +27,8 @@ fn sets(rt: &(impl Abort + AllocGlobal), text: &str, values: Values) -> Result<(
 }
 
 fn refuses(rt: &(impl Abort + AllocGlobal), text: &str, fault: Fault) -> Result<(), Fail> {
-    assert_eq!(rt;
-        read_settings(rt.alloc(), text).err(),
-        Some(fault),
+    assert!(rt;
+        read_settings(rt.alloc(), text).err() == Some(fault),
         "{text}"
     );
     Ok(())

@@ -11,7 +11,7 @@ fn asks(
     asked: Invocation<'_>,
 ) -> Result<(), Fail> {
     match arguments(rt.alloc(), words) {
-        Ok(found) => assert_eq!(rt; found, asked),
+        Ok(found) => assert!(rt; found == asked),
         Err(error) => assert!(rt; false, "{error}"),
     }
     Ok(())
@@ -28,8 +28,8 @@ fn refuses(
         Ok(_) => assert!(rt; false, "{text}"),
         Err(error) => {
             let told = format!(in rt.alloc(); "{error}")?;
-            assert_eq!(rt; told.as_str(), text);
-            assert_eq!(rt; error.kind(), kind);
+            assert!(rt; told.as_str() == text);
+            assert!(rt; error.kind() == kind);
         }
     }
     Ok(())
@@ -112,10 +112,10 @@ fn help_is_shown(rt: HostRuntime) -> Result<(), Fail> {
 fn words_that_are_no_text(rt: HostRuntime) -> Result<(), Fail> {
     let error = not_text(rt.alloc());
     let told = format!(in rt.alloc(); "{error}")?;
-    assert_eq!(rt;
-        told.as_str(),
-        "error: invalid UTF-8 was detected in one or more arguments\n\nUsage: femem <COMMAND>\n\nFor more information, try '--help'.\n"
+    assert!(rt;
+        told.as_str()
+            == "error: invalid UTF-8 was detected in one or more arguments\n\nUsage: femem <COMMAND>\n\nFor more information, try '--help'.\n"
     );
-    assert_eq!(rt; error.kind(), ErrorKind::InvalidValue);
+    assert!(rt; error.kind() == ErrorKind::InvalidValue);
     Ok(())
 }

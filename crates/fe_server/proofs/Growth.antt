@@ -11,7 +11,7 @@ use Rattle.fe_desk.specs.Standing.{Client, Standing, unwritten, all_told, emptie
 use Rattle.fe_desk.specs.Storing.{stored, posted}
 use Rattle.fe_desk.specs.Steps.{find, on_client, with_left, with_decoder, new_client, clients_with, unmade, Connects, gone, TakesPiece, TakesFrom, TakesBytes, after_frame, Acts, DeskStep, DeskRun}
 use Rattle.fe_desk.proofs.Outputs.{stored_clients, posted_clients, unmade_clients, takes_clients}
-use Rattle.fe_server.specs.Ready.{AreWritten}
+use Rattle.fe_desk.specs.Quiet.{AreWritten}
 
 -- Each client is written what it was written before and perhaps more, no reply waits, and new clients come behind.
 abbrev pub Extends : List Client → List Client → Type 0

@@ -16,7 +16,8 @@ use Rattle.fe_desk.proofs.Openings.{first_from}
 use Rattle.fe_desk.specs.declared.fault.DeskFault.{DeskFault}
 use Rattle.fe_desk.specs.declared.fault.DeskFault.TheVariants as desk
 use Rattle.fe_server.specs.Fault.{IsOfDesk, fault_of}
-use Rattle.fe_server.specs.Ready.{AreWritten, IsReady}
+use Rattle.fe_desk.specs.Quiet.{AreWritten}
+use Rattle.fe_server.specs.Ready.{IsReady}
 use Rattle.fe_server.proofs.Growth.{extended, stepped}
 
 -- what a step of the desk promises of the store

@@ -9,7 +9,8 @@ use Rattle.fe_desk.specs.Messages.{outputs}
 use Rattle.fe_desk.specs.Standing.{Client, Standing, IsFirstStanding}
 use Rattle.fe_desk.specs.Steps.{DeskRun}
 use Rattle.fe_server.specs.Line.{parsed}
-use Rattle.fe_server.specs.Ready.{AreWritten, IsReady}
+use Rattle.fe_desk.specs.Quiet.{AreWritten}
+use Rattle.fe_server.specs.Ready.{IsReady}
 use Rattle.fe_server.specs.Runs.{IsAt, BeginsAt, RanLine, IsRun, PrintsMore, RanBytes, SaysLine, printed_after, lengths, fronts}
 use Rattle.fe_server.specs.Schedule.{Stage, Begins, RunsLine, RunsBytes, writings, endings, holds_after}
 use Rattle.fe_server.specs.Told.{PrintsSince}

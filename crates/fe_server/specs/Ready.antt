@@ -1,17 +1,12 @@
 -- A desk over a store in memory between two steps.
-use Rattle.std.specs.Prelude.{◌≡◌, ℕ, false, List, [], ◌∷◌, ◌++◌, length, None}
+use Rattle.std.specs.Prelude.{◌≡◌, ℕ, false, List, ◌++◌, length}
 use Rattle.fe_disk.specs.Memory.{MemoryState, IsHonest, LeavesNow, synced_image}
 use Rattle.fe_state.specs.State.{ServerState}
 use Rattle.fe_keeper.specs.Stands.{StandsFor, EachStandsFor}
 use Rattle.fe_desk.specs.Crash.{DeskState, IsFrom, disk_of}
-use Rattle.fe_desk.specs.Standing.{Client}
+use Rattle.fe_desk.specs.Quiet.{AreWritten}
 use Rattle.fe_desk.specs.Steps.{DeskRun}
 use Rattle.fe_desk.specs.declared.step.Step.{Step}
-
--- no reply waits to be written
-abbrev pub AreWritten : List Client → Type 0
-AreWritten [] = Unit {0}
-AreWritten (c ∷ cs) = (c.reply ≡ None) × AreWritten cs
 
 -- The store works, and is that of a run from some state; each image that a stop may leave stands for what the keeper has; all
 -- groups are stored, and all mails are written.

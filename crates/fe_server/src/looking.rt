@@ -82,6 +82,6 @@ pub fn look<R: Files<File = File>, W: Write>(
     ensures faults { IfErr result (λ end. end ≢ fault.Strange) }
     ensures wrong_size { (found : ℕ) → IsErrOf result (fault.Size found) → found ≢ device_bytes }
 {
-    let disk = FileDisk::at(rt, path, STORE)?;
+    let disk = FileDisk::read_only(rt, path, STORE)?;
     look_at(alloc, disk, writer).0
 }

@@ -17,26 +17,24 @@ fn path_of<R: Env + AllocGlobal>(rt: &R, id: u32, name: &str) -> Result<String, 
 fn check_bytes(rt: &impl Abort, disk: &mut FileDisk, want: [u8; 5]) -> Result<(), Fail> {
     let mut found = [7; 5];
     read(rt, disk, 10, &mut found)?;
-    assert_eq!(rt; found, want);
+    assert!(rt; found == want);
     Ok(())
 }
 
-// A new file is of zeros, and no second disk is made over it meanwhile.
+// A new file is of zeros, and no second disk is made over it meanwhile, also none to read alone.
 fn check_new<R: Files<File = File> + Abort>(
     rt: &R,
     disk: &mut FileDisk,
     path: &str,
 ) -> Result<(), Fail> {
-    assert_eq!(rt; disk.size(), SIZE);
+    assert!(rt; disk.size() == SIZE);
     check_bytes(rt, disk, [0; 5])?;
     write(rt, disk, 11, &[1, 2, 3])?;
     disk.sync()?;
-    assert_eq!(rt; disk.failures(), 0);
-    assert_eq!(rt; FileDisk::at(rt, path, SIZE).err(), Some(FileFault::Device));
-    assert_eq!(rt;
-        FileDisk::create(rt, path, SIZE).err(),
-        Some(FileFault::Device)
-    );
+    assert!(rt; disk.failures() == 0);
+    assert!(rt; FileDisk::at(rt, path, SIZE).err() == Some(FileFault::Device));
+    assert!(rt; FileDisk::read_only(rt, path, SIZE).err() == Some(FileFault::Device));
+    assert!(rt; FileDisk::create(rt, path, SIZE).err() == Some(FileFault::Device));
     Ok(())
 }
 
@@ -47,7 +45,35 @@ fn check_again<R: Files<File = File> + Abort>(rt: &R, path: &str) -> Result<(), 
     drop(disk);
     checked?;
     let wrong = FileFault::WrongSize { found: 64 };
-    assert_eq!(rt; FileDisk::at(rt, path, SIZE + 1).err(), Some(wrong));
+    assert!(rt; FileDisk::at(rt, path, SIZE + 1).err() == Some(wrong));
+    Ok(())
+}
+
+// A disk that reads alone has what was written, and each write is a fault, which is counted. Others that read alone are made
+// beside it, and none that writes.
+fn check_reading<R: Files<File = File> + Abort>(
+    rt: &R,
+    disk: &mut FileDisk,
+    path: &str,
+) -> Result<(), Fail> {
+    check_bytes(rt, disk, [0, 1, 2, 3, 0])?;
+    assert!(rt; write(rt, disk, 10, &[9]).is_err());
+    assert!(rt; disk.failures() == 1);
+    disk.sync()?;
+    check_bytes(rt, disk, [0, 1, 2, 3, 0])?;
+    assert!(rt; disk.failures() == 1);
+    drop(FileDisk::read_only(rt, path, SIZE)?);
+    assert!(rt; FileDisk::at(rt, path, SIZE).err() == Some(FileFault::Device));
+    Ok(())
+}
+
+fn check_read_only<R: Files<File = File> + Abort>(rt: &R, path: &str) -> Result<(), Fail> {
+    let mut disk = FileDisk::read_only(rt, path, SIZE)?;
+    let checked = check_reading(rt, &mut disk, path);
+    drop(disk);
+    checked?;
+    let wrong = FileFault::WrongSize { found: 64 };
+    assert!(rt; FileDisk::read_only(rt, path, SIZE - 1).err() == Some(wrong));
     Ok(())
 }
 
@@ -61,25 +87,25 @@ fn check_cut<R: Files<File = File> + Abort>(
     other.set_len(8)?;
     let mut found = [7; 5];
     assert!(rt; read(rt, disk, 6, &mut found).is_err());
-    assert_eq!(rt; disk.failures(), 1);
+    assert!(rt; disk.failures() == 1);
     write(rt, disk, 10, &[1, 2, 3, 4, 5])?;
     check_bytes(rt, disk, [1, 2, 3, 4, 5])?;
-    assert_eq!(rt; disk.failures(), 1);
+    assert!(rt; disk.failures() == 1);
     Ok(())
 }
 
 #[test]
 fn keeps_a_file(rt: HostRuntime) -> Result<(), Fail> {
     let path = path_of(&rt, process::id(rt.process()), "keeps")?;
-    assert_eq!(rt;
-        FileDisk::at(&rt, path.as_str(), SIZE).err(),
-        Some(FileFault::Missing)
-    );
+    assert!(rt; FileDisk::at(&rt, path.as_str(), SIZE).err() == Some(FileFault::Missing));
+    assert!(rt; FileDisk::read_only(&rt, path.as_str(), SIZE).err() == Some(FileFault::Missing));
+    assert!(rt; FileDisk::read_only(&rt, "/", SIZE).err() == Some(FileFault::Device));
     let mut disk = FileDisk::create(&rt, path.as_str(), SIZE)?;
     let checked = check_new(&rt, &mut disk, path.as_str());
     drop(disk);
     checked?;
     check_again(&rt, path.as_str())?;
+    check_read_only(&rt, path.as_str())?;
     fs::remove_file(&rt, path.as_str())?;
     Ok(())
 }

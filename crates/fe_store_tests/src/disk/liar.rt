@@ -4,13 +4,13 @@ use std::process::Abort;
 use std::test::Fail;
 
 fn check(rt: &impl Abort, disk: &mut Liar) -> Result<(), Fail> {
-    assert_eq!(rt; disk.size(), 4);
+    assert!(rt; disk.size() == 4);
     write(rt, disk, 0, &[9, 9, 9, 9])?;
     disk.sync()?;
     let mut found = [0; 2];
     read(rt, disk, 1, &mut found)?;
-    assert_eq!(rt; found, [6, 7]);
-    assert_eq!(rt; disk.failures(), 0);
+    assert!(rt; found == [6, 7]);
+    assert!(rt; disk.failures() == 0);
     Ok(())
 }
 

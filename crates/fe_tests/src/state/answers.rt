@@ -2,7 +2,7 @@ use super::*;
 
 /// A request has to get this answer, or none.
 fn check_reply(rt: &impl Abort, state: &State, request: Request, answer: Option<Answer>) {
-    assert_eq!(rt; state.answer_to(&request), answer, "{request:?}");
+    assert!(rt; state.answer_to(&request) == answer);
 }
 
 /// An access gets the answer, or waits where there is none and gets `NotNow` if it must not.
