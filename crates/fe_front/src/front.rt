@@ -60,7 +60,13 @@ impl Front {
     {
         let durable = state.place();
         let service = Service::new(alloc, state)?;
-        let spare = Some(Entries::new(alloc)?);
+        let spare = match Entries::new(alloc) {
+            Ok(spare) => Some(spare),
+            Err(error) => {
+                service.discard();
+                return Err(error);
+            }
+        };
         let tables = Tables {
             service,
             connections: Connections::new(alloc),

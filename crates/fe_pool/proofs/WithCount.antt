@@ -1,5 +1,6 @@
 -- The columns of so many free nodes.
-use Rattle.std.proofs.Common.{◌≡◌, ℕ, zero, suc, ◌+◌, List, [], ◌∷◌, ◌++◌, map, Option, Some, None, replicate, refl, ap, ◌∙◌, add-one}
+use Rattle.std.proofs.Common.{◌≡◌, ◌≤◌, subst, ℕ, zero, suc, ◌+◌, List, [], ◌∷◌, ◌++◌, map, Option, Some, None, replicate, refl, ap, ◌∙◌, add-one}
+use Rattle.std.proofs.Math.Nat.{le_antisymm}
 use Rattle.std.proofs.lemmas.List.{map-append}
 use Rattle.fe_pool.specs.declared.places.Place.{Place}
 use Rattle.fe_pool.specs.declared.places.Place.TheVariants.{Free}
@@ -33,3 +34,7 @@ module _ {T : Type 0} where
     where
       more : {X : Type 0} (f : Place T → Option X) → f (Free before) ≡ None → map f ps ≡ replicate count None → map f (ps ++ Free before ∷ []) ≡ replicate (suc count) None
       more f none e = map-append f ps _ ∙ ap (λ xs. xs ++ f (Free before) ∷ []) e ∙ ap (λ o. replicate count None ++ o ∷ []) none ∙ replicate_push count None
+
+  -- once the count is reached
+  pub made-all : (c : Columns T) (count end : ℕ) (before : Option ℕ) → end ≤ count → count ≤ end → IsMade c count before → IsMade c end before
+  made-all c count end before up down made = subst (λ (n : ℕ). IsMade c n before) (le_antisymm down up) made

@@ -59,6 +59,11 @@ impl Service {
         Ok(Service { parts })
     }
 
+    /// Lets the service go.
+    pub fn discard(self) {
+        drop(self)
+    }
+
     /// The state, or what is known of it: which sessions are there, and that nobody who waits may be served.
     pub fn state(&self) -> &State
         ensures state { result.now ≡ self.now.state }
