@@ -8,10 +8,10 @@ use Rattle.std.proofs.lemmas.List.{map-append, length-append}
 use Rattle.std.proofs.lemmas.List.Elements.{filter_map-append}
 use Rattle.std.proofs.lemmas.Option.{none-some}
 use Rattle.fe_wire.specs.declared.client_message.ClientMessage.{ClientMessage}
-use Rattle.fe_server.specs.Fault.{IsOutside}
-use Rattle.fe_server.specs.Lines.{lines_of}
-use Rattle.fe_server.specs.declared.fault.Fault.{Fault}
-use Rattle.fe_server.specs.declared.fault.Fault.TheVariants as fault
+use Rattle.fe_text.specs.Lines.{lines_of}
+use Rattle.fe_text.specs.declared.fault.StreamFault.TheVariants as stream
+use Rattle.fe_client.specs.declared.fault.CallFault.{CallFault}
+use Rattle.fe_client.specs.declared.fault.CallFault.TheVariants as fault
 use Rattle.fe_client.specs.Asking.{asked, IsInSyntax}
 use Rattle.fe_client.specs.Exchanges.{Exchange, IsReplied, Traffic, no_traffic, traffic_of, Streams, Grows, AreAsked, TalksAll}
 use Rattle.fe_client.specs.Ends.{Unread, Unreceived, Unanswered, ExchangeEnds, BreaksOff, TalksUntil}
@@ -155,7 +155,7 @@ talked_all a b s t u n reads now line so takes d = record {
 -- ---- ends
 
 -- no part of an exchange more
-pub not_read : (end : Fault) (over : Type 0) (a b : Option (List ℕ)) (s t : Streams) (n m reads : ℕ) → SoFar a b s t n reads → m ≡ n + 1 → NotTaken end m b → TalksUntil end over a s t
+pub not_read : (end : CallFault) (over : Type 0) (a b : Option (List ℕ)) (s t : Streams) (n m reads : ℕ) → SoFar a b s t n reads → m ≡ n + 1 → NotTaken end m b → TalksUntil end over a s t
 not_read end over a b s t n m reads so next broke =
     let counts = so.counts in
     let number : m ≡ length so.lines + 1 = omega (arith, next, counts) in
@@ -170,41 +170,41 @@ not_read end over a b s t n m reads so next broke =
       grows = grows_both s t t (traffic_of so.exchanges) no_traffic so.grows (grows_none t);
     }
 
-later_incomplete : (end : Fault) (over : Type 0) (earlier now : ℕ) (bytes : List ℕ) → earlier ≤ now → Unreceived end over earlier bytes → Unreceived end over now bytes
+later_incomplete : (end : CallFault) (over : Type 0) (earlier now : ℕ) (bytes : List ℕ) → earlier ≤ now → Unreceived end over earlier bytes → Unreceived end over now bytes
 later_incomplete end over earlier now bytes le (inl broke) = inl broke
 later_incomplete end over earlier now bytes le (inr many) = let most = many.1 in inr (many.0, omega (arith, le, most))
 
-later_unanswered : (end : Fault) (over : Type 0) (earlier now : ℕ) (bytes : List ℕ) → earlier ≤ now → Unanswered end over earlier bytes → Unanswered end over now bytes
+later_unanswered : (end : CallFault) (over : Type 0) (earlier now : ℕ) (bytes : List ℕ) → earlier ≤ now → Unanswered end over earlier bytes → Unanswered end over now bytes
 later_unanswered end over earlier now bytes le (Unanswered.Incomplete why) = Unanswered.Incomplete (later_incomplete end over earlier now bytes le why)
 later_unanswered end over earlier now bytes le (Unanswered.BadFrame is bad) = Unanswered.BadFrame is bad
 later_unanswered end over earlier now bytes le (Unanswered.NoMemory is) = Unanswered.NoMemory is
 
-later_ends : (end : Fault) (over : Type 0) (earlier now : ℕ) (m : ClientMessage) (part : Traffic) → earlier ≤ now → ExchangeEnds end over earlier m part → ExchangeEnds end over now m part
+later_ends : (end : CallFault) (over : Type 0) (earlier now : ℕ) (m : ClientMessage) (part : Traffic) → earlier ≤ now → ExchangeEnds end over earlier m part → ExchangeEnds end over now m part
 later_ends end over earlier now m part le (ExchangeEnds.Sending e) = ExchangeEnds.Sending e
 later_ends end over earlier now m part le (ExchangeEnds.Receiving e) = ExchangeEnds.Receiving (record { why = later_unanswered end over earlier now part.received le e.why; sent = e.sent; printed = e.printed })
 later_ends end over earlier now m part le (ExchangeEnds.Printing e) = ExchangeEnds.Printing e
 
-unread_among : (end : Fault) (number : ℕ) (line : List ℕ) (others : List (List ℕ)) → Unread end number (line ∷ []) → Unread end number (line ∷ others)
+unread_among : (end : CallFault) (number : ℕ) (line : List ℕ) (others : List (List ℕ)) → Unread end number (line ∷ []) → Unread end number (line ∷ others)
 unread_among end number line others (Unread.Stray is stray) = Unread.Stray is stray
-unread_among end number line others (Unread.Outside out) = Unread.Outside out
+unread_among end number line others (Unread.Failed out) = Unread.Failed out
 
 -- the line that broke off is the first of those that are left
-breaks_among : (end : Fault) (over : Type 0) (number earlier now : ℕ) (line : List ℕ) (others : List (List ℕ)) (part : Traffic) → earlier ≤ now → BreaksOff end over number earlier (line ∷ []) part → BreaksOff end over number now (line ∷ others) part
+breaks_among : (end : CallFault) (over : Type 0) (number earlier now : ℕ) (line : List ℕ) (others : List (List ℕ)) (part : Traffic) → earlier ≤ now → BreaksOff end over number earlier (line ∷ []) part → BreaksOff end over number now (line ∷ others) part
 breaks_among end over number earlier now line others part le (BreaksOff.Before u none) = BreaksOff.Before (unread_among end number line others u) none
 breaks_among end over number earlier now line others part le (BreaksOff.Within m asks e) = BreaksOff.Within m asks (later_ends end over earlier now m part le e)
 
-unread_last : (end : Fault) (number : ℕ) (line : List ℕ) → Unread end number (line ∷ []) → Unread end number (last_lines line)
+unread_last : (end : CallFault) (number : ℕ) (line : List ℕ) → Unread end number (line ∷ []) → Unread end number (last_lines line)
 unread_last end number [] (Unread.Stray is stray) = absurd (stray.0 refl)
-unread_last end number [] (Unread.Outside out) = Unread.Outside out
+unread_last end number [] (Unread.Failed out) = Unread.Failed out
 unread_last end number (byte ∷ bytes) u = u
 
-breaks_last : (end : Fault) (over : Type 0) (number earlier now : ℕ) (line : List ℕ) (part : Traffic) → earlier ≤ now → BreaksOff end over number earlier (line ∷ []) part → BreaksOff end over number now (last_lines line) part
+breaks_last : (end : CallFault) (over : Type 0) (number earlier now : ℕ) (line : List ℕ) (part : Traffic) → earlier ≤ now → BreaksOff end over number earlier (line ∷ []) part → BreaksOff end over number now (last_lines line) part
 breaks_last end over number earlier now line part le (BreaksOff.Before u none) = BreaksOff.Before (unread_last end number line u) none
 breaks_last end over number earlier now [] part le (BreaksOff.Within m asks e) = absurd (none-some _ (sym empty_asks_nothing ∙ asks))
 breaks_last end over number earlier now (byte ∷ bytes) part le (BreaksOff.Within m asks e) = BreaksOff.Within m asks (later_ends end over earlier now m part le e)
 
 -- a line broke off, with these lines left
-broke : (end : Fault) (over : Type 0) (a b : Option (List ℕ)) (s t u : Streams) (n m reads : ℕ) (left : List (List ℕ)) (part : Traffic) (so : SoFar a b s t n reads) → m ≡ n + 1 → IfSome b (λ bytes. lines_of bytes ≡ left) → Grows t u part
+broke : (end : CallFault) (over : Type 0) (a b : Option (List ℕ)) (s t u : Streams) (n m reads : ℕ) (left : List (List ℕ)) (part : Traffic) (so : SoFar a b s t n reads) → m ≡ n + 1 → IfSome b (λ bytes. lines_of bytes ≡ left) → Grows t u part
     → BreaksOff end over m (length (traffic_of so.exchanges).received) left part → TalksUntil end over a s u
 broke end over a b s t u n m reads left part so next is grown breaks =
     let counts = so.counts in
@@ -220,18 +220,18 @@ broke end over a b s t u n m reads left part so next is grown breaks =
       grows = grows_both s t u (traffic_of so.exchanges) part so.grows grown;
     }
 
-pub line_broke : (end : Fault) (over : Type 0) (a b c : Option (List ℕ)) (s t u : Streams) (n m reads : ℕ) (line : List ℕ) → SoFar a b s t n reads → TakesLine b c line → m ≡ n + 1 → DoesPart t u (BreaksOff end over m reads (line ∷ [])) → TalksUntil end over a s u
+pub line_broke : (end : CallFault) (over : Type 0) (a b c : Option (List ℕ)) (s t u : Streams) (n m reads : ℕ) (line : List ℕ) → SoFar a b s t n reads → TakesLine b c line → m ≡ n + 1 → DoesPart t u (BreaksOff end over m reads (line ∷ [])) → TalksUntil end over a s u
 line_broke end over a b c s t u n m reads line so takes next d =
     let o = left_with b c line takes in
     broke end over a b s t u n m reads (line ∷ o.0) d.part so next o.1 d.grows (breaks_among end over m reads (length (traffic_of so.exchanges).received) line o.0 d.part so.few d.ends)
 
-pub last_broke : (end : Fault) (over : Type 0) (a b : Option (List ℕ)) (s t u : Streams) (n m reads : ℕ) (line : List ℕ) → SoFar a b s t n reads → TakesLast b line → m ≡ n + 1 → DoesPart t u (BreaksOff end over m reads (line ∷ [])) → TalksUntil end over a s u
+pub last_broke : (end : CallFault) (over : Type 0) (a b : Option (List ℕ)) (s t u : Streams) (n m reads : ℕ) (line : List ℕ) → SoFar a b s t n reads → TakesLast b line → m ≡ n + 1 → DoesPart t u (BreaksOff end over m reads (line ∷ [])) → TalksUntil end over a s u
 last_broke end over a b s t u n m reads line so takes next d =
     broke end over a b s t u n m reads (last_lines line) d.part so next takes d.grows (breaks_last end over m reads (length (traffic_of so.exchanges).received) line d.part so.few d.ends)
 
 -- before anything was read
-pub no_memory : (end : Fault) (over : Type 0) (a : Option (List ℕ)) (s : Streams) → end ≡ fault.Memory → TalksUntil end over a s s
+pub no_memory : (end : CallFault) (over : Type 0) (a : Option (List ℕ)) (s : Streams) → end ≡ fault.Memory → TalksUntil end over a s s
 no_memory end over a s short =
     let k = known_lines a in
     not_read end over a (prepend_known [] a) s s 0 1 0 (nothing_yet a [] s 0 0 refl refl refl) refl
-    (k.0, subst (λ (o : Option (List ℕ)). IfSome o (λ bytes. lines_of bytes ≡ k.0)) (sym (prepend_known-nil a)) k.1, Unread.Outside (subst IsOutside (sym short) tt))
+    (k.0, subst (λ (o : Option (List ℕ)). IfSome o (λ bytes. lines_of bytes ≡ k.0)) (sym (prepend_known-nil a)) k.1, Unread.Failed (stream.Memory, short))

@@ -10,7 +10,7 @@ use Rattle.fe_wire.specs.Spelling.{frame, reply_spelling, ReplyFits}
 use Rattle.fe_wire.specs.Stream.{length_field}
 use Rattle.fe_wire.specs.declared.server_message.ServerMessage.{ServerMessage}
 use Rattle.fe_wire.specs.declared.server_message.ServerMessage.TheVariants as server
-use Rattle.fe_server.specs.declared.fault.Fault.{Fault}
+use Rattle.fe_client.specs.declared.fault.CallFault.{CallFault}
 use Rattle.fe_client.specs.Ends.{BeginsNoReply, Unreceived}
 
 -- the length that a frame begins with is that of what follows, which is a reply's
@@ -82,7 +82,7 @@ no_reply head body count four all field none =
     bad_whole (head ++ body) (omega (arith, four, long)) (omega (arith, four, all, field, long, same)) none
 
 -- the same fault, where more came before
-pub incomplete : (end : Fault) (over : Type 0) (earlier now : ℕ) (head bytes : List ℕ) → now ≤ earlier + length head → Unreceived end over now bytes → Unreceived end over earlier (head ++ bytes)
+pub incomplete : (end : CallFault) (over : Type 0) (earlier now : ℕ) (head bytes : List ℕ) → now ≤ earlier + length head → Unreceived end over now bytes → Unreceived end over earlier (head ++ bytes)
 incomplete end over earlier now head bytes few (inl broke) = inl broke
 incomplete end over earlier now head bytes few (inr many) =
     let most = many.1 in

@@ -5,11 +5,12 @@ use Rattle.std.proofs.lemmas.Bool.{lt-ltb}
 use Rattle.std.proofs.lemmas.List.{length-append, length-take, drop-drop, drop-take, drop_at}
 use Rattle.std.proofs.KnownBytes.{Consumes-trans}
 use Rattle.std.specs.Io.KnownBytes.{Keeps, Consumes, IsAtEnd, prepend_known}
-use Rattle.fe_server.proofs.LineLemmas.{fed, unfed, begins, both_no_feed}
-use Rattle.fe_server.specs.Lines.{lines_of, HasNoFeed}
-use Rattle.fe_server.specs.Fault.{IsOutside}
-use Rattle.fe_server.specs.declared.fault.Fault.{Fault}
-use Rattle.fe_server.specs.declared.fault.Fault.TheVariants as fault
+use Rattle.fe_text.proofs.LineLemmas.{fed, unfed, begins, both_no_feed}
+use Rattle.fe_text.specs.Lines.{lines_of, HasNoFeed}
+use Rattle.fe_client.specs.Fault.{IsOfStream}
+use Rattle.fe_text.specs.declared.fault.StreamFault.TheVariants as stream
+use Rattle.fe_client.specs.declared.fault.CallFault.{CallFault}
+use Rattle.fe_client.specs.declared.fault.CallFault.TheVariants as fault
 use Rattle.fe_client.specs.Asking.{asked, StartsStray}
 use Rattle.fe_client.specs.Ends.{IsTooLong, Unread}
 use Rattle.fe_client.specs.Input.{TakesLine, TakesLast, last_lines, NotTaken}
@@ -124,8 +125,8 @@ pub known_lines : (a : Option (List ℕ)) → (left : List (List ℕ)) × IfSome
 known_lines None = ([], tt)
 known_lines (Some xs) = (lines_of xs, refl)
 
-pub not_taken : (end : Fault) (number : ℕ) (a : Option (List ℕ)) → IsOutside end → NotTaken end number a
-not_taken end number a out = let k = known_lines a in (k.0, k.1, Unread.Outside out)
+pub not_taken : (end : CallFault) (number : ℕ) (a : Option (List ℕ)) → IsOfStream end → NotTaken end number a
+not_taken end number a out = let k = known_lines a in (k.0, k.1, Unread.Failed out)
 
 some_byte : (line : List ℕ) → 94 < length line → line ≢ []
 some_byte line long e = let z = ap (length {A = ℕ}) e in absurd (omega (arith, long, z))
@@ -149,6 +150,6 @@ long_line number (Some xs) (Some ys) (x ∷ line) none long c =
     let b = begins x line ys none in
     (((x ∷ line) ++ b.0) ∷ b.1, ap lines_of c ∙ b.2, Unread.Stray refl (stray_line (x ∷ line) b.0 b.1 long))
 
-pub too_long : (end : Fault) (number : ℕ) (a b : Option (List ℕ)) (line : List ℕ) → HasNoFeed line → Consumes a b line → IsTooLong end number line → NotTaken end number a
-too_long end number a b line none c (inl long) = subst (λ (f : Fault). NotTaken f number a) (sym long.0) (long_line number a b line none long.1 c)
-too_long end number a b line none c (inr short) = not_taken end number a (subst IsOutside (sym short) tt)
+pub too_long : (end : CallFault) (number : ℕ) (a b : Option (List ℕ)) (line : List ℕ) → HasNoFeed line → Consumes a b line → IsTooLong end number line → NotTaken end number a
+too_long end number a b line none c (inl long) = subst (λ (f : CallFault). NotTaken f number a) (sym long.0) (long_line number a b line none long.1 c)
+too_long end number a b line none c (inr short) = not_taken end number a ((stream.Memory, short))

@@ -7,11 +7,11 @@ use Rattle.std.proofs.lemmas.Option.{none-some}
 use Rattle.fe_wire.specs.Spelling.{spelling, reply_spelling, ReplyFits}
 use Rattle.fe_wire.specs.declared.client_message.ClientMessage.{ClientMessage}
 use Rattle.fe_wire.specs.declared.server_message.ServerMessage.{ServerMessage}
-use Rattle.fe_server.specs.Fault.{IsOutside}
-use Rattle.fe_server.specs.Line.{message_in, plain_in}
-use Rattle.fe_server.specs.Words.{words_at}
-use Rattle.fe_server.specs.declared.fault.Fault.{Fault}
-use Rattle.fe_server.specs.declared.fault.Fault.TheVariants as fault
+use Rattle.fe_client.specs.Fault.{IsOfStream}
+use Rattle.fe_text.specs.Line.{message_in, plain_in}
+use Rattle.fe_text.specs.Words.{words_at}
+use Rattle.fe_client.specs.declared.fault.CallFault.{CallFault}
+use Rattle.fe_client.specs.declared.fault.CallFault.TheVariants as fault
 use Rattle.fe_client.specs.Asking.{asked}
 use Rattle.fe_client.specs.Exchanges.{no_traffic, Streams, streams, reply_text}
 use Rattle.fe_client.specs.Ends.{IsFrontOf, Unread, Unsent, Unanswered, ExchangeEnds, BreaksOff}
@@ -21,7 +21,7 @@ use Rattle.fe_client.proofs.Known.{kept_Appends, nothing_more, one_exchange}
 -- ---- an exchange
 
 -- the message is not sent, or a front of it
-pub sending_ends : (end : Fault) (over : Type 0) (earlier : ℕ) (m : ClientMessage) (s t r u p : Option (List ℕ)) (front : List ℕ) → IsFrontOf front (spelling m) → Appends s t front → Keeps r u → Unsent end over
+pub sending_ends : (end : CallFault) (over : Type 0) (earlier : ℕ) (m : ClientMessage) (s t r u p : Option (List ℕ)) (front : List ℕ) → IsFrontOf front (spelling m) → Appends s t front → Keeps r u → Unsent end over
     → DoesPart (streams s r p) (streams t u p) (ExchangeEnds end over earlier m)
 sending_ends end over earlier m s t r u p front is sent kept why = record {
   part = record { sent = front; received = []; printed = [] };
@@ -30,7 +30,7 @@ sending_ends end over earlier m s t r u p front is sent kept why = record {
 }
 
 -- it is sent, and no reply comes
-pub receiving_ends : (end : Fault) (over : Type 0) (earlier : ℕ) (m : ClientMessage) (s t v r u w p : Option (List ℕ)) (bytes : List ℕ) → Appends s t (spelling m) → Keeps t v → Keeps r u → Appends u w bytes → Unanswered end over earlier bytes
+pub receiving_ends : (end : CallFault) (over : Type 0) (earlier : ℕ) (m : ClientMessage) (s t v r u w p : Option (List ℕ)) (bytes : List ℕ) → Appends s t (spelling m) → Keeps t v → Keeps r u → Appends u w bytes → Unanswered end over earlier bytes
     → DoesPart (streams s r p) (streams v w p) (ExchangeEnds end over earlier m)
 receiving_ends end over earlier m s t v r u w p bytes sent still kept came why = record {
   part = record { sent = spelling m; received = bytes; printed = [] };
@@ -39,8 +39,8 @@ receiving_ends end over earlier m s t v r u w p bytes sent still kept came why =
 }
 
 -- the reply comes, and is not printed, or a front of it
-pub printing_ends : (end : Fault) (over : Type 0) (earlier : ℕ) (m : ClientMessage) (reply : ServerMessage) (s t v r u w p q : Option (List ℕ)) (front : List ℕ) → Appends s t (spelling m) → Keeps t v → Keeps r u → ReplyFits reply → Appends u w (reply_spelling reply)
-    → IsFrontOf front (reply_text reply) → Appends p q front → IsOutside end → DoesPart (streams s r p) (streams v w q) (ExchangeEnds end over earlier m)
+pub printing_ends : (end : CallFault) (over : Type 0) (earlier : ℕ) (m : ClientMessage) (reply : ServerMessage) (s t v r u w p q : Option (List ℕ)) (front : List ℕ) → Appends s t (spelling m) → Keeps t v → Keeps r u → ReplyFits reply → Appends u w (reply_spelling reply)
+    → IsFrontOf front (reply_text reply) → Appends p q front → IsOfStream end → DoesPart (streams s r p) (streams v w q) (ExchangeEnds end over earlier m)
 printing_ends end over earlier m reply s t v r u w p q front sent still kept fits came is printed why = record {
   part = record { sent = spelling m; received = reply_spelling reply; printed = front };
   ends = ExchangeEnds.Printing (record { why = why; reply = reply; fits = fits; sent = refl; received = refl; printed = is });
@@ -76,7 +76,7 @@ line_done line m reads now s t says e = record {
   few = let few = e.few in omega (arith, few, length-append (reply_spelling e.reply) []);
 }
 
-pub line_ends : (end : Fault) (over : Type 0) (number earlier : ℕ) (line : List ℕ) (m : ClientMessage) (s t : Streams) → asked line ≡ Some m → DoesPart s t (ExchangeEnds end over earlier m) → DoesPart s t (BreaksOff end over number earlier (line ∷ []))
+pub line_ends : (end : CallFault) (over : Type 0) (number earlier : ℕ) (line : List ℕ) (m : ClientMessage) (s t : Streams) → asked line ≡ Some m → DoesPart s t (ExchangeEnds end over earlier m) → DoesPart s t (BreaksOff end over number earlier (line ∷ []))
 line_ends end over number earlier line m s t says d = record { part = d.part; ends = BreaksOff.Within m says d.ends; grows = d.grows }
 
 -- a line outside the syntax

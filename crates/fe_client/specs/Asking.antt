@@ -1,7 +1,7 @@
 -- What the lines of an input ask.
 use Rattle.std.specs.Prelude.{◌≡◌, ◌≢◌, ℕ, List, [], ◌∷◌, length, Option, None, Some, IsSome, nat_lt, if◌then◌else◌}
 use Rattle.fe_wire.specs.declared.client_message.ClientMessage.{ClientMessage}
-use Rattle.fe_server.specs.Line.{message_in}
+use Rattle.fe_text.specs.Line.{message_in}
 
 -- The message that a line says. No message has more than 94 bytes.
 unfoldable pub asked : List ℕ → Option ClientMessage

@@ -5,8 +5,8 @@ use Rattle.std.specs.Io.KnownBytes.{Appends}
 use Rattle.fe_wire.specs.Spelling.{spelling, reply_spelling, ReplyFits}
 use Rattle.fe_wire.specs.declared.client_message.ClientMessage.{ClientMessage}
 use Rattle.fe_wire.specs.declared.server_message.ServerMessage.{ServerMessage}
-use Rattle.fe_server.specs.Lines.{lines_of}
-use Rattle.fe_server.specs.Printed.{printed}
+use Rattle.fe_text.specs.Lines.{lines_of}
+use Rattle.fe_text.specs.Printed.{printed}
 use Rattle.fe_client.specs.Asking.{asked, IsInSyntax}
 
 -- a message that was sent, and the reply that came then

@@ -1,8 +1,8 @@
 -- What is read of an input, and taken of it line by line.
 use Rattle.std.specs.Prelude.{◌≡◌, ℕ, ◌-◌, List, [], ◌∷◌, take, drop, Option, None, Some, IfSome, ⊤}
 use Rattle.std.specs.Io.KnownBytes.{prepend_known}
-use Rattle.fe_server.specs.Lines.{lines_of}
-use Rattle.fe_server.specs.declared.fault.Fault.{Fault}
+use Rattle.fe_text.specs.Lines.{lines_of}
+use Rattle.fe_client.specs.declared.fault.CallFault.{CallFault}
 use Rattle.fe_client.specs.Ends.{Unread}
 use Rattle.fe_client.specs.declared.input.Input.{Input}
 
@@ -30,5 +30,5 @@ abbrev pub TakesLast : Option (List ℕ) → List ℕ → Type 0
 TakesLast known line = IfSome known (λ bytes. lines_of bytes ≡ last_lines line)
 
 -- these lines were left, and the first of them, which has that number, is not taken
-abbrev pub NotTaken : Fault → ℕ → Option (List ℕ) → Type 0
+abbrev pub NotTaken : CallFault → ℕ → Option (List ℕ) → Type 0
 NotTaken end number known = (left : List (List ℕ)) × IfSome known (λ bytes. lines_of bytes ≡ left) × Unread end number left

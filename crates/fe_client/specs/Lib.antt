@@ -1,3 +1,4 @@
+pub mod Fault
 pub mod Asking
 pub mod Exchanges
 pub mod Ends

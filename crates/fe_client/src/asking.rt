@@ -4,7 +4,7 @@ ghost use Rattle.std.specs.Prelude.{◌≡◌, IfSome};
 ghost use Rattle.fe_wire.specs.Spelling.{Fits};
 ghost use Rattle.fe_client.specs.Asking.{asked};
 
-use fe_server::message_in;
+use fe_text::message_in;
 use fe_wire::ClientMessage;
 
 /// How many bytes the longest line has.

@@ -5,9 +5,9 @@ ghost use Rattle.fe_client.specs.Exchanges.{streams, TalksAll};
 ghost use Rattle.fe_client.specs.Ends.{over_socket, CallsUntil, TalksUntil};
 
 use crate::connection::Connection;
+use crate::fault::CallFault;
 use crate::input::Input;
 use crate::talk::Talk;
-use fe_server::Fault;
 use std::alloc::Global;
 use std::io::{Read, Write};
 use std::net::Net;
@@ -24,7 +24,7 @@ pub fn call<N: Net, R: Read, W: Write>(
     path: &str,
     reader: &mut R,
     writer: &mut W,
-) -> Result<(), Fault>
+) -> Result<(), CallFault>
     // Each message of the lines had a reply, and the replies are printed.
     ensures ok { OnOk result (TalksAll (R.remaining reader.old) (over_socket (W.contents writer.old)) (over_socket (W.contents writer.new))) }
     // At a fault the messages of lines at the front had theirs.
@@ -32,7 +32,7 @@ pub fn call<N: Net, R: Read, W: Write>(
 {
     match UnixStream::connect(rt, path) {
         Ok(mut stream) => call_over(alloc, &mut stream, reader, writer),
-        Err(_) => Err(Fault::Socket),
+        Err(_) => Err(CallFault::Socket),
     }
 }
 
@@ -42,7 +42,7 @@ pub fn call_over<C: Connection, R: Read, W: Write>(
     connection: &mut C,
     reader: &mut R,
     writer: &mut W,
-) -> Result<(), Fault>
+) -> Result<(), CallFault>
     // Of each message of the lines, in their order, the frame was sent, then the frame of a reply received and its text
     // printed, and nothing else was.
     ensures ok { OnOk result (TalksAll (R.remaining reader.old)

@@ -4,7 +4,8 @@ ghost use Rattle.std.specs.Prelude.{◌≤◌, ◌<◌, ◌≡◌, ◌++◌, len
 ghost use Rattle.fe_client.specs.Ends.{IsTooLong};
 
 use crate::asking::LONGEST;
-use fe_server::{Fault, PIECE, READS, buffer, first_line, read_once};
+use crate::fault::CallFault;
+use fe_text::{PIECE, READS, StreamFault, buffer, first_line, read_once};
 use std::alloc::Global;
 use std::io::Read;
 
@@ -30,16 +31,15 @@ pub(crate) struct Input {
 impl Input {
     ghost use Rattle.std.specs.Prelude.{◌≡◌, ◌+◌, ◌++◌, [], ◌∷◌, ℕ, List, ⊤, IfOk, IfErr, OnOk, MatchBool};
     ghost use Rattle.std.specs.Io.KnownBytes.{Keeps, IsAtEnd};
-    ghost use Rattle.fe_server.specs.Lines.{HasNoFeed};
-    ghost use Rattle.fe_server.specs.Fault.{IsOutside};
+    ghost use Rattle.fe_text.specs.Lines.{HasNoFeed};
     ghost use Rattle.fe_client.specs.Input.{kept_of, left_in, TakesLine, TakesLast, NotTaken};
     ghost use Rattle.fe_client.specs.Ends.{IsTooLong};
 
     /// No line is taken.
-    pub fn new(alloc: Global) -> Result<Input, Fault>
+    pub fn new(alloc: Global) -> Result<Input, CallFault>
         ensures kept { IfOk result (λ input. kept_of input ≡ []) }
         ensures number { IfOk result (λ input. input.number ≡ 0) }
-        ensures err { IfErr result (λ fault. fault ≡ Fault.Memory) }
+        ensures err { IfErr result (λ fault. fault ≡ CallFault.Memory) }
     {
         let piece = buffer(alloc, PIECE)?;
         Ok(Input {
@@ -68,7 +68,7 @@ impl Input {
 
     /// Takes the next line, and says whether a line feed ends it. What stands behind the last line feed, which may be
     /// nothing, is taken at the end of the input. `Line` as soon as it is longer than any of the syntax.
-    pub fn next_line<R: Read>(&mut self, reader: &mut R) -> Result<bool, Fault>
+    pub fn next_line<R: Read>(&mut self, reader: &mut R) -> Result<bool, CallFault>
         ensures taken { IfOk result (λ fed. MatchBool fed
             (TakesLine (left_in self.old (R.remaining reader.old)) (left_in self.new (R.remaining reader.new)) self.new.line.items)
             (TakesLast (left_in self.old (R.remaining reader.old)) self.new.line.items)) }
@@ -76,7 +76,7 @@ impl Input {
         ensures err { IfErr result (λ end. NotTaken end (self.old.number + 1) (left_in self.old (R.remaining reader.old))) }
     {
         if self.number == u64::MAX {
-            return Err(Fault::Input);
+            return Err(CallFault::Input);
         }
         self.number += 1;
         self.line.clear();
@@ -89,11 +89,11 @@ impl Input {
                 return Ok(false);
             }
         }
-        Err(Fault::Input)
+        Err(CallFault::Input)
     }
 
     /// Takes what is kept of the piece, up to the first line feed. Whether there is one.
-    fn take_kept(&mut self) -> Result<bool, Fault>
+    fn take_kept(&mut self) -> Result<bool, CallFault>
         ensures taken { IfOk result (λ fed. (front : List ℕ) × HasNoFeed front × (self.new.line.items ≡ self.old.line.items ++ front)
             × MatchBool fed (kept_of self.old ≡ front ++ 10 ∷ kept_of self.new) ((kept_of self.old ≡ front) × (kept_of self.new ≡ []))) }
         ensures number { self.new.number ≡ self.old.number }
@@ -118,14 +118,13 @@ impl Input {
     }
 
     /// Reads the next piece, where all of the one before is taken. Whether the input has not ended.
-    fn fill<R: Read>(&mut self, reader: &mut R) -> Result<bool, Fault>
+    fn fill<R: Read>(&mut self, reader: &mut R) -> Result<bool, StreamFault>
         requires { kept_of self.old ≡ [] }
         ensures read { IfOk result (λ more. Keeps (left_in self.old (R.remaining reader.old)) (left_in self.new (R.remaining reader.new))) }
         ensures end { IfOk result (λ more. MatchBool more ⊤ (IsAtEnd (left_in self.new (R.remaining reader.new)))) }
         ensures line { self.new.line ≡ self.old.line }
         ensures number { self.new.number ≡ self.old.number }
         ensures reads { self.new.reads ≡ self.old.reads }
-        ensures err { IfErr result IsOutside }
     {
         match read_once(reader, self.piece.as_mut_slice())? {
             Some(0) => Ok(false),
@@ -140,17 +139,17 @@ impl Input {
 }
 
 /// Adds to the front of a line of that number.
-fn add(line: &mut Vec<u8>, bytes: &[u8], number: u64) -> Result<(), Fault>
+fn add(line: &mut Vec<u8>, bytes: &[u8], number: u64) -> Result<(), CallFault>
     requires few { length line.old.items ≤ 94 }
     ensures few { length line.new.items ≤ 94 }
     ensures ok { OnOk result (line.new.items ≡ line.old.items ++ bytes.now) }
     ensures err { IfErr result (λ end. IsTooLong end number (line.old.items ++ bytes.now)) }
 {
     if bytes.len() > LONGEST - line.len() {
-        return Err(Fault::Line(number));
+        return Err(CallFault::Line(number));
     }
     match line.extend_from_slice(bytes) {
         Ok(()) => Ok(()),
-        Err(_) => Err(Fault::Memory),
+        Err(_) => Err(CallFault::Memory),
     }
 }

@@ -4,6 +4,7 @@
 mod asking;
 mod calling;
 mod connection;
+mod fault;
 mod input;
 mod memory;
 mod receiving;
@@ -11,4 +12,5 @@ mod talk;
 
 pub use calling::{call, call_over};
 pub use connection::{Broken, Connection};
+pub use fault::CallFault;
 pub use memory::MemoryConnection;

@@ -7,8 +7,9 @@ ghost use Rattle.fe_wire.specs.Stream.{length_field};
 ghost use Rattle.fe_client.specs.Ends.{IsFrontOf, Unanswered, Unreceived, Unsent};
 
 use crate::connection::Connection;
+use crate::fault::CallFault;
 use byteorder::{BigEndian, ByteOrder};
-use fe_server::{Fault, READS};
+use fe_text::READS;
 use fe_wire::{ServerMessage, read_reply};
 use std::alloc::Global;
 
@@ -22,7 +23,7 @@ const LONGEST: usize = 262_145;
 pub(crate) const FRAME_BYTES: usize = LENGTH_BYTES + LONGEST;
 
 /// Sends all of these bytes.
-pub(crate) fn send_all<C: Connection>(connection: &mut C, bytes: &[u8]) -> Result<(), Fault>
+pub(crate) fn send_all<C: Connection>(connection: &mut C, bytes: &[u8]) -> Result<(), CallFault>
     ensures ok { OnOk result (Appends (C.sent connection.old) (C.sent connection.new) bytes.now) }
     ensures front { (front : List ℕ) × IsFrontOf front bytes.now × Appends (C.sent connection.old) (C.sent connection.new) front }
     ensures received { Keeps (C.received connection.old) (C.received connection.new) }
@@ -32,7 +33,7 @@ pub(crate) fn send_all<C: Connection>(connection: &mut C, bytes: &[u8]) -> Resul
     while done < bytes.len() {
         match connection.send(&bytes[done..]) {
             Ok(count) => done += count,
-            Err(_) => return Err(Fault::Socket),
+            Err(_) => return Err(CallFault::Socket),
         }
     }
     Ok(())
@@ -43,7 +44,7 @@ fn receive_all<C: Connection>(
     connection: &mut C,
     buffer: &mut [u8],
     reads: &mut u64,
-) -> Result<(), Fault>
+) -> Result<(), CallFault>
     ensures ok { OnOk result (Appends (C.received connection.old) (C.received connection.new) buffer.new) }
     ensures len { length buffer.new ≡ length buffer.old }
     // Each read brings a byte at least.
@@ -55,12 +56,12 @@ fn receive_all<C: Connection>(
     let mut done = 0;
     while done < buffer.len() {
         if *reads >= READS {
-            return Err(Fault::Input);
+            return Err(CallFault::Input);
         }
         *reads += 1;
         match connection.receive(&mut buffer[done..]) {
             Ok(count) => done += count,
-            Err(_) => return Err(Fault::Socket),
+            Err(_) => return Err(CallFault::Socket),
         }
     }
     Ok(())
@@ -71,7 +72,7 @@ fn receive_length<C: Connection>(
     connection: &mut C,
     head: &mut [u8],
     reads: &mut u64,
-) -> Result<usize, Fault>
+) -> Result<usize, CallFault>
     requires head { length head.old ≡ 4 }
     ensures ok { OnOk result (Appends (C.received connection.old) (C.received connection.new) head.new) }
     ensures head { length head.new ≡ 4 }
@@ -85,7 +86,7 @@ fn receive_length<C: Connection>(
     receive_all(connection, head, reads)?;
     let count = BigEndian::read_u32(head) as usize;
     if count == 0 || count > LONGEST {
-        return Err(Fault::Socket);
+        return Err(CallFault::Socket);
     }
     Ok(count)
 }
@@ -97,7 +98,7 @@ pub(crate) fn receive_reply<C: Connection>(
     connection: &mut C,
     room: &mut [u8],
     reads: &mut u64,
-) -> Result<ServerMessage, Fault>
+) -> Result<ServerMessage, CallFault>
     requires room { length room.old ≡ 262149 }
     ensures reply { IfOk result (λ reply. ReplyFits reply × Appends (C.received connection.old) (C.received connection.new) (reply_spelling reply)) }
     ensures room { length room.new ≡ 262149 }
@@ -111,7 +112,7 @@ pub(crate) fn receive_reply<C: Connection>(
     receive_all(connection, &mut room[LENGTH_BYTES..end], reads)?;
     match read_reply(alloc, &room[..end]) {
         Ok(Some(reply)) => Ok(reply),
-        Ok(None) => Err(Fault::Socket),
-        Err(_) => Err(Fault::Memory),
+        Ok(None) => Err(CallFault::Socket),
+        Err(_) => Err(CallFault::Memory),
     }
 }

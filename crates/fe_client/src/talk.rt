@@ -2,7 +2,6 @@
 
 ghost use Rattle.std.specs.Prelude.{◌≡◌, ◌+◌, ◌≤◌, ◌∷◌, [], ℕ, List, length, IfOk, IfErr, OnOk};
 ghost use Rattle.std.specs.Io.KnownBytes.{Appends, Keeps};
-ghost use Rattle.fe_server.specs.Fault.{IsOutside};
 ghost use Rattle.fe_wire.specs.Spelling.{spelling, reply_spelling, ReplyFits};
 ghost use Rattle.fe_client.specs.Exchanges.{streams, reply_text};
 ghost use Rattle.fe_client.specs.Ends.{BreaksOff, ExchangeEnds, IsFrontOf, Unanswered, Unsent};
@@ -10,8 +9,9 @@ ghost use Rattle.fe_client.specs.Talk.{DoesLine, DoesPart, Exchanged};
 
 use crate::asking::asked;
 use crate::connection::Connection;
+use crate::fault::CallFault;
 use crate::receiving::{FRAME_BYTES, receive_reply, send_all};
-use fe_server::{Fault, buffer, print_reply, stream_fault, write_out};
+use fe_text::{StreamFault, buffer, print_reply, stream_fault, write_out};
 use fe_wire::{ClientMessage, ServerMessage, put_message};
 use std::alloc::Global;
 use std::io::Write;
@@ -33,9 +33,9 @@ pub(crate) struct Talk {
 
 impl Talk {
     /// A talk before its first exchange.
-    pub fn new(alloc: Global) -> Result<Talk, Fault>
+    pub fn new(alloc: Global) -> Result<Talk, CallFault>
         ensures reads { IfOk result (λ talk. talk.reads ≡ 0) }
-        ensures err { IfErr result (λ fault. fault ≡ Fault.Memory) }
+        ensures err { IfErr result (λ fault. fault ≡ CallFault.Memory) }
     {
         let frame = buffer(alloc, FRAME_BYTES)?;
         Ok(Talk {
@@ -54,7 +54,7 @@ impl Talk {
         line: &[u8],
         connection: &mut C,
         writer: &mut W,
-    ) -> Result<(), Fault>
+    ) -> Result<(), CallFault>
         ensures ok { OnOk result (DoesLine line.now self.old.reads self.new.reads
             (streams (C.sent connection.old) (C.received connection.old) (W.contents writer.old)) (streams (C.sent connection.new) (C.received connection.new) (W.contents writer.new))) }
         ensures err { IfErr result (λ end. DoesPart
@@ -66,7 +66,7 @@ impl Talk {
         }
         match asked(line) {
             Some(message) => self.exchange(&message, connection, writer),
-            None => Err(Fault::Line(number)),
+            None => Err(CallFault::Line(number)),
         }
     }
 
@@ -76,7 +76,7 @@ impl Talk {
         message: &ClientMessage,
         connection: &mut C,
         writer: &mut W,
-    ) -> Result<(), Fault>
+    ) -> Result<(), CallFault>
         ensures ok { OnOk result (Exchanged message.now self.old.reads self.new.reads
             (streams (C.sent connection.old) (C.received connection.old) (W.contents writer.old)) (streams (C.sent connection.new) (C.received connection.new) (W.contents writer.new))) }
         ensures err { IfErr result (λ end. DoesPart
@@ -85,14 +85,15 @@ impl Talk {
     {
         self.send(message, connection)?;
         let reply = self.receive(connection)?;
-        self.print(&reply, writer)
+        self.print(&reply, writer)?;
+        Ok(())
     }
 
     fn send<C: Connection>(
         &mut self,
         message: &ClientMessage,
         connection: &mut C,
-    ) -> Result<(), Fault>
+    ) -> Result<(), CallFault>
         ensures ok { OnOk result (Appends (C.sent connection.old) (C.sent connection.new) (spelling message.now)) }
         ensures front { (front : List ℕ) × IsFrontOf front (spelling message.now) × Appends (C.sent connection.old) (C.sent connection.new) front }
         ensures received { Keeps (C.received connection.old) (C.received connection.new) }
@@ -101,12 +102,12 @@ impl Talk {
     {
         self.message.clear();
         if put_message(&mut self.message, message).is_err() {
-            return Err(Fault::Memory);
+            return Err(CallFault::Memory);
         }
         send_all(connection, self.message.as_slice())
     }
 
-    fn receive<C: Connection>(&mut self, connection: &mut C) -> Result<ServerMessage, Fault>
+    fn receive<C: Connection>(&mut self, connection: &mut C) -> Result<ServerMessage, CallFault>
         ensures reply { IfOk result (λ reply. ReplyFits reply × Appends (C.received connection.old) (C.received connection.new) (reply_spelling reply)) }
         ensures reads { IfOk result (λ reply. self.new.reads ≤ self.old.reads + length (reply_spelling reply)) }
         ensures sent { Keeps (C.sent connection.old) (C.sent connection.new) }
@@ -122,15 +123,14 @@ impl Talk {
     }
 
     /// Prints a reply, so that it can be seen before the next message is sent.
-    fn print<W: Write>(&mut self, reply: &ServerMessage, writer: &mut W) -> Result<(), Fault>
+    fn print<W: Write>(&mut self, reply: &ServerMessage, writer: &mut W) -> Result<(), StreamFault>
         ensures ok { OnOk result (Appends (W.contents writer.old) (W.contents writer.new) (reply_text reply.now)) }
         ensures front { (front : List ℕ) × IsFrontOf front (reply_text reply.now) × Appends (W.contents writer.old) (W.contents writer.new) front }
         ensures reads { self.new.reads ≡ self.old.reads }
-        ensures err { IfErr result IsOutside }
     {
         self.text.clear();
         if print_reply(&mut self.text, None, reply).is_err() {
-            return Err(Fault::Memory);
+            return Err(StreamFault::Memory);
         }
         write_out(&mut self.text, writer)?;
         match writer.flush() {

@@ -13,7 +13,7 @@ option_rule name = record (new_rule name) { long = Some name; value_names = 1; r
 abbrev pub with_option : Text → Text → App
 with_option name option = with_rule (new_app name) (option_rule option)
 
--- the program, of which a command is wanted
+-- the program, which needs a command
 abbrev pub program : App
 program = on_top (λ s. record s { has_version = true; subcommand_required = true }) (new_app (codes "femem"))
 

@@ -4,12 +4,12 @@ use Rattle.std.specs.Option.{option_map_or}
 use Rattle.std.specs.Str.{bytes_eq}
 use Rattle.toml.specs.Data.{Data, as_str, as_integer, as_bool, get_member, Members, no_members, member}
 use Rattle.toml.specs.Parse.{parse_document}
-use Rattle.fe_server.specs.Key.{name_of}
-use Rattle.fe_server.specs.declared.key.Key.{Key}
-use Rattle.fe_server.specs.declared.key.Key.TheVariants as key
-use Rattle.fe_server.specs.declared.fault.Fault.{Fault}
-use Rattle.fe_server.specs.declared.fault.Fault.TheVariants as fault
-use Rattle.fe_server.specs.declared.settings.Settings.{Settings}
+use Rattle.fe_options.specs.Key.{name_of}
+use Rattle.fe_options.specs.declared.key.Key.{Key}
+use Rattle.fe_options.specs.declared.key.Key.TheVariants as key
+use Rattle.fe_options.specs.declared.settings.Settings.{Settings}
+use Rattle.fe_options.specs.declared.settings_fault.SettingsFault.{SettingsFault}
+use Rattle.fe_options.specs.declared.settings_fault.SettingsFault.TheVariants as fault
 
 -- the value at a key
 abbrev pub value_of : Key → Members → Option Data
@@ -79,7 +79,7 @@ AreFirstRight document = AreTextsRight document × IsRight key.Connections docum
 abbrev pub AreMostRight : Members → Type 0
 AreMostRight document = AreFirstRight document × (IsRight key.Format document × IsRight key.Accepts document)
 
--- the keys before this one, in the order in which faults are told, are right
+-- the keys before this one, in the order in which they are looked at, are right
 abbrev pub AreRightBefore : Key → Members → Type 0
 AreRightBefore key.Socket document = Unit {0}
 AreRightBefore key.Store document = IsRight key.Socket document
@@ -89,14 +89,14 @@ AreRightBefore key.Accepts document = AreFirstRight document × IsRight key.Form
 AreRightBefore key.Turns document = AreMostRight document
 
 -- The document is refused for this: its first wrong key, and where none is wrong, a key that is none of the settings.
-abbrev pub RefusesDocument : Members → Fault → Type 0
+abbrev pub RefusesDocument : Members → SettingsFault → Type 0
 RefusesDocument document (fault.Setting k) = IsWrong k document × AreRightBefore k document
 RefusesDocument document fault.UnknownKey = (has_known_keys document ≡ false) × (AreMostRight document × IsRight key.Turns document)
 RefusesDocument document fault.Memory = Unit {0}
-RefusesDocument document other = ⊥
+RefusesDocument document fault.NotToml = ⊥
 
--- The text is refused for this: it is no document, or its document is refused. Want of memory says nothing of it.
-abbrev pub RefusesText : List ℕ → Fault → Type 0
+-- The text is refused for this: it is no document, or its document is refused. A lack of memory says nothing of it.
+abbrev pub RefusesText : List ℕ → SettingsFault → Type 0
 RefusesText text fault.NotToml = parse_document text ≡ None
 RefusesText text fault.Memory = Unit {0}
 RefusesText text other = (document : Members) × (parse_document text ≡ Some document) × RefusesDocument document other

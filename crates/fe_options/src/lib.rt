@@ -2,7 +2,13 @@
 #![tactic(auto)]
 
 mod command_line;
+mod key;
+mod reading;
 mod settings;
+mod settings_fault;
 
 pub use command_line::{Invocation, arguments, not_text};
-pub use settings::read_settings;
+pub use key::Key;
+pub use reading::read_settings;
+pub use settings::Settings;
+pub use settings_fault::SettingsFault;

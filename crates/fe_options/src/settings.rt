@@ -1,153 +1,18 @@
-//! The settings of a server are read (`docs/settings.md`).
+//! How a server is run.
 
-ghost use Rattle.std.specs.Prelude.{◌≡◌, Some, IfOk, IfErr, option_map};
-ghost use Rattle.toml.specs.Data.{Members};
-ghost use Rattle.toml.specs.Parse.{parse_document};
-ghost use Rattle.toml.specs.View.{table_view, view};
-ghost use Rattle.fe_options.specs.Settings.{value_of, text_of, number_in, number_under, flag_under, is_known, has_known_keys, IsSettingsOf, RefusesDocument, RefusesText};
-
-use fe_server::{Fault, Key, Settings};
-use std::alloc::Global;
-use toml::{Table, Value};
-
-/// How many connections are served at once at most, and how many where the settings don't say.
-const CONNECTIONS: u64 = 256;
-
-const USUAL_CONNECTIONS: u64 = 64;
-
-/// How many connections a server may count before it ends.
-const ACCEPTS: u64 = 65_536;
-
-/// How often one connection may be read, and how often where the settings don't say.
-const TURNS: u64 = 1 << 40;
-
-const USUAL_TURNS: u64 = 1_000_000_000;
-
-/// The value at a key.
-fn value_at(table: &Table, key: Key) -> Option<&Value>
-    ensures { option_map (λ value. view value.now) result ≡ value_of key (table_view table.now) }
-{
-    table.get(key.name())
-}
-
-/// The text at a key.
-fn text_at<'a>(table: &'a Table, key: Key) -> Option<&'a str>
-    ensures { option_map (λ text. text.now) result ≡ text_of key (table_view table.now) }
-{
-    let value = value_at(table, key)?;
-    value.as_str()
-}
-
-/// The number that a value is, where it is within these bounds.
-fn number_in(value: &Value, least: u64, most: u64) -> Option<u64>
-    ensures { result ≡ number_in least most (view value.now) }
-{
-    let integer = value.as_integer()?;
-    if integer < 0 {
-        return None;
-    }
-    let number = integer as u64;
-    if least <= number && number <= most {
-        Some(number)
-    } else {
-        None
-    }
-}
-
-/// The number at a key, within these bounds, or the usual one where the key is absent.
-fn number_under(table: &Table, key: Key, least: u64, most: u64, usual: u64) -> Option<u64>
-    ensures { result ≡ number_under key least most usual (table_view table.now) }
-{
-    match value_at(table, key) {
-        Some(value) => number_in(value, least, most),
-        None => Some(usual),
-    }
-}
-
-/// Whether a flag is set; it isn't where the key is absent.
-fn flag_under(table: &Table, key: Key) -> Option<bool>
-    ensures { result ≡ flag_under key (table_view table.now) }
-{
-    match value_at(table, key) {
-        Some(value) => value.as_bool(),
-        None => Some(false),
-    }
-}
-
-/// Whether a setting has this name.
-fn is_known(name: &str) -> bool
-    ensures { result ≡ is_known name.now }
-{
-    name == "socket"
-        || name == "store"
-        || name == "connections"
-        || name == "format"
-        || name == "accepts"
-        || name == "turns"
-}
-
-/// Whether each key is that of a setting.
-fn has_known_keys(table: &Table) -> bool
-    ensures { result ≡ has_known_keys (table_view table.now) }
-{
-    for (name, _) in table {
-        if !is_known(name.as_str()) {
-            return false;
-        }
-    }
-    true
-}
-
-/// The settings in a table.
-fn settings_in(alloc: Global, table: &Table) -> Result<Settings, Fault>
-    ensures settings { IfOk result (IsSettingsOf (table_view table.now)) }
-    ensures refused { IfErr result (RefusesDocument (table_view table.now)) }
-{
-    let socket = text_at(table, Key::Socket).ok_or(Fault::Setting(Key::Socket))?;
-    let store = text_at(table, Key::Store).ok_or(Fault::Setting(Key::Store))?;
-    let connections = number_under(
-        table,
-        Key::Connections,
-        1,
-        CONNECTIONS,
-        USUAL_CONNECTIONS,
-    ).ok_or(Fault::Setting(Key::Connections))?;
-    let format = flag_under(table, Key::Format).ok_or(Fault::Setting(Key::Format))?;
-    let accepts = number_under(table, Key::Accepts, 0, ACCEPTS, 0).ok_or(Fault::Setting(
-        Key::Accepts,
-    ))?;
-    let turns = number_under(table, Key::Turns, 1, TURNS, USUAL_TURNS).ok_or(Fault::Setting(
-        Key::Turns,
-    ))?;
-    if !has_known_keys(table) {
-        return Err(Fault::UnknownKey);
-    }
-    let (Ok(socket), Ok(store)) = (
-        String::from_str(alloc, socket),
-        String::from_str(alloc, store),
-    ) else {
-        return Err(Fault::Memory);
-    };
-    Ok(Settings {
-        socket,
-        store,
-        connections,
-        format,
-        accepts,
-        turns,
-    })
-}
-
-/// Reads the settings in a text (`docs/settings.md`). `NotToml` where the text is no document; else `Setting` at the first
-/// key, in the order of the fields, that has to be there and isn't or has a value that it may not have; else
-/// `UnknownKey` where there is a key beside them.
-pub fn read_settings(alloc: Global, text: &str) -> Result<Settings, Fault>
-    ensures settings { IfOk result (λ settings. (document : Members) × (parse_document text.now ≡ Some document) × IsSettingsOf document settings) }
-    ensures refused { IfErr result (RefusesText text.now) }
-{
-    match toml::table_from_str(alloc, text) {
-        Ok(table) => settings_in(alloc, &table),
-        Err(error) if error.is_memory() => Err(Fault::Memory),
-        Err(_) => Err(Fault::NotToml),
-    }
+/// How a server is run (`docs/settings.md`).
+#[derive(Debug, Drop, PartialEq, Eq)]
+pub struct Settings {
+    /// The path of the socket.
+    pub socket: String,
+    /// The path of the store's file.
+    pub store: String,
+    /// How many connections are served at once, 1 to 256.
+    pub connections: u64,
+    /// Whether a store that is missing or unformatted is formatted.
+    pub format: bool,
+    /// After how many connections the server ends, up to 65,536; it doesn't where this is 0.
+    pub accepts: u64,
+    /// How often one connection may be read, 1 to 2^40.
+    pub turns: u64,
 }

@@ -1,14 +1,1 @@
-pub mod Numbers
-pub mod FrameLemmas
-pub mod Growth
-pub mod Behind
-pub mod Outputs
-pub mod Moving
-pub mod Readiness
-pub mod Written
-pub mod LineLemmas
-pub mod Stages
-pub mod Taking
-pub mod Starting
-pub mod TextLemmas
-pub mod LookLemmas
+pub mod Ends

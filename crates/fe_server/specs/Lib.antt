@@ -1,14 +1,3 @@
-pub mod Fault
-pub mod Words
-pub mod Requests
-pub mod Line
-pub mod Lines
-pub mod Printed
-pub mod RefusalNames
-pub mod Told
-pub mod Ready
-pub mod Schedule
-pub mod Runs
-pub mod Look
-pub mod Key
-pub mod within
+pub mod BooksText
+pub mod Ended
+pub mod Serving

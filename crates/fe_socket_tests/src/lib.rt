@@ -1,15 +1,5 @@
-//! The tests of the server and the client over real sockets: both are threads of one process.
+//! What no process can show of the server: its gate, which the program leaves open.
 #![tactic(auto)]
 
 #[cfg(test)]
-mod clients;
-#[cfg(test)]
-mod endings;
-#[cfg(test)]
-mod faults;
-#[cfg(test)]
-mod holds;
-#[cfg(test)]
-mod place;
-#[cfg(test)]
-mod serving;
+mod gate;

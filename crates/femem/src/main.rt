@@ -5,19 +5,24 @@
 ghost use Rattle.std.specs.Prelude.{◌≡◌, ℕ, take, is_ok, IfOk, IfErr, OnOk};
 ghost use Rattle.std.specs.Io.KnownBytes.{Appends};
 ghost use Rattle.clap.specs.Words.{kind_of};
-ghost use Rattle.fe_server.specs.Fault.{status_of, IsOutside};
-ghost use Rattle.fe_sockets.specs.BooksText.{books_text};
+ghost use Rattle.fe_server.specs.BooksText.{books_text};
+ghost use Rattle.femem.specs.within.Faults.{status_of};
 ghost use Rattle.femem.specs.within.Served.{AreSettings, RefusesFile, WritesBooks};
 ghost use Rattle.femem.specs.within.Statuses.{command_status, words_status, shown_status, IsWordsStatus};
 
+mod fault;
+
+use crate::fault::Fault;
 use clap::Error;
 use clap::error::ErrorKind;
 use fe_client::call;
 use fe_front::Books;
 use fe_hall::Open;
-use fe_options::{Invocation, arguments, not_text, read_settings};
-use fe_server::{Fault, Settings, look, run_schedule, write_out};
-use fe_sockets::{books_text, serve};
+use fe_look::look;
+use fe_options::{Invocation, Settings, arguments, not_text, read_settings};
+use fe_schedules::run_schedule;
+use fe_server::{books_text, serve};
+use fe_text::{StreamFault, write_out};
 use std::alloc::Global;
 use std::fs::File;
 use std::io::Write;
@@ -44,28 +49,25 @@ fn words<R: Env + AllocGlobal>(rt: &R) -> Result<Vec<String>, Error> {
     }
 }
 
-/// Does what the command line asks for, and gives the status.
+/// Does what the command line asks for.
 fn start<R: Runtime + Files<File = File> + Net + Threads + Wait + Sync + AllocGlobal>(
     rt: &R,
     asked: Invocation<'_>,
-) -> u8 {
+) -> Result<(), Fault> {
     let mut writer = io::writer(rt);
     match asked {
         Invocation::Run => {
             let mut reader = rt.reader();
-            let ended = run_schedule(rt.alloc(), &mut reader, &mut writer);
-            ended_with(rt, ended)
+            run_schedule(rt.alloc(), &mut reader, &mut writer)?;
         }
-        Invocation::Look { store } => {
-            let ended = look(rt, rt.alloc(), store, &mut writer);
-            ended_with(rt, ended)
+        Invocation::Look { store } => look(rt, rt.alloc(), store, &mut writer)?,
+        Invocation::Serve { settings } => serve_by(rt, settings, &mut writer)?,
+        Invocation::Call { socket } => {
+            let mut reader = rt.reader();
+            call(rt, rt.alloc(), socket, &mut reader, &mut writer)?;
         }
-        Invocation::Serve { settings } => {
-            let ended = serve_by(rt, settings, &mut writer);
-            ended_with(rt, ended)
-        }
-        Invocation::Call { socket } => call_server(rt, socket, &mut writer),
     }
+    Ok(())
 }
 
 /// Serves by the settings in a file, and writes the books at the end.
@@ -78,7 +80,8 @@ fn serve_by<R: Files<File = File> + Net + Clock + Threads + Wait + Sync + AllocG
 {
     let settings = settings_at(rt, path)?;
     let books = serve(rt, rt.alloc(), &settings, &Open)?;
-    show_books(rt.alloc(), &books, writer)
+    show_books(rt.alloc(), &books, writer)?;
+    Ok(())
 }
 
 /// The settings in a file.
@@ -87,33 +90,21 @@ fn settings_at<R: Files + AllocGlobal>(rt: &R, path: &str) -> Result<Settings, F
     ensures refused { IfErr result RefusesFile }
 {
     match fs::read_to_string(rt, path) {
-        Ok(text) => read_settings(rt.alloc(), text.as_str()),
+        Ok(text) => Ok(read_settings(rt.alloc(), text.as_str())?),
         Err(error) if error.kind() == io::ErrorKind::OutOfMemory => Err(Fault::Memory),
         Err(_) => Err(Fault::Unreadable),
     }
 }
 
 /// Writes the books, or where the writer fails, a front of their text.
-fn show_books<W: Write>(alloc: Global, books: &Books, writer: &mut W) -> Result<(), Fault>
+fn show_books<W: Write>(alloc: Global, books: &Books, writer: &mut W) -> Result<(), StreamFault>
     ensures ok { OnOk result (Appends (W.contents writer.old) (W.contents writer.new) (books_text books.now)) }
     ensures front { (count : ℕ) × Appends (W.contents writer.old) (W.contents writer.new) (take count (books_text books.now)) }
-    ensures err { IfErr result IsOutside }
 {
     match books_text(alloc, books) {
         Ok(mut text) => write_out(&mut text, writer),
-        Err(_) => Err(Fault::Memory),
+        Err(_) => Err(StreamFault::Memory),
     }
-}
-
-/// Sends the lines of standard input to the server at that socket, and prints its replies.
-fn call_server<R: Runtime + Net + AllocGlobal, W: Write>(
-    rt: &R,
-    socket: &str,
-    writer: &mut W,
-) -> u8 {
-    let mut reader = rt.reader();
-    let ended = call(rt, rt.alloc(), socket, &mut reader, writer);
-    ended_with(rt, ended)
 }
 
 /// The status of a command, whose fault is told on standard error.
@@ -173,7 +164,7 @@ fn main(rt: HostRuntime) -> ExitCode {
         Err(error) => return ExitCode::from(refuse(&rt, &error)),
     };
     match arguments(rt.alloc(), words.as_slice()) {
-        Ok(asked) => ExitCode::from(start(&rt, asked)),
+        Ok(asked) => ExitCode::from(ended_with(&rt, start(&rt, asked))),
         Err(error) => ExitCode::from(refuse(&rt, &error)),
     }
 }

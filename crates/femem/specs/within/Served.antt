@@ -5,10 +5,12 @@ use Rattle.toml.specs.Data.{Members}
 use Rattle.toml.specs.Parse.{parse_document}
 use Rattle.fe_mail.specs.Books.{Books, AddUp}
 use Rattle.fe_options.specs.Settings.{IsSettingsOf, RefusesText}
-use Rattle.fe_server.specs.declared.fault.Fault.{Fault}
-use Rattle.fe_server.specs.declared.fault.Fault.TheVariants as fault
-use Rattle.fe_server.specs.declared.settings.Settings.{Settings}
-use Rattle.fe_sockets.specs.BooksText.{books_text}
+use Rattle.fe_options.specs.declared.settings.Settings.{Settings}
+use Rattle.fe_options.specs.declared.settings_fault.SettingsFault.{SettingsFault}
+use Rattle.fe_server.specs.BooksText.{books_text}
+use Rattle.femem.specs.declared.fault.Fault.{Fault}
+use Rattle.femem.specs.declared.fault.Fault.TheVariants as fault
+use Rattle.femem.specs.within.Faults.{of_settings}
 
 -- the settings are those of the document of some text
 pub record AreSettings (settings : Settings) : Type 0 where
@@ -19,7 +21,7 @@ pub record AreSettings (settings : Settings) : Type 0 where
 
 -- the file can't be read, there is no memory for its text, or some text in it is refused for this
 abbrev pub RefusesFile : Fault → Type 0
-RefusesFile end = (end ≡ fault.Unreadable) ⊎ ((end ≡ fault.Memory) ⊎ ((text : List ℕ) × RefusesText text end))
+RefusesFile end = (end ≡ fault.Unreadable) ⊎ ((end ≡ fault.Memory) ⊎ ((text : List ℕ) × (why : SettingsFault) × RefusesText text why × (end ≡ of_settings why)))
 
 -- the text of books was written in which each call and each mail stands in one column
 pub record WritesBooks (before after : Option (List ℕ)) : Type 0 where

@@ -2,9 +2,9 @@
 use Rattle.std.specs.Prelude.{◌≡◌, ◌==◌, ℕ, Bool, true, false, if◌then◌else◌, Result, Ok, Err}
 use Rattle.clap.specs.declared.error.kind.ErrorKind.{ErrorKind}
 use Rattle.clap.specs.declared.error.kind.ErrorKind.TheVariants as kind
-use Rattle.fe_server.specs.Fault.{status_of}
-use Rattle.fe_server.specs.declared.fault.Fault.{Fault}
-use Rattle.fe_server.specs.declared.fault.Fault.TheVariants as fault
+use Rattle.femem.specs.declared.fault.Fault.{Fault}
+use Rattle.femem.specs.declared.fault.Fault.TheVariants as fault
+use Rattle.femem.specs.within.Faults.{status_of}
 
 -- 0 for help that was asked for, 3 where memory was short, and 2 for any other words
 abbrev pub words_status : ErrorKind → ℕ

@@ -1,5 +1,5 @@
 use Rattle.std.proofs.Common.{◌+◌, refl, ◌∙◌}
-use Rattle.fe_server.proofs.Moving.{failed, then_ok, err_then}
+use Rattle.fe_text.proofs.Results.{failed, then_ok, err_then}
 use Rattle.fe_client.specs.Exchanges.{streams}
 use Rattle.fe_client.specs.Input.{kept_of, left_in}
 use Rattle.fe_client.proofs.Calls.{nothing_yet, line_more, talked_all, not_read, line_broke, last_broke, no_memory}

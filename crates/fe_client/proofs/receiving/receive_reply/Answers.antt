@@ -2,7 +2,7 @@ use Rattle.std.proofs.Common.{◌+◌, ◌-◌, ◌++◌, ℕ, List, drop, sym, 
 use Rattle.std.proofs.KnownBytes.{Appends-trans}
 use Rattle.std.proofs.lemmas.Option.{none-some}
 use Rattle.std.specs.Io.KnownBytes.{Appends}
-use Rattle.fe_server.proofs.Moving.{failed}
+use Rattle.fe_text.proofs.Results.{failed}
 use Rattle.fe_client.proofs.Frames.{parts_at_front, body_length, no_reply, incomplete}
 use Rattle.fe_client.specs.Ends.{Unanswered}
 use Rattle.fe_client.proofs.receiving.receive_reply.Goals as goal

@@ -1,7 +1,7 @@
 use Rattle.std.proofs.Common.{◌-◌, ◌≤◌, length, drop, refl, arith, length-drop}
 use Rattle.std.proofs.KnownBytes.{Keeps-trans}
 use Rattle.std.proofs.lemmas.List.{length-take}
-use Rattle.fe_server.proofs.Written.{written_more}
+use Rattle.fe_text.proofs.Written.{written_more}
 use Rattle.fe_client.proofs.receiving.send_all.Goals as goal
 
 pub loop-done-preserved : goal.loop-done-preserved

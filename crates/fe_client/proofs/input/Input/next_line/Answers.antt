@@ -1,17 +1,19 @@
-use Rattle.std.proofs.Common.{◌≡◌, ◌+◌, ◌++◌, List, ℕ, sym, ap, subst, ◌∙◌}
+use Rattle.std.proofs.Common.{◌≡◌, ◌+◌, ◌++◌, List, ℕ, refl, sym, ap, subst, ◌∙◌}
 use Rattle.std.proofs.KnownBytes.{Consumes-trans, Consumes-kept}
+use Rattle.std.proofs.lemmas.Result.{err_from_is_err_and}
 use Rattle.std.specs.Io.KnownBytes.{Consumes, prepend_known}
-use Rattle.fe_server.proofs.Moving.{failed}
-use Rattle.fe_server.proofs.LineLemmas.{both_no_feed}
-use Rattle.fe_server.specs.declared.fault.Fault.TheVariants as fault
+use Rattle.fe_text.proofs.Results.{failed}
+use Rattle.fe_text.proofs.LineLemmas.{both_no_feed}
+use Rattle.fe_text.specs.declared.fault.StreamFault.TheVariants as stream
+use Rattle.fe_client.specs.declared.fault.CallFault.TheVariants as fault
 use Rattle.fe_client.specs.Ends.{IsTooLong}
-use Rattle.fe_server.specs.Lines.{HasNoFeed}
+use Rattle.fe_text.specs.Lines.{HasNoFeed}
 use Rattle.fe_client.specs.Input.{kept_of, left_in, TakesLast}
 use Rattle.fe_client.proofs.Taken.{front_taken, goes_on, last_taken, line_ends, not_taken, too_long, fed_front, unfed_front, at_end}
 use Rattle.fe_client.proofs.input.Input.next_line.Goals as goal
 
 pub returns-then-self-clause-err : goal.returns-then-self-clause-err
-returns-then-self-clause-err g c = not_taken fault.Input (c.args.self.now.number + 1) (left_in c.args.self.now (g.R.Read.remaining c.args.reader.now)) tt
+returns-then-self-clause-err g c = not_taken fault.Input (c.args.self.now.number + 1) (left_in c.args.self.now (g.R.Read.remaining c.args.reader.now)) (stream.Input, refl)
 
 pub returns-in_err-take_kept-clause-err : goal.returns-in_err-take_kept-clause-err
 returns-in_err-take_kept-clause-err g c =
@@ -39,9 +41,9 @@ returns-then-branch-clause-taken g c =
 
 pub returns-in_err-fill-clause-err : goal.returns-in_err-fill-clause-err
 returns-in_err-fill-clause-err g c =
-    let end = c.in_err-fill.field-0.0 in
-    rw (failed c.from_residual-in_err-fill.result end c.from_residual-in_err-fill.ensures.1)
-    (not_taken end (c.args.self.now.number + 1) (left_in c.args.self.now (g.R.Read.remaining c.args.reader.now)) c.in_err-fill.ensures.err)
+    let told = err_from_is_err_and c.from_residual-in_err-fill.result c.from_residual-in_err-fill.ensures.1 in
+    rw told.1
+    (not_taken told.0 (c.args.self.now.number + 1) (left_in c.args.self.now (g.R.Read.remaining c.args.reader.now)) (c.in_err-fill.field-0.0, told.2))
 
 pub returns-then-not-branch-clause-taken : goal.returns-then-not-branch-clause-taken
 returns-then-not-branch-clause-taken g c =
@@ -81,4 +83,4 @@ loop-self-preserved g c =
     }
 
 pub returns-clause-err : goal.returns-clause-err
-returns-clause-err g c = not_taken fault.Input (c.args.self.now.number + 1) (left_in c.args.self.now (g.R.Read.remaining c.args.reader.now)) tt
+returns-clause-err g c = not_taken fault.Input (c.args.self.now.number + 1) (left_in c.args.self.now (g.R.Read.remaining c.args.reader.now)) (stream.Input, refl)

@@ -1,6 +1,6 @@
 use Rattle.std.proofs.Common.{◌≡◌, ◌+◌, ◌-◌, ◌^◌}
 use Rattle.std.specs.Io.KnownBytes.{Consumes}
-use Rattle.fe_server.specs.Lines.{HasNoFeed}
+use Rattle.fe_text.specs.Lines.{HasNoFeed}
 use Rattle.fe_client.specs.Input.{left_in}
 use Rattle.fe_client.proofs.input.Input.next_line.Given as goal
 

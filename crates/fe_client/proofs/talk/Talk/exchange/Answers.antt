@@ -1,5 +1,7 @@
 use Rattle.std.proofs.Common.{◌+◌, ◌≤◌, ℕ, length, subst}
-use Rattle.fe_server.proofs.Moving.{failed, then_ok, err_then}
+use Rattle.std.proofs.lemmas.Result.{err_from_is_err_and}
+use Rattle.fe_wire.specs.Spelling.{reply_spelling}
+use Rattle.fe_text.proofs.Results.{failed}
 use Rattle.fe_client.specs.Ends.{Unanswered}
 use Rattle.fe_client.proofs.Talks.{sending_ends, receiving_ends, printing_ends, exchanged}
 use Rattle.fe_client.proofs.talk.Talk.exchange.Goals as goal
@@ -25,26 +27,24 @@ returns-in_err-reply-clause-err g c =
     (receiving_ends end over c.args.self.now.reads c.args.message.now (sent c.args.connection.now) (sent c.send.new.connection) (sent c.receive.new.connection) (received c.args.connection.now) (received c.send.new.connection) (received c.receive.new.connection) (g.W.Write.contents c.args.writer.now)
     e.0 c.in_ok-send.ensures.ok c.receive.ensures.sent c.send.ensures.received e.1 (subst (λ (n : ℕ). Unanswered end over n e.0) c.send.ensures.reads e.2))
 
+pub returns-in_err-print-clause-err : goal.returns-in_err-print-clause-err
+returns-in_err-print-clause-err g c =
+    let sent = g.C.Connection.sent in
+    let received = g.C.Connection.received in
+    let contents = g.W.Write.contents in
+    let reply = c.in_ok-reply.ensures.reply in
+    let front = c.print.ensures.front in
+    let told = err_from_is_err_and c.from_residual-in_err-print.result c.from_residual-in_err-print.ensures.1 in
+    rw told.1
+    (printing_ends told.0 (g.C.Connection.is_over c.receive.new.connection) c.args.self.now.reads c.args.message.now c.in_ok-reply.reply (sent c.args.connection.now) (sent c.send.new.connection) (sent c.receive.new.connection) (received c.args.connection.now) (received c.send.new.connection) (received c.receive.new.connection) (contents c.args.writer.now) (contents c.print.new.writer)
+    front.0 c.in_ok-send.ensures.ok c.receive.ensures.sent c.send.ensures.received reply.0 reply.1 front.1 front.2 (c.in_err-print.field-0.0, told.2))
+
 pub returns-clause-ok : goal.returns-clause-ok
 returns-clause-ok g c =
     let sent = g.C.Connection.sent in
     let received = g.C.Connection.received in
     let contents = g.W.Write.contents in
     let reply = c.in_ok-reply.ensures.reply in
-    let few = subst (λ (n : ℕ). c.receive.new.self.reads ≤ n + length (Rattle.fe_wire.specs.Spelling.reply_spelling c.in_ok-reply.reply)) c.send.ensures.reads c.in_ok-reply.ensures.reads in
-    then_ok c.print.result
-    (λ printed. exchanged c.args.message.now c.in_ok-reply.reply c.args.self.now.reads c.receive.new.self.reads c.print.new.self.reads (sent c.args.connection.now) (sent c.send.new.connection) (sent c.receive.new.connection) (received c.args.connection.now) (received c.send.new.connection) (received c.receive.new.connection) (contents c.args.writer.now) (contents c.print.new.writer)
-    c.in_ok-send.ensures.ok c.receive.ensures.sent c.send.ensures.received reply.0 reply.1 printed few c.print.ensures.reads)
-    c.print.ensures.ok
-
-pub returns-clause-err : goal.returns-clause-err
-returns-clause-err g c =
-    let sent = g.C.Connection.sent in
-    let received = g.C.Connection.received in
-    let contents = g.W.Write.contents in
-    let reply = c.in_ok-reply.ensures.reply in
-    let front = c.print.ensures.front in
-    err_then c.print.result
-    (λ end why. printing_ends end (g.C.Connection.is_over c.receive.new.connection) c.args.self.now.reads c.args.message.now c.in_ok-reply.reply (sent c.args.connection.now) (sent c.send.new.connection) (sent c.receive.new.connection) (received c.args.connection.now) (received c.send.new.connection) (received c.receive.new.connection) (contents c.args.writer.now) (contents c.print.new.writer)
-    front.0 c.in_ok-send.ensures.ok c.receive.ensures.sent c.send.ensures.received reply.0 reply.1 front.1 front.2 why)
-    c.print.ensures.err
+    let few = subst (λ (n : ℕ). c.receive.new.self.reads ≤ n + length (reply_spelling c.in_ok-reply.reply)) c.send.ensures.reads c.in_ok-reply.ensures.reads in
+    exchanged c.args.message.now c.in_ok-reply.reply c.args.self.now.reads c.receive.new.self.reads c.print.new.self.reads (sent c.args.connection.now) (sent c.send.new.connection) (sent c.receive.new.connection) (received c.args.connection.now) (received c.send.new.connection) (received c.receive.new.connection) (contents c.args.writer.now) (contents c.print.new.writer)
+    c.in_ok-send.ensures.ok c.receive.ensures.sent c.send.ensures.received reply.0 reply.1 c.in_ok-print.ensures.ok few c.print.ensures.reads

@@ -1,5 +1,5 @@
 use Rattle.std.proofs.Common.{sym}
-use Rattle.fe_server.proofs.Moving.{then_ok, err_then}
+use Rattle.fe_text.proofs.Results.{then_ok, err_then}
 use Rattle.fe_client.specs.Exchanges.{streams}
 use Rattle.fe_client.proofs.Talks.{line_done, line_ends, line_strays, not_empty}
 use Rattle.fe_client.proofs.talk.Talk.take_line.Goals as goal

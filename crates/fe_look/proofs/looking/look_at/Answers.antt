@@ -1,0 +1,48 @@
+use Rattle.std.proofs.Common.{◌≡◌, ◌⊎◌, subst}
+use Rattle.std.proofs.lemmas.Result.{on_ok_weaker}
+use Rattle.std.specs.Io.KnownBytes.{Appends}
+use Rattle.fe_state.specs.State.{ServerState}
+use Rattle.fe_store.specs.Opening.{TellsImage}
+use Rattle.fe_store.specs.declared.fault.OpenFault.{OpenFault}
+use Rattle.fe_store.specs.declared.fault.OpenFault.TheVariants as store
+use Rattle.fe_look.specs.Look.{state_text}
+use Rattle.fe_look.proofs.LookLemmas.{shows_nothing}
+use Rattle.fe_look.proofs.looking.look_at.Goals as goal
+
+pub returns-in-Ok-clause-shows : goal.returns-in-Ok-clause-shows
+returns-in-Ok-clause-shows g c honest =
+    on_ok_weaker c.show-shown.result
+    (λ w. record {
+      state = c.in-Ok.keeper.state;
+      stands = c.in-Ok.ensures.opened honest;
+      written = subst (λ (s : ServerState). Appends (g.W.Write.contents c.args.writer.now) (g.W.Write.contents c.show-shown.new.writer) (state_text s)) c.state.ensures.state w;
+    })
+    c.show-shown.ensures.ok
+
+pub returns-in-Ok-clause-told : goal.returns-in-Ok-clause-told
+returns-in-Ok-clause-told g c honest why is = absurd (c.show-shown.ensures.opened why is)
+
+pub returns-in-Ok-clause-refused : goal.returns-in-Ok-clause-refused
+returns-in-Ok-clause-refused g c honest s stands why is = absurd (c.show-shown.ensures.opened why is)
+
+pub returns-in-Ok-clause-silent : goal.returns-in-Ok-clause-silent
+returns-in-Ok-clause-silent g c why is = absurd (c.show-shown.ensures.opened why is)
+
+pub returns-in-Ok-clause-written : goal.returns-in-Ok-clause-written
+returns-in-Ok-clause-written g c = on_ok_weaker c.show-shown.result (λ w. record { state = c.state.result.now; written = w }) c.show-shown.ensures.ok
+
+pub returns-in-Ok-clause-front : goal.returns-in-Ok-clause-front
+returns-in-Ok-clause-front g c = record { state = c.state.result.now; count = c.show-shown.ensures.front.0; written = c.show-shown.ensures.front.1 }
+
+pub returns-in-Err-clause-told : goal.returns-in-Err-clause-told
+returns-in-Err-clause-told g c honest why is =
+    let same : c.in-Err.fault ≡ why = cc is in
+    subst (λ (f : OpenFault). TellsImage f (g.D.Disk.seen c.args.disk)) same (c.in-Err.ensures.told honest)
+
+pub returns-in-Err-clause-refused : goal.returns-in-Err-clause-refused
+returns-in-Err-clause-refused g c honest s stands why is =
+    let same : c.in-Err.fault ≡ why = cc is in
+    subst (λ (f : OpenFault). (f ≡ store.Device) ⊎ (f ≡ store.Memory)) same (c.in-Err.ensures.refused honest s stands)
+
+pub returns-in-Err-clause-front : goal.returns-in-Err-clause-front
+returns-in-Err-clause-front g c = shows_nothing (g.W.Write.contents c.args.writer.now)

@@ -1,0 +1,45 @@
+-- What is printed of a store.
+use Rattle.std.specs.Prelude.{◌++◌, ℕ, List, Option, codes, length, take}
+use Rattle.std.specs.Fmt.{decimal}
+use Rattle.std.specs.FinMap.{entries, len}
+use Rattle.std.specs.Io.KnownBytes.{Appends}
+use Rattle.std.specs.List.{flat_map}
+use Rattle.fe_state.specs.Sessions.{Session}
+use Rattle.fe_state.specs.State.{ServerState}
+use Rattle.fe_state.specs.declared.array.Array.{Array}
+use Rattle.fe_keeper.specs.Stands.{StandsFor}
+
+-- how many entries there were
+abbrev pub place_line : ℕ → List ℕ
+place_line place = codes "place " ++ (decimal place ++ codes "\n")
+
+-- an array: its id, its name, and its length in words
+abbrev pub array_line : ℕ × Array → List ℕ
+array_line e =
+    codes "array " ++ (decimal e.0 ++ (codes " " ++ (e.1.name ++ (codes " " ++ (decimal (length e.1.words) ++ codes "\n")))))
+
+-- a session: its floor, and how many answers are kept for it
+abbrev pub session_line : ℕ × Session → List ℕ
+session_line e =
+    codes "session " ++ (decimal e.0 ++ (codes " floor " ++ (decimal e.1.floor ++ (codes " kept " ++ (decimal (len e.1.kept) ++ codes "\n")))))
+
+-- The text of a state: its place, and a line for each array and then for each session, both ascending.
+abbrev pub state_text : ServerState → List ℕ
+state_text s = place_line s.place ++ (flat_map array_line (entries s.arrays) ++ flat_map session_line (entries s.sessions))
+
+-- the text of some state is written
+pub record ShowsSome (before after : Option (List ℕ)) : Type 0 where
+  pub state : ServerState
+  pub written : Appends before after (state_text state)
+
+-- no more than a front of the text of some state is written
+pub record ShowsFront (before after : Option (List ℕ)) : Type 0 where
+  pub state : ServerState
+  pub count : ℕ
+  pub written : Appends before after (take count (state_text state))
+
+-- The image stands for a state, whose text is written.
+pub record Shows (image : List ℕ) (before after : Option (List ℕ)) : Type 0 where
+  pub state : ServerState
+  pub stands : StandsFor image state
+  pub written : Appends before after (state_text state)

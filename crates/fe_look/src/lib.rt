@@ -1,0 +1,9 @@
+//! A look at a store: the text of the state that it stands for.
+#![tactic(auto)]
+
+mod fault;
+mod looking;
+mod state_text;
+
+pub use fault::LookFault;
+pub use looking::{look, look_at};

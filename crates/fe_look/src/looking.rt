@@ -1,0 +1,92 @@
+//! Looks at a store.
+
+ghost use Rattle.std.specs.Prelude.{◌≡◌, ◌⊎◌, ◌↔◌, ◌≢◌, ℕ, take, OnOk, IsErrOf};
+ghost use Rattle.std.specs.Io.KnownBytes.{Appends, Keeps};
+ghost use Rattle.fe_disk.specs.Disk.{Rises};
+ghost use Rattle.fe_journal.specs.Layout.{device_bytes};
+ghost use Rattle.fe_journal.specs.Steps.{OnlyReads};
+ghost use Rattle.fe_keeper.specs.Stands.{StandsFor};
+ghost use Rattle.fe_state.specs.State.{ServerState};
+ghost use Rattle.fe_store.specs.Opening.{TellsImage};
+ghost use Rattle.fe_store.specs.declared.fault.OpenFault.{OpenFault};
+ghost use Rattle.fe_store.specs.declared.fault.OpenFault.TheVariants as store;
+ghost use Rattle.fe_look.specs.Look.{Shows, ShowsSome, ShowsFront, state_text};
+ghost use Rattle.fe_look.specs.declared.fault.LookFault.TheVariants as fault;
+
+use crate::fault::LookFault;
+use crate::state_text::state_text;
+use fe_disk::Disk;
+use fe_state::State;
+use fe_store::{disk_to_read, open_existing};
+use fe_text::{StreamFault, write_text};
+use std::alloc::Global;
+use std::fs::File;
+use std::io::Write;
+use std::rt::Files;
+
+/// Writes the text of a state.
+fn show<W: Write>(alloc: Global, state: &State, writer: &mut W) -> Result<(), LookFault>
+    ensures ok { OnOk result (Appends (W.contents writer.old) (W.contents writer.new) (state_text state.now)) }
+    ensures front { (count : ℕ) × Appends (W.contents writer.old) (W.contents writer.new) (take count (state_text state.now)) }
+    ensures opened { (why : OpenFault) → IsErrOf result (fault.Store why) → ⊥ }
+{
+    let Ok(text) = state_text(alloc, state) else {
+        return Err(LookFault::Stream(StreamFault::Memory));
+    };
+    match write_text(writer, text.as_bytes()) {
+        Ok(()) => Ok(()),
+        Err(fault) => Err(LookFault::Stream(fault)),
+    }
+}
+
+/// Opens the store on a disk, and writes what is in it. The disk is synced and read, and comes back.
+pub fn look_at<D: Disk, W: Write>(
+    alloc: Global,
+    disk: D,
+    writer: &mut W,
+) -> (Result<(), LookFault>, D)
+    // What is written is the text of the state that the disk stands for.
+    ensures shows { D.honest disk → OnOk result.0 (Shows (D.seen disk) (W.contents writer.old) (W.contents writer.new)) }
+    // What is told of the store is so, and one that stands for a state is refused only for its device or for memory.
+    ensures told { D.honest disk → (why : OpenFault) → IsErrOf result.0 (fault.Store why) → TellsImage why (D.seen disk) }
+    ensures refused { D.honest disk → (s : ServerState) → StandsFor (D.seen disk) s → (why : OpenFault) → IsErrOf result.0 (fault.Store why)
+        → (why ≡ store.Device) ⊎ (why ≡ store.Memory) }
+    // No stop leaves what could not be left before, and what is read stays the same.
+    ensures reads { D.honest disk → OnlyReads D.seen D.may_leave D.moment D.left_since disk result.1 }
+
+    // Of any disk, what is written is the text of a state, or at a fault a front of it; where no store is opened, nothing is.
+    ensures written { OnOk result.0 (ShowsSome (W.contents writer.old) (W.contents writer.new)) }
+    ensures front { ShowsFront (W.contents writer.old) (W.contents writer.new) }
+    ensures silent { (why : OpenFault) → IsErrOf result.0 (fault.Store why) → Keeps (W.contents writer.old) (W.contents writer.new) }
+    ensures sized { (found : ℕ) → IsErrOf result.0 (fault.Store (store.Size found)) → ⊥ }
+    ensures device { IsErrOf result.0 (fault.Store store.Device) ↔ Rises (D.failures disk) (D.failures result.1) }
+    ensures honesty { D.honest result.1 ↔ D.honest disk }
+    ensures size { D.size result.1 ≡ D.size disk }
+{
+    match open_existing(alloc, disk) {
+        Ok(keeper) => {
+            let shown = show(alloc, keeper.state(), writer);
+            (shown, keeper.into_disk())
+        }
+        Err((fault, disk)) => (Err(LookFault::Store(fault)), disk),
+    }
+}
+
+/// Opens the store in a file, and writes what is in it: its place, and a line for each array and each session. The file
+/// is synced and read alone. Of a store it tells `Device` where there is no such file, another program has it or it can't be
+/// read, `Size` where it has another size, and `Unformatted` and `Damaged` where it holds no state.
+pub fn look<R: Files<File = File>, W: Write>(
+    rt: &R,
+    alloc: Global,
+    path: &str,
+    writer: &mut W,
+) -> Result<(), LookFault>
+    // What is written is the text of a state, or at a fault a front of it; where no store is opened, nothing is.
+    ensures written { OnOk result (ShowsSome (W.contents writer.old) (W.contents writer.new)) }
+    ensures front { ShowsFront (W.contents writer.old) (W.contents writer.new) }
+    ensures silent { (why : OpenFault) → IsErrOf result (fault.Store why) → Keeps (W.contents writer.old) (W.contents writer.new) }
+    ensures wrong_size { (found : ℕ) → IsErrOf result (fault.Store (store.Size found)) → found ≢ device_bytes }
+{
+    let disk = disk_to_read(rt, path)?;
+    look_at(alloc, disk, writer).0
+}

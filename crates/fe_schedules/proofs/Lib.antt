@@ -1,0 +1,9 @@
+pub mod FrameLemmas
+pub mod Growth
+pub mod Behind
+pub mod Outputs
+pub mod Moving
+pub mod Readiness
+pub mod Stages
+pub mod Taking
+pub mod Starting

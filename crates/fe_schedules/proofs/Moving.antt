@@ -1,0 +1,38 @@
+-- Steps of a desk, one behind the other.
+use Rattle.std.proofs.Common.{◌≡◌, ℕ, List, [], ◌∷◌, ◌++◌, refl, sym, subst}
+use Rattle.fe_disk.specs.Memory.{MemoryState}
+use Rattle.fe_desk.specs.Crash.{DeskState}
+use Rattle.fe_desk.specs.Standing.{Standing}
+use Rattle.fe_desk.specs.Steps.{DeskRun}
+use Rattle.fe_desk.specs.declared.step.Step.{Step}
+use Rattle.fe_schedules.specs.Ready.{IsReady, Moves}
+use Rattle.fe_schedules.specs.Runs.{ArePrinted, ActsOn}
+use Rattle.fe_schedules.specs.Schedule.{writings}
+use Rattle.fe_text.specs.declared.line.Line.{Line}
+use Rattle.fe_text.specs.declared.line.Line.TheVariants as line
+use Rattle.fe_schedules.specs.declared.machine.Machine.{Machine}
+use Rattle.fe_schedules.proofs.Growth.{ran}
+use Rattle.fe_schedules.proofs.Outputs.{printed_later}
+
+pub runs_both : (xs ys : List Step) (s u t : Standing) → DeskRun s xs u → DeskRun u ys t → DeskRun s (xs ++ ys) t
+runs_both [] ys s u t e f = subst (λ (w : Standing). DeskRun w ys t) e f
+runs_both (x ∷ xs) ys s u t e f = (e.0, e.1, runs_both xs ys e.0 u t e.2 f)
+
+pub moves_none : (d : DeskState MemoryState) → Moves d [] d
+moves_none d = record { runs = refl; from = λ begun from. from }
+
+pub moves_both : (d m e : DeskState MemoryState) (xs ys : List Step) → Moves d xs m → Moves m ys e → Moves d (xs ++ ys) e
+moves_both d m e xs ys p q = record { runs = runs_both xs ys d.standing m.standing e.standing p.runs q.runs; from = λ begun from. q.from begun (p.from begun from) }
+
+-- what is printed stays a front of what is written
+pub printed_over : (ns : List ℕ) (d e : DeskState MemoryState) (steps : List Step) → IsReady d → Moves d steps e → ArePrinted ns (writings d.standing) → ArePrinted ns (writings e.standing)
+printed_over ns d e steps ready moved printed =
+    printed_later ns d.standing.clients e.standing.clients (ran steps d.standing e.standing ready.owes ready.written moved.runs).extends printed
+
+-- ---- lines with no steps
+
+pub held : (m : Machine) (l : Line) → l ≡ line.Hold → ActsOn m l m
+held m l e = subst (λ (k : Line). ActsOn m k m) (sym e) (record { mid = m.desk; begins = refl; steps = []; are = refl; moves = moves_none m.desk; printed = refl })
+
+pub flushed : (m : Machine) (l : Line) → l ≡ line.Flush → ActsOn m l m
+flushed m l e = subst (λ (k : Line). ActsOn m k m) (sym e) (record { mid = m.desk; begins = refl; steps = []; are = refl; moves = moves_none m.desk; printed = refl })

@@ -1,0 +1,80 @@
+-- A desk stays ready for the next step.
+use Rattle.std.proofs.Common.{◌≡◌, ◌≢◌, None, ℕ, ◌≤◌, false, List, take, take_all, length, sym, ap, ◌∙◌, ◌⊎◌, inl, inr, subst, arith}
+use Rattle.fe_disk.specs.Memory.{MemoryState, IsHonest, LeavesNow, LeavesSince}
+use Rattle.fe_state.specs.State.{ServerState}
+use Rattle.fe_state.specs.History.{after_groups}
+use Rattle.fe_state.specs.declared.entry.Entry.{Entry}
+use Rattle.fe_keeper.specs.Laws.{StandsForOne}
+use Rattle.fe_keeper.specs.Stands.{StandsFor, EachStandsFor}
+use Rattle.fe_keeper.specs.Prefix.{LeavesPrefix}
+use Rattle.fe_keeper.specs.declared.fault.Fault.TheVariants as store
+use Rattle.fe_desk.specs.Crash.{DeskState, Advances, IsFrom, IsFine, disk_of}
+use Rattle.fe_desk.specs.Standing.{IsFirstStanding}
+use Rattle.fe_desk.specs.Steps.{DeskStep}
+use Rattle.fe_desk.specs.declared.step.Step.{Step}
+use Rattle.fe_desk.proofs.Openings.{first_from}
+use Rattle.fe_desk.specs.declared.fault.DeskFault.{DeskFault}
+use Rattle.fe_desk.specs.declared.fault.DeskFault.TheVariants as desk
+use Rattle.std.proofs.lemmas.Option.{none-some}
+use Rattle.fe_schedules.specs.Fault.{of_desk}
+use Rattle.fe_desk.specs.Quiet.{AreWritten}
+use Rattle.fe_schedules.specs.Ready.{IsReady}
+use Rattle.fe_schedules.proofs.Growth.{extended, stepped}
+
+-- what a step of the desk promises of the store
+abbrev pub Stands : DeskState MemoryState → Type 0
+Stands d =
+    IsHonest (disk_of d) → (begun : ServerState) → IsFrom begun d → (image : List ℕ) → LeavesNow (disk_of d) image → LeavesPrefix begun d.standing.groups d.synced image
+
+-- where all groups are stored, each image stands for the keeper's state
+each_stands : (d : DeskState MemoryState) (begun : ServerState) → IsFrom begun d → d.synced ≡ length d.standing.groups → (image : List ℕ) → LeavesPrefix begun d.standing.groups d.synced image → StandsFor image d.keeper.state
+each_stands d begun from synced image left =
+    let q = left.prefix in
+    let groups : List (List Entry) = d.standing.groups in
+    let most : length groups ≤ q.kept = omega (arith, synced, q.least) in
+    let all : take q.kept groups ≡ groups = take_all q.kept groups most in
+    let whole : take d.synced groups ≡ groups = take_all d.synced groups (omega (arith, synced)) in
+    let same : left.state ≡ d.keeper.state = q.state_is ∙ ap (λ (gs : List (List Entry)). after_groups begun gs) (all ∙ sym whole) ∙ sym from.replica in
+    subst (λ (s : ServerState). StandsFor image s) same left.stands
+
+pub ready_after : (old new : DeskState MemoryState) (x : Step) → IsReady old → DeskStep old.standing x new.standing
+    → Advances IsHonest (λ (disk : MemoryState). length disk.events) LeavesSince old new → Stands new
+    → (new.keeper.store.has_failed ≡ false → new.synced ≡ length new.standing.groups) → IsFine (λ (disk : MemoryState). disk.failures) old new → IsReady new
+ready_after old new x ready step more stands synced fine =
+    let grown = stepped old.standing x new.standing ready.owes ready.written step in
+    let honest : IsHonest (disk_of new) = more.honesty.1 ready.honest in
+    let from : IsFrom ready.begun new = more.from ready.begun ready.from in
+    record {
+      works = fine.works;
+      honest = honest;
+      begun = ready.begun;
+      from = from;
+      stands = λ image may. each_stands new ready.begun from (synced fine.works) image (stands honest ready.begun from image may);
+      synced = synced fine.works;
+      owes = grown.owes;
+      written = extended old.standing.clients new.standing.clients grown.extends;
+    }
+
+pub ready_first : (d : DeskState MemoryState) (s : ServerState) → IsHonest (disk_of d) → d.keeper.store.has_failed ≡ false → IsFirstStanding s d.standing → d.keeper.state ≡ s → d.synced ≡ 0 → EachStandsFor LeavesNow (disk_of d) s → IsReady d
+ready_first d s honest works first is synced stands = record {
+  works = works;
+  honest = honest;
+  begun = s;
+  from = first_from s d is first.groups synced;
+  stands = λ image may. subst (λ (t : ServerState). StandsFor image t) (sym is) (stands image may);
+  synced = synced ∙ sym (ap length first.groups);
+  owes = first.owes;
+  written = subst AreWritten (sym first.clients) tt;
+}
+
+-- ---- a stop
+
+-- what was stored is there after a stop
+pub kept_over : (d e : DeskState MemoryState) (image : List ℕ) → IsReady d → StandsForOne → LeavesNow (disk_of d) image → StandsFor image e.keeper.state → e.keeper.state ≡ d.keeper.state
+kept_over d e image ready one may stands = one image e.keeper.state d.keeper.state stands (ready.stands image may)
+
+-- ---- faults
+
+pub store_fault : (f : DeskFault) → (f ≡ desk.Store store.Device) ⊎ (f ≡ desk.NoMemory false) → of_desk f ≢ None
+store_fault f (inl e) none = absurd (none-some _ (sym none ∙ ap of_desk e))
+store_fault f (inr e) none = absurd (none-some _ (sym none ∙ ap of_desk e))

@@ -1,0 +1,348 @@
+-- The lines that ran, and what they print, one behind the other.
+use Rattle.std.proofs.Common.{◌≡◌, ◌≢◌, ℕ, ◌+◌, ◌<◌, List, [], ◌∷◌, ◌++◌, Option, Some, None, IfSome, length, take, drop, refl, sym, ap, subst, ◌∙◌, arith, append_assoc, append-nil, string_bytes}
+use Rattle.std.proofs.lemmas.Bool.{lt-ltb}
+use Rattle.std.proofs.lemmas.List.{length-append, take-append-drop}
+use Rattle.std.proofs.KnownBytes.{Appends-trans}
+use Rattle.std.specs.Io.KnownBytes.{Keeps, Appends, Consumes, IsAtEnd}
+use Rattle.fe_text.specs.Line.{parsed}
+use Rattle.fe_text.specs.Lines.{lines_of, HasNoFeed}
+use Rattle.fe_text.specs.declared.fault.StreamFault.{StreamFault}
+use Rattle.fe_text.specs.declared.fault.StreamFault.TheVariants as stream
+use Rattle.fe_schedules.specs.Fault.{of_stream}
+use Rattle.fe_schedules.specs.Schedule.{Stage, RunsBytes, RunsLines, Prints, EndsAt, RunsAll, RunsUntil}
+use Rattle.fe_schedules.specs.Runs.{IsAt, RanBytes, IsFaultOf, IsTooLong, SoFar, Whole, Ended}
+use Rattle.fe_schedules.specs.declared.fault.ScheduleFault.{ScheduleFault}
+use Rattle.fe_schedules.specs.declared.fault.ScheduleFault.TheVariants as fault
+use Rattle.fe_schedules.specs.declared.run.Run.{Run}
+use Rattle.fe_text.proofs.LineLemmas.{fed, unfed, begins, both_no_feed}
+
+-- ---- lines
+
+-- lines that run after others
+runs_both : (first others : List (List ℕ)) (s u t : Stage) (a b : List ℕ) → RunsLines s first u a → RunsLines u others t b → RunsLines s (first ++ others) t (a ++ b)
+runs_both [] others s u t a b p q =
+    subst (λ (w : Stage). RunsLines w others t (a ++ b)) p.0 (subst (λ (text : List ℕ). RunsLines u others t (text ++ b)) (sym p.1) q)
+runs_both (line ∷ first) others s u t a b p q =
+    (p.0, p.1, p.2 ++ b, p.3, runs_both first others p.0 u t p.2 b p.4 q, ap (λ (text : List ℕ). text ++ b) p.5 ∙ append_assoc p.1 p.2 b)
+
+runs_one : (s t : Stage) (line more : List ℕ) → RunsBytes s line t more → RunsLines s (line ∷ []) t more
+runs_one s t line more p = (t, more, [], p, (refl, refl), sym (append-nil more))
+
+-- a line more, whose text is kept
+with_line : (lines : List (List ℕ)) (line : List ℕ) (start s t : Stage) (text kept more all : List ℕ) → RunsLines start lines s (text ++ kept) → RunsBytes s line t more → all ≡ kept ++ more → RunsLines start (lines ++ line ∷ []) t (text ++ all)
+with_line lines line start s t text kept more all p q e =
+    let same : (text ++ kept) ++ more ≡ text ++ all = append_assoc text kept more ∙ ap (λ (x : List ℕ). text ++ x) (sym e) in
+    subst (λ (x : List ℕ). RunsLines start (lines ++ line ∷ []) t x) same (runs_both lines (line ∷ []) start s t (text ++ kept) more p (runs_one s t line more q))
+
+-- ---- the next line comes whole
+
+-- what is read and the line that ends, in two groupings
+grouped : (read bytes others : List ℕ) → (read ++ (bytes ++ 10 ∷ [])) ++ others ≡ read ++ (bytes ++ 10 ∷ others)
+grouped read bytes others = append_assoc read (bytes ++ 10 ∷ []) others ∙ ap (λ (x : List ℕ). read ++ x) (append_assoc bytes (10 ∷ []) others)
+
+-- the lines with the one that ends
+line_ends : (read bytes begun others : List ℕ) (lines : List (List ℕ)) → ((more : List ℕ) → lines_of (read ++ more) ≡ lines ++ lines_of (begun ++ more)) → HasNoFeed begun → HasNoFeed bytes
+    → lines_of ((read ++ (bytes ++ 10 ∷ [])) ++ others) ≡ lines ++ (begun ++ bytes) ∷ lines_of others
+line_ends read bytes begun others lines splits none more_none =
+    ap lines_of (grouped read bytes others) ∙ splits (bytes ++ 10 ∷ others)
+    ∙ ap (λ (x : List ℕ). lines ++ lines_of x) (sym (append_assoc begun bytes (10 ∷ others)))
+    ∙ ap (λ (ls : List (List ℕ)). lines ++ ls) (fed (begun ++ bytes) others (both_no_feed begun bytes none more_none))
+
+pub took_line : (read : List ℕ) (before now : Option (List ℕ)) (r s : Run) (bytes : List ℕ) → SoFar read before now r → HasNoFeed bytes → RanBytes r (r.begun.items ++ bytes) s
+    → SoFar (read ++ (bytes ++ 10 ∷ [])) before now s
+took_line read before now r s bytes so none ran =
+    let line : List ℕ = r.begun.items ++ bytes in
+    let step = ran.runs so.here so.is in
+    record {
+      lines = so.lines ++ line ∷ [];
+      splits = λ others.
+          line_ends read bytes r.begun.items others so.lines so.splits so.no_feed none ∙ sym (append_assoc so.lines (line ∷ []) (lines_of others))
+          ∙ ap (λ (b : List ℕ). (so.lines ++ line ∷ []) ++ lines_of (b ++ others)) (sym ran.begun);
+      no_feed = subst HasNoFeed (sym ran.begun) tt;
+      counts = ran.lines ∙ ap (λ (n : ℕ). n + 1) so.counts ∙ sym (length-append so.lines (line ∷ []));
+      start = so.start;
+      starts = so.starts;
+      here = step.0;
+      is = step.1;
+      text = so.text;
+      runs = with_line so.lines line so.start so.here step.0 so.text (string_bytes r.text) ran.more (string_bytes s.text) so.runs step.2 ran.text;
+      written = so.written;
+    }
+
+-- ---- faults
+
+outside : (f : StreamFault) (lines left : List (List ℕ)) (more : List ℕ) → EndsAt (of_stream f) lines left more
+outside stream.Input lines left more = tt
+outside stream.Memory lines left more = tt
+
+-- the text that is kept, with nothing behind it
+alone : (text kept : List ℕ) → text ++ kept ≡ (text ++ kept) ++ []
+alone text kept = sym (append-nil (text ++ kept))
+
+prints_as : (lines : List (List ℕ)) (a b : List ℕ) → a ≡ b → Prints lines a → Prints lines b
+prints_as lines a b e p = subst (λ (x : List ℕ). Prints lines x) e p
+
+stray : (end : ScheduleFault) (number : ℕ) (line : List ℕ) (lines left : List (List ℕ)) → number ≡ length lines → IsFaultOf (number + 1) line end → EndsAt end lines (line ∷ left) []
+stray (fault.Line told) number line lines left counts is = (is.0 ∙ ap (λ (n : ℕ). n + 1) counts, (is.1, is.2), refl)
+stray fault.Input number line lines left counts is = tt
+stray fault.Memory number line lines left counts is = tt
+stray fault.Device number line lines left counts is = tt
+
+-- a line at fault, which comes whole
+pub line_fails : (end : ScheduleFault) (read : List ℕ) (before now : Option (List ℕ)) (r : Run) (bytes kept : List ℕ) → SoFar read before now r → HasNoFeed bytes → IsFaultOf (r.lines + 1) (r.begun.items ++ bytes) end → kept ≡ string_bytes r.text
+    → (others : List ℕ) → Ended end ((read ++ (bytes ++ 10 ∷ [])) ++ others) before now kept
+line_fails end read before now r bytes kept so none is same others = record {
+  lines = so.lines;
+  left = (r.begun.items ++ bytes) ∷ lines_of others;
+  more = [];
+  all = line_ends read bytes r.begun.items others so.lines so.splits so.no_feed none;
+  ends = stray end r.lines (r.begun.items ++ bytes) so.lines (lines_of others) so.counts is;
+  text = so.text;
+  prints = prints_as so.lines (so.text ++ string_bytes r.text) ((so.text ++ kept) ++ []) (ap (λ (x : List ℕ). so.text ++ x) (sym same) ∙ alone so.text kept) (record { start = so.start; starts = so.starts; end = so.here; runs = so.runs });
+  written = so.written;
+}
+
+-- a line that is longer than any of the syntax
+pub long_stray : (bytes : List ℕ) → 99 < length bytes → (bytes ≢ []) × (parsed bytes ≡ None)
+unfolding parsed
+long_stray bytes long = (λ e. let z = ap (length {A = ℕ}) e in absurd (omega (arith, long, z)), rw (lt-ltb 99 (length bytes) long) refl)
+
+pub too_long : (end : ScheduleFault) (number : ℕ) (bytes : List ℕ) → IsTooLong number bytes end → IsFaultOf number bytes end
+too_long (fault.Line told) number bytes is = (is.0, (long_stray bytes is.1).0, (long_stray bytes is.1).1)
+too_long fault.Input number bytes is = absurd is
+too_long fault.Memory number bytes is = tt
+too_long fault.Device number bytes is = absurd is
+
+-- the lines at a line that is too long
+record Long (end : ScheduleFault) (lines : List (List ℕ)) (input : List ℕ) : Type 0 where
+  left : List (List ℕ)
+  is : lines_of input ≡ left
+  ends : EndsAt end lines left []
+
+long_ends : (end : ScheduleFault) (number : ℕ) (line others : List ℕ) (lines : List (List ℕ)) → number ≡ length lines → HasNoFeed line → IsTooLong (number + 1) line end → Long end lines (line ++ others)
+long_ends (fault.Line told) number [] others lines counts none is = let long = is.1 in absurd (omega (arith, long))
+long_ends (fault.Line told) number (x ∷ xs) others lines counts none is =
+    let b = begins x xs others none in
+    let long : 99 < length ((x ∷ xs) ++ b.0) = let few = is.1 in omega (arith, few, length-append (x ∷ xs) b.0) in
+    record { left = ((x ∷ xs) ++ b.0) ∷ b.1; is = b.2; ends = (is.0 ∙ ap (λ (n : ℕ). n + 1) counts, long_stray ((x ∷ xs) ++ b.0) long, refl) }
+long_ends fault.Input number line others lines counts none is = absurd is
+long_ends fault.Memory number line others lines counts none is = record { left = lines_of (line ++ others); is = refl; ends = tt }
+long_ends fault.Device number line others lines counts none is = absurd is
+
+pub front_fails : (end : ScheduleFault) (read : List ℕ) (before now : Option (List ℕ)) (r : Run) (bytes kept : List ℕ) → SoFar read before now r → HasNoFeed bytes → IsTooLong (r.lines + 1) (r.begun.items ++ bytes) end → kept ≡ string_bytes r.text
+    → (others : List ℕ) → Ended end ((read ++ bytes) ++ others) before now kept
+front_fails end read before now r bytes kept so none is same others =
+    let long = long_ends end r.lines (r.begun.items ++ bytes) others so.lines so.counts (both_no_feed r.begun.items bytes so.no_feed none) is in
+    record {
+      lines = so.lines;
+      left = long.left;
+      more = [];
+      all = ap lines_of (append_assoc read bytes others) ∙ so.splits (bytes ++ others) ∙ ap (λ (x : List ℕ). so.lines ++ lines_of x) (sym (append_assoc r.begun.items bytes others)) ∙ ap (λ (ls : List (List ℕ)). so.lines ++ ls) long.is;
+      ends = long.ends;
+      text = so.text;
+      prints = prints_as so.lines (so.text ++ string_bytes r.text) ((so.text ++ kept) ++ []) (ap (λ (x : List ℕ). so.text ++ x) (sym same) ∙ alone so.text kept) (record { start = so.start; starts = so.starts; end = so.here; runs = so.runs });
+      written = so.written;
+    }
+
+-- ---- a front of a line is kept
+
+pub took_front : (read : List ℕ) (before now : Option (List ℕ)) (r s : Run) (bytes : List ℕ) → SoFar read before now r → HasNoFeed bytes → s ≡ record r { begun = s.begun } → s.begun.items ≡ r.begun.items ++ bytes → SoFar (read ++ bytes) before now s
+took_front read before now r s bytes so none same begun =
+    let text : string_bytes r.text ≡ string_bytes s.text = ap (λ (x : Run). string_bytes x.text) (sym same) in
+    record {
+      lines = so.lines;
+      splits = λ others. ap lines_of (append_assoc read bytes others) ∙ so.splits (bytes ++ others) ∙ ap (λ (x : List ℕ). so.lines ++ lines_of x) (sym (append_assoc r.begun.items bytes others) ∙ ap (λ (b : List ℕ). b ++ others) (sym begun));
+      no_feed = subst HasNoFeed (sym begun) (both_no_feed r.begun.items bytes so.no_feed none);
+      counts = ap (λ (x : Run). x.lines) same ∙ so.counts;
+      start = so.start;
+      starts = so.starts;
+      here = so.here;
+      is = subst (λ (x : Run). IsAt x so.here) (sym same) (record { standing = so.is.standing; from = so.is.from; holding = so.is.holding });
+      text = so.text;
+      runs = subst (λ (x : List ℕ). RunsLines so.start so.lines so.here (so.text ++ x)) text so.runs;
+      written = so.written;
+    }
+
+-- ---- writing
+
+-- all that was kept is written
+pub wrote : (read : List ℕ) (before now after : Option (List ℕ)) (r s : Run) → SoFar read before now r → Appends now after (string_bytes r.text) → s ≡ record r { text = s.text } → string_bytes s.text ≡ [] → SoFar read before after s
+wrote read before now after r s so appends same empty = record {
+  lines = so.lines;
+  splits = λ others. so.splits others ∙ ap (λ (x : Run). so.lines ++ lines_of (x.begun.items ++ others)) (sym same);
+  no_feed = subst (λ (x : Run). HasNoFeed x.begun.items) (sym same) so.no_feed;
+  counts = ap (λ (x : Run). x.lines) same ∙ so.counts;
+  start = so.start;
+  starts = so.starts;
+  here = so.here;
+  is = subst (λ (x : Run). IsAt x so.here) (sym same) (record { standing = so.is.standing; from = so.is.from; holding = so.is.holding });
+  text = so.text ++ string_bytes r.text;
+  runs = subst (λ (x : List ℕ). RunsLines so.start so.lines so.here x) (sym (append-nil (so.text ++ string_bytes r.text)) ∙ ap (λ (x : List ℕ). (so.text ++ string_bytes r.text) ++ x) (sym empty)) so.runs;
+  written = Appends-trans before now after so.text (string_bytes r.text) so.written appends;
+}
+
+-- a front of a kept text, and what is left of it
+parted : (text kept more : List ℕ) (count : ℕ) → (text ++ kept) ++ more ≡ ((text ++ take count kept) ++ []) ++ (drop count kept ++ more)
+parted text kept more count =
+    ap (λ (x : List ℕ). (text ++ x) ++ more) (sym (take-append-drop count kept)) ∙ ap (λ (x : List ℕ). x ++ more) (sym (append_assoc text (take count kept) (drop count kept)))
+    ∙ append_assoc (text ++ take count kept) (drop count kept) more ∙ ap (λ (x : List ℕ). x ++ (drop count kept ++ more)) (sym (append-nil (text ++ take count kept)))
+
+-- after some lines a part of what was kept is written, and next a stream fails
+pub writing_fails : (f : StreamFault) (input : List ℕ) (lines left : List (List ℕ)) (before now after : Option (List ℕ)) (text kept more : List ℕ) (count : ℕ) → lines_of input ≡ lines ++ left → Prints lines ((text ++ kept) ++ more) → Appends before now text
+    → Appends now after (take count kept) → Ended (of_stream f) input before after []
+writing_fails f input lines left before now after text kept more count all prints written appends = record {
+  lines = lines;
+  left = left;
+  more = drop count kept ++ more;
+  all = all;
+  ends = outside f lines left (drop count kept ++ more);
+  text = text ++ take count kept;
+  prints = prints_as lines ((text ++ kept) ++ more) (((text ++ take count kept) ++ []) ++ (drop count kept ++ more)) (parted text kept more count) prints;
+  written = Appends-trans before now after text (take count kept) written appends;
+}
+
+pub write_fails : (f : StreamFault) (read : List ℕ) (before now after : Option (List ℕ)) (r : Run) (count : ℕ) → SoFar read before now r → Appends now after (take count (string_bytes r.text)) → (others : List ℕ) → Ended (of_stream f) (read ++ others) before after []
+write_fails f read before now after r count so appends others =
+    writing_fails f (read ++ others) so.lines (lines_of (r.begun.items ++ others)) before now after so.text (string_bytes r.text) [] count (so.splits others)
+    (prints_as so.lines (so.text ++ string_bytes r.text) ((so.text ++ string_bytes r.text) ++ []) (alone so.text (string_bytes r.text)) (record { start = so.start; starts = so.starts; end = so.here; runs = so.runs })) so.written appends
+
+-- what was kept at an end is written
+pub wrote_end : (end : ScheduleFault) (input : List ℕ) (before now after : Option (List ℕ)) (kept : List ℕ) → Ended end input before now kept → Appends now after kept → Ended end input before after []
+wrote_end end input before now after kept e appends = record {
+  lines = e.lines;
+  left = e.left;
+  more = e.more;
+  all = e.all;
+  ends = e.ends;
+  text = e.text ++ kept;
+  prints = prints_as e.lines ((e.text ++ kept) ++ e.more) (((e.text ++ kept) ++ []) ++ e.more) (ap (λ (x : List ℕ). x ++ e.more) (alone e.text kept)) e.prints;
+  written = Appends-trans before now after e.text kept e.written appends;
+}
+
+pub write_end_fails : (end : ScheduleFault) (next : StreamFault) (input : List ℕ) (before now after : Option (List ℕ)) (kept : List ℕ) (count : ℕ) → Ended end input before now kept → Appends now after (take count kept) → Ended (of_stream next) input before after []
+write_end_fails end next input before now after kept count e appends =
+    writing_fails next input e.lines e.left before now after e.text kept e.more count e.all e.prints e.written appends
+
+pub wrote_whole : (input : List ℕ) (before now after : Option (List ℕ)) (kept : List ℕ) → Whole input before now kept → Appends now after kept → Whole input before after []
+wrote_whole input before now after kept w appends =
+    record { lines = w.lines; all = w.all; text = w.text ++ kept; prints = prints_as w.lines (w.text ++ kept) ((w.text ++ kept) ++ []) (alone w.text kept) w.prints; written = Appends-trans before now after w.text kept w.written appends }
+
+pub write_whole_fails : (f : StreamFault) (input : List ℕ) (before now after : Option (List ℕ)) (kept : List ℕ) (count : ℕ) → Whole input before now kept → Appends now after (take count kept) → Ended (of_stream f) input before after []
+write_whole_fails f input before now after kept count w appends =
+    writing_fails f input w.lines [] before now after w.text kept [] count (w.all ∙ sym (append-nil w.lines)) (prints_as w.lines (w.text ++ kept) ((w.text ++ kept) ++ []) (alone w.text kept) w.prints) w.written appends
+
+-- ---- the end of the input
+
+-- no line has begun
+pub ends_between : (read : List ℕ) (before now : Option (List ℕ)) (r : Run) → SoFar read before now r → r.begun.items ≡ [] → Whole read before now (string_bytes r.text)
+ends_between read before now r so none = record {
+  lines = so.lines;
+  all = ap lines_of (sym (append-nil read)) ∙ so.splits [] ∙ ap (λ (b : List ℕ). so.lines ++ lines_of (b ++ [])) none ∙ append-nil so.lines;
+  text = so.text;
+  prints = record { start = so.start; starts = so.starts; end = so.here; runs = so.runs };
+  written = so.written;
+}
+
+-- the lines with the last one
+last_line : (read begun : List ℕ) (lines : List (List ℕ)) → ((more : List ℕ) → lines_of (read ++ more) ≡ lines ++ lines_of (begun ++ more)) → HasNoFeed begun → begun ≢ [] → lines_of read ≡ lines ++ (begun ++ []) ∷ []
+last_line read [] lines splits none some = absurd (some refl)
+last_line read (x ∷ xs) lines splits none some =
+    ap lines_of (sym (append-nil read)) ∙ splits [] ∙ ap (λ (b : List ℕ). lines ++ lines_of b) (append-nil (x ∷ xs)) ∙ ap (λ (ls : List (List ℕ)). lines ++ ls) (unfed x xs none) ∙ ap (λ (b : List ℕ). lines ++ b ∷ []) (sym (append-nil (x ∷ xs)))
+
+pub ends_within : (read : List ℕ) (before now : Option (List ℕ)) (r s : Run) → SoFar read before now r → r.begun.items ≢ [] → RanBytes r (r.begun.items ++ []) s → Whole read before now (string_bytes s.text)
+ends_within read before now r s so some ran =
+    let line : List ℕ = r.begun.items ++ [] in
+    let step = ran.runs so.here so.is in
+    record {
+      lines = so.lines ++ line ∷ [];
+      all = last_line read r.begun.items so.lines so.splits so.no_feed some;
+      text = so.text;
+      prints = record { start = so.start; starts = so.starts; end = step.0; runs = with_line so.lines line so.start so.here step.0 so.text (string_bytes r.text) ran.more (string_bytes s.text) so.runs step.2 ran.text };
+      written = so.written;
+    }
+
+pub last_fails : (end : ScheduleFault) (read : List ℕ) (before now : Option (List ℕ)) (r : Run) (kept : List ℕ) → SoFar read before now r → r.begun.items ≢ [] → IsFaultOf (r.lines + 1) (r.begun.items ++ []) end → kept ≡ string_bytes r.text → Ended end read before now kept
+last_fails end read before now r kept so some is same = record {
+  lines = so.lines;
+  left = (r.begun.items ++ []) ∷ [];
+  more = [];
+  all = last_line read r.begun.items so.lines so.splits so.no_feed some;
+  ends = stray end r.lines (r.begun.items ++ []) so.lines [] so.counts is;
+  text = so.text;
+  prints = prints_as so.lines (so.text ++ string_bytes r.text) ((so.text ++ kept) ++ []) (ap (λ (x : List ℕ). so.text ++ x) (sym same) ∙ alone so.text kept) (record { start = so.start; starts = so.starts; end = so.here; runs = so.runs });
+  written = so.written;
+}
+
+-- ---- what is known of the input
+
+-- known bytes that these were read from
+pub known : (old new : Option (List ℕ)) (read : List ℕ) → Consumes old new read → (others : List ℕ) × IfSome old (λ bytes. bytes ≡ read ++ others)
+known None new read c = ([], tt)
+known (Some bytes) None read c = absurd c
+known (Some bytes) (Some others) read c = (others, c)
+
+pub known_all : (old new : Option (List ℕ)) (read : List ℕ) → Consumes old new read → IsAtEnd new → IfSome old (λ bytes. bytes ≡ read)
+known_all None new read c end = tt
+known_all (Some bytes) None read c end = absurd c
+known_all (Some bytes) (Some others) read c end = c ∙ ap (λ (x : List ℕ). read ++ x) end ∙ append-nil read
+
+lines_known : (o : Option (List ℕ)) (input : List ℕ) (ls : List (List ℕ)) → IfSome o (λ bytes. bytes ≡ input) → lines_of input ≡ ls → IfSome o (λ bytes. lines_of bytes ≡ ls)
+lines_known None input ls k e = tt
+lines_known (Some bytes) input ls k e = ap lines_of k ∙ e
+
+pub until : (end : ScheduleFault) (o : Option (List ℕ)) (input : List ℕ) (before after : Option (List ℕ)) → IfSome o (λ bytes. bytes ≡ input) → Ended end input before after [] → RunsUntil end o before after
+until end o input before after k e = record {
+  lines = e.lines;
+  left = e.left;
+  all = lines_known o input (e.lines ++ e.left) k e.all;
+  text = e.text;
+  more = e.more;
+  prints = prints_as e.lines ((e.text ++ []) ++ e.more) (e.text ++ e.more) (ap (λ (x : List ℕ). x ++ e.more) (append-nil e.text)) e.prints;
+  written = e.written;
+  ends = e.ends;
+}
+
+pub all_ran : (o : Option (List ℕ)) (input : List ℕ) (before after : Option (List ℕ)) → IfSome o (λ bytes. bytes ≡ input) → Whole input before after [] → RunsAll o before after
+all_ran o input before after k w =
+    record { lines = w.lines; all = lines_known o input w.lines k w.all; text = w.text; prints = prints_as w.lines (w.text ++ []) w.text (append-nil w.text) w.prints; written = w.written }
+
+-- what was read, and next more
+pub read_more : (a b c : Option (List ℕ)) (read more : List ℕ) → Consumes a b read → Consumes b c more → Consumes a c (read ++ more)
+read_more None b c read more p q = tt
+read_more (Some x) None c read more p q = absurd p
+read_more (Some x) (Some y) None read more p q = absurd q
+read_more (Some x) (Some y) (Some z) read more p q = p ∙ ap (λ (t : List ℕ). read ++ t) q ∙ sym (append_assoc read more z)
+
+pub read_same : (a b c : Option (List ℕ)) (read : List ℕ) → Consumes a b read → Keeps b c → Consumes a c read
+read_same None b c read p q = tt
+read_same (Some x) None c read p q = absurd p
+read_same (Some x) (Some y) None read p q = absurd q
+read_same (Some x) (Some y) (Some z) read p q = p ∙ ap (λ (t : List ℕ). read ++ t) (sym q)
+
+-- a flush writes nothing
+pub keeps_none : (a b : Option (List ℕ)) → Keeps a b → Appends a b []
+keeps_none None b p = tt
+keeps_none (Some x) None p = absurd p
+keeps_none (Some x) (Some y) p = p ∙ sym (append-nil x)
+
+-- ---- pieces
+
+-- what is read, in two groupings
+pub regrouped : (read taken line behind others piece rest : List ℕ) → piece ≡ taken ++ rest → rest ≡ line ++ 10 ∷ behind → ((read ++ taken) ++ (line ++ 10 ∷ [])) ++ (behind ++ others) ≡ (read ++ piece) ++ others
+regrouped read taken line behind others piece rest p r =
+    grouped (read ++ taken) line (behind ++ others) ∙ ap (λ (x : List ℕ). (read ++ taken) ++ x) (sym (append_assoc line (10 ∷ behind) others))
+    ∙ ap (λ (x : List ℕ). (read ++ taken) ++ (x ++ others)) (sym r) ∙ append_assoc read taken (rest ++ others) ∙ ap (λ (x : List ℕ). read ++ x) (sym (append_assoc taken rest others))
+    ∙ ap (λ (x : List ℕ). read ++ (x ++ others)) (sym p) ∙ sym (append_assoc read piece others)
+
+-- the piece with one line more taken
+pub taken_more : (taken line behind piece rest : List ℕ) → piece ≡ taken ++ rest → rest ≡ line ++ 10 ∷ behind → piece ≡ (taken ++ (line ++ 10 ∷ [])) ++ behind
+taken_more taken line behind piece rest p r = p ∙ ap (λ (x : List ℕ). taken ++ x) r ∙ sym (grouped taken line behind)
+
+-- What a piece did so far, from wherever the run was.
+pub record Taken (before_all : Option (List ℕ)) (first : Run) (now : Option (List ℕ)) (r : Run) (piece rest : List ℕ) : Type 0 where
+  pub taken : List ℕ
+  pub parts : piece ≡ taken ++ rest
+  pub so : (read : List ℕ) (before : Option (List ℕ)) → SoFar read before before_all first → SoFar (read ++ taken) before now r
+
+pub none_taken : (now : Option (List ℕ)) (r : Run) (piece : List ℕ) → Taken now r now r piece piece
+none_taken now r piece = record { taken = []; parts = refl; so = λ read before so. subst (λ (x : List ℕ). SoFar x before now r) (sym (append-nil read)) so }

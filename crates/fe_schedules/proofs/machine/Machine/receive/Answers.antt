@@ -1,0 +1,22 @@
+use Rattle.std.proofs.Common.{List, ℕ, [], ◌∷◌, ◌++◌, refl, ap, ◌∙◌, rules}
+use Rattle.fe_wire.specs.Spelling.{spelling}
+use Rattle.fe_desk.specs.declared.step.Step.{Step}
+use Rattle.fe_desk.specs.declared.step.Step.TheVariants as step
+use Rattle.fe_text.proofs.Results.{then_ok}
+use Rattle.fe_schedules.proofs.Moving.{moves_both}
+use Rattle.fe_schedules.proofs.machine.Machine.receive.Goals as goal
+
+pub returns-in-Bytes-clause-acts : goal.returns-in-Bytes-clause-acts
+returns-in-Bytes-clause-acts c =
+    let first : Step = step.Connect c.args.conn in
+    let frame : Step = step.Bytes c.args.conn c.put_message.new.out in
+    then_ok c.step-outcome.result
+    (λ m. record {
+      mid = c.args.self.now.desk;
+      begins = refl;
+      steps = first ∷ frame ∷ [];
+      are = (frame, (refl, c.in_ok-put_message.ensures.ok ∙ ap (λ (t : List ℕ). t ++ spelling c.args.message.now) c.clear.ensures.items), refl);
+      moves = moves_both c.args.self.now.desk c.step.new.self.desk c.step-outcome.new.self.desk (first ∷ []) (frame ∷ []) c.in_ok-step.ensures.moved m;
+      printed = search rules;
+    })
+    c.step-outcome.ensures.moved

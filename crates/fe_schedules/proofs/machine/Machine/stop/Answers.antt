@@ -1,0 +1,30 @@
+use Rattle.std.proofs.Common.{List, ℕ, [], refl, sym, subst, rules}
+use Rattle.fe_desk.specs.Crash.{IsFrom}
+use Rattle.fe_desk.specs.Standing.{IsFirstStanding}
+use Rattle.fe_schedules.specs.Ready.{IsReady}
+use Rattle.fe_schedules.specs.Runs.{ArePrinted}
+use Rattle.fe_schedules.specs.Schedule.{writings}
+use Rattle.fe_schedules.proofs.Moving.{moves_none}
+use Rattle.fe_schedules.proofs.machine.Machine.stop.Goals as goal
+
+pub returns-clause-machine : goal.returns-clause-machine
+returns-clause-machine c =
+    let is = sym c.replace.ensures.after in
+    let printed : ArePrinted [] (writings c.replace.new.dest.standing) = tt in
+    record { ready = subst IsReady is c.in_ok-opened.ensures.ready; printed = subst (λ (ns : List ℕ). ArePrinted ns (writings c.replace.new.dest.standing)) (sym c.clear.ensures.items) printed }
+
+pub returns-clause-acts : goal.returns-clause-acts
+returns-clause-acts c =
+    let d = c.args.self.now.desk in
+    let e = c.replace.new.dest in
+    let is = sym c.replace.ensures.after in
+    let first : IsFirstStanding d.keeper.state c.in_ok-opened.opened.standing = search rules in
+    let from : IsFrom d.keeper.state c.in_ok-opened.opened = search rules in
+    record {
+      mid = e;
+      begins = (subst (λ d2. IsFirstStanding d.keeper.state d2.standing) is first, subst (IsFrom d.keeper.state) is from);
+      steps = [];
+      are = refl;
+      moves = moves_none e;
+      printed = c.clear.ensures.items;
+    }

@@ -1,0 +1,26 @@
+use Rattle.std.proofs.Common.{◌≡◌, ◌+◌, ◌++◌, Option, ap, subst, rules}
+use Rattle.fe_schedules.specs.Runs.{IsRun, SaysLine}
+use Rattle.fe_text.specs.declared.line.Line.{Line}
+use Rattle.fe_schedules.specs.declared.run.Run.{Run}
+use Rattle.fe_schedules.proofs.Stages.{some_ran, none_ran}
+use Rattle.fe_schedules.proofs.run.Run.end_line.Goals as goal
+
+pub returns-in_ok-run_line-in-Some-clause-ran : goal.returns-in_ok-run_line-in-Some-clause-ran
+returns-in_ok-run_line-in-Some-clause-ran c =
+    let r = c.args.self.now in
+    let w = c.whole_line.new.self in
+    let e = c.in_ok-line.ensures in
+    let bytes = r.begun.items ++ c.args.bytes.now in
+    let count : w.lines + 1 ≡ r.lines + 1 = ap (λ (x : Run). x.lines + 1) e.same in
+    let said = subst (λ (o : Option Line). SaysLine bytes o) c.in-Some.is e.said in
+    let run : IsRun (record w { lines = w.lines + 1 }) = search rules in
+    some_ran r w c.run_line.new.self (w.lines + 1) bytes c.in-Some.line e.same e.begun count said run c.in_ok-run_line-in-Some.ensures.ran c.run_line.ensures.lines c.run_line.ensures.begun
+
+pub returns-in-None-clause-ran : goal.returns-in-None-clause-ran
+returns-in-None-clause-ran c =
+    let r = c.args.self.now in
+    let w = c.whole_line.new.self in
+    let e = c.in_ok-line.ensures in
+    let bytes = r.begun.items ++ c.args.bytes.now in
+    let count : w.lines + 1 ≡ r.lines + 1 = ap (λ (x : Run). x.lines + 1) e.same in
+    none_ran r w (w.lines + 1) bytes e.same e.begun count (subst (λ (o : Option Line). SaysLine bytes o) c.in-None.is e.said)

@@ -1,0 +1,6 @@
+pub mod Fault
+pub mod Told
+pub mod Ready
+pub mod Schedule
+pub mod Runs
+pub mod within

@@ -1,0 +1,30 @@
+-- A desk over a store in memory between two steps.
+use Rattle.std.specs.Prelude.{◌≡◌, false, List, length}
+use Rattle.fe_disk.specs.Memory.{MemoryState, IsHonest, LeavesNow, synced_image}
+use Rattle.fe_state.specs.State.{ServerState}
+use Rattle.fe_keeper.specs.Stands.{StandsFor, EachStandsFor}
+use Rattle.fe_desk.specs.Crash.{DeskState, IsFrom, disk_of}
+use Rattle.fe_desk.specs.Quiet.{AreWritten}
+use Rattle.fe_desk.specs.Steps.{DeskRun}
+use Rattle.fe_desk.specs.declared.step.Step.{Step}
+
+-- The store works, and is that of a run from some state; each image that a stop may leave stands for what the keeper has; all
+-- groups are stored, and all mails are written.
+pub record IsReady (d : DeskState MemoryState) : Type 0 where
+  pub works : d.keeper.store.has_failed ≡ false
+  pub honest : IsHonest (disk_of d)
+  pub begun : ServerState
+  pub from : IsFrom begun d
+  pub stands : EachStandsFor LeavesNow (disk_of d) d.keeper.state
+  pub synced : d.synced ≡ length d.standing.groups
+  pub owes : d.standing.owes ≡ false
+  pub written : AreWritten d.standing.clients
+
+-- the image of the disk at its last sync stands for this state
+abbrev pub StandsSynced : MemoryState → ServerState → Type 0
+StandsSynced disk s = StandsFor (synced_image disk.image disk.events) s
+
+-- The desk took these steps, over the store that it had.
+pub record Moves (d : DeskState MemoryState) (steps : List Step) (e : DeskState MemoryState) : Type 0 where
+  pub runs : DeskRun d.standing steps e.standing
+  pub from : (begun : ServerState) → IsFrom begun d → IsFrom begun e

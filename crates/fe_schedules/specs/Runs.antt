@@ -1,0 +1,162 @@
+-- What is always true of a run, and what its parts do.
+use Rattle.std.specs.Prelude.{◌≡◌, ◌≢◌, ℕ, ◌+◌, ◌-◌, ◌^◌, ◌<◌, ◌≤◌, List, [], ◌∷◌, ◌++◌, length, map, take, Option, None, Some, string_bytes}
+use Rattle.std.specs.Io.KnownBytes.{Appends}
+use Rattle.fe_disk.specs.Memory.{MemoryState}
+use Rattle.fe_desk.specs.Crash.{DeskState, IsFrom}
+use Rattle.fe_desk.specs.Frames.{AreReplies}
+use Rattle.fe_desk.specs.Messages.{outputs}
+use Rattle.fe_desk.specs.Standing.{Standing, IsFirstStanding}
+use Rattle.fe_desk.specs.declared.step.Step.{Step}
+use Rattle.fe_wire.specs.declared.server_message.ServerMessage.{ServerMessage}
+use Rattle.fe_schedules.specs.Ready.{IsReady, Moves}
+use Rattle.fe_text.specs.Line.{parsed}
+use Rattle.fe_text.specs.Lines.{lines_of, HasNoFeed}
+use Rattle.fe_schedules.specs.Schedule.{Stage, AreStepsOf, holds_after, endings, writings, RunsBytes, Prints, RunsLines, IsStart, EndsAt}
+use Rattle.fe_schedules.specs.Told.{PrintsSince, IsTold, told_to}
+use Rattle.fe_schedules.specs.declared.fault.ScheduleFault.{ScheduleFault}
+use Rattle.fe_schedules.specs.declared.fault.ScheduleFault.TheVariants as fault
+use Rattle.fe_text.specs.declared.line.Line.{Line}
+use Rattle.fe_text.specs.declared.line.Line.TheVariants as line
+use Rattle.fe_schedules.specs.declared.machine.Machine.{Machine}
+use Rattle.fe_schedules.specs.declared.run.Run.{Run}
+use Rattle.fe_schedules.specs.declared.told.Told.{Told}
+
+-- ---- what is printed of what is written
+
+-- these counts are of whole replies at the front of what is written
+abbrev pub ArePrinted : List ℕ → List (List ℕ) → Type 0
+ArePrinted [] ws = Unit {0}
+ArePrinted (n ∷ ns) [] = ⊥
+ArePrinted (n ∷ ns) (w ∷ ws) = (n ≤ length w) × AreReplies (take n w) × ArePrinted ns ws
+
+-- as many bytes of each
+abbrev pub fronts : List ℕ → List (List ℕ) → List (List ℕ)
+fronts [] ws = []
+fronts (n ∷ ns) [] = []
+fronts (n ∷ ns) (w ∷ ws) = take n w ∷ fronts ns ws
+
+abbrev pub lengths : Standing → List ℕ
+lengths s = map (λ w. length w) (writings s)
+
+-- what was told behind a front of what is written to a connection number
+pub record ToldMore (front : List ℕ) (conn : ℕ) (written : List ℕ) (before after : List Told) : Type 0 where
+  pub replies : List ServerMessage
+  pub are : IsTold front written replies
+  pub is : after ≡ before ++ map (told_to conn) replies
+
+-- the text grows by what was told since so much was printed
+pub record PrintsMore (counts : List ℕ) (s : Standing) (before after : List ℕ) : Type 0 where
+  pub more : List ℕ
+  pub prints : PrintsSince (fronts counts (writings s)) (outputs s) more
+  pub is : after ≡ before ++ more
+
+-- ---- a machine
+
+-- the desk is between two steps, and what is printed is a front of what it wrote
+pub record IsMachine (m : Machine) : Type 0 where
+  pub ready : IsReady m.desk
+  pub printed : ArePrinted m.printed.items (writings m.desk.standing)
+
+-- where the steps of a line begin
+abbrev pub BeginsAt : Line → DeskState MemoryState → DeskState MemoryState → Type 0
+BeginsAt line.Stop d e = IsFirstStanding d.keeper.state e.standing × IsFrom d.keeper.state e
+BeginsAt other d e = e ≡ d
+
+abbrev pub printed_after : Line → List ℕ → List ℕ
+printed_after line.Stop counts = []
+printed_after other counts = counts
+
+-- the machine took the steps of a line
+pub record ActsOn (m : Machine) (l : Line) (n : Machine) : Type 0 where
+  pub mid : DeskState MemoryState
+  pub begins : BeginsAt l m.desk mid
+  pub steps : List Step
+  pub are : AreStepsOf l steps
+  pub moves : Moves mid steps n.desk
+  pub printed : n.printed.items ≡ printed_after l m.printed.items
+
+-- ---- a run
+
+-- All that was written is printed, and the line that has begun may still be one of the syntax.
+pub record IsRun (r : Run) : Type 0 where
+  pub machine : IsMachine r.machine
+  pub printed : r.machine.printed.items ≡ lengths r.machine.desk.standing
+  pub few : length r.begun.items ≤ 99
+  pub count : r.lines < 2 ^ 64 - 1
+
+-- a line does what it says, and then what is pending is stored and posted; what is told is printed
+pub record RanLine (r : Run) (l : Line) (s : Run) : Type 0 where
+  pub mid : DeskState MemoryState
+  pub begins : BeginsAt l r.machine.desk mid
+  pub steps : List Step
+  pub are : AreStepsOf l steps
+  pub moves : Moves mid (steps ++ endings s.is_holding) s.machine.desk
+  pub holding : s.is_holding ≡ holds_after l r.is_holding
+  pub prints : PrintsMore (printed_after l r.machine.printed.items) s.machine.desk.standing (string_bytes r.text) (string_bytes s.text)
+
+-- the run stands there
+pub record IsAt (r : Run) (s : Stage) : Type 0 where
+  pub standing : s.standing ≡ r.machine.desk.standing
+  pub from : IsFrom s.begun r.machine.desk
+  pub holding : s.is_holding ≡ r.is_holding
+
+-- ---- lines
+
+-- The line of these bytes ran from wherever the run stood.
+pub record RanBytes (r : Run) (bytes : List ℕ) (s : Run) : Type 0 where
+  pub more : List ℕ
+  pub runs : (at : Stage) → IsAt r at → (next : Stage) × IsAt s next × RunsBytes at bytes next more
+  pub text : string_bytes s.text ≡ string_bytes r.text ++ more
+  pub begun : s.begun.items ≡ []
+  pub lines : s.lines ≡ r.lines + 1
+
+-- the bytes say this line, or none where they are empty
+abbrev pub SaysLine : List ℕ → Option Line → Type 0
+SaysLine bytes None = bytes ≡ []
+SaysLine bytes (Some said) = (bytes ≢ []) × (parsed bytes ≡ Some said)
+
+-- a fault names the line of these bytes, by its number, only where it is outside the syntax
+abbrev pub IsFaultOf : ℕ → List ℕ → ScheduleFault → Type 0
+IsFaultOf number bytes (fault.Line told) = (told ≡ number) × (bytes ≢ []) × (parsed bytes ≡ None)
+IsFaultOf number bytes other = Unit {0}
+
+-- the same of a line that is longer than any of the syntax
+abbrev pub IsTooLong : ℕ → List ℕ → ScheduleFault → Type 0
+IsTooLong number bytes (fault.Line told) = (told ≡ number) × (99 < length bytes)
+IsTooLong number bytes fault.Memory = Unit {0}
+IsTooLong number bytes other = ⊥
+
+-- ---- pieces
+
+-- Of these bytes whole lines ran and the front of one is kept; what the lines print is written, except what is kept of it.
+pub record SoFar (read : List ℕ) (before now : Option (List ℕ)) (r : Run) : Type 0 where
+  pub lines : List (List ℕ)
+  pub splits : (others : List ℕ) → lines_of (read ++ others) ≡ lines ++ lines_of (r.begun.items ++ others)
+  pub no_feed : HasNoFeed r.begun.items
+  pub counts : r.lines ≡ length lines
+  pub start : Stage
+  pub starts : IsStart start
+  pub here : Stage
+  pub is : IsAt r here
+  pub text : List ℕ
+  pub runs : RunsLines start lines here (text ++ string_bytes r.text)
+  pub written : Appends before now text
+
+-- All of these bytes ran as lines; this text of what they print is not written.
+pub record Whole (input : List ℕ) (before now : Option (List ℕ)) (kept : List ℕ) : Type 0 where
+  pub lines : List (List ℕ)
+  pub all : lines_of input ≡ lines
+  pub text : List ℕ
+  pub prints : Prints lines (text ++ kept)
+  pub written : Appends before now text
+
+-- A run over these bytes ended at a fault. Of what its lines print this text is not written, and perhaps more behind it.
+pub record Ended (end : ScheduleFault) (input : List ℕ) (before now : Option (List ℕ)) (kept : List ℕ) : Type 0 where
+  pub lines : List (List ℕ)
+  pub left : List (List ℕ)
+  pub more : List ℕ
+  pub all : lines_of input ≡ lines ++ left
+  pub ends : EndsAt end lines left more
+  pub text : List ℕ
+  pub prints : Prints lines ((text ++ kept) ++ more)
+  pub written : Appends before now text

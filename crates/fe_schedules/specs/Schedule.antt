@@ -1,0 +1,132 @@
+-- What a schedule does, line for line, and what it prints.
+use Rattle.std.specs.Prelude.{◌≡◌, ◌≢◌, ℕ, ◌+◌, Bool, true, false, List, [], ◌∷◌, ◌++◌, length, map, Option, Some, None, IfSome}
+use Rattle.std.specs.Io.KnownBytes.{Appends}
+use Rattle.fe_state.specs.State.{ServerState, first_state}
+use Rattle.fe_state.specs.History.{after_groups}
+use Rattle.fe_wire.specs.Spelling.{spelling}
+use Rattle.fe_wire.specs.declared.client_message.ClientMessage.{ClientMessage}
+use Rattle.fe_desk.specs.Messages.{outputs}
+use Rattle.fe_desk.specs.Standing.{Standing, IsFirstStanding}
+use Rattle.fe_desk.specs.Steps.{DeskRun}
+use Rattle.fe_desk.specs.declared.step.Step.{Step}
+use Rattle.fe_desk.specs.declared.step.Step.TheVariants as step
+use Rattle.fe_text.specs.Line.{parsed}
+use Rattle.fe_text.specs.Lines.{lines_of}
+use Rattle.fe_schedules.specs.Told.{PrintsSince}
+use Rattle.fe_schedules.specs.declared.fault.ScheduleFault.{ScheduleFault}
+use Rattle.fe_schedules.specs.declared.fault.ScheduleFault.TheVariants as fault
+use Rattle.fe_text.specs.declared.line.Line.{Line}
+use Rattle.fe_text.specs.declared.line.Line.TheVariants as line
+
+-- Where a schedule stands: the state that the store was opened with last, the desk since then, and whether it is on hold.
+pub record Stage : Type 0 where
+  pub begun : ServerState
+  pub standing : Standing
+  pub is_holding : Bool
+
+-- a desk over a new store, and no hold
+pub record IsStart (s : Stage) : Type 0 where
+  pub begun : s.begun ≡ first_state
+  pub standing : IsFirstStanding first_state s.standing
+  pub is_holding : s.is_holding ≡ false
+
+-- ---- what a line does
+
+-- the frame of a message comes from a connection
+abbrev IsFrame : ℕ → ClientMessage → Step → Type 0
+IsFrame conn message (step.Bytes c piece) = (c ≡ conn) × (piece.items ≡ spelling message)
+IsFrame conn message other = ⊥
+
+-- The steps of a line: of a message its frame comes, of a connection that goes its going, and a checkpoint is begun and
+-- finished. The connection is made where it is not there.
+abbrev pub AreStepsOf : Line → List Step → Type 0
+AreStepsOf (line.Message conn message) steps = (frame : Step) × IsFrame conn message frame × (steps ≡ step.Connect conn ∷ frame ∷ [])
+AreStepsOf (line.Gone conn) steps = steps ≡ step.Gone conn ∷ []
+AreStepsOf line.Hold steps = steps ≡ []
+AreStepsOf line.Flush steps = steps ≡ []
+AreStepsOf line.Stop steps = steps ≡ []
+AreStepsOf line.Check steps = steps ≡ step.CheckBegin ∷ step.CheckFinish ∷ []
+
+-- where its steps begin: at a stop with a desk over all that was stored, else where the schedule stands
+abbrev pub Begins : Line → Stage → Stage → Type 0
+Begins line.Stop s t = (t.begun ≡ after_groups s.begun s.standing.groups) × IsFirstStanding t.begun t.standing
+Begins other s t = (t.begun ≡ s.begun) × (t.standing ≡ s.standing)
+
+-- whether it is on hold after a line
+abbrev pub holds_after : Line → Bool → Bool
+holds_after line.Hold was = true
+holds_after line.Flush was = false
+holds_after line.Stop was = false
+holds_after other was = was
+
+-- behind the steps of each line what is pending is cut, stored and posted, unless on hold
+abbrev pub endings : Bool → List Step
+endings true = []
+endings false = step.Cut ∷ step.Append ∷ step.Post ∷ []
+
+-- what is written to each connection number
+abbrev pub writings : Standing → List (List ℕ)
+writings s = map (λ c. c.written) s.clients
+
+-- The steps of the line run, and the text is what they tell.
+pub record RunsLine (s : Stage) (l : Line) (t : Stage) (text : List ℕ) : Type 0 where
+  pub mid : Stage
+  pub begins : Begins l s mid
+  pub steps : List Step
+  pub are : AreStepsOf l steps
+  pub runs : DeskRun mid.standing (steps ++ endings t.is_holding) t.standing
+  pub begun : t.begun ≡ mid.begun
+  pub holding : t.is_holding ≡ holds_after l s.is_holding
+  pub prints : PrintsSince (writings mid.standing) (outputs t.standing) text
+
+-- ---- lines of bytes
+
+-- an empty line does nothing, and another what it says
+abbrev pub RunsBytes : Stage → List ℕ → Stage → List ℕ → Type 0
+RunsBytes s [] t text = (t ≡ s) × (text ≡ [])
+RunsBytes s (byte ∷ bytes) t text = (l : Line) × (parsed (byte ∷ bytes) ≡ Some l) × RunsLine s l t text
+
+-- lines run one after the other, and the text is what all of them print
+abbrev pub RunsLines : Stage → List (List ℕ) → Stage → List ℕ → Type 0
+RunsLines s [] t text = (t ≡ s) × (text ≡ [])
+RunsLines s (bytes ∷ others) t text =
+    (mid : Stage) × (first more : List ℕ) × RunsBytes s bytes mid first × RunsLines mid others t more × (text ≡ first ++ more)
+
+-- The lines run from the start, and print this text.
+pub record Prints (lines : List (List ℕ)) (text : List ℕ) : Type 0 where
+  pub start : Stage
+  pub starts : IsStart start
+  pub end : Stage
+  pub runs : RunsLines start lines end text
+
+-- a line that is outside the syntax is the first of these
+abbrev pub StartsStray : List (List ℕ) → Type 0
+StartsStray [] = ⊥
+StartsStray (bytes ∷ others) = (bytes ≢ []) × (parsed bytes ≡ None)
+
+-- ---- a whole run
+
+-- All lines of the input, where it is known, ran, and what they print is written.
+pub record RunsAll (input before after : Option (List ℕ)) : Type 0 where
+  pub lines : List (List ℕ)
+  pub all : IfSome input (λ bytes. lines_of bytes ≡ lines)
+  pub text : List ℕ
+  pub prints : Prints lines text
+  pub written : Appends before after text
+
+-- What a fault tells of the lines that ran, of those that are left, and of what was printed and not written. The line of that
+-- number, counted from 1, is the first outside the syntax; all before it ran, and what they print is written.
+abbrev pub EndsAt : ScheduleFault → List (List ℕ) → List (List ℕ) → List ℕ → Type 0
+EndsAt (fault.Line number) lines left more = (number ≡ length lines + 1) × StartsStray left × (more ≡ [])
+EndsAt other lines left more = Unit {0}
+
+-- Lines at the front of the input ran, and what is written is a front of what they print.
+pub record RunsUntil (end : ScheduleFault) (input before after : Option (List ℕ)) : Type 0 where
+  pub lines : List (List ℕ)
+  pub left : List (List ℕ)
+  pub all : IfSome input (λ bytes. lines_of bytes ≡ lines ++ left)
+  pub text : List ℕ
+  pub more : List ℕ
+  pub prints : Prints lines (text ++ more)
+  pub written : Appends before after text
+  pub ends : EndsAt end lines left more

@@ -1,0 +1,75 @@
+ghost use Rattle.std.specs.Prelude.{◌≡◌, ◌≢◌, None, Some};
+ghost use Rattle.fe_schedules.specs.Fault.{of_desk};
+
+use fe_desk::DeskFault;
+use fe_keeper::Fault as StoreFault;
+use fe_text::StreamFault;
+use std::alloc::AllocError;
+
+/// Why a schedule ended before its end.
+#[derive(Clone, Copy, Debug, PartialEq, Eq)]
+pub enum ScheduleFault {
+    /// The line of that number, counted from 1, isn't in the syntax.
+    Line(u64),
+    /// The input can't be read to its end, or the output can't be written.
+    Input,
+    /// There is no memory.
+    Memory,
+    /// The device of the store failed.
+    Device,
+}
+
+/// Why a machine did not do what a line says.
+#[derive(Clone, Copy)]
+pub(crate) enum MachineFault {
+    Memory,
+    Device,
+}
+
+impl MachineFault {
+    /// What a fault of its desk ends it with.
+    pub fn of_desk(fault: DeskFault) -> MachineFault
+        requires { of_desk fault ≢ None }
+        ensures { of_desk fault ≡ Some result }
+    {
+        match fault {
+            DeskFault::NoMemory { .. } | DeskFault::Unwritten => MachineFault::Memory,
+            DeskFault::Store(StoreFault::Device | StoreFault::Failed) => MachineFault::Device,
+            DeskFault::Store(_) => unreachable!(),
+        }
+    }
+}
+
+impl From<AllocError> for MachineFault {
+    fn from(_: AllocError) -> MachineFault {
+        MachineFault::Memory
+    }
+}
+
+impl From<StreamFault> for ScheduleFault {
+    ghost use Rattle.std.specs.Prelude.{◌≡◌};
+    ghost use Rattle.fe_schedules.specs.Fault.{of_stream};
+
+    ghost from_gives = { λ before fault. fault ≡ of_stream before };
+
+    fn from(before: StreamFault) -> ScheduleFault {
+        match before {
+            StreamFault::Input => ScheduleFault::Input,
+            StreamFault::Memory => ScheduleFault::Memory,
+        }
+    }
+}
+
+impl From<MachineFault> for ScheduleFault {
+    ghost use Rattle.std.specs.Prelude.{◌≡◌};
+    ghost use Rattle.fe_schedules.specs.Fault.{of_machine};
+
+    ghost from_gives = { λ before fault. fault ≡ of_machine before };
+
+    fn from(before: MachineFault) -> ScheduleFault {
+        match before {
+            MachineFault::Memory => ScheduleFault::Memory,
+            MachineFault::Device => ScheduleFault::Device,
+        }
+    }
+}

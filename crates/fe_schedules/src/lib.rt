@@ -1,0 +1,14 @@
+//! Schedules: lines that are run one after the other over a store in memory, and what they print.
+#![tactic(auto)]
+
+mod fault;
+mod line;
+mod machine;
+mod reading;
+mod run;
+mod schedule;
+mod serving;
+mod told;
+
+pub use fault::ScheduleFault;
+pub use schedule::run_schedule;

@@ -1,0 +1,35 @@
+//! What a line says to a schedule.
+
+ghost use Rattle.std.specs.Prelude.{◌≡◌, ◌≢◌, [], None, IfNone, IfSome};
+ghost use Rattle.fe_text.specs.Line.{parsed, LineFits};
+ghost use Rattle.fe_schedules.specs.Runs.{SaysLine};
+ghost use Rattle.fe_schedules.specs.Schedule.{holds_after};
+
+use fe_state::Request;
+use fe_text::{Line, parse};
+use fe_wire::ClientMessage;
+
+/// The line that the bytes say, or none in an empty line. `None` outside the syntax.
+pub(crate) fn line_in(bytes: &[u8]) -> Option<Option<Line>>
+    ensures stray { IfNone result ((bytes.now ≢ []) × (parsed bytes.now ≡ None)) }
+    ensures said { IfSome result (SaysLine bytes.now) }
+    ensures fits { IfSome result (λ line. IfSome line LineFits) }
+{
+    let _named: (Option<Request>, Option<ClientMessage>) = (None, None);
+    if bytes.is_empty() {
+        return Some(None);
+    }
+    let line = parse(bytes)?;
+    Some(Some(line))
+}
+
+/// Whether a schedule is on hold after the line.
+pub(crate) fn holds_after(line: &Line, was: bool) -> bool
+    ensures { result ≡ holds_after line.now was }
+{
+    match line {
+        Line::Hold => true,
+        Line::Flush | Line::Stop => false,
+        Line::Message { .. } | Line::Gone { .. } | Line::Check => was,
+    }
+}

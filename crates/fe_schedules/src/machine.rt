@@ -1,0 +1,163 @@
+//! What a schedule runs on: a desk over a store in memory, and what of its output is printed.
+
+ghost use Rattle.std.specs.Prelude.{◌≡◌, [], ◌∷◌, string_bytes, OnOk, IfOk};
+ghost use Rattle.fe_wire.specs.Spelling.{Fits};
+ghost use Rattle.fe_desk.specs.Standing.{IsFirstStanding};
+ghost use Rattle.fe_desk.specs.Crash.{IsFrom, disk_of};
+ghost use Rattle.fe_state.specs.State.{first_state};
+ghost use Rattle.fe_text.specs.Line.{LineFits};
+ghost use Rattle.fe_schedules.specs.Ready.{Moves, StandsSynced};
+ghost use Rattle.fe_schedules.specs.Schedule.{endings};
+ghost use Rattle.fe_schedules.specs.Runs.{IsMachine, ActsOn, PrintsMore, lengths};
+
+use crate::fault::MachineFault;
+use crate::reading::{mark_all, read_all};
+use crate::serving::{new_desk, stopped, take};
+use crate::told::{Told, print_told, sort};
+use fe_desk::{Desk, Step};
+use fe_disk::MemoryDisk;
+use fe_text::Line;
+use fe_wire::{ClientMessage, put_message};
+use std::alloc::{AllocError, Global};
+use std::mem;
+
+/// A desk over a store in memory.
+#[derive(Drop)]
+pub(crate) struct Machine {
+    desk: Desk<MemoryDisk>,
+    /// How many of the bytes written to each connection number are printed. Numbers behind these are new.
+    printed: Vec<usize>,
+    /// The frame of the message at hand.
+    frame: Vec<u8>,
+    alloc: Global,
+}
+
+impl Machine {
+    /// A machine with a new store and no connection.
+    pub fn new(alloc: Global) -> Result<Machine, MachineFault>
+        ensures machine { IfOk result IsMachine }
+        ensures first { IfOk result (λ machine. IsFirstStanding first_state machine.desk.standing) }
+        ensures from { IfOk result (λ machine. IsFrom first_state machine.desk) }
+        ensures printed { IfOk result (λ machine. machine.printed.items ≡ []) }
+    {
+        let desk = new_desk(alloc)?;
+        Ok(Machine {
+            desk,
+            printed: Vec::new(alloc),
+            frame: Vec::new(alloc),
+            alloc,
+        })
+    }
+
+    /// Does what a line says. What is pending stays so.
+    pub fn act(&mut self, line: &Line) -> Result<(), MachineFault>
+        requires machine { IsMachine self.old }
+        requires fits { LineFits line.now }
+        ensures machine { OnOk result (IsMachine self.new) }
+        ensures acts { OnOk result (ActsOn self.old line.now self.new) }
+    {
+        match line {
+            Line::Message { conn, message } => self.receive(*conn, message),
+            Line::Gone { conn } => self.drop_connection(*conn),
+            Line::Hold | Line::Flush => Ok(()),
+            Line::Stop => self.stop(),
+            Line::Check => self.check(),
+        }
+    }
+
+    /// A message of a connection comes as a frame. The connection is made where it is not there.
+    fn receive(&mut self, conn: u64, message: &ClientMessage) -> Result<(), MachineFault>
+        requires machine { IsMachine self.old }
+        requires fits { Fits message.now }
+        ensures machine { OnOk result (IsMachine self.new) }
+        ensures acts { OnOk result (ActsOn self.old (Line.Message conn message.now) self.new) }
+    {
+        self.step(&Step::Connect { conn })?;
+        let mut piece = mem::replace(&mut self.frame, Vec::new(self.alloc));
+        piece.clear();
+        put_message(&mut piece, message)?;
+        let step = Step::Bytes { conn, piece };
+        let outcome = self.step(&step);
+        if let Step::Bytes { piece, .. } = step {
+            self.frame = piece;
+        }
+        outcome
+    }
+
+    /// The connection goes.
+    fn drop_connection(&mut self, conn: u64) -> Result<(), MachineFault>
+        requires { IsMachine self.old }
+        ensures machine { OnOk result (IsMachine self.new) }
+        ensures acts { OnOk result (ActsOn self.old (Line.Gone conn) self.new) }
+    {
+        self.step(&Step::Gone { conn })
+    }
+
+    /// Stores and posts what is pending, unless on hold.
+    pub fn commit(&mut self, is_holding: bool) -> Result<(), MachineFault>
+        requires { IsMachine self.old }
+        ensures machine { OnOk result (IsMachine self.new) }
+        ensures moved { OnOk result (Moves self.old.desk (endings is_holding) self.new.desk) }
+        ensures printed { self.new.printed.items ≡ self.old.printed.items }
+    {
+        if is_holding {
+            return Ok(());
+        }
+        self.step(&Step::Cut)?;
+        self.step(&Step::Append)?;
+        self.step(&Step::Post)
+    }
+
+    /// Makes a whole checkpoint, where there is something that the last one does not hold.
+    fn check(&mut self) -> Result<(), MachineFault>
+        requires { IsMachine self.old }
+        ensures machine { OnOk result (IsMachine self.new) }
+        ensures acts { OnOk result (ActsOn self.old Line.Check self.new) }
+    {
+        self.step(&Step::CheckBegin)?;
+        self.step(&Step::CheckFinish)
+    }
+
+    /// Stops, and opens the store again as it was at its last sync. No connection is there then, and nothing waits.
+    fn stop(&mut self) -> Result<(), MachineFault>
+        requires { IsMachine self.old }
+        ensures machine { OnOk result (IsMachine self.new) }
+        // All that was stored is there, and nothing else.
+        ensures synced { OnOk result (StandsSynced (disk_of self.old.desk) self.new.desk.keeper.state) }
+        ensures kept { OnOk result (self.new.desk.keeper.state ≡ self.old.desk.keeper.state) }
+        ensures acts { OnOk result (ActsOn self.old Line.Stop self.new) }
+    {
+        // A desk of its own stands there until the store is opened.
+        let between = new_desk(self.alloc)?;
+        let desk = mem::replace(&mut self.desk, between);
+        self.printed.clear();
+        let opened = stopped(self.alloc, desk)?;
+        drop(mem::replace(&mut self.desk, opened));
+        Ok(())
+    }
+
+    /// Prints what each connection was told since the last time.
+    pub fn print(&mut self, text: &mut String, told: &mut Vec<Told>) -> Result<(), AllocError>
+        requires { IsMachine self.old }
+        ensures machine { OnOk result (IsMachine self.new) }
+        ensures desk { self.new.desk ≡ self.old.desk }
+        ensures printed { OnOk result (self.new.printed.items ≡ lengths self.old.desk.standing) }
+        ensures text { OnOk result (PrintsMore self.old.printed.items self.old.desk.standing (string_bytes text.old) (string_bytes text.new)) }
+    {
+        let ports = self.desk.trace().ports.as_slice();
+        read_all(self.alloc, ports, self.printed.as_slice(), told)?;
+        sort(told)?;
+        print_told(text, told.as_slice())?;
+        mark_all(ports, &mut self.printed)
+    }
+
+    /// Takes a step.
+    fn step(&mut self, step: &Step) -> Result<(), MachineFault>
+        requires { IsMachine self.old }
+        ensures machine { OnOk result (IsMachine self.new) }
+        ensures moved { OnOk result (Moves self.old.desk (step.now ∷ []) self.new.desk) }
+        ensures printed { self.new.printed.items ≡ self.old.printed.items }
+    {
+        take(&mut self.desk, step)
+    }
+}

@@ -1,0 +1,119 @@
+//! The replies whose frames are written.
+
+ghost use Rattle.std.specs.Prelude.{◌≡◌, ◌<◌, ◌≤◌, ◌++◌, List, length, map, take, slice_index, IfOk, IfSome, OnOk};
+ghost use Rattle.std.specs.Option.{option_map};
+ghost use Rattle.std.specs.List.{flat_map, AllByRecursion};
+ghost use Rattle.fe_wire.specs.Spelling.{reply_spelling, ReplyFits};
+ghost use Rattle.fe_wire.specs.declared.server_message.ServerMessage.{ServerMessage as Reply};
+ghost use Rattle.fe_desk.specs.Frames.{AreReplies};
+ghost use Rattle.fe_schedules.specs.within.Frames.{frame_at};
+ghost use Rattle.fe_schedules.specs.Runs.{ArePrinted, ToldMore, fronts};
+ghost use Rattle.fe_schedules.specs.Told.{AreTold, told_to};
+
+use crate::told::Told;
+use byteorder::{BigEndian, ByteOrder};
+use fe_desk::Port;
+use fe_wire::{ServerMessage, read_reply};
+use std::alloc::{AllocError, Global};
+
+/// The first frame of the bytes and what stands behind it, if a whole one is there.
+#[tactic(auto, unfolding(crate::specs::within::Frames::frame_at))]
+fn first_frame(bytes: &[u8]) -> Option<(&[u8], &[u8])>
+    ensures frame { option_map (λ p. (p.0.now, p.1.now)) result ≡ frame_at bytes.entry.now }
+    ensures shorter { IfSome result (λ p. length p.1.now < length bytes.entry.now) }
+{
+    if bytes.len() < 4 {
+        return None;
+    }
+    let (front, _) = bytes.split_at(4);
+    let count = 4 + BigEndian::read_u32(front) as usize;
+    if bytes.len() < count {
+        return None;
+    }
+    Some(bytes.split_at(count))
+}
+
+/// The reply whose frame this is.
+fn reply_in(alloc: Global, frame: &[u8]) -> Result<ServerMessage, AllocError>
+    requires { (reply : Reply) × ReplyFits reply × (frame.now ≡ reply_spelling reply) }
+    ensures { (reply : Reply) → ReplyFits reply → frame.now ≡ reply_spelling reply → IfOk result (λ read. read ≡ reply) }
+{
+    match read_reply(alloc, frame)? {
+        Some(reply) => Ok(reply),
+        None => unreachable!(),
+    }
+}
+
+/// Reads the replies to the connection in these frames.
+fn read_told(
+    alloc: Global,
+    conn: u64,
+    frames: &[u8],
+    told: &mut Vec<Told>,
+) -> Result<(), AllocError>
+    requires { AreReplies frames.now }
+    // Frames of replies are read as these, behind what was there.
+    ensures { (replies : List Reply) → AllByRecursion ReplyFits replies → frames.now ≡ flat_map reply_spelling replies
+        → OnOk result (told.new.items ≡ told.old.items ++ map (told_to conn) replies) }
+{
+    let mut rest = frames;
+    while !rest.is_empty() {
+        let Some((frame, others)) = first_frame(rest) else {
+            unreachable!();
+        };
+        let reply = reply_in(alloc, frame)?;
+        told.push(Told { conn, reply })?;
+        rest = others;
+    }
+    Ok(())
+}
+
+/// Reads the replies of a port behind the front that is printed.
+fn read_port(
+    alloc: Global,
+    port: &Port,
+    printed: usize,
+    told: &mut Vec<Told>,
+) -> Result<(), AllocError>
+    requires front { printed ≤ length port.now.written }
+    requires replies { AreReplies (take printed port.now.written) }
+    ensures { OnOk result (ToldMore (take printed port.now.written) port.now.conn port.now.written told.old.items told.new.items) }
+{
+    let written = port.written.as_slice();
+    read_told(alloc, port.conn, &written[printed..], told)
+}
+
+/// How much is printed of the port at this place.
+fn printed_at(printed: &[usize], at: usize) -> usize
+    ensures { result ≡ slice_index printed.now at }
+{
+    printed.get(at).copied().unwrap_or(0)
+}
+
+/// Reads the replies of all ports behind what is printed of each.
+pub(crate) fn read_all(
+    alloc: Global,
+    ports: &[Port],
+    printed: &[usize],
+    told: &mut Vec<Told>,
+) -> Result<(), AllocError>
+    requires { ArePrinted printed.now (map (λ p. p.written) ports.now) }
+    ensures { OnOk result (AreTold (fronts printed.now (map (λ p. p.written) ports.now)) (map (λ p. (p.conn, p.written)) ports.now) told.new.items) }
+{
+    told.clear();
+    for at in 0..ports.len() {
+        read_port(alloc, &ports[at], printed_at(printed, at), told)?;
+    }
+    Ok(())
+}
+
+/// All of each port is printed.
+pub(crate) fn mark_all(ports: &[Port], printed: &mut Vec<usize>) -> Result<(), AllocError>
+    ensures { OnOk result (printed.new.items ≡ map (λ w. length w) (map (λ p. p.written) ports.now)) }
+{
+    printed.clear();
+    for port in ports {
+        printed.push(port.written.as_slice().len())?;
+    }
+    Ok(())
+}

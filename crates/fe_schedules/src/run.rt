@@ -1,0 +1,211 @@
+//! A run of a schedule: its lines as they come in pieces, and what they print.
+
+ghost use Rattle.std.specs.Prelude.{◌≡◌, ◌+◌, ◌++◌, ℕ, List, Option, [], ◌∷◌, string_bytes, IfOk, IfErr, IfSome, OnOk, OnErr, MatchResult};
+ghost use Rattle.fe_text.specs.Line.{LineFits};
+ghost use Rattle.fe_text.specs.Lines.{HasNoFeed};
+ghost use Rattle.fe_schedules.specs.Schedule.{IsStart, Stage};
+ghost use Rattle.fe_schedules.specs.Runs.{IsRun, IsAt, RanLine, RanBytes, SaysLine, IsFaultOf, IsTooLong, SoFar, Whole, Ended};
+
+use crate::fault::{MachineFault, ScheduleFault};
+use crate::line::{holds_after, line_in};
+use crate::machine::Machine;
+use crate::told::Told;
+use fe_state::Request;
+use fe_text::{LONGEST, Line, first_line, stream_fault, write_out};
+use fe_wire::ClientMessage;
+use std::alloc::Global;
+use std::io::Write;
+
+/// How many bytes are printed at least before they are written within a piece.
+const FULL: usize = 65536;
+
+/// Where a run stands.
+#[derive(Drop)]
+pub(crate) struct Run {
+    machine: Machine,
+    is_holding: bool,
+    /// How many lines came whole.
+    lines: u64,
+    /// The front of the line that has not come whole.
+    begun: Vec<u8>,
+    /// What is printed and not yet written.
+    text: String,
+    /// What the line at hand prints.
+    line: String,
+    /// What it tells.
+    told: Vec<Told>,
+}
+
+impl Run {
+    /// A run before its first line.
+    pub fn new(alloc: Global) -> Result<Run, MachineFault>
+        ensures run { IfOk result IsRun }
+        ensures start { IfOk result (λ run. (at : Stage) × IsStart at × IsAt run at) }
+        ensures lines { IfOk result (λ run. run.lines ≡ 0) }
+        ensures begun { IfOk result (λ run. run.begun.items ≡ []) }
+        ensures text { IfOk result (λ run. string_bytes run.text ≡ []) }
+    {
+        let machine = Machine::new(alloc)?;
+        Ok(Run {
+            machine,
+            is_holding: false,
+            lines: 0,
+            begun: Vec::new(alloc),
+            text: String::new(alloc),
+            line: String::new(alloc),
+            told: Vec::new(alloc),
+        })
+    }
+
+    /// Runs each line that this piece ends, and writes what they print.
+    pub fn take_piece<W: Write>(
+        &mut self,
+        piece: &[u8],
+        writer: &mut W,
+    ) -> Result<(), ScheduleFault>
+        requires { IsRun self.old }
+        ensures run { OnOk result (IsRun self.new) }
+        ensures taken { (read : List ℕ) (before : Option (List ℕ)) → SoFar read before (W.contents writer.old) self.old
+            → MatchResult result (λ _. SoFar (read ++ piece.now) before (W.contents writer.new) self.new)
+            (λ end. (others : List ℕ) → Ended end ((read ++ piece.now) ++ others) before (W.contents writer.new) []) }
+    {
+        let ended = self.run_lines(piece, writer);
+        write_out(&mut self.text, writer)?;
+        ended
+    }
+
+    /// Runs a last line without a line feed, and writes what it prints.
+    pub fn finish<W: Write>(&mut self, writer: &mut W) -> Result<(), ScheduleFault>
+        requires { IsRun self.old }
+        ensures { (read : List ℕ) (before : Option (List ℕ)) → SoFar read before (W.contents writer.old) self.old
+            → MatchResult result (λ _. Whole read before (W.contents writer.new) []) (λ end. Ended end read before (W.contents writer.new) []) }
+    {
+        let ended = self.end_last();
+        write_out(&mut self.text, writer)?;
+        ended?;
+        match writer.flush() {
+            Ok(()) => Ok(()),
+            Err(error) => Err(ScheduleFault::from(stream_fault(error))),
+        }
+    }
+
+    fn run_lines<W: Write>(&mut self, piece: &[u8], writer: &mut W) -> Result<(), ScheduleFault>
+        requires { IsRun self.old }
+        ensures run { OnOk result (IsRun self.new) }
+        ensures taken { (read : List ℕ) (before : Option (List ℕ)) → SoFar read before (W.contents writer.old) self.old
+            → MatchResult result (λ _. SoFar (read ++ piece.now) before (W.contents writer.new) self.new)
+            (λ end. (others : List ℕ) → Ended end ((read ++ piece.now) ++ others) before (W.contents writer.new) (string_bytes self.new.text)) }
+    {
+        let mut rest = piece;
+        while let Some((line, behind)) = first_line(rest) {
+            self.run_whole(line, writer)?;
+            rest = behind;
+        }
+        self.begin_line(rest)
+    }
+
+    /// Runs the line that ends with these bytes and a line feed, and writes what is printed where that is much.
+    fn run_whole<W: Write>(&mut self, bytes: &[u8], writer: &mut W) -> Result<(), ScheduleFault>
+        requires { IsRun self.old }
+        ensures run { OnOk result (IsRun self.new) }
+        ensures taken { (read : List ℕ) (before : Option (List ℕ)) → SoFar read before (W.contents writer.old) self.old → HasNoFeed bytes.now
+            → MatchResult result (λ _. SoFar (read ++ (bytes.now ++ 10 ∷ [])) before (W.contents writer.new) self.new)
+            (λ end. (others : List ℕ) → Ended end ((read ++ (bytes.now ++ 10 ∷ [])) ++ others) before (W.contents writer.new) (string_bytes self.new.text)) }
+    {
+        self.end_line(bytes)?;
+        if self.text.len() < FULL {
+            return Ok(());
+        }
+        Ok(write_out(&mut self.text, writer)?)
+    }
+
+    /// Adds to the line that has not come whole. It is outside the syntax where it is too long.
+    fn begin_line(&mut self, bytes: &[u8]) -> Result<(), ScheduleFault>
+        requires { IsRun self.old }
+        ensures run { OnOk result (IsRun self.new) }
+        ensures same { self.new ≡ record self.old { begun = self.new.begun } }
+        ensures begun { OnOk result (self.new.begun.items ≡ self.old.begun.items ++ bytes.now) }
+        ensures err { IfErr result (IsTooLong (self.old.lines + 1) (self.old.begun.items ++ bytes.now)) }
+    {
+        if bytes.len() > LONGEST - self.begun.len() {
+            return Err(ScheduleFault::Line(self.lines + 1));
+        }
+        match self.begun.extend_from_slice(bytes) {
+            Ok(()) => Ok(()),
+            Err(_) => Err(ScheduleFault::Memory),
+        }
+    }
+
+    /// Runs the line that has begun, if there is one.
+    fn end_last(&mut self) -> Result<(), ScheduleFault>
+        requires { IsRun self.old }
+        ensures { (read : List ℕ) (before now : Option (List ℕ)) → SoFar read before now self.old
+            → MatchResult result (λ _. Whole read before now (string_bytes self.new.text)) (λ end. Ended end read before now (string_bytes self.new.text)) }
+    {
+        let begun = self.begun.as_slice();
+        if begun.is_empty() {
+            return Ok(());
+        }
+        self.end_line(&[])
+    }
+
+    /// Runs the line that ends with these bytes.
+    fn end_line(&mut self, bytes: &[u8]) -> Result<(), ScheduleFault>
+        requires { IsRun self.old }
+        ensures run { OnOk result (IsRun self.new) }
+        ensures ran { OnOk result (RanBytes self.old (self.old.begun.items ++ bytes.now) self.new) }
+        ensures text { OnErr result (string_bytes self.new.text ≡ string_bytes self.old.text) }
+        // A fault that names a line has its number, and is of a line outside the syntax.
+        ensures err { IfErr result (IsFaultOf (self.old.lines + 1) (self.old.begun.items ++ bytes.now)) }
+    {
+        let _named: (Option<Request>, Option<ClientMessage>) = (None, None);
+        if self.lines == u64::MAX - 1 {
+            return Err(ScheduleFault::Input);
+        }
+        let line = self.whole_line(bytes)?;
+        self.lines += 1;
+        match line {
+            Some(line) => Ok(self.run_line(&line)?),
+            None => Ok(()),
+        }
+    }
+
+    /// The line that ends with these bytes, or none where it is empty.
+    fn whole_line(&mut self, bytes: &[u8]) -> Result<Option<Line>, ScheduleFault>
+        requires { IsRun self.old }
+        ensures run { OnOk result (IsRun self.new) }
+        ensures same { self.new ≡ record self.old { begun = self.new.begun } }
+        ensures begun { OnOk result (self.new.begun.items ≡ []) }
+        ensures said { IfOk result (SaysLine (self.old.begun.items ++ bytes.now)) }
+        ensures fits { IfOk result (λ line. IfSome line LineFits) }
+        ensures err { IfErr result (IsFaultOf (self.old.lines + 1) (self.old.begun.items ++ bytes.now)) }
+    {
+        let _named: (Option<Request>, Option<ClientMessage>) = (None, None);
+        let stray = ScheduleFault::Line(self.lines + 1);
+        if self.begun.is_empty() {
+            return line_in(bytes).ok_or(stray);
+        }
+        self.begin_line(bytes)?;
+        let line = line_in(self.begun.as_slice());
+        self.begun.clear();
+        line.ok_or(stray)
+    }
+
+    /// Runs a line, and prints what it tells.
+    fn run_line(&mut self, line: &Line) -> Result<(), MachineFault>
+        requires run { IsRun self.old }
+        requires fits { LineFits line.now }
+        ensures run { OnOk result (IsRun self.new) }
+        ensures ran { OnOk result (RanLine self.old line.now self.new) }
+        ensures lines { self.new.lines ≡ self.old.lines }
+        ensures begun { self.new.begun ≡ self.old.begun }
+        ensures text { OnErr result (string_bytes self.new.text ≡ string_bytes self.old.text) }
+    {
+        self.machine.act(line)?;
+        self.is_holding = holds_after(line, self.is_holding);
+        self.machine.commit(self.is_holding)?;
+        self.line.clear();
+        self.machine.print(&mut self.line, &mut self.told)?;
+        Ok(self.text.push_str(self.line.as_str())?)
+    }
+}

@@ -1,0 +1,66 @@
+//! What lines have a desk over a store in memory do.
+
+ghost use Rattle.std.specs.Prelude.{◌≡◌, [], ◌∷◌, IfOk, OnOk};
+ghost use Rattle.fe_state.specs.State.{first_state};
+ghost use Rattle.fe_desk.specs.Crash.{IsFrom, disk_of};
+ghost use Rattle.fe_desk.specs.Standing.{IsFirstStanding};
+ghost use Rattle.fe_schedules.specs.Ready.{IsReady, Moves, StandsSynced};
+
+use crate::fault::MachineFault;
+use fe_desk::{Desk, Step};
+use fe_disk::{MemoryDisk, Torn};
+use fe_keeper::images_stand_for_one;
+use std::alloc::Global;
+
+/// How many bytes a store has (`docs/formats.md`, "Device").
+const STORE: usize = 4_202_496;
+
+/// A desk over a new store, with no connection.
+pub(crate) fn new_desk(alloc: Global) -> Result<Desk<MemoryDisk>, MachineFault>
+    ensures ready { IfOk result IsReady }
+    ensures first { IfOk result (λ desk. IsFirstStanding first_state desk.standing) }
+    ensures from { IfOk result (IsFrom first_state) }
+{
+    let Ok(disk) = MemoryDisk::new(alloc, STORE) else {
+        return Err(MachineFault::Memory);
+    };
+    match Desk::format(alloc, disk) {
+        Ok(desk) => Ok(desk),
+        Err((fault, _)) => Err(MachineFault::of_desk(fault)),
+    }
+}
+
+/// Takes a step.
+pub(crate) fn take(desk: &mut Desk<MemoryDisk>, step: &Step) -> Result<(), MachineFault>
+    requires { IsReady desk.old }
+    ensures ready { OnOk result (IsReady desk.new) }
+    ensures moved { OnOk result (Moves desk.old (step.now ∷ []) desk.new) }
+{
+    match desk.step(step) {
+        Ok(()) => Ok(()),
+        Err(fault) => Err(MachineFault::of_desk(fault)),
+    }
+}
+
+/// The desk after a stop that loses what was not synced. No connection is there, and nothing waits.
+pub(crate) fn stopped(
+    alloc: Global,
+    desk: Desk<MemoryDisk>,
+) -> Result<Desk<MemoryDisk>, MachineFault>
+    requires { IsReady desk }
+    ensures ready { IfOk result IsReady }
+    // It has what the store held at its last sync, which is all that was stored.
+    ensures synced { IfOk result (λ again. StandsSynced (disk_of desk) again.keeper.state) }
+    ensures kept { IfOk result (λ again. again.keeper.state ≡ desk.keeper.state) }
+    ensures first { IfOk result (λ again. IsFirstStanding desk.keeper.state again.standing) }
+    ensures from { IfOk result (IsFrom desk.keeper.state) }
+{
+    images_stand_for_one();
+    let Ok(left) = desk.into_disk().stopped(Torn::Lost) else {
+        return Err(MachineFault::Memory);
+    };
+    match Desk::open(alloc, left) {
+        Ok(again) => Ok(again),
+        Err((fault, _)) => Err(MachineFault::of_desk(fault)),
+    }
+}

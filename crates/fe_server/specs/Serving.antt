@@ -1,0 +1,56 @@
+-- How serving a store ends.
+use Rattle.std.specs.Prelude.{◌≡◌, ◌↔◌, ℕ, false, List, Option, Some, None, Result, Ok, Err}
+use Rattle.fe_keeper.specs.Keeper.{KeeperState}
+use Rattle.fe_keeper.specs.Stands.{EachStandsFor}
+use Rattle.fe_keeper.specs.declared.fault.Fault as keeper
+use Rattle.fe_keeper.specs.declared.fault.Fault.TheVariants as store
+use Rattle.fe_server.specs.declared.stop_fault.StopFault.{StopFault}
+use Rattle.fe_server.specs.declared.stop_fault.StopFault.TheVariants as fault
+use Rattle.fe_hall.specs.Commits.{Commits, TellsEnd}
+use Rattle.fe_hall.specs.declared.closing.Closing.{Closing}
+use Rattle.fe_hall.specs.declared.commit_end.CommitEnd.{CommitEnd}
+use Rattle.fe_hall.specs.declared.commit_end.CommitEnd.TheVariants.{Stopped, Store, Strange, Spent}
+
+-- A keeper was lent to a committing side, which ended so: it stored a history, of which each image that a stop leaves stands
+-- for a prefix at every moment; what may be left of a disk that works stands for the keeper's state; and the end tells of the
+-- disk's faults.
+pub record HasCommitted {D : Type 0} (honest : D → Type 0) (moment : D → ℕ) (left_since : D → ℕ → List ℕ → Type 0) (may_leave : D → List ℕ → Type 0) (failures : D → ℕ) (old new : KeeperState D) (end : CommitEnd) : Type 0 where
+  pub commits : Commits honest moment left_since old new (Some end)
+  pub stands : honest new.store.disk → new.store.has_failed ≡ false → EachStandsFor may_leave new.store.disk new.state
+  pub tells : TellsEnd failures old new (Some end)
+  pub honesty : honest new.store.disk ↔ honest old.store.disk
+
+-- ---- what a server answers
+
+-- what a fault of an append ends a server with; a right keeper answers no other
+abbrev pub fault_of_store : keeper.Fault → StopFault
+fault_of_store store.Device = fault.Device
+fault_of_store store.Failed = fault.Device
+fault_of_store store.NoMemory = fault.Memory
+fault_of_store other = fault.Strange
+
+-- the fault that a server ends with whose committing side ended so
+abbrev pub fault_of_end : CommitEnd → Option StopFault
+fault_of_end Stopped = None
+fault_of_end (Store why) = Some (fault_of_store why)
+fault_of_end Strange = Some fault.Strange
+fault_of_end Spent = Some fault.Strange
+
+-- the fault of an answer; none where it has the books
+abbrev pub fault_in : {A B : Type 0} → Result A (StopFault × B) → Option StopFault
+fault_in (Ok closing) = None
+fault_in (Err refused) = Some refused.0
+
+-- Where the committing side ended so, a server answers this: its fault; and where it was stopped the books, or that memory was
+-- short.
+abbrev pub IsAnswerAt : CommitEnd → Option StopFault → Type 0
+IsAnswerAt Stopped None = Unit {0}
+IsAnswerAt Stopped (Some told) = told ≡ fault.Memory
+IsAnswerAt (Store why) answer = answer ≡ fault_of_end (Store why)
+IsAnswerAt Strange answer = answer ≡ fault_of_end Strange
+IsAnswerAt Spent answer = answer ≡ fault_of_end Spent
+
+-- the keeper that comes back
+abbrev pub keeper_in : {D : Type 0} → Result (Closing D) (StopFault × Option (KeeperState D)) → Option (KeeperState D)
+keeper_in (Ok closing) = Some closing.keeper
+keeper_in (Err refused) = refused.1

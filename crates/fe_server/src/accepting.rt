@@ -1,0 +1,145 @@
+//! Connections are taken from a listener.
+
+ghost use Rattle.std.specs.Prelude.{◌≡◌};
+
+use crate::connection::{STACK, attend, turn_away};
+use crate::house::House;
+use crate::register::Newcomer;
+use fe_hall::{Gate, Tally};
+use fe_options::Settings;
+use std::alloc::Global;
+use std::io::ErrorKind;
+use std::os::unix::net::{UnixListener, UnixStream};
+use std::sync::Wait;
+use std::thread::{Builder, Scope, Threads};
+use std::time::{Clock, Duration};
+use std::{io, thread};
+
+/// How long it waits where no connection can be taken, in milliseconds.
+const PAUSE: u64 = 10;
+
+/// Serves the connections that come, until as many came as the settings say and all of them ended, or until nothing is stored
+/// any more and one more came.
+pub(crate) fn serve_clients<
+    C: Tally + Send + Sync,
+    M: Tally + Send + Sync,
+    G: Gate + Sync,
+    R: Clock + Threads + Wait + Sync,
+>(rt: &R, alloc: Global, house: &House<C, M>, listener: UnixListener, settings: &Settings, gate: &G)
+    requires calls { C.all ≡ C.parts }
+    requires mails { M.all ≡ M.parts }
+{
+    thread::scope(
+        thread::scope_env(),
+        rt,
+        move |scope|
+            requires { (C.all ≡ C.parts) × (M.all ≡ M.parts) }
+        {
+            accept_all(rt, alloc, scope, house, listener, settings, gate);
+        },
+    );
+}
+
+/// Takes connections from the listener, which is closed at the end.
+fn accept_all<
+    's,
+    E,
+    C: Tally + Send + Sync,
+    M: Tally + Send + Sync,
+    G: Gate + Sync,
+    R: Clock + Threads + Wait + Sync,
+>(
+    rt: &'s R,
+    alloc: Global,
+    scope: &Scope<'s, E>,
+    house: &'s House<C, M>,
+    listener: UnixListener,
+    settings: &Settings,
+    gate: &'s G,
+)
+    requires calls { C.all ≡ C.parts }
+    requires mails { M.all ≡ M.parts }
+{
+    let mut left = settings.accepts;
+    for conn in 0..u64::MAX {
+        if house.is_over(rt) {
+            return;
+        }
+        match listener.accept() {
+            Err(error) => pause(rt, error),
+            Ok((stream, _)) => {
+                let came = welcome(rt, alloc, scope, house, settings, gate, conn, stream);
+                if came && left == 1 {
+                    return;
+                }
+                if came {
+                    left = left.saturating_sub(1);
+                }
+            }
+        }
+    }
+}
+
+/// Begins to serve a connection. Whether it was made: it is closed where too many are there or the hall refuses it.
+fn welcome<
+    's,
+    E,
+    C: Tally + Send + Sync,
+    M: Tally + Send + Sync,
+    G: Gate + Sync,
+    R: Threads + Wait + Sync,
+>(
+    rt: &'s R,
+    alloc: Global,
+    scope: &Scope<'s, E>,
+    house: &'s House<C, M>,
+    settings: &Settings,
+    gate: &'s G,
+    conn: u64,
+    stream: UnixStream,
+) -> bool
+    requires calls { C.all ≡ C.parts }
+    requires mails { M.all ≡ M.parts }
+{
+    if !house.has_place(rt, settings.connections) {
+        return false;
+    }
+    let Ok((calls, mails)) = house.hall.connect(rt, conn) else {
+        return false;
+    };
+    let newcomer = Newcomer {
+        conn,
+        stream,
+        calls,
+        mails,
+    };
+    if let Err(newcomer) = house.put(rt, newcomer) {
+        turn_away(rt, alloc, house, gate, newcomer);
+        return true;
+    }
+    let turns = settings.turns;
+    let started = Builder::new()
+        .stack_size(STACK)
+        .spawn_scoped(
+            scope,
+            move ||
+                requires { (C.all ≡ C.parts) × (M.all ≡ M.parts) }
+            { attend(rt, alloc, house, gate, turns) },
+        )
+        .is_ok();
+    if !started {
+        if let Some(newcomer) = house.take(rt) {
+            turn_away(rt, alloc, house, gate, newcomer);
+        }
+    }
+    true
+}
+
+/// Lets some time pass where no connection could be taken since there are too many open files or too little memory, so that it is
+/// not tried again and again at once.
+fn pause<R: Clock>(rt: &R, error: io::Error) {
+    match error.kind() {
+        ErrorKind::Interrupted | ErrorKind::ConnectionAborted => {}
+        _ => thread::sleep(rt, Duration::from_millis(PAUSE)),
+    }
+}

@@ -1,0 +1,51 @@
+//! The books as text.
+
+ghost use Rattle.std.specs.Prelude.{◌≡◌, ◌++◌, string_bytes, IfOk, OnOk};
+ghost use Rattle.fe_server.specs.BooksText.{made_text, unmade_text, mails_line, books_text};
+
+use fe_front::Books;
+use std::alloc::{AllocError, Global};
+
+/// Writes how many calls were made, completed and wait.
+fn put_made(text: &mut String, books: &Books) -> Result<(), AllocError>
+    ensures { OnOk result (string_bytes text.new ≡ string_bytes text.old ++ made_text books.now) }
+{
+    let (calls, completed, waiting) = (books.calls, books.completed, books.waiting);
+    write!(
+        text,
+        "calls {calls} completed {completed} waiting {waiting}"
+    )
+}
+
+/// Writes how many calls ended with no answer of their own.
+fn put_unmade(text: &mut String, books: &Books) -> Result<(), AllocError>
+    ensures { OnOk result (string_bytes text.new ≡ string_bytes text.old ++ unmade_text books.now) }
+{
+    let (withdrawn, repeated, refused) = (books.withdrawn, books.repeated, books.refused);
+    write!(
+        text,
+        " withdrawn {withdrawn} repeated {repeated} refused {refused}\n"
+    )
+}
+
+/// Writes what became of the mails.
+fn put_mails(text: &mut String, books: &Books) -> Result<(), AllocError>
+    ensures { OnOk result (string_bytes text.new ≡ string_bytes text.old ++ mails_line books.now) }
+{
+    let (mails, taken, dropped, left) = (books.mails, books.taken, books.dropped, books.left);
+    write!(
+        text,
+        "mails {mails} taken {taken} dropped {dropped} left {left}\n"
+    )
+}
+
+/// The text of the books, two lines: what became of the calls, and of the mails.
+pub fn books_text(alloc: Global, books: &Books) -> Result<String, AllocError>
+    ensures { IfOk result (λ text. string_bytes text ≡ books_text books.now) }
+{
+    let mut text = String::new(alloc);
+    put_made(&mut text, books)?;
+    put_unmade(&mut text, books)?;
+    put_mails(&mut text, books)?;
+    Ok(text)
+}

@@ -1,0 +1,200 @@
+//! What the connections of a server that ended did, and how many are there.
+
+ghost use Rattle.std.specs.Prelude.{◌≡◌, ◌∷◌, ◌++◌, [], false, IsTrue, All, None, IfOk, IfErr, IfSome, IsOk, IsSome, map, nat_lt};
+ghost use Rattle.fe_mail.specs.Books.{AddUp};
+ghost use Rattle.fe_hall.specs.Receipts.{IsBorneOut};
+ghost use Rattle.fe_server.specs.declared.stop_fault.StopFault.TheVariants as fault;
+ghost use Rattle.fe_server.specs.Ended.{joined_to};
+
+use crate::stop_fault::StopFault;
+use fe_disk::Disk;
+use fe_hall::{CallSeat, Closing, Hall, MailSeat, Receipt, Tally, close};
+use fe_keeper::Keeper;
+use fe_wire::ClientMessage;
+use std::alloc::Global;
+use std::os::unix::net::UnixStream;
+
+/// A connection that came and whose threads have not begun.
+#[derive(Drop)]
+pub(crate) struct Newcomer<C: Tally, M: Tally> {
+    pub(crate) conn: u64,
+    pub(crate) stream: UnixStream,
+    pub(crate) calls: CallSeat<C>,
+    pub(crate) mails: MailSeat<M>,
+}
+
+/// What lies under the second lock of a server.
+#[derive(Drop)]
+pub(crate) struct Register<C: Tally, M: Tally> {
+    /// The connections whose threads have not begun.
+    newcomers: Vec<Newcomer<C, M>>,
+    /// How many connections came and did not end.
+    present: u64,
+    /// Nothing is stored any more.
+    over: bool,
+    /// Whether lists and receipts are kept.
+    keeps: bool,
+    /// There was no memory for something that the closing needs.
+    pub(crate) short: bool,
+    /// A book of the hall is full.
+    pub(crate) spent: bool,
+    /// The seats of all connections that ended.
+    calls: Option<CallSeat<C>>,
+    mails: Option<MailSeat<M>>,
+    /// The list of each read side that ended, and the receipts of the write sides.
+    sent: Vec<Vec<ClientMessage>>,
+    receipts: Vec<Receipt>,
+}
+
+impl<C: Tally, M: Tally> Register<C, M> {
+    /// No connection came.
+    pub(crate) fn new(alloc: Global, keeps: bool) -> Register<C, M> {
+        Register {
+            newcomers: Vec::new(alloc),
+            present: 0,
+            over: false,
+            keeps,
+            short: false,
+            spent: false,
+            calls: None,
+            mails: None,
+            sent: Vec::new(alloc),
+            receipts: Vec::new(alloc),
+        }
+    }
+
+    /// A connection is here until its threads take it. It comes back where there is no memory for it.
+    pub(crate) fn put(&mut self, newcomer: Newcomer<C, M>) -> Result<(), Newcomer<C, M>> {
+        if self.newcomers.reserve(1).is_err() {
+            return Err(newcomer);
+        }
+        if self.newcomers.push(newcomer).is_err() {
+            unreachable!();
+        }
+        Ok(())
+    }
+
+    /// A connection whose threads have not begun.
+    pub(crate) fn take(&mut self) -> Option<Newcomer<C, M>> {
+        self.newcomers.pop()
+    }
+
+    /// Whether one connection more may come, of so many at once.
+    pub(crate) fn has_place(&self, most: u64) -> bool
+        ensures { result ≡ nat_lt self.now.present most }
+    {
+        self.present < most
+    }
+
+    pub(crate) fn came(&mut self) {
+        self.present = self.present.saturating_add(1);
+    }
+
+    pub(crate) fn ended(&mut self) {
+        self.present = self.present.saturating_sub(1);
+    }
+
+    pub(crate) fn end(&mut self) {
+        self.over = true;
+    }
+
+    pub(crate) fn is_over(&self) -> bool {
+        self.over
+    }
+
+    /// Adds what the read side of a connection did.
+    pub(crate) fn add_calls(&mut self, seat: CallSeat<C>, sent: Vec<ClientMessage>)
+        requires ledger { C.all ≡ C.parts }
+        ensures joined { self.new.calls ≡ joined_to self.old.calls seat }
+        // A list that is to be kept is kept, or memory is told to be short.
+        ensures sent { IsTrue self.old.keeps → self.new.short ≡ false → self.new.sent.items ≡ self.old.sent.items ++ sent ∷ [] }
+        ensures none { self.old.keeps ≡ false → self.new.sent.items ≡ self.old.sent.items }
+        ensures short { IsTrue self.old.short → IsTrue self.new.short }
+        ensures mails { self.new.mails ≡ self.old.mails }
+        ensures receipts { self.new.receipts.items ≡ self.old.receipts.items }
+    {
+        match &mut self.calls {
+            Some(calls) => calls.join(seat),
+            None => self.calls = Some(seat),
+        }
+        if self.keeps && self.sent.push(sent).is_err() {
+            self.short = true;
+        }
+    }
+
+    /// Adds what the write side of a connection did.
+    pub(crate) fn add_mails(&mut self, seat: MailSeat<M>, receipts: Vec<Receipt>)
+        requires ledger { M.all ≡ M.parts }
+        ensures joined { self.new.mails ≡ joined_to self.old.mails seat }
+        ensures receipts { IsTrue self.old.keeps → self.new.short ≡ false → self.new.receipts.items ≡ self.old.receipts.items ++ receipts.items }
+        ensures none { self.old.keeps ≡ false → self.new.receipts.items ≡ self.old.receipts.items }
+        ensures short { IsTrue self.old.short → IsTrue self.new.short }
+        ensures calls { self.new.calls ≡ self.old.calls }
+        ensures sent { self.new.sent.items ≡ self.old.sent.items }
+    {
+        match &mut self.mails {
+            Some(mails) => mails.join(seat),
+            None => self.mails = Some(seat),
+        }
+        if self.keeps
+            && self
+                .receipts
+                .extend_from_slice(receipts.as_slice())
+                .is_err()
+        {
+            self.short = true;
+        }
+    }
+
+    /// Closes a hall with what its connections did. `Memory` where not all of that could be kept; `Strange` where a book is full,
+    /// a seat is missing or a receipt is strange, and the keeper doesn't come back then.
+    pub(crate) fn close<D: Disk + Drop>(
+        self,
+        hall: Hall<C, M>,
+        keeper: Keeper<D>,
+    ) -> Result<Closing<D>, (StopFault, Option<Keeper<D>>)>
+        requires calls { C.all ≡ C.parts }
+        requires mails { M.all ≡ M.parts }
+        ensures calls { IfOk result (λ closing. IfSome self.calls (λ seat. closing.books.calls ≡ seat.amount)) }
+        ensures mails { IfOk result (λ closing. IfSome self.mails (λ seat. closing.books.taken ≡ seat.amount)) }
+        ensures receipts { IfOk result (λ closing. All (IsBorneOut keeper.state (map (λ v. v.items) self.sent.items)) self.receipts.items) }
+        ensures whole { IsOk result → (self.short ≡ false) × ((self.spent ≡ false) × (IsSome self.calls × IsSome self.mails)) }
+        ensures keeper { IfOk result (λ closing. closing.keeper ≡ keeper) }
+        ensures add_up { IfOk result (λ closing. AddUp closing.books) }
+        ensures unspent { IfOk result (λ closing. closing.books.spent ≡ false) }
+        ensures short { IfErr result (λ e. IfSome e.1 (λ back. (e.0 ≡ fault.Memory) × (back ≡ keeper))) }
+        ensures refused { IfErr result (λ e. e.1 ≡ None → e.0 ≡ fault.Strange) }
+    {
+        if self.short {
+            drop(self);
+            drop(hall);
+            return Err((StopFault::Memory, Some(keeper)));
+        }
+        if self.spent {
+            drop(self);
+            drop(hall);
+            drop(keeper);
+            return Err((StopFault::Strange, None));
+        }
+        let Register {
+            newcomers,
+            calls,
+            mails,
+            sent,
+            receipts,
+            ..
+        } = self;
+        drop(newcomers);
+        let (Some(calls), Some(mails)) = (calls, mails) else {
+            drop(sent);
+            drop(receipts);
+            drop(hall);
+            drop(keeper);
+            return Err((StopFault::Strange, None));
+        };
+        match close(hall, calls, mails, sent, receipts, keeper) {
+            Ok(closing) => Ok(closing),
+            Err(_) => Err((StopFault::Strange, None)),
+        }
+    }
+}

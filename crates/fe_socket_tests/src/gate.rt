@@ -1,0 +1,137 @@
+//! A server holds one connection in its gate, and serves another one meanwhile.
+
+use fe_client::call_over;
+use fe_disk::Hold;
+use fe_hall::Gate;
+use fe_options::read_settings;
+use fe_server::{books_text, serve};
+use std::net::Net;
+use std::os::unix::net::UnixStream;
+use std::process::Abort;
+use std::rt::{Clock, Env};
+use std::sync::Wait;
+use std::thread::Threads;
+use std::time::Duration;
+use std::{env, fs, process, thread};
+
+/// How often something that another thread does is waited for, with a millisecond between.
+const TURNS: usize = 100_000;
+
+/// How many seconds a client waits for what the server writes, as long as a test may take.
+const PATIENCE: u64 = 60;
+
+const BOOKS: &str =
+    "calls 3 completed 3 waiting 0 withdrawn 0 repeated 0 refused 0\nmails 5 taken 5 dropped 0 left 0\n";
+
+/// Lets the messages of the first connection wait while they are held.
+#[derive(Drop)]
+struct Barrier {
+    hold: Hold,
+}
+
+impl Gate for Barrier {
+    fn pass<R: Wait>(&self, rt: &R, conn: u64) {
+        if conn == 0 {
+            self.hold.pass(rt);
+        }
+    }
+}
+
+/// Returns once something is held.
+fn wait_until_held(rt: &(impl Wait + Clock + Abort), hold: &Hold) {
+    for _ in 0..TURNS {
+        if hold.is_holding(rt) {
+            return;
+        }
+        thread::sleep(rt, Duration::from_millis(1));
+    }
+    assert!(rt; false, "nothing is held");
+}
+
+/// A connection to the server at a socket, once there is one.
+fn connected<R: Net + Clock + Abort>(rt: &R, socket: &str) -> UnixStream {
+    for _ in 0..TURNS {
+        if let Ok(stream) = UnixStream::connect(rt, socket) {
+            let patience = Duration::from_secs(PATIENCE);
+            assert!(rt; stream.set_read_timeout(Some(patience)).is_ok());
+            return stream;
+        }
+        thread::sleep(rt, Duration::from_millis(1));
+    }
+    None.expect(rt, "there is a server")
+}
+
+/// Each line is answered, and these are the answers.
+fn asks(rt: &(impl Abort + AllocGlobal), stream: &mut UnixStream, lines: &[u8], answers: &[u8]) {
+    let mut reader = lines;
+    let mut printed = Vec::new(rt.alloc());
+    let ended = call_over(rt.alloc(), stream, &mut reader, &mut printed);
+    assert!(rt; ended.is_ok() && printed.as_slice() == answers);
+}
+
+/// The first client's call is held until the second one's is answered.
+fn two_calls<R: Net + Clock + Threads + Wait + Sync + Abort + AllocGlobal>(
+    rt: &R,
+    socket: &str,
+    hold: &Hold,
+) {
+    let mut first = connected(rt, socket);
+    asks(rt, &mut first, b"attach 7\n", b"welcome 7 1\n");
+    hold.hold(rt);
+    let (_, mut second) = thread::join(
+        rt,
+        || asks(
+            rt,
+            &mut first,
+            b"1 create cells 2 empty\n",
+            b"1 array 1 2\n",
+        ),
+        || {
+            wait_until_held(rt, hold);
+            let mut second = connected(rt, socket);
+            let answers = b"welcome 8 1\n1 no-array\n";
+            asks(rt, &mut second, b"attach 8\n1 find cells\n", answers);
+            hold.let_go(rt);
+            second
+        },
+    );
+    asks(rt, &mut second, b"2 find cells\n", b"2 array 1 2\n");
+}
+
+/// The path of a file of this process's own.
+fn path_of(rt: &(impl Env + AllocGlobal), id: u32, name: &str) -> Option<String> {
+    let folder = env::temp_dir(rt).ok()?;
+    format!(in rt.alloc(); "{}/fe_gate_{id}_{name}", folder.as_str()).ok()
+}
+
+#[test]
+fn gate_holds_one(rt: HostRuntime) {
+    let id = process::id(rt.process());
+    let socket = path_of(&rt, id, "socket").expect(&rt, "a path");
+    let store = path_of(&rt, id, "store").expect(&rt, "a path");
+    // (a process of that number may have been ended in this test)
+    let _ = (
+        fs::remove_file(&rt, socket.as_str()),
+        fs::remove_file(&rt, store.as_str()),
+    );
+    let text = format!(in rt.alloc();
+        "socket = '{socket}'\nstore = '{store}'\naccepts = 2\nformat = true\n"
+    );
+    let text = text.ok().expect(&rt, "a text");
+    let settings = read_settings(rt.alloc(), text.as_str())
+        .ok()
+        .expect(&rt, "settings");
+    let gate = Barrier { hold: Hold::new() };
+    let (books, _) = thread::join(
+        &rt,
+        || serve(&rt, rt.alloc(), &settings, &gate),
+        || two_calls(&rt, socket.as_str(), &gate.hold),
+    );
+    let books = books.ok().expect(&rt, "the server ended by itself");
+    let found = books_text(rt.alloc(), &books).ok().expect(&rt, "a text");
+    assert!(&rt; found.as_str() == BOOKS);
+    assert!(&rt;
+        fs::remove_file(&rt, socket.as_str()).is_ok()
+            && fs::remove_file(&rt, store.as_str()).is_ok()
+    );
+}

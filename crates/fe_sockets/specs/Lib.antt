@@ -1,4 +1,0 @@
-pub mod BooksText
-pub mod Opening
-pub mod Ended
-pub mod Serving

@@ -1,0 +1,29 @@
+-- What opening a store gives.
+use Rattle.std.specs.Prelude.{◌≡◌, ◌⊎◌, ℕ, Bool, true, List, Result, Ok, Err}
+use Rattle.fe_state.specs.State.{ServerState, first_state}
+use Rattle.fe_journal.specs.Damage.{IsUnformatted}
+use Rattle.fe_keeper.specs.Damage.{IsDamagedAt}
+use Rattle.fe_keeper.specs.Keeper.{KeeperState}
+use Rattle.fe_keeper.specs.Stands.{StandsFor}
+use Rattle.fe_store.specs.declared.fault.OpenFault.{OpenFault}
+use Rattle.fe_store.specs.declared.fault.OpenFault.TheVariants as fault
+
+-- the image holds no store, and one is to be made then
+abbrev pub IsToFormat : List ℕ → Bool → Type 0
+IsToFormat image format = IsUnformatted image × (format ≡ true)
+
+-- The image stands for the state; or a store is made on it, and the state is the first one.
+abbrev pub Opens : List ℕ → Bool → ServerState → Type 0
+Opens image format s = StandsFor image s ⊎ (IsToFormat image format × (s ≡ first_state))
+
+-- the disk of the keeper, or the one that came back
+abbrev pub disk_after : {D : Type 0} → Result (KeeperState D) (OpenFault × D) → D
+disk_after (Ok keeper) = keeper.store.disk
+disk_after (Err refused) = refused.1
+
+-- What a fault says of the image that a disk reads: it is unformatted, or damaged first at this offset. The others say
+-- nothing of it.
+abbrev pub TellsImage : OpenFault → List ℕ → Type 0
+TellsImage fault.Unformatted image = IsUnformatted image
+TellsImage (fault.Damaged offset) image = IsDamagedAt image offset
+TellsImage other image = Unit {0}

@@ -1,0 +1,50 @@
+ghost use Rattle.std.specs.Prelude.{◌≡◌};
+ghost use Rattle.fe_keeper.specs.Opened.{IsOpenFault};
+ghost use Rattle.fe_store.specs.within.Faults.{IsToldAs};
+
+use fe_disk::FileFault;
+use fe_keeper::Fault;
+
+/// Why a store is not opened.
+#[derive(Clone, Copy, Debug, PartialEq, Eq)]
+pub enum OpenFault {
+    /// There is no file of the store, another program has it, or its device failed.
+    Device,
+    /// There is no memory.
+    Memory,
+    /// The file of the store has another size than a store, so many bytes.
+    Size(u64),
+    /// No slot of the store is valid.
+    Unformatted,
+    /// The slot of the store that counts is wrong at this offset (`docs/formats.md`, "Device").
+    Damaged(usize),
+}
+
+impl From<FileFault> for OpenFault {
+    ghost use Rattle.std.specs.Prelude.{◌≡◌};
+    ghost use Rattle.fe_store.specs.within.Faults.{fault_of_file};
+
+    ghost from_gives = { λ before fault. fault ≡ fault_of_file before };
+
+    fn from(before: FileFault) -> OpenFault {
+        match before {
+            FileFault::Missing => OpenFault::Device,
+            FileFault::WrongSize { found } => OpenFault::Size(found),
+            FileFault::Device => OpenFault::Device,
+        }
+    }
+}
+
+/// What is told where a keeper is not opened.
+pub(crate) fn told_as(fault: Fault) -> OpenFault
+    requires { IsOpenFault fault }
+    ensures { IsToldAs fault result }
+{
+    match fault {
+        Fault::Device => OpenFault::Device,
+        Fault::NoMemory => OpenFault::Memory,
+        Fault::Unformatted => OpenFault::Unformatted,
+        Fault::Damaged { offset } => OpenFault::Damaged(offset),
+        Fault::Failed | Fault::Mismatch { .. } => unreachable!(),
+    }
+}

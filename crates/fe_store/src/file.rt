@@ -1,0 +1,59 @@
+//! The store in a file.
+
+ghost use Rattle.std.specs.Prelude.{◌≡◌, ◌≢◌, ℕ, false, IfOk, IsErrOf, None};
+ghost use Rattle.fe_disk.specs.FileDisk.{file_size};
+ghost use Rattle.fe_disk.specs.declared.file_fault.FileFault.TheVariants.{WrongSize};
+ghost use Rattle.fe_journal.specs.Layout.{device_bytes};
+ghost use Rattle.fe_store.specs.declared.fault.OpenFault.TheVariants as fault;
+
+use crate::fault::OpenFault;
+use crate::opening::open_on;
+use fe_disk::{FileDisk, FileFault};
+use fe_keeper::Keeper;
+use std::alloc::Global;
+use std::fs::File;
+use std::rt::Files;
+
+/// How many bytes a store has (`docs/formats.md`, "Device").
+const STORE: usize = 4_202_496;
+
+/// Opens the store in a file. Where `format` is set, a file that is missing is made, and a store that is unformatted is formatted.
+/// `Device` where there is no such file, another program has it or it can't be read or made, `Size` where it has another
+/// size, `Unformatted` and `Damaged` where it holds no state.
+pub fn open_store<R: Files<File = File>>(
+    rt: &R,
+    alloc: Global,
+    path: &str,
+    format: bool,
+) -> Result<Keeper<FileDisk>, OpenFault>
+    ensures works { IfOk result (λ keeper. keeper.store.has_failed ≡ false) }
+    ensures none_under_way { IfOk result (λ keeper. keeper.store.checkpoint ≡ None) }
+    ensures wrong_size { (found : ℕ) → IsErrOf result (fault.Size found) → found ≢ device_bytes }
+    ensures unformatted { IsErrOf result fault.Unformatted → format ≡ false }
+{
+    let disk = disk_at(rt, path, format)?;
+    match open_on(alloc, disk, format) {
+        Ok(keeper) => Ok(keeper),
+        Err((fault, _)) => Err(fault),
+    }
+}
+
+/// The disk over the file of a store, which is made where it is missing and that is asked for.
+fn disk_at<R: Files<File = File>>(rt: &R, path: &str, format: bool) -> Result<FileDisk, FileFault>
+    ensures size { IfOk result (λ disk. file_size disk ≡ device_bytes) }
+    ensures wrong { (found : ℕ) → IsErrOf result (WrongSize found) → found ≢ device_bytes }
+{
+    match FileDisk::at(rt, path, STORE) {
+        Err(FileFault::Missing) if format => FileDisk::create(rt, path, STORE),
+        found => found,
+    }
+}
+
+/// The disk over the file of a store, to be read alone: the file need not be writable, and each write is a fault. `Device` where
+/// there is no such file, a disk that writes has it or it can't be read, and `Size` where it has another size.
+pub fn disk_to_read<R: Files<File = File>>(rt: &R, path: &str) -> Result<FileDisk, OpenFault>
+    ensures size { IfOk result (λ disk. file_size disk ≡ device_bytes) }
+    ensures wrong_size { (found : ℕ) → IsErrOf result (fault.Size found) → found ≢ device_bytes }
+{
+    Ok(FileDisk::read_only(rt, path, STORE)?)
+}

@@ -1,0 +1,4 @@
+pub mod Numbers
+pub mod Results
+pub mod Written
+pub mod LineLemmas

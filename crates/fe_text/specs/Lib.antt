@@ -1,0 +1,6 @@
+pub mod Words
+pub mod Requests
+pub mod Line
+pub mod Lines
+pub mod Printed
+pub mod RefusalNames

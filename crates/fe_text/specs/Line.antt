@@ -1,0 +1,92 @@
+-- The lines of schedules.
+use Rattle.std.specs.Prelude.{ℕ, length, List, [], ◌∷◌, codes, Option, Some, None, nat_lt, ◌==◌, if◌then◌else◌}
+use Rattle.std.specs.Option.{option_map_or}
+use Rattle.std.specs.Str.{bytes_eq}
+use Rattle.fe_wire.specs.Spelling.{Fits}
+use Rattle.fe_wire.specs.declared.client_message.ClientMessage.{ClientMessage}
+use Rattle.fe_wire.specs.declared.client_message.ClientMessage.TheVariants as message
+use Rattle.fe_codes.specs.Binding.{◌>>=◌}
+use Rattle.fe_text.specs.Words.{words_at, number_of}
+use Rattle.fe_text.specs.Requests.{request_in}
+use Rattle.fe_text.specs.declared.line.Line.{Line}
+use Rattle.fe_text.specs.declared.line.Line.TheVariants.{Message, Gone, Hold, Flush, Stop, Check}
+
+-- the number of a connection, 1 to 999
+abbrev in_range : ℕ → Option ℕ
+in_range conn = if nat_lt conn 1 then None else if nat_lt 999 conn then None else Some conn
+
+-- the letter c, and the number of a connection
+unfoldable pub conn_of : List ℕ → Option ℕ
+conn_of [] = None
+conn_of (letter ∷ digits) = if letter == 99 then (number_of digits >>= in_range) else None
+
+unfoldable pub control_in : List ℕ → Option Line
+control_in word =
+    if bytes_eq word (codes "hold") then Some Hold
+    else if bytes_eq word (codes "flush") then Some Flush
+    else if bytes_eq word (codes "stop") then Some Stop
+    else if bytes_eq word (codes "check") then Some Check
+    else None
+
+-- a message of one word
+unfoldable pub plain_in : List ℕ → Option ClientMessage
+plain_in word =
+    if bytes_eq word (codes "bye") then Some message.Bye
+    else if bytes_eq word (codes "report") then Some message.Report
+    else None
+
+-- a message that is made of the number which the word says
+abbrev made_of : (ℕ → ClientMessage) → List ℕ → Option ClientMessage
+made_of make word = do
+  number ← number_of word
+  Some (make number)
+
+-- NUMBER, and then a request
+abbrev call_in : List ℕ → List ℕ → Option ClientMessage
+call_in word words = do
+  number ← number_of word
+  request ← request_in words
+  Some (message.Call number request)
+
+-- attach SESSION, cancel NUMBER, settle FLOOR, or NUMBER and a request
+unfoldable pub numbered_in : List ℕ → List ℕ → Option ClientMessage
+numbered_in first words =
+    if bytes_eq first (codes "attach") then made_of (λ session. message.Attach session) words
+    else if bytes_eq first (codes "cancel") then made_of (λ number. message.Cancel number) words
+    else if bytes_eq first (codes "settle") then made_of (λ floor. message.Settle floor) words
+    else call_in first words
+
+-- The message that the bytes say.
+unfoldable pub message_in : List ℕ → Option ClientMessage
+message_in words = option_map_or (λ parts. numbered_in parts.0 parts.1) (words_at words) (plain_in words)
+
+-- a message of this connection
+abbrev message_of : ℕ → List ℕ → Option Line
+message_of conn words = do
+  told ← message_in words
+  Some (Message conn told)
+
+-- what stands behind the name of a connection
+unfoldable pub told_in : ℕ → List ℕ → Option Line
+told_in conn words = if bytes_eq words (codes "gone") then Some (Gone conn) else message_of conn words
+
+-- a line that begins with the name of a connection
+abbrev named_in : List ℕ → List ℕ → Option Line
+named_in name words = do
+  conn ← conn_of name
+  told_in conn words
+
+-- The line that the bytes say. No line has more than 99 bytes.
+unfoldable pub parsed : List ℕ → Option Line
+parsed bytes =
+    if nat_lt 99 (length bytes) then None
+    else option_map_or (λ parts. named_in parts.0 parts.1) (words_at bytes) (control_in bytes)
+
+-- what the line says has a frame
+abbrev pub LineFits : Line → Type 0
+LineFits (Message conn told) = Fits told
+LineFits (Gone conn) = Unit {0}
+LineFits Hold = Unit {0}
+LineFits Flush = Unit {0}
+LineFits Stop = Unit {0}
+LineFits Check = Unit {0}

@@ -1,0 +1,8 @@
+/// Why a stream was not read or written to its end.
+#[derive(Clone, Copy, Debug, PartialEq, Eq)]
+pub enum StreamFault {
+    /// It can't be read or written further.
+    Input,
+    /// There is no memory.
+    Memory,
+}

@@ -1,0 +1,18 @@
+//! The text of `femem`: the lines that say messages, the lines that replies are printed as, and the streams of both.
+#![tactic(auto)]
+
+mod fault;
+mod input;
+mod laws;
+mod line;
+mod printing;
+mod request;
+mod stream;
+mod word;
+
+pub use fault::StreamFault;
+pub use input::first_line;
+pub use laws::refusals_print_their_names;
+pub use line::{LONGEST, Line, message_in, parse};
+pub use printing::print_reply;
+pub use stream::{PIECE, READS, buffer, read_once, stream_fault, write_out, write_text};

@@ -1,0 +1,148 @@
+//! The lines of a schedule (`docs/schedules.md`).
+
+ghost use Rattle.std.specs.Prelude.{◌≡◌, IfSome};
+ghost use Rattle.fe_text.specs.Line.{parsed, conn_of, control_in, plain_in, numbered_in, message_in, told_in, LineFits};
+ghost use Rattle.fe_wire.specs.Spelling.{Fits};
+
+use crate::request::request_in;
+use crate::word::{number_of, says, word_at};
+use fe_wire::ClientMessage;
+
+/// How many bytes the longest line has.
+pub const LONGEST: usize = 99;
+
+/// The greatest number of a connection.
+const CONNECTIONS: u64 = 999;
+
+/// A line of a schedule.
+#[derive(Clone, Copy, Debug, PartialEq, Eq)]
+pub enum Line {
+    /// A connection sends a message.
+    Message { conn: u64, message: ClientMessage },
+    /// A connection goes.
+    Gone { conn: u64 },
+    /// Nothing is stored and posted from here on.
+    Hold,
+    /// What is pending is stored and posted, and a hold ends.
+    Flush,
+    /// The server stops and is opened again, and a hold ends.
+    Stop,
+    /// A whole checkpoint is made.
+    Check,
+}
+
+/// The number of the connection of that name, `c1` to `c999`.
+#[tactic(auto, unfolding(crate::specs::Line::conn_of))]
+fn conn_of(word: &[u8]) -> Option<u64>
+    ensures { result ≡ conn_of word.now }
+{
+    if word.is_empty() || word[0] != b'c' {
+        return None;
+    }
+    let conn = number_of(&word[1..])?;
+    if conn < 1 || conn > CONNECTIONS {
+        return None;
+    }
+    Some(conn)
+}
+
+/// `hold`, `flush`, `stop` or `check`.
+#[tactic(auto, unfolding(crate::specs::Line::control_in))]
+fn control_in(word: &[u8]) -> Option<Line>
+    ensures { result ≡ control_in word.now }
+{
+    if says(word, "hold") {
+        Some(Line::Hold)
+    } else if says(word, "flush") {
+        Some(Line::Flush)
+    } else if says(word, "stop") {
+        Some(Line::Stop)
+    } else if says(word, "check") {
+        Some(Line::Check)
+    } else {
+        None
+    }
+}
+
+/// `bye` or `report`.
+#[tactic(auto, unfolding(crate::specs::Line::plain_in))]
+fn plain_in(word: &[u8]) -> Option<ClientMessage>
+    ensures message { result ≡ plain_in word.now }
+    ensures fits { IfSome result Fits }
+{
+    if says(word, "bye") {
+        Some(ClientMessage::Bye)
+    } else if says(word, "report") {
+        Some(ClientMessage::Report)
+    } else {
+        None
+    }
+}
+
+/// `attach S`, `cancel NUM`, `settle F` or `NUM REQUEST`.
+#[tactic(auto, unfolding(crate::specs::Line::numbered_in))]
+fn numbered_in(first: &[u8], words: &[u8]) -> Option<ClientMessage>
+    ensures message { result ≡ numbered_in first.now words.now }
+    ensures fits { IfSome result Fits }
+{
+    if says(first, "attach") {
+        let session = number_of(words)?;
+        return Some(ClientMessage::Attach { session });
+    }
+    if says(first, "cancel") {
+        let number = number_of(words)?;
+        return Some(ClientMessage::Cancel { number });
+    }
+    if says(first, "settle") {
+        let floor = number_of(words)?;
+        return Some(ClientMessage::Settle { floor });
+    }
+    let number = number_of(first)?;
+    let request = request_in(words)?;
+    Some(ClientMessage::Call { number, request })
+}
+
+/// The message that these bytes say: a line of a schedule without the name of its connection. None of them has more than
+/// 94 bytes.
+#[tactic(auto, unfolding(crate::specs::Line::message_in))]
+pub fn message_in(words: &[u8]) -> Option<ClientMessage>
+    ensures message { result ≡ message_in words.now }
+    ensures fits { IfSome result Fits }
+{
+    match word_at(words) {
+        Some((first, words)) => numbered_in(first, words),
+        None => plain_in(words),
+    }
+}
+
+/// What stands behind the name of a connection.
+#[tactic(auto, unfolding(crate::specs::Line::told_in))]
+fn told_in(conn: u64, words: &[u8]) -> Option<Line>
+    ensures line { result ≡ told_in conn words.now }
+    ensures fits { IfSome result LineFits }
+{
+    if says(words, "gone") {
+        return Some(Line::Gone { conn });
+    }
+    let message = message_in(words)?;
+    Some(Line::Message { conn, message })
+}
+
+/// The line that these bytes say, without a line feed, with single spaces between the words. `None` for any other
+/// bytes, and for more than 99, which no line has.
+#[tactic(auto, unfolding(crate::specs::Line::parsed))]
+pub fn parse(bytes: &[u8]) -> Option<Line>
+    ensures line { result ≡ parsed bytes.now }
+    ensures fits { IfSome result LineFits }
+{
+    if bytes.len() > LONGEST {
+        return None;
+    }
+    match word_at(bytes) {
+        Some((name, words)) => {
+            let conn = conn_of(name)?;
+            told_in(conn, words)
+        }
+        None => control_in(bytes),
+    }
+}

@@ -1,0 +1,89 @@
+//! Pieces of a stream, and text to one.
+
+ghost use Rattle.std.specs.Prelude.{◌≡◌, ◌↔◌, ℕ, [], length, string_bytes, take, vec_len, IfOk, IfErr, OnOk};
+ghost use Rattle.std.specs.IoError.{error_kind};
+ghost use Rattle.std.specs.Io.KnownBytes.{Appends, Keeps};
+ghost use Rattle.fe_text.specs.Lines.{ReadsSome};
+
+use crate::fault::StreamFault;
+use std::alloc::Global;
+use std::io::{Error, ErrorKind, Read, Write};
+
+/// How often a stream is read at most.
+pub const READS: u64 = 1 << 40;
+
+/// How many bytes one read takes at most.
+pub const PIECE: usize = 65536;
+
+/// How often a stream is written at most for one text.
+const WRITES: u64 = 1 << 40;
+
+/// The fault of a stream that gave this error: `Memory` where it took none, else `Input`.
+pub fn stream_fault(error: Error) -> StreamFault
+    ensures { (result ≡ StreamFault.Memory) ↔ (error_kind error ≡ ErrorKind.OutOfMemory) }
+{
+    if error.kind() == ErrorKind::OutOfMemory {
+        StreamFault::Memory
+    } else {
+        StreamFault::Input
+    }
+}
+
+/// What reads write into, with `count` bytes.
+pub fn buffer(alloc: Global, count: usize) -> Result<Vec<u8>, StreamFault>
+    ensures len { IfOk result (λ piece. vec_len piece ≡ count) }
+    ensures err { IfErr result (λ fault. fault ≡ StreamFault.Memory) }
+{
+    vec![in alloc; 0; count].map_err(|_| StreamFault::Memory)
+}
+
+/// How many bytes a read gave, 0 at the end. `None` where it was interrupted.
+pub fn read_once<R: Read>(reader: &mut R, piece: &mut [u8]) -> Result<Option<usize>, StreamFault>
+    ensures reads { IfOk result (ReadsSome (R.remaining reader.old) (R.remaining reader.new) piece.new) }
+    ensures len { length piece.new ≡ length piece.old }
+    ensures stays { IfErr result (λ _. Keeps (R.remaining reader.old) (R.remaining reader.new)) }
+{
+    match reader.read(piece) {
+        Ok(count) => Ok(Some(count)),
+        Err(error) => {
+            if error.kind() != ErrorKind::Interrupted {
+                return Err(stream_fault(error));
+            }
+            Ok(None)
+        }
+    }
+}
+
+/// Writes the text, or where the writer fails, a front of it.
+pub fn write_text<W: Write>(writer: &mut W, text: &[u8]) -> Result<(), StreamFault>
+    ensures ok { OnOk result (Appends (W.contents writer.old) (W.contents writer.new) text.now) }
+    ensures front { (count : ℕ) × Appends (W.contents writer.old) (W.contents writer.new) (take count text.now) }
+{
+    let mut done = 0;
+    for _ in 0..WRITES {
+        if done == text.len() {
+            return Ok(());
+        }
+        match writer.write(&text[done..]) {
+            Ok(0) => return Err(StreamFault::Input),
+            Ok(count) => done += count,
+            Err(error) => {
+                if error.kind() != ErrorKind::Interrupted {
+                    return Err(stream_fault(error));
+                }
+            }
+        }
+    }
+    Err(StreamFault::Input)
+}
+
+/// Writes the text, and empties it. Where the writer fails, a front of it is written.
+pub fn write_out<W: Write>(text: &mut String, writer: &mut W) -> Result<(), StreamFault>
+    ensures ok { OnOk result (Appends (W.contents writer.old) (W.contents writer.new) (string_bytes text.old)) }
+    ensures front { (count : ℕ) × Appends (W.contents writer.old) (W.contents writer.new) (take count (string_bytes text.old)) }
+    ensures cleared { string_bytes text.new ≡ [] }
+{
+    let written = write_text(writer, text.as_bytes());
+    text.clear();
+    written
+}

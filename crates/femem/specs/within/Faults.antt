@@ -1,0 +1,87 @@
+-- The program's faults: what each command's fault is among them, and the statuses that they end the program with.
+use Rattle.std.specs.Prelude.{ℕ}
+use Rattle.fe_client.specs.declared.fault.CallFault.{CallFault}
+use Rattle.fe_client.specs.declared.fault.CallFault.TheVariants as call
+use Rattle.fe_look.specs.declared.fault.LookFault.{LookFault}
+use Rattle.fe_look.specs.declared.fault.LookFault.TheVariants as look
+use Rattle.fe_options.specs.declared.settings_fault.SettingsFault.{SettingsFault}
+use Rattle.fe_options.specs.declared.settings_fault.SettingsFault.TheVariants as settings
+use Rattle.fe_schedules.specs.declared.fault.ScheduleFault.{ScheduleFault}
+use Rattle.fe_schedules.specs.declared.fault.ScheduleFault.TheVariants as schedule
+use Rattle.fe_server.specs.declared.serve_fault.ServeFault.{ServeFault}
+use Rattle.fe_server.specs.declared.serve_fault.ServeFault.TheVariants as serve
+use Rattle.fe_server.specs.declared.stop_fault.StopFault.{StopFault}
+use Rattle.fe_server.specs.declared.stop_fault.StopFault.TheVariants as stop
+use Rattle.fe_store.specs.declared.fault.OpenFault.{OpenFault}
+use Rattle.fe_store.specs.declared.fault.OpenFault.TheVariants as store
+use Rattle.fe_text.specs.declared.fault.StreamFault.{StreamFault}
+use Rattle.fe_text.specs.declared.fault.StreamFault.TheVariants as stream
+use Rattle.femem.specs.declared.fault.Fault.{Fault}
+use Rattle.femem.specs.declared.fault.Fault.TheVariants as fault
+
+-- 2 where the input, the output or the settings are at fault, 4 where the socket is, else 3
+abbrev pub status_of : Fault → ℕ
+status_of (fault.Line number) = 2
+status_of fault.Input = 2
+status_of fault.Memory = 3
+status_of fault.Device = 3
+status_of (fault.Size size) = 3
+status_of fault.Unformatted = 3
+status_of (fault.Damaged offset) = 3
+status_of (fault.Setting key) = 2
+status_of fault.UnknownKey = 2
+status_of fault.NotToml = 2
+status_of fault.Unreadable = 2
+status_of fault.Socket = 4
+status_of fault.Strange = 3
+
+-- a stream was not read or written to its end
+abbrev pub of_stream : StreamFault → Fault
+of_stream stream.Input = fault.Input
+of_stream stream.Memory = fault.Memory
+
+-- a store was not opened
+abbrev pub of_store : OpenFault → Fault
+of_store store.Device = fault.Device
+of_store store.Memory = fault.Memory
+of_store (store.Size found) = fault.Size found
+of_store store.Unformatted = fault.Unformatted
+of_store (store.Damaged offset) = fault.Damaged offset
+
+-- a schedule was not run to its end
+abbrev pub of_schedule : ScheduleFault → Fault
+of_schedule (schedule.Line number) = fault.Line number
+of_schedule schedule.Input = fault.Input
+of_schedule schedule.Memory = fault.Memory
+of_schedule schedule.Device = fault.Device
+
+-- a store was not shown
+abbrev pub of_look : LookFault → Fault
+of_look (look.Store why) = of_store why
+of_look (look.Stream why) = of_stream why
+
+-- no settings were read
+abbrev pub of_settings : SettingsFault → Fault
+of_settings (settings.Setting key) = fault.Setting key
+of_settings settings.UnknownKey = fault.UnknownKey
+of_settings settings.NotToml = fault.NotToml
+of_settings settings.Memory = fault.Memory
+
+-- an opened store was served, and the server stopped for a fault
+abbrev pub of_stop : StopFault → Fault
+of_stop stop.Device = fault.Device
+of_stop stop.Memory = fault.Memory
+of_stop stop.Strange = fault.Strange
+
+-- a server ended with no books
+abbrev pub of_serve : ServeFault → Fault
+of_serve (serve.Store why) = of_store why
+of_serve serve.Socket = fault.Socket
+of_serve (serve.Stopped why) = of_stop why
+
+-- a call ended before its input did
+abbrev pub of_call : CallFault → Fault
+of_call (call.Line number) = fault.Line number
+of_call call.Socket = fault.Socket
+of_call call.Input = fault.Input
+of_call call.Memory = fault.Memory

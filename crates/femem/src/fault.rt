@@ -1,0 +1,202 @@
+ghost use Rattle.std.specs.Prelude.{◌≡◌};
+ghost use Rattle.femem.specs.within.Faults.{status_of};
+
+use fe_client::CallFault;
+use fe_look::LookFault;
+use fe_options::{Key, SettingsFault};
+use fe_schedules::ScheduleFault;
+use fe_server::{ServeFault, StopFault};
+use fe_store::OpenFault;
+use fe_text::StreamFault;
+use thiserror::Error;
+
+/// Why a command ended before its end. The text is the line on standard error.
+#[derive(Clone, Copy, Debug, PartialEq, Eq, Error)]
+pub(crate) enum Fault {
+    /// The line of that number, counted from 1, isn't in the syntax.
+    #[error("femem: line {0}")]
+    Line(u64),
+    /// The input can't be read to its end, or the output can't be written.
+    #[error("femem: input")]
+    Input,
+    /// There is no memory.
+    #[error("femem: memory")]
+    Memory,
+    /// There is no file of the store, or its device failed.
+    #[error("femem: store device")]
+    Device,
+    /// The file of the store has another size than a store, so many bytes.
+    #[error("femem: store size {0}")]
+    Size(u64),
+    /// No slot of the store is valid.
+    #[error("femem: store unformatted")]
+    Unformatted,
+    /// The slot of the store that counts is wrong at this offset (`docs/formats.md`, "Device").
+    #[error("femem: store damaged at {0}")]
+    Damaged(usize),
+    /// The setting has to be there and isn't, or has a value that it may not have (`docs/settings.md`).
+    #[error("femem: settings: {0}")]
+    Setting(Key),
+    /// The settings have a key that is none of theirs.
+    #[error("femem: settings: unknown key")]
+    UnknownKey,
+    /// The settings are no document of TOML.
+    #[error("femem: settings: not toml")]
+    NotToml,
+    /// The file of the settings can't be read as text.
+    #[error("femem: settings: unreadable")]
+    Unreadable,
+    /// The socket can't be made, or a server at its other end broke off or broke the rules of frames.
+    #[error("femem: socket")]
+    Socket,
+    /// A layer below answered what a right one never answers.
+    #[error("femem: strange")]
+    Strange,
+}
+
+impl Fault {
+    /// The status that the program ends with: 2 where the input, the output or the settings are at fault, 4 where the
+    /// socket is, else 3.
+    pub(crate) fn status(self) -> u8
+        ensures { result ≡ status_of self }
+    {
+        match self {
+            Fault::Line(_) => 2,
+            Fault::Input => 2,
+            Fault::Memory => 3,
+            Fault::Device => 3,
+            Fault::Size(_) => 3,
+            Fault::Unformatted => 3,
+            Fault::Damaged(_) => 3,
+            Fault::Setting(_) => 2,
+            Fault::UnknownKey => 2,
+            Fault::NotToml => 2,
+            Fault::Unreadable => 2,
+            Fault::Socket => 4,
+            Fault::Strange => 3,
+        }
+    }
+}
+
+impl From<StreamFault> for Fault {
+    ghost use Rattle.std.specs.Prelude.{◌≡◌};
+    ghost use Rattle.femem.specs.within.Faults.{of_stream};
+
+    ghost from_gives = { λ before fault. fault ≡ of_stream before };
+
+    fn from(before: StreamFault) -> Fault {
+        match before {
+            StreamFault::Input => Fault::Input,
+            StreamFault::Memory => Fault::Memory,
+        }
+    }
+}
+
+impl From<OpenFault> for Fault {
+    ghost use Rattle.std.specs.Prelude.{◌≡◌};
+    ghost use Rattle.femem.specs.within.Faults.{of_store};
+
+    ghost from_gives = { λ before fault. fault ≡ of_store before };
+
+    fn from(before: OpenFault) -> Fault {
+        match before {
+            OpenFault::Device => Fault::Device,
+            OpenFault::Memory => Fault::Memory,
+            OpenFault::Size(found) => Fault::Size(found),
+            OpenFault::Unformatted => Fault::Unformatted,
+            OpenFault::Damaged(offset) => Fault::Damaged(offset),
+        }
+    }
+}
+
+impl From<ScheduleFault> for Fault {
+    ghost use Rattle.std.specs.Prelude.{◌≡◌};
+    ghost use Rattle.femem.specs.within.Faults.{of_schedule};
+
+    ghost from_gives = { λ before fault. fault ≡ of_schedule before };
+
+    fn from(before: ScheduleFault) -> Fault {
+        match before {
+            ScheduleFault::Line(number) => Fault::Line(number),
+            ScheduleFault::Input => Fault::Input,
+            ScheduleFault::Memory => Fault::Memory,
+            ScheduleFault::Device => Fault::Device,
+        }
+    }
+}
+
+impl From<LookFault> for Fault {
+    ghost use Rattle.std.specs.Prelude.{◌≡◌};
+    ghost use Rattle.femem.specs.within.Faults.{of_look};
+
+    ghost from_gives = { λ before fault. fault ≡ of_look before };
+
+    fn from(before: LookFault) -> Fault {
+        match before {
+            LookFault::Store(fault) => Fault::from(fault),
+            LookFault::Stream(fault) => Fault::from(fault),
+        }
+    }
+}
+
+impl From<SettingsFault> for Fault {
+    ghost use Rattle.std.specs.Prelude.{◌≡◌};
+    ghost use Rattle.femem.specs.within.Faults.{of_settings};
+
+    ghost from_gives = { λ before fault. fault ≡ of_settings before };
+
+    fn from(before: SettingsFault) -> Fault {
+        match before {
+            SettingsFault::Setting(key) => Fault::Setting(key),
+            SettingsFault::UnknownKey => Fault::UnknownKey,
+            SettingsFault::NotToml => Fault::NotToml,
+            SettingsFault::Memory => Fault::Memory,
+        }
+    }
+}
+
+impl From<StopFault> for Fault {
+    ghost use Rattle.std.specs.Prelude.{◌≡◌};
+    ghost use Rattle.femem.specs.within.Faults.{of_stop};
+
+    ghost from_gives = { λ before fault. fault ≡ of_stop before };
+
+    fn from(before: StopFault) -> Fault {
+        match before {
+            StopFault::Device => Fault::Device,
+            StopFault::Memory => Fault::Memory,
+            StopFault::Strange => Fault::Strange,
+        }
+    }
+}
+
+impl From<ServeFault> for Fault {
+    ghost use Rattle.std.specs.Prelude.{◌≡◌};
+    ghost use Rattle.femem.specs.within.Faults.{of_serve};
+
+    ghost from_gives = { λ before fault. fault ≡ of_serve before };
+
+    fn from(before: ServeFault) -> Fault {
+        match before {
+            ServeFault::Store(fault) => Fault::from(fault),
+            ServeFault::Socket => Fault::Socket,
+            ServeFault::Stopped(fault) => Fault::from(fault),
+        }
+    }
+}
+
+impl From<CallFault> for Fault {
+    ghost use Rattle.std.specs.Prelude.{◌≡◌};
+    ghost use Rattle.femem.specs.within.Faults.{of_call};
+
+    ghost from_gives = { λ before fault. fault ≡ of_call before };
+
+    fn from(before: CallFault) -> Fault {
+        match before {
+            CallFault::Line(number) => Fault::Line(number),
+            CallFault::Socket => Fault::Socket,
+            CallFault::Input => Fault::Input,
+            CallFault::Memory => Fault::Memory,
+        }
+    }
+}
