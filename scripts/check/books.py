@@ -4,7 +4,7 @@ import re
 import threading
 
 from . import wire
-from .crowds import adding, served, together
+from .crowds import adding, together
 from .harness import Server, holds, same, until
 
 LINES = re.compile(r"calls (\d+) completed (\d+) waiting (\d+) withdrawn (\d+) repeated (\d+) refused (\d+)\nmails (\d+) taken (\d+) dropped (\d+) left (\d+)\n")
@@ -28,7 +28,7 @@ def text(**numbers):
     return first + "\n" + " ".join(f"{key} {it[key]}" for key in ("mails", "taken", "dropped", "left")) + "\n"
 
 
-def one_client(place):
+def serve_and_call(place):
     """one connection through `call`: the books of five lines, and what `look` shows then"""
     server = Server(place, accepts=1).start()
     given = b"attach 7\n1 create cells 2 empty\n2 writeef 1 0 42\n3 readfe 1 0\n4 readxx 1 0\n"
@@ -130,17 +130,84 @@ def with_losses(place):
     return f"{found['mails']} mails, {found['taken']} taken"
 
 
-def refused_connections(place):
-    """a connection that is closed at once is not counted by `accepts`"""
-    server = Server(place, accepts=2, connections=1).start()
-    with server.attached(7):
-        for _ in range(5):
-            with server.connect() as late:
-                holds(late.has_ended(), "a second connection was served")
-    # (the place is free once the server has seen the end)
-    with until(lambda: served(server), 20, "the place was free again") as conn:
-        same(conn.ask(wire.attach(8)), ("welcome", 8, 1))
-    same(server.ended(), (0, text(mails=3, taken=3), ""))
+def connections_come_and_go(place):
+    """of three clients one after the other each is served alone; those that are closed at once are not counted by `accepts`"""
+    server = Server(place, accepts=3, connections=1).start()
+    for turn in range(3):
+        with until(lambda: attached_or_none(server), 20, "the place is free") as conn:
+            # (behind the last one the server waits for no connection)
+            for _ in range(5 * (turn < 2)):
+                with server.connect() as late:
+                    holds(late.has_ended(), "a second connection was served")
+            same(conn.ask(wire.call(1, ("find", b"cells"))), ("answer", 1, ("no-array",)))
+    same(server.ended(), (0, text(calls=3, completed=1, repeated=2, mails=6, taken=6), ""))
 
 
-CHECKS = (one_client, each_column, waiting_goes, of_many, with_losses, refused_connections)
+def attached_or_none(server):
+    """A connection that has attached session 7, or None where it was closed at once."""
+    conn = server.connect()
+    try:
+        same(conn.ask(wire.attach(7)), ("welcome", 7, 1))
+        return conn
+    except wire.Ended:
+        conn.close()
+        return None
+
+
+def streams_end(place):
+    """a client that sends a byte at a time, one that shuts its sending side, one that sends no frame: what came before is done"""
+    server = Server(place, accepts=3).start()
+    look = lambda number, index: wire.call(number, ("access", 18, 1, index, 0, False))
+    with server.attached(7) as slow:
+        for frame, answer in (
+            (wire.call(1, ("create", b"cells", 2, 0)), ("array", 1, 2)),
+            (wire.call(2, ("access", 19, 1, 0, 42, False)), ("done",)),
+            (wire.call(3, ("access", 16, 1, 0, 0, False)), ("value", 42)),
+            (look(4, 0), ("value", 42)),
+        ):
+            for at in range(len(frame)):
+                slow.send(frame[at : at + 1])
+            same(slow.reply()[2], answer)
+    with server.attached(8) as half:
+        same(half.ask(look(1, 0)), ("answer", 1, ("value", 42)))
+        # (the second word is written, and the first one is waited for)
+        half.send(wire.call(2, ("access", 19, 1, 1, 9, False)) + wire.call(3, ("access", 16, 1, 0, 0, False)))
+        half.finish()
+        until(half.has_ended, 20, "the server ends a connection that was shut")
+    with server.attached(9) as bad:
+        same(bad.ask(look(1, 1)), ("answer", 1, ("value", 9)))
+        bad.send(bytes(4))
+        holds(bad.has_ended(), "the server kept a connection that sent no frame")
+    found = books_of(server)
+    # (whether the answer to the write is mailed before its client is gone is open)
+    wanted = {"calls": 8, "completed": 7, "waiting": 0, "withdrawn": 1, "repeated": 0, "refused": 0}
+    same({key: found[key] for key in wanted}, wanted)
+    left = "place 10\narray 1 cells 2\nsession 7 floor 1 kept 4\nsession 8 floor 1 kept 2\nsession 9 floor 1 kept 1\n"
+    same(server.looks(), left)
+
+
+def turns_end_a_connection(place):
+    """a connection that was read as often as `turns` says has ended, and what came with the last read is handled"""
+    server = Server(place, accepts=2, turns=3).start()
+    with server.connect() as conn:
+        same([conn.ask(wire.report()) for _ in range(2)], [("report", "waiting 0\n")] * 2)
+        conn.send(wire.report())
+        # (whether the last report is written before the connection is ended is open)
+        until(lambda: conn.has_ended() and conn.got in (b"", wire.framed(71, b"waiting 0\n")), 20, "the third read was the last")
+    with server.connect() as conn:
+        same(conn.ask(wire.report()), ("report", "waiting 0\n"))
+    found = books_of(server)
+    same((found["calls"], found["mails"], found["left"]), (0, 4, 0))
+    holds(found["dropped"] <= 1, f"{found}")
+
+
+CHECKS = (
+    serve_and_call,
+    each_column,
+    waiting_goes,
+    of_many,
+    with_losses,
+    connections_come_and_go,
+    streams_end,
+    turns_end_a_connection,
+)

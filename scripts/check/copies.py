@@ -9,7 +9,8 @@ import time
 
 from . import store, wire
 from .crowds import adding
-from .harness import Server, Skipped, holds, same, until, within
+from .books import books_of, text
+from .harness import Held, Server, Skipped, holds, same, until, within
 
 HEADERS = ((0, store.IMAGE), (store.SLOT, store.IMAGE))
 
@@ -133,6 +134,33 @@ def left_by_a_kill(place):
     same(first, store.read_store(content)[2].looks())
 
 
+def copy_goes_on(place):
+    """a store that is copied while an append waits for its first sync has what was answered, and each number takes effect once there"""
+    held = Held(place, "fdatasync")
+    server = Server(place, accepts=1).start(held.env)
+    with server.attached(7) as conn:
+        same(conn.ask(wire.call(1, ("create", b"cells", 2, 1))), ("answer", 1, ("array", 1, 2)))
+        same(conn.ask(wire.call(2, adding(1, 0, 5))), ("answer", 2, ("value", 0)))
+        held.next()
+        conn.send(wire.call(3, adding(1, 0, 5)))
+        held.wait()
+        copy = place.write("copy", place.read("s.store"))
+        holds(conn.is_quiet(), "an answer came before its sync")
+        held.let_go()
+        same(conn.reply(), ("answer", 3, ("value", 5)))
+    found = books_of(server)
+    same((found["calls"], found["completed"], found["waiting"]), (3, 3, 0))
+    same(server.looks(), "place 4\narray 1 cells 2\nsession 7 floor 1 kept 3\n")
+    other = Server(place, "t", store=copy, accepts=1)
+    same(other.looks(), "place 3\narray 1 cells 2\nsession 7 floor 1 kept 2\n", "the copy")
+    other.start()
+    with other.attached(7) as conn:
+        conn.send(wire.call(1, ("create", b"cells", 2, 1)) + b"".join(wire.call(number, adding(1, 0, 5)) for number in (2, 3)))
+        same([conn.reply() for _ in range(3)], [("answer", 1, ("array", 1, 2)), ("answer", 2, ("value", 0)), ("answer", 3, ("value", 5))])
+        same(conn.ask(wire.call(4, ("access", 18, 1, 0, 0, False))), ("answer", 4, ("value", 10)))
+    same(other.ended(), (0, text(calls=4, completed=2, repeated=2, mails=5, taken=5), ""))
+
+
 def may_only_be_read(place):
     """a store that may only be read is looked at, by a user who may do no more; a pipe is no store, and nobody waits for its writer"""
     os.mkfifo(place.path("pipe"))
@@ -158,4 +186,4 @@ def may_only_be_read(place):
     same((look.returncode, look.stdout, look.stderr), (0, b"place 1\nsession 7 floor 1 kept 0\n", b""))
 
 
-CHECKS = (left_by_serve, taken_in_mid_run, left_by_a_kill, may_only_be_read)
+CHECKS = (left_by_serve, taken_in_mid_run, copy_goes_on, left_by_a_kill, may_only_be_read)

@@ -5,7 +5,7 @@ import threading
 import time
 
 from . import store, wire
-from .harness import Server, holds, same, until, within
+from .harness import Held, Server, holds, same, until, within
 
 
 def together(count, work):
@@ -97,6 +97,24 @@ def hand_overs(place):
     return f"{pairs * each} values"
 
 
+def held_call_holds_one(place):
+    """a call that is held between its read and its handling holds no other connection: one that comes then is answered first"""
+    held = Held(place, "recv")
+    server = Server(place, accepts=2).start(held.env)
+    with server.attached(7) as first:
+        held.next()
+        first.send(wire.call(1, ("create", b"cells", 2, 0)))
+        held.wait()
+        with server.attached(8) as second:
+            same(second.ask(wire.call(1, ("find", b"cells"))), ("answer", 1, ("no-array",)))
+            holds(first.is_quiet(), "the call that is held was answered")
+            held.let_go()
+            same(first.reply(), ("answer", 1, ("array", 1, 2)))
+            same(second.ask(wire.call(2, ("find", b"cells"))), ("answer", 2, ("array", 1, 2)))
+    told = "calls 3 completed 3 waiting 0 withdrawn 0 repeated 0 refused 0\nmails 5 taken 5 dropped 0 left 0\n"
+    same(server.ended(), (0, told, ""))
+
+
 @within(90)
 def one_after_another(place):
     """a thousand connections one after the other, each with a session that goes on where it was"""
@@ -176,6 +194,44 @@ def byte_at_a_time(place):
                 conn.send(frame[at : at + 1])
             same(conn.reply(), reply)
     server.stop()
+
+
+# The frames of version 1 and 2 and what the server sends for each, by hand: the first path, and then the other kinds.
+TALK = (
+    (b"\0\0\0\x09\x01\0\0\0\0\0\0\0\x07", b"\0\0\0\x11\x41\0\0\0\0\0\0\0\x07\0\0\0\0\0\0\0\x01"),
+    (b"\0\0\0\x1f\x02\0\0\0\0\0\0\0\x01\x05cells" + bytes(14) + b"\x02\0", b"\0\0\0\x16\x42\0\0\0\0\0\0\0\x01\x03\0\0\0\0\0\0\0\x01\0\0\0\x02"),
+    (b"\0\0\0\x1e\x05\0\0\0\0\0\0\0\x02\x13\0\0\0\0\0\0\0\x01" + bytes(11) + b"\x2a", b"\0\0\0\x16\x42\0\0\0\0\0\0\0\x02\x02" + bytes(12)),
+    (b"\0\0\0\x1e\x05\0\0\0\0\0\0\0\x03\x10\0\0\0\0\0\0\0\x01" + bytes(12), b"\0\0\0\x16\x42\0\0\0\0\0\0\0\x03\x01\0\0\0\0\0\0\0\x2a" + bytes(4)),
+    (b"\0\0\0\x1e\x05\0\0\0\0\0\0\0\x04\x12\0\0\0\0\0\0\0\x01" + bytes(12), b"\0\0\0\x16\x42\0\0\0\0\0\0\0\x04\x01\0\0\0\0\0\0\0\x2a" + bytes(4)),
+    # (readfe under number 5 that may not wait is answered not-now, and one under number 7 waits and is cancelled)
+    (b"\0\0\0\x1e\x0b\0\0\0\0\0\0\0\x05\x10\0\0\0\0\0\0\0\x01" + bytes(12), b"\0\0\0\x16\x42\0\0\0\0\0\0\0\x05\x0b" + bytes(12)),
+    (b"\0\0\0\x1e\x05\0\0\0\0\0\0\0\x07\x10\0\0\0\0\0\0\0\x01" + bytes(12), b""),
+    (b"\0\0\0\x09\x06\0\0\0\0\0\0\0\x07", b"\0\0\0\x09\x43\0\0\0\0\0\0\0\x07"),
+    (b"\0\0\0\x09\x06\0\0\0\0\0\0\0\x05", b"\0\0\0\x0a\x46\0\0\0\0\0\0\0\x05\x0a"),
+    (b"\0\0\0\x09\x07\0\0\0\0\0\0\0\x05", b"\0\0\0\x09\x44\0\0\0\0\0\0\0\x05"),
+    (b"\0\0\0\x1a\x03\0\0\0\0\0\0\0\x06\x05cells" + bytes(11), b"\0\0\0\x16\x42\0\0\0\0\0\0\0\x06\x03\0\0\0\0\0\0\0\x01\0\0\0\x02"),
+    (b"\0\0\0\x11\x04\0\0\0\0\0\0\0\x08\0\0\0\0\0\0\0\x01", b"\0\0\0\x16\x42\0\0\0\0\0\0\0\x08\x02" + bytes(12)),
+    (
+        b"\0\0\0\x2f\x0c\0\0\0\0\0\0\0\x09\x11seventeen_letters" + bytes(15) + b"\0\0\0\x01\x01",
+        b"\0\0\0\x16\x42\0\0\0\0\0\0\0\x09\x03\0\0\0\0\0\0\0\x02\0\0\0\x01",
+    ),
+    (b"\0\0\0\x2a\x0d\0\0\0\0\0\0\0\x0a\x11seventeen_letters" + bytes(15), b"\0\0\0\x16\x42\0\0\0\0\0\0\0\x0a\x03\0\0\0\0\0\0\0\x02\0\0\0\x01"),
+    (b"\0\0\0\x01\x09", b"\0\0\0\x0b\x47waiting 0\n"),
+    (b"\0\0\0\x01\x08", b"\0\0\0\x09\x45\0\0\0\0\0\0\0\x07"),
+)
+
+
+def bytes_of_frames(place):
+    """the bytes of a reply of each kind, to frames that come whole or a byte at a time"""
+    for pieces in ("whole", "bytes"):
+        server = Server(place, pieces).start()
+        with server.connect() as conn:
+            for frame, reply in TALK:
+                for piece in [frame] if pieces == "whole" else [frame[at : at + 1] for at in range(len(frame))]:
+                    conn.send(piece)
+                same(conn.piece(len(reply)), reply, frame)
+            holds(conn.is_quiet(), "more came than the replies")
+        server.stop()
 
 
 def half_closed(place):
@@ -310,6 +366,9 @@ def refusals(place):
         same(conns[0].ask(wire.bye()), ("goodbye", 0))
         same(late.ask(wire.attach(64)), ("welcome", 64, 1))
         same(late.ask(wire.call(33, ("find", b"a"))), ("refused", 33, "beyond-window"))
+        # (a name without a byte is in no schedule)
+        same(late.ask(wire.call(1, ("create", b"", 0, 1))), ("answer", 1, ("bad-name",)))
+        same(late.ask(wire.call(2, ("find", b""))), ("answer", 2, ("bad-name",)))
         same(late.ask(wire.settle(0)), ("refused", 0, "below-floor"))
         same(late.ask(wire.settle(34)), ("refused", 34, "beyond-window"))
         same(late.ask(wire.cancel(3)), ("refused", 3, "not-waiting"))
@@ -339,10 +398,12 @@ def turns(place):
 CHECKS = (
     in_parallel,
     hand_overs,
+    held_call_holds_one,
     one_after_another,
     the_257th,
     few_connections,
     byte_at_a_time,
+    bytes_of_frames,
     half_closed,
     never_reads,
     slow_reader,

@@ -7,19 +7,8 @@ import subprocess
 from . import store, wire
 from .crowds import adding
 from .crowds import served as served_one
-from .harness import Server, Wrong, compiler, holds, same, until, within
+from .harness import Server, Wrong, holds, preload, same, until, within
 from .model import State
-
-HERE = os.path.dirname(os.path.realpath(__file__))
-
-
-def preload(place, source):
-    """Compiles a preload, and gives its path."""
-    made = place.path(f"{source}.so")
-    words = [compiler(), "-O2", "-shared", "-fPIC", "-o", made, os.path.join(HERE, source), "-ldl"]
-    ran = subprocess.run(words, stdin=subprocess.DEVNULL, stdout=subprocess.PIPE, stderr=subprocess.STDOUT, timeout=60)
-    same(ran.returncode, 0, ran.stdout.decode())
-    return made
 
 
 class Client:
@@ -185,6 +174,47 @@ def memory_refused(place):
     return f"{number - 1} allocations, {ended} ended the server"
 
 
+@within(120)
+def commands_where_memory_ends(place):
+    """each allocation of the other commands is refused in turn: `femem: memory`, or the same as with memory; what is printed is a front"""
+    library = preload(place, "../refuse.c")
+    filled = store.device_of(store.TWO, groups=[[("attached", 7, 1)], [("finished", 7, 1, ("create", b"cells", 2, 0), ("array", 1, 2))]])
+    paths = 'socket = "x.socket"\nstore = "none"\n'
+    told = {}
+    for name, given, status in (
+        ("look", ("--store", place.write("filled", bytes(filled))), 0),
+        ("serve", ("--settings", place.write("right", (paths + "turns = 5\nconnections = 7\n").encode())), 3),
+        ("serve", ("--settings", place.write("wrong", (paths + "turns = 0\n").encode())), 2),
+        ("serve", ("--settings", place.write("unknown", (paths + "other = [1, 'a']\n").encode())), 2),
+        ("serve", ("--settings", place.write("broken", (paths + "other").encode())), 2),
+        ("jump", (), 2),
+        ("look", (), 2),
+        ("look", ("--store", b"\xff"), 2),
+        ("--version", (), 0),
+        ("help", (), 0),
+    ):
+        told[name] = told.get(name, 0) + refused_in_turn(place, library, (name, *given), status)
+    return ", ".join(f"{name} {number}" for name, number in told.items())
+
+
+def refused_in_turn(place, library, words, status):
+    """Refuses each allocation of a run that would end so: how many there were."""
+    wanted = place.run(*words)
+    same(wanted[0], status, words)
+    mark = place.path("refused")
+    number = 0
+    while True:
+        number += 1
+        found = place.run(*words, env={"LD_PRELOAD": library, "REFUSE": str(number), "REFUSED": mark})
+        if not os.path.exists(mark):
+            same(found, wanted, words)
+            holds(number > 1, f"{words} took no memory")
+            return number - 1
+        os.unlink(mark)
+        is_short = found[::2] == (3, b"femem: memory\n") and wanted[1].startswith(found[1])
+        holds(is_short or found == wanted, f"{words}, allocation {number} refused: {found}")
+
+
 def few_files(place):
     """a server that may open few files: connections beyond that wait, and are served once others have gone"""
     server = Server(place, connections=256).start(limit=(resource.RLIMIT_NOFILE, 16))
@@ -234,4 +264,4 @@ def open_or_none(server, number):
         return None
 
 
-CHECKS = (new_stores, in_checkpoints, memory_refused, few_files, little_memory)
+CHECKS = (new_stores, in_checkpoints, memory_refused, commands_where_memory_ends, few_files, little_memory)

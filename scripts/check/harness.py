@@ -11,6 +11,8 @@ from . import wire
 
 USUAL_SECONDS = 60
 
+HERE = os.path.dirname(os.path.realpath(__file__))
+
 
 class Wrong(Exception):
     """A check found something that should not be so."""
@@ -176,6 +178,26 @@ class Server:
         return output.decode()
 
 
+class Held:
+    """A server whose calls of one kind can be held: the environment to start it in, and what holds it."""
+
+    def __init__(self, place, call):
+        self.asked = place.path("hold")
+        self.mark = place.path("held")
+        self.env = {"LD_PRELOAD": preload(place, "streams.c"), "CALL": call, "HOLD": self.asked, "MARK": self.mark}
+
+    def next(self):
+        """From here on the next call is held."""
+        with open(self.asked, "wb"):
+            pass
+
+    def wait(self):
+        until(lambda: os.path.exists(self.mark), 30, "a call is held")
+
+    def let_go(self):
+        os.unlink(self.mark)
+
+
 class Runner:
     """Runs checks, prints a line for each, and counts."""
 
@@ -226,6 +248,15 @@ def compiler():
         if shutil.which(name):
             return name
     raise Skipped("there is no C compiler")
+
+
+def preload(place, source):
+    """Compiles a preload, and gives its path."""
+    made = place.path(f"{source}.so")
+    words = [compiler(), "-O2", "-shared", "-fPIC", "-o", made, os.path.join(HERE, source), "-ldl"]
+    ran = subprocess.run(words, stdin=subprocess.DEVNULL, stdout=subprocess.PIPE, stderr=subprocess.STDOUT, timeout=60)
+    same(ran.returncode, 0, ran.stdout.decode())
+    return made
 
 
 def late(*_):

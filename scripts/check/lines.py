@@ -5,27 +5,43 @@ import socket
 import threading
 
 from . import wire
-from .harness import Server, holds, same
+from .harness import Server, holds, same, until
 from .store import SIZE, TWO, device_of
 
 PATHS = 'socket = "x.socket"\nstore = "x.store"\n'
 
 
+MORE = b"\n\nFor more information, try '--help'.\n"
+
+
 def words(place):
     """wrong words of the command line are told, with status 2 and no output"""
+    name = os.path.basename(place.program).encode()
+    usage = b"\n\nUsage: " + name
+    missing = lambda option, command: b"the following required arguments were not provided:\n  " + option + usage + b" " + command + b" " + option
     for given, said in (
-        ((), b"requires a subcommand"),
-        (("jump",), b"unrecognized subcommand 'jump'"),
-        (("serve",), b"--settings <FILE>"),
-        (("call",), b"--socket <PATH>"),
-        (("look",), b"--store <PATH>"),
-        (("look", "--store"), b"a value is required"),
-        (("run", "more"), b"unexpected argument 'more'"),
-        (("look", "--store", b"\xff"), b"invalid UTF-8"),
+        ((), b"'" + name + b"' requires a subcommand but one was not provided\n  [subcommands: run, serve, call, look, help]" + usage + b" <COMMAND>"),
+        (("jump",), b"unrecognized subcommand 'jump'" + usage + b" <COMMAND>"),
+        (("serve",), missing(b"--settings <FILE>", b"serve")),
+        (("call",), missing(b"--socket <PATH>", b"call")),
+        (("look",), missing(b"--store <PATH>", b"look")),
+        (("look", "--store"), b"a value is required for '--store <PATH>' but none was supplied"),
+        (("run", "more"), b"unexpected argument 'more' found" + usage + b" run"),
+        # (here the words that would give the program's name are not read)
+        (("look", "--store", b"\xff"), b"invalid UTF-8 was detected in one or more arguments\n\nUsage: femem <COMMAND>"),
     ):
-        status, output, errors = place.run(*given)
-        same((status, output), (2, b""), given)
-        holds(said in errors, f"{given}: {errors}")
+        same(place.run(*given), (2, b"", b"error: " + said + MORE), given)
+
+
+def commands(place):
+    """an option's value stands behind a blank or `=`, and may have blanks"""
+    store = place.write("a b", bytes(device_of(TWO)))
+    for given in (("look", "--store", store), ("look", f"--store={store}")):
+        same(place.run(*given), (0, b"place 0\n", b""), given)
+    server = Server(place).start()
+    for given in (("call", "--socket", server.socket), ("call", f"--socket={server.socket}")):
+        same(place.run(*given, given=b"report\n"), (0, b"waiting 0\n", b""), given)
+    server.stop()
 
 
 def help_and_version(place):
@@ -39,6 +55,9 @@ def help_and_version(place):
         status, output, errors = place.run(command, "--help")
         usage = f"Usage: {os.path.basename(place.program)} {command}".encode()
         holds(status == 0 and not errors and usage in output, f"{command}: {output}")
+    shown = f"Shows what is in a store\n\nUsage: {os.path.basename(place.program)} look --store <PATH>\n\n"
+    shown += "Options:\n      --store <PATH>  The file of the store\n  -h, --help          Print help\n"
+    same(place.run("look", "--help"), (0, shown.encode(), b""))
     same(place.run("--version"), (0, b"femem 0.1.0\n", b""))
     with open("/dev/full", "wb") as full:
         same(place.run("--help", stdout=full)[::2], (2, b"femem: input\n"))
@@ -54,7 +73,7 @@ def settings_unreadable(place):
     same(place.run("serve", "--settings", place.path("none")), (2, b"", b"femem: settings: unreadable\n"))
     same(place.run("serve", "--settings", place.folder), (2, b"", b"femem: settings: unreadable\n"))
     refused(place, b'socket = "\xff"\n', "settings: unreadable")
-    for text in ("socket", "socket = ", PATHS + 'socket = "twice"\n', "= 1\n", PATHS + "turns = 1__0\n", 'socket = "open\n'):
+    for text in ("socket", "other", "socket = ", PATHS + "accepts = 01\n", PATHS + 'socket = "twice"\n', "= 1\n", PATHS + "turns = 1__0\n", 'socket = "open\n'):
         refused(place, text, "settings: not toml")
 
 
@@ -69,6 +88,7 @@ def settings_in_order(place):
         refused(place, "\n".join(lines), f"settings: {key}")
     refused(place, "\n".join(["more = 1"] + [f"{it} = {right[it]}" for it in keys]), "settings: unknown key")
     refused(place, PATHS + "[more]\n", "settings: unknown key")
+    refused(place, PATHS + "Format = true\n", "settings: unknown key")
     refused(place, "", "settings: socket")
     refused(place, 'socket = "x.socket"\n', "settings: store")
 
@@ -87,8 +107,33 @@ def settings_bounds(place):
             others = "".join(line + "\n" for line in PATHS.splitlines() if not line.startswith(key))
             refused(place, f"{others}{key} = {value}\n", f"settings: {key}")
     # the store isn't there, so settings that are right go on to `femem: store device`
-    for line in ("connections = 1", "connections = 256", "format = false", "accepts = 0", "accepts = 65536", "turns = 1", "turns = 0x100_0000_0000"):
+    for line in ("connections = 1", "connections = 256", "format = false", "accepts = 0", "accepts = 65536", "turns = 1", "turns = 0x100_0000_0000", "accepts = 65_536", "# none"):
         refused(place, PATHS + line + "\n", "store device", 3)
+
+
+def settings_values(place):
+    """what the settings say holds, in each form of TOML; 64 connections where nothing is said"""
+    shown = b"waiting 0\n"
+    report = lambda server: place.run("call", "--socket", server.socket, given=b"report\n")
+    usual = Server(place, "usual").start()
+    conns = [usual.connect() for _ in range(64)]
+    same([conn.ask(wire.report())[0] for conn in conns], ["report"] * 64)
+    with usual.connect() as late:
+        holds(late.has_ended(), "the 65th connection was served")
+    for conn in conns:
+        conn.close()
+    # (numbers as in no schedule, and a text that is taken as it stands)
+    few = Server(place, "few", connections="0x1", accepts="0b10", turns="0o2", store=place.path("a b")).start()
+    with few.connect() as conn:
+        same(conn.ask(wire.report())[0], "report")
+        with few.connect() as late:
+            holds(late.has_ended(), "a second connection was served")
+        conn.send(wire.report())
+        until(conn.has_ended, 20, "the second read was the last")
+    until(lambda: report(few) == (0, shown, b""), 20, "the place is free")
+    same(few.ended()[0], 0)
+    same(few.looks(), "place 0\n")
+    holds(usual.is_running(), "a server without `accepts` ended")
 
 
 def store_refusals(place):
@@ -140,7 +185,13 @@ def sockets(place):
     place.write("file", b"mine")
     for path in (place.path("dead"), place.path("file"), place.folder, place.path("no/folder"), "/" + "x" * 200, ""):
         refused(place, f'socket = "{path}"\nstore = "{store}"\n', "socket", 4)
-        refused(place, f'socket = "{path}"\nstore = "{place.path("none")}"\n', "store device", 3)
+        for fault, content in (("store device", None), ("store size 10", b"0123456789"), ("store unformatted", bytes(SIZE))):
+            other = place.path("none") if content is None else place.write("other", content)
+            refused(place, f'socket = "{path}"\nstore = "{other}"\n', fault, 3)
+    # the store is made, and then the socket is not
+    made = place.path("made")
+    refused(place, f'socket = "{place.path("file")}"\nstore = "{made}"\nformat = true\n', "socket", 4)
+    same(place.run("look", "--store", made), (0, b"place 0\n", b""))
     same(place.read("file"), b"mine")
     holds(os.path.exists(place.path("dead")), "the socket of another was removed")
 
@@ -229,12 +280,20 @@ def serve_once(listener, written):
             pass
 
 
+def strange(place):
+    """`femem: strange`, which no command should come to, is a line that the program has"""
+    with open(place.program, "rb") as program:
+        holds(b"femem: strange" in program.read(), "the program has no such line")
+
+
 CHECKS = (
     words,
+    commands,
     help_and_version,
     settings_unreadable,
     settings_in_order,
     settings_bounds,
+    settings_values,
     store_refusals,
     formats,
     sockets,
@@ -242,4 +301,5 @@ CHECKS = (
     run_faults,
     call_faults,
     call_and_wrong_servers,
+    strange,
 )

@@ -1,10 +1,97 @@
-//! `fe_front`, and what it is made of, the seats and the mail.
-mod cascade;
-mod events;
-mod limits;
-mod mail;
-mod memory;
-mod no_wait;
-mod report;
-mod seats;
-mod sessions;
+//! The end of the history, a batch that is not the one that is out, and a box that is full.
+
+use fe_front::Front;
+use fe_mail::Refusal;
+use fe_state::{Batch, Entry, State};
+use std::alloc::{AllocError, Global};
+use std::process::Abort;
+use std::test::Fail;
+
+/// A front over a new state.
+fn new_front(alloc: Global) -> Result<Front, AllocError> {
+    let state = State::new(alloc)?;
+    Front::new(alloc, state)
+}
+
+/// A front with one place left.
+fn late_front(alloc: Global) -> Result<Front, AllocError> {
+    let state = State::starting(alloc, 9223372036854773758, 1)?;
+    Front::new(alloc, state)
+}
+
+/// Connection 1 comes and attaches session 7.
+fn come(rt: &impl Abort, front: &mut Front) {
+    assert!(rt; !front.connected(1) && front.connect(1).is_ok());
+    assert!(rt; front.room() && front.attach(1, 7) == Ok(()));
+}
+
+fn check_end(rt: &impl Abort, front: &mut Front) {
+    come(rt, front);
+    assert!(rt; front.room() && front.settle(1, 1) == Err(Refusal::Spent));
+    assert!(rt; front.room() && front.attach(1, 7) == Err(Refusal::Spent));
+}
+
+#[test]
+fn ends(rt: HostRuntime) -> Result<(), Fail> {
+    let mut front = late_front(rt.alloc())?;
+    check_end(&rt, &mut front);
+    drop(front);
+    Ok(())
+}
+
+/// The batch of a session's beginning and its end.
+fn long_batch(alloc: Global) -> Result<Batch, AllocError> {
+    let mut long = Batch::new(alloc, 0)?;
+    long.push(Entry::Attached {
+        session: 7,
+        floor: 1,
+    });
+    long.push(Entry::Closed { session: 7 });
+    Ok(long)
+}
+
+fn is_strange(front: &mut Front, batch: Batch) -> bool {
+    front.post(batch).is_err()
+}
+
+/// While no batch is out each one is refused; then the one that is longer than the one that is out.
+fn check_batches(rt: &impl Abort, alloc: Global, front: &mut Front) -> Result<(), Fail> {
+    assert!(rt; is_strange(front, Batch::new(alloc, 0)?));
+    come(rt, front);
+    let long = long_batch(alloc)?;
+    let right = front.cut().expect(rt, "the attach is cut");
+    assert!(rt; is_strange(front, long) && !is_strange(front, right) && front.durable() == 1);
+    Ok(())
+}
+
+#[test]
+fn strange_batch(rt: HostRuntime) -> Result<(), Fail> {
+    let mut front = new_front(rt.alloc())?;
+    let checked = check_batches(&rt, rt.alloc(), &mut front);
+    drop(front);
+    checked
+}
+
+/// A connection has 128 mails in its box. One more, and it goes.
+fn check_box(rt: &impl Abort, front: &mut Front) {
+    come(rt, front);
+    let batch = front.cut().expect(rt, "the attach is cut");
+    assert!(rt; front.post(batch).is_ok());
+    for _ in 0..127 {
+        front.mail_refusal(1, 5, Refusal::NotWaiting);
+    }
+    assert!(rt; front.connected(1) && front.books().left == 128);
+    front.mail_refusal(1, 5, Refusal::NotWaiting);
+    let books = front.books();
+    assert!(rt;
+        !front.connected(1) && !front.attached(7) && books.dropped == 129 && books.mails == 129
+    );
+}
+
+#[test]
+fn full_mailbox(rt: HostRuntime) -> Result<(), Fail> {
+    let mut front = new_front(rt.alloc())?;
+    check_box(&rt, &mut front);
+    drop(front);
+    Ok(())
+}

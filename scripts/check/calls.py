@@ -1,0 +1,372 @@
+"""`femem call`: what goes over its connection and what it prints, beside a server of this check that gives its bytes at once."""
+
+import os
+import socket
+import threading
+
+from . import wire
+from .harness import holds, preload, same, within
+
+WELCOME = wire.framed(65, bytes(7) + b"\7" + bytes(7) + b"\1")
+GOODBYE = wire.framed(69, bytes(7) + b"\7")
+FIRST_PATH = b"attach 7\n1 create cells 2 empty\n2 writeef 1 0 42\n3 readfe 1 0\n4 readxx 1 0\n"
+PRINTED = b"welcome 7 1\n1 array 1 2\n2 done\n3 value 42\n4 value 42\n"
+
+# The frames of the first path, of the client and of the server.
+MESSAGES = (
+    b"\x00\x00\x00\x09\x01\x00\x00\x00\x00\x00\x00\x00\x07",
+    b"\x00\x00\x00\x1f\x02\x00\x00\x00\x00\x00\x00\x00\x01\x05cells\x00\x00\x00\x00\x00\x00\x00\x00\x00\x00\x00\x00\x00\x00\x02\x00",
+    b"\x00\x00\x00\x1e\x05\x00\x00\x00\x00\x00\x00\x00\x02\x13\x00\x00\x00\x00\x00\x00\x00\x01\x00\x00\x00\x00\x00\x00\x00\x00\x00\x00\x00\x2a",
+    b"\x00\x00\x00\x1e\x05\x00\x00\x00\x00\x00\x00\x00\x03\x10\x00\x00\x00\x00\x00\x00\x00\x01\x00\x00\x00\x00\x00\x00\x00\x00\x00\x00\x00\x00",
+    b"\x00\x00\x00\x1e\x05\x00\x00\x00\x00\x00\x00\x00\x04\x12\x00\x00\x00\x00\x00\x00\x00\x01\x00\x00\x00\x00\x00\x00\x00\x00\x00\x00\x00\x00",
+)
+REPLIES = (
+    b"\x00\x00\x00\x11\x41\x00\x00\x00\x00\x00\x00\x00\x07\x00\x00\x00\x00\x00\x00\x00\x01",
+    b"\x00\x00\x00\x16\x42\x00\x00\x00\x00\x00\x00\x00\x01\x03\x00\x00\x00\x00\x00\x00\x00\x01\x00\x00\x00\x02",
+    b"\x00\x00\x00\x16\x42\x00\x00\x00\x00\x00\x00\x00\x02\x02\x00\x00\x00\x00\x00\x00\x00\x00\x00\x00\x00\x00",
+    b"\x00\x00\x00\x16\x42\x00\x00\x00\x00\x00\x00\x00\x03\x01\x00\x00\x00\x00\x00\x00\x00\x2a\x00\x00\x00\x00",
+    b"\x00\x00\x00\x16\x42\x00\x00\x00\x00\x00\x00\x00\x04\x01\x00\x00\x00\x00\x00\x00\x00\x2a\x00\x00\x00\x00",
+)
+
+# Lines outside the syntax.
+STRAY = (
+    b"gone",
+    b"c1 bye",
+    b"c1 gone",
+    b"c1 attach 7",
+    b"hold",
+    b"flush",
+    b"stop",
+    b"check",
+    b"jump",
+    b" ",
+    b"bye ",
+    b" bye",
+    b"Bye",
+    b"bye\r",
+    b"attach",
+    b"attach ",
+    b"attach 07",
+    b"attach  7",
+    b"attach 7 8",
+    b"attach 18446744073709551616",
+    b"1",
+    b"1 readfe 1",
+    b"1 create a 1",
+    b"18446744073709551615 int_fetch_add 18446744073709551615 4294967295 18446744073709551615 nowait ",
+)
+
+# Frames that are none of a reply, as soon as their last byte is there.
+BAD = (
+    b"\x00\x00\x00\x00",
+    b"\x00\x04\x00\x02",
+    b"\xff\xff\xff\xff",
+    b"\x00\x00\x00\x01\x41",
+    b"\x00\x00\x00\x01\x47",
+    b"\x00\x00\x00\x01\x08",
+    b"\x00\x00\x00\x09\x01\x00\x00\x00\x00\x00\x00\x00\x07",
+    b"\x00\x00\x00\x0a\x45\x00\x00\x00\x00\x00\x00\x00\x07\x00",
+    b"\x00\x00\x00\x0a\x46\x00\x00\x00\x00\x00\x00\x00\x02\x00",
+    b"\x00\x00\x00\x0a\x46\x00\x00\x00\x00\x00\x00\x00\x02\x0b",
+    b"\x00\x00\x00\x16\x42\x00\x00\x00\x00\x00\x00\x00\x02\x0c\x00\x00\x00\x00\x00\x00\x00\x00\x00\x00\x00\x00",
+    b"\x00\x00\x00\x02\x47\xff",
+)
+
+# Other replies, and what is printed for each.
+OTHERS = (
+    (b"\x00\x00\x00\x09\x43\x00\x00\x00\x00\x00\x00\x00\x09", b"9 withdrawn\n"),
+    (b"\x00\x00\x00\x09\x44\xff\xff\xff\xff\xff\xff\xff\xff", b"settled 18446744073709551615\n"),
+    (b"\x00\x00\x00\x09\x45\x00\x00\x00\x00\x00\x00\x00\x07", b"goodbye 7\n"),
+    (b"\x00\x00\x00\x0a\x46\x00\x00\x00\x00\x00\x00\x00\x02\x05", b"refused 2 number-used\n"),
+    (b"\x00\x00\x00\x0a\x46\x00\x00\x00\x00\x00\x00\x00\x00\x0a", b"refused 0 not-waiting\n"),
+    (b"\x00\x00\x00\x16\x42\x00\x00\x00\x00\x00\x00\x00\x02\x04" + bytes(12), b"2 no-array\n"),
+    (b"\x00\x00\x00\x16\x42\x00\x00\x00\x00\x00\x00\x00\x02\x05" + bytes(12), b"2 bad-index\n"),
+    (b"\x00\x00\x00\x16\x42\x00\x00\x00\x00\x00\x00\x00\x02\x06" + bytes(12), b"2 name-taken\n"),
+    (b"\x00\x00\x00\x16\x42\x00\x00\x00\x00\x00\x00\x00\x02\x07" + bytes(12), b"2 array-limit\n"),
+    (b"\x00\x00\x00\x16\x42\x00\x00\x00\x00\x00\x00\x00\x02\x08" + bytes(12), b"2 word-limit\n"),
+    (b"\x00\x00\x00\x16\x42\x00\x00\x00\x00\x00\x00\x00\x02\x09" + bytes(12), b"2 bad-name\n"),
+    (b"\x00\x00\x00\x16\x42\x00\x00\x00\x00\x00\x00\x00\x02\x0a" + bytes(12), b"2 bad-length\n"),
+    (b"\x00\x00\x00\x16\x42\x00\x00\x00\x00\x00\x00\x00\x02\x0b" + bytes(12), b"2 not-now\n"),
+    (b"\x00\x00\x00\x0b\x47waiting 0\n", b"waiting 0\n"),
+    (
+        b"\x00\x00\x00\x4d\x47waiting 1\nword 1 0 session 7 number 5 readff\nsession 7 waits 1\nall-wait yes\n",
+        b"waiting 1\nword 1 0 session 7 number 5 readff\nsession 7 waits 1\nall-wait yes\n",
+    ),
+    (b"\x00\x00\x00\x07\x47a\r\nb\n\n", b"a\nb\n\n"),
+    (b"\x00\x00\x00\x04\x47a\nb", b"a\nb\n"),
+)
+
+
+# The frames of other messages, and a line for each.
+FRAMES = (
+    (b"5 find cells", b"\0\0\0\x1a\x03\0\0\0\0\0\0\0\x05\x05cells" + bytes(11)),
+    (b"6 remove 1", b"\0\0\0\x11\x04\0\0\0\0\0\0\0\x06\0\0\0\0\0\0\0\x01"),
+    (b"cancel 7", b"\0\0\0\x09\x06\0\0\0\0\0\0\0\x07"),
+    (b"settle 5", b"\0\0\0\x09\x07\0\0\0\0\0\0\0\x05"),
+    (b"bye", b"\0\0\0\x01\x08"),
+    (b"report", b"\0\0\0\x01\x09"),
+    (b"2 readfe 1 0 nowait", b"\0\0\0\x1e\x0b\0\0\0\0\0\0\0\x02\x10\0\0\0\0\0\0\0\x01" + bytes(12)),
+    (b"2 create seventeen_letters 1 full", b"\0\0\0\x2f\x0c\0\0\0\0\0\0\0\x02\x11seventeen_letters" + bytes(15) + b"\0\0\0\x01\x01"),
+    (b"3 find seventeen_letters", b"\0\0\0\x2a\x0d\0\0\0\0\0\0\0\x03\x11seventeen_letters" + bytes(15)),
+)
+
+
+class Other:
+    """A server of this check: it gives its bytes to each connection at once, ends its side if asked, and keeps what came."""
+
+    def __init__(self, place):
+        self.path = place.path("other.socket")
+        self.listener = socket.socket(socket.AF_UNIX)
+        self.listener.bind(self.path)
+        self.listener.listen(1)
+        self.listener.settimeout(0.01)
+
+    def __enter__(self):
+        return self
+
+    def __exit__(self, *_):
+        self.listener.close()
+
+    def talk(self, place, lines, answers, ends=False, env=None):
+        """Runs `call` with these lines, answered so: its status, output and errors, and what it sent."""
+        came = []
+        is_over = threading.Event()
+        thread = threading.Thread(target=self.serve, args=(answers, ends, came, is_over), daemon=True)
+        thread.start()
+        try:
+            ran = place.run("call", "--socket", self.path, given=lines, env=env)
+        finally:
+            is_over.set()
+            thread.join(20)
+        holds(not thread.is_alive(), "the connection was not ended")
+        return ran, b"".join(came)
+
+    def serve(self, answers, ends, came, is_over):
+        conn = self.accepted(is_over)
+        if conn is None:
+            return
+        with conn:
+            conn.settimeout(20)
+            try:
+                conn.sendall(answers)
+                if ends:
+                    conn.shutdown(socket.SHUT_WR)
+            except BrokenPipeError:
+                pass
+            while piece := received(conn):
+                came.append(piece)
+
+    def accepted(self, is_over):
+        """The connection that comes, or None where the client is over and none came."""
+        while True:
+            was_over = is_over.is_set()
+            try:
+                return self.listener.accept()[0]
+            except socket.timeout:
+                if was_over:
+                    return None
+
+
+def received(conn):
+    """What came next."""
+    while True:
+        try:
+            return conn.recv(65536)
+        except ConnectionResetError:
+            # (told once where the client ended the connection with bytes unread; what it sent before can still be read)
+            pass
+
+
+def printed_of(count):
+    """What is printed once that number of bytes of the first path's replies came."""
+    whole = sum(len(b"".join(REPLIES[:number])) <= count for number in range(1, len(REPLIES) + 1))
+    return lines_of(PRINTED, whole)
+
+
+def lines_of(text, count):
+    return b"".join(text.splitlines(keepends=True)[:count])
+
+
+def first_path(place):
+    """the frames of the first path and what is printed, however few bytes a call on a stream passes, each second one interrupted"""
+    library = preload(place, "streams.c")
+    with Other(place) as other:
+        for call in ("recv", "send", "read", "write"):
+            for most in (1, 2, 5, 26, 4096):
+                env = {"LD_PRELOAD": library, "CALL": call, "SHORT": str(most), "BREAK": str(most % 2)}
+                found = other.talk(place, FIRST_PATH, b"".join(REPLIES), env=env)
+                same(found, ((0, PRINTED, b""), b"".join(MESSAGES)), f"{call}, {most} bytes")
+
+
+def other_frames(place):
+    """the frame of each other kind of message"""
+    with Other(place) as other:
+        for line, frame in FRAMES:
+            same(other.talk(place, line, GOODBYE), ((0, b"goodbye 7\n", b""), frame), line)
+
+
+def other_replies(place):
+    """what is printed for each other kind of reply"""
+    with Other(place) as other:
+        for answer, printed in OTHERS:
+            same(other.talk(place, b"report\n", answer), ((0, printed, b""), wire.report()), answer)
+    return f"{len(OTHERS)} replies"
+
+
+def odd_lines(place):
+    """empty lines ask nothing, and the last line may lack its line feed"""
+    longest = b"18446744073709551615 int_fetch_add 18446744073709551615 4294967295 18446744073709551615 nowait\n"
+    with Other(place) as other:
+        for lines, printed, sent in (
+            (b"", b"", b""),
+            (b"\n\n\n", b"", b""),
+            (b"bye", b"goodbye 7\n", wire.bye()),
+            (b"\n\nbye\n\n", b"goodbye 7\n", wire.bye()),
+            (longest, b"goodbye 7\n", wire.message_of(longest.split())),
+        ):
+            same(other.talk(place, lines, GOODBYE), ((0, printed, b""), sent), lines)
+
+
+def much(place):
+    """the longest report, and a line that the reads of the input cut"""
+    lines = b"\n" * 65534 + b"bye\nreport\n"
+    report = b"a" * 262143 + b"\n"
+    with Other(place) as other:
+        found = other.talk(place, lines, GOODBYE + b"\x00\x04\x00\x01\x47" + report)
+    same(found, ((0, b"goodbye 7\n" + report, b""), wire.bye() + wire.report()))
+
+
+def stray_lines(place):
+    """a line outside the syntax behind an exchange: its number is printed, nothing of it is sent, and what was printed before stays"""
+    with Other(place) as other:
+        for line in STRAY:
+            for end in (b"", b"\n", b"\nbye\n"):
+                found = other.talk(place, b"attach 7\n\n" + line + end, WELCOME)
+                same(found, ((2, b"welcome 7 1\n", b"femem: line 3\n"), wire.attach(7)), line + end)
+    return f"{3 * len(STRAY)} inputs"
+
+
+def bad_frames(place):
+    """what is no reply's frame behind an exchange is `femem: socket`, whatever comes behind it"""
+    with Other(place) as other:
+        for frame in BAD:
+            for behind in (b"", WELCOME):
+                found = other.talk(place, b"attach 7\nattach 7\nbye\n", WELCOME + frame + behind)
+                same(found, ((4, b"welcome 7 1\n", b"femem: socket\n"), wire.attach(7) * 2), frame)
+    return f"{len(BAD)} frames"
+
+
+def server_ends(place):
+    """a server that ends the connection before its reply is whole, at each byte of it, is `femem: socket`"""
+    with Other(place) as other:
+        for count in range(len(WELCOME)):
+            found = other.talk(place, b"attach 7\n" * 3, WELCOME + WELCOME[:count], ends=True)
+            same(found, ((4, b"welcome 7 1\n", b"femem: socket\n"), wire.attach(7) * 2), f"{count} bytes")
+    return f"{count + 1} lengths"
+
+
+def until_none_fails(place, other, library, call, most, wanted):
+    """Fails each call of that kind in turn, where each passes at most `most` bytes, and counts them. `wanted` says what a run
+    leaves after that number of bytes: its status, its line on standard error, what it printed, and what it sent."""
+    number = 0
+    while True:
+        number += 1
+        mark = place.path("mark")
+        env = {"LD_PRELOAD": library, "CALL": call, "SHORT": str(most), "FAIL": str(number), "MARK": mark}
+        ran, sent = other.talk(place, FIRST_PATH, b"".join(REPLIES), env=env)
+        if not os.path.exists(mark):
+            same((ran, sent), ((0, PRINTED, b""), b"".join(MESSAGES)), f"{call}, {most} bytes")
+            return number - 1
+        os.unlink(mark)
+        status, line, printed, front = wanted((number - 1) * most)
+        same((ran, sent), ((status, printed, line), front), f"{call} {number}, {most} bytes")
+
+
+def behind_reads(count):
+    """After that number of bytes of the input."""
+    whole = FIRST_PATH[:count].count(b"\n")
+    return 2, b"femem: input\n", lines_of(PRINTED, whole), b"".join(MESSAGES[:whole])
+
+
+def behind_writes(count):
+    """After that number of bytes was printed: the message of the line that is not whole was sent, and no later one."""
+    return 2, b"femem: input\n", PRINTED[:count], b"".join(MESSAGES[: PRINTED[:count].count(b"\n") + 1])
+
+
+def behind_receives(count):
+    """After that number of bytes from the server."""
+    printed = printed_of(count)
+    return 4, b"femem: socket\n", printed, b"".join(MESSAGES[: printed.count(b"\n") + 1])
+
+
+def behind_sends(count):
+    """After that number of bytes was sent."""
+    sent = b"".join(MESSAGES)[:count]
+    whole = sum(len(b"".join(MESSAGES[:number])) <= count for number in range(1, len(MESSAGES) + 1))
+    return 4, b"femem: socket\n", lines_of(PRINTED, whole), sent
+
+
+@within(120)
+def streams_fail(place):
+    """each call on a stream fails in turn, a byte at a time: what was sent and printed before stays, and no more is sent"""
+    library = preload(place, "streams.c")
+    told = []
+    with Other(place) as other:
+        for call, wanted, calls in (
+            # (the last read gives nothing)
+            ("read", behind_reads, len(FIRST_PATH) + 1),
+            ("write", behind_writes, len(PRINTED)),
+            ("recv", behind_receives, len(b"".join(REPLIES))),
+            ("send", behind_sends, len(b"".join(MESSAGES))),
+        ):
+            found = until_none_fails(place, other, library, call, 1, wanted)
+            same(found, calls, call)
+            told.append(f"{call} 1 to {found}")
+    return ", ".join(told)
+
+
+def memory_refused(place):
+    """each allocation is refused in turn: `femem: memory`, or the same as with memory; what was sent and printed is a front"""
+    library = preload(place, "../refuse.c")
+    mark = place.path("refused")
+    number = 0
+    with Other(place) as other:
+        while True:
+            number += 1
+            env = {"LD_PRELOAD": library, "REFUSE": str(number), "REFUSED": mark}
+            found = other.talk(place, FIRST_PATH, b"".join(REPLIES), env=env)
+            if not os.path.exists(mark):
+                break
+            os.unlink(mark)
+            ran, sent = found
+            if ran != (0, PRINTED, b""):
+                same(ran[::2], (3, b"femem: memory\n"), f"allocation {number} refused")
+                holds(PRINTED.startswith(ran[1]) and b"".join(MESSAGES).startswith(sent), f"allocation {number} refused: {found}")
+    same(found, ((0, PRINTED, b""), b"".join(MESSAGES)))
+    holds(number > 50, f"{number - 1} allocations")
+    return f"{number - 1} allocations"
+
+
+def connects(place):
+    """where no server is, nothing is printed; where one listens, an input without lines ends well"""
+    ask = lambda lines: place.run("call", "--socket", place.path("other.socket"), given=lines)
+    told = (4, b"", b"femem: socket\n")
+    same(ask(b"bye\n"), told, "no socket")
+    with Other(place) as other:
+        same(other.talk(place, b"\n\n", b""), ((0, b"", b""), b""))
+    same(ask(b""), told, "a socket that was left")
+
+
+CHECKS = (
+    first_path,
+    other_frames,
+    other_replies,
+    odd_lines,
+    much,
+    stray_lines,
+    bad_frames,
+    server_ends,
+    streams_fail,
+    memory_refused,
+    connects,
+)

@@ -1,0 +1,407 @@
+"""`femem run`: the schedules of examples/, the syntax of lines, and streams that are short, fail or are closed."""
+
+import os
+import re
+
+from . import schedules
+from .harness import holds, preload, same, within
+
+# The worked schedules, each as a file of examples/.
+WORKED = (
+    "empty_input first_path broadcast turns_of_writers arithmetic_wraps purge_wakes_writer bad_index_is_kept kept_over_stop "
+    "kept_over_checkpoint waiter_gone_after_stop number_used window_edges remove_answers_waiters unsynced_is_lost "
+    "resend_on_hold cancel_one_of_three create_refusals taken_over wait_report bye_and_return bad_line not_attached "
+    "session_limit settle_moves_window cancel_waiter closing no_wait long_name"
+).split()
+
+# The syntax of docs/schedules.md, without the bounds of numbers.
+NUMBER = rb"(0|[1-9][0-9]{0,19})"
+NAME = rb"[^ \n]{1,32}"
+REQUEST = (
+    rb"create %(name)s %(number)s (full|empty)|find %(name)s|remove %(number)s|(readfe|readff|readxx|purge) %(number)s "
+    rb"%(number)s( nowait)?|(writeef|writeff|writexf|int_fetch_add) %(number)s %(number)s %(number)s( nowait)?"
+) % {b"name": NAME, b"number": NUMBER}
+MESSAGE = rb"attach %(number)s|%(number)s (%(request)s)|cancel %(number)s|settle %(number)s|bye|report" % {b"number": NUMBER, b"request": REQUEST}
+LINE = re.compile(rb"c[1-9][0-9]{0,2} (%s|gone)|hold|flush|stop|check|" % MESSAGE, re.DOTALL)
+
+# Lines outside the syntax.
+STRAY = (
+    b"c1 attach 7\r",
+    b"c1\tattach 7",
+    b"c1 attach\t7",
+    b"c1  attach 7",
+    b"c1 attach  7",
+    b" c1 attach 7",
+    b"c1 attach 7 ",
+    b"c1 attach 7 8",
+    b"c1 attach 07",
+    b"c1 attach +7",
+    b"c1 attach -7",
+    b"c1 attach 0x7",
+    b"c1 attach 18446744073709551616",
+    b"c1 attach",
+    b"c1 attach ",
+    b"c1",
+    b" ",
+    b"c01 attach 7",
+    b"c0 attach 7",
+    b"c1000 attach 7",
+    b"c attach 7",
+    b"C1 attach 7",
+    b"c1 00 readxx 1 0",
+    b"c1 1",
+    b"c1 1 readfe 1",
+    b"c1 1 readfe 1 0 5",
+    b"c1 1 readfe 1 4294967296",
+    b"c1 1 readfe 1 0 nowait ",
+    b"c1 1 readfe 1 0 Nowait",
+    b"c1 1 nowait readfe 1 0",
+    b"c1 1 writeef 1 0",
+    b"c1 1 writeef 1 0 nowait",
+    b"c1 1 writeef 1 0 18446744073709551616",
+    b"c1 1 create a_name_of_thirty_three_characters 1 full",
+    b"c1 1 create  1 full",
+    b"c1 1 create a 4294967296 full",
+    b"c1 1 create a 1 Full",
+    b"c1 1 create a 1",
+    b"c1 1 create a 1 full nowait",
+    b"c1 1 find ",
+    b"c1 1 find a b",
+    b"c1 1 remove",
+    b"c1 cancel 01",
+    b"c1 settle",
+    b"c1 bye 1",
+    b"c1 report ",
+    b"hold ",
+    b"c1 hold",
+    b"check ",
+    b"c1 stop",
+    b"c1 1 \xff 1 0",
+)
+
+FIRST_PATH = b"c1 attach 7\nc1 1 create cells 2 empty\nc1 2 writeef 1 0 42\nc1 3 readfe 1 0\nc1 4 readxx 1 0\n"
+FIRST_ANSWERS = b"c1 welcome 7 1\nc1 1 array 1 2\nc1 2 done\nc1 3 value 42\nc1 4 value 42\n"
+
+
+def in_syntax(line):
+    """Whether a line is in the syntax, apart from the bounds of its numbers."""
+    return LINE.fullmatch(line) is not None
+
+
+def worked_schedules(place):
+    """each schedule of examples/ through `femem run`: its output, its line on standard error and its status"""
+    names = [file[: -len(".txt")] for file in sorted(os.listdir(schedules.EXAMPLES)) if file.endswith(".txt")]
+    for name in WORKED:
+        holds(name in names, f"no schedule {name}")
+    for name in names:
+        given, output, errors = (content_of(f"{name}.{kind}") for kind in ("txt", "out", "err"))
+        same(place.run("run", given=given), (2 if errors else 0, output, errors), name)
+    return f"{len(names)} schedules"
+
+
+def content_of(file):
+    path = os.path.join(schedules.EXAMPLES, file)
+    if not os.path.exists(path):
+        return b""
+    with open(path, "rb") as found:
+        return found.read()
+
+
+def full_cascade(place):
+    """a write that lets 2,047 requests be served, in one batch"""
+    lines = ["c1 attach 1", "c1 1 create cells 1 empty", "c1 settle 2"]
+    answers = ["c1 welcome 1 1", "c1 1 array 1 1", "c1 settled 2"]
+    for conn in range(2, 65):
+        lines.append(f"c{conn} attach {conn}")
+        answers.append(f"c{conn} welcome {conn} 1")
+    waiting = [(conn, number) for conn in range(1, 65) for number in range(1, 33) if (conn, number) != (1, 1)]
+    lines += [f"c{conn} {number} readff 1 0" for conn, number in waiting]
+    lines += ["c65 report", "hold", "c1 33 writeef 1 0 9", "c65 report", "flush", "c1 34 readxx 1 0"]
+    answers += ["c65 waiting 2047"] + [f"c65 word 1 0 session {conn} number {number} readff" for conn, number in waiting]
+    answers += [f"c65 session {conn} waits {31 if conn == 1 else 32}" for conn in range(1, 65)] + ["c65 all-wait yes"]
+    answers += ["c65 waiting 0"]
+    answers += [f"c{conn} {number} value 9" for conn, number in waiting if conn == 1] + ["c1 33 done"]
+    answers += [f"c{conn} {number} value 9" for conn, number in waiting if conn > 1] + ["c1 refused 34 beyond-window"]
+    same(place.run("run", given=text_of(lines)), (0, text_of(answers), b""))
+
+
+class Seats:
+    """A schedule of sessions that wait, what it prints, and who waits: (session, number) with its connection."""
+
+    def __init__(self):
+        self.lines = ["c99 attach 1", "c99 1 create cells 8 empty", "c99 bye"]
+        self.answers = ["c99 welcome 1 1", "c99 1 array 1 8", "c99 goodbye 1"]
+        self.waiting = {}
+
+    def come(self, conn, session, *numbers):
+        """A session comes, and these numbers wait for a word of its own choice."""
+        self.lines.append(f"c{conn} attach {session}")
+        self.answers.append(f"c{conn} welcome {session} 1")
+        for number in numbers:
+            self.lines.append(f"c{conn} {number} readfe 1 {session % 8}")
+            self.waiting[session, number] = conn
+
+    def leave(self, conn, session):
+        self.lines.append(f"c{conn} bye")
+        self.answers.append(f"c{conn} goodbye {session}")
+        self.waiting = {it: at for it, at in self.waiting.items() if it[0] != session}
+
+    def cancel(self, session, number):
+        conn = self.waiting.pop((session, number))
+        self.lines.append(f"c{conn} cancel {number}")
+        self.answers.append(f"c{conn} {number} withdrawn")
+
+    def report(self):
+        self.lines.append("c99 report")
+        self.answers.append(f"c99 waiting {len(self.waiting)}")
+        words = sorted((session % 8, session, number) for session, number in self.waiting)
+        self.answers += [f"c99 word 1 {word} session {session} number {number} readfe" for word, session, number in words]
+        for session in sorted({session for session, _ in self.waiting}):
+            self.answers.append(f"c99 session {session} waits {sum(it == session for it, _ in self.waiting)}")
+        self.answers.append("c99 all-wait yes")
+
+
+def sessions_come_and_go(place):
+    """64 sessions wait with two requests each; half of them leave and others come, and each request stays with its session"""
+    seats = Seats()
+    for conn in range(1, 65):
+        seats.come(conn, 1000 + conn, 1, 2)
+    seats.report()
+    for conn in range(1, 33):
+        seats.leave(conn, 1000 + conn)
+    for conn in range(1, 33):
+        seats.come(conn, 2000 + conn, 3)
+    seats.report()
+    seats.cancel(1064, 2)
+    # (the session that writes needs a place)
+    seats.leave(1, 2001)
+    seats.come(98, 3000)
+    writes = [session % 8 for session, _ in seats.waiting]
+    for number, word in enumerate(writes, 1):
+        seats.lines += [f"c98 {number} writeef 1 {word} {number}", f"c98 settle {number + 1}"]
+    status, output, errors = place.run("run", given=text_of(seats.lines + ["c99 report"]))
+    same((status, errors), (0, b""))
+    found = output.decode().splitlines()
+    begun = len(seats.answers)
+    same(found[:begun], seats.answers)
+    same((found[-1], len(found)), ("c99 waiting 0", begun + 3 * len(writes) + 1))
+    each_is_served(found[begun:-1], writes, seats.waiting)
+
+
+def each_is_served(found, writes, waiting):
+    """Each write serves one request of its word; who comes first is open."""
+    for number, word in enumerate(writes, 1):
+        served, done, settled = found[3 * number - 3 : 3 * number]
+        same((done, settled), (f"c98 {number} done", f"c98 settled {number + 1}"))
+        conn, asked, *value = served.split()
+        same(value, ["value", str(number)])
+        (it,) = [it for it in waiting if it[0] % 8 == word and (f"c{waiting[it]}", str(it[1])) == (conn, asked)]
+        del waiting[it]
+    same(waiting, {})
+
+
+def text_of(lines):
+    return "".join(line + "\n" for line in lines).encode()
+
+
+def stray_lines(place):
+    """a line outside the syntax ends the run there, by its number; what is before it stays, and nothing behind it runs"""
+    for line in STRAY:
+        holds(not in_syntax(line) or re.search(rb"4294967296|18446744073709551616", line), f"this check's own syntax, {line}")
+        given = b"c1 attach 7\n\n" + line + b"\nc1 1 create a 1 full\n"
+        same(place.run("run", given=given), (2, b"c1 welcome 7 1\n", b"femem: line 3\n"), line)
+    return f"{len(STRAY)} lines"
+
+
+def names_are_bytes(place):
+    """a name that is not plain is answered so, whatever its bytes; plain ones have 1 to 32"""
+    given = (
+        b"c1 attach 7\nc1 1 create a\0b 1 full\nc1 2 create a\tb 1 full\nc1 3 create \xff\xfe 1 full\nc1 4 create a\r 1 full\n"
+        b"c1 5 create sixteen__letters 4294967295 full\nc1 6 create sixteen__letters 1 full\n"
+        b"c1 7 create seventeen_letters 1 full\nc1 8 create name_of_thirty_two_letters______ 1 full\n"
+        b"c1 9 find name_of_thirty_two_letters______\nc1 10 find \xff\nc1 11 find a\r\n"
+    )
+    output = (
+        b"c1 welcome 7 1\nc1 1 bad-name\nc1 2 bad-name\nc1 3 bad-name\nc1 4 bad-name\nc1 5 bad-length\nc1 6 array 1 1\n"
+        b"c1 7 array 2 1\nc1 8 array 3 1\nc1 9 array 3 1\nc1 10 bad-name\nc1 11 bad-name\n"
+    )
+    same(place.run("run", given=given), (0, output, b""))
+
+
+def longest_lines(place):
+    """the longest line of the syntax, with the greatest numbers; and a line of 300,000 bytes, whose number is printed"""
+    given = (
+        b"c999 18446744073709551615 int_fetch_add 18446744073709551615 4294967295 18446744073709551615 nowait\n"
+        b"c999 18446744073709551615 create name_of_thirty_two_letters______ 4294967295 empty\n"
+    )
+    same(place.run("run", given=given), (0, b"c999 refused 18446744073709551615 not-attached\n" * 2, b""))
+    long = b"c1 attach 7\nc1 1 find " + b"a" * 300000
+    same(place.run("run", given=long), (2, b"c1 welcome 7 1\n", b"femem: line 2\n"))
+
+
+def cut_anywhere(place):
+    """an input that is cut at each byte: the line that is cut runs as if it were whole, or its number is printed"""
+    given = b"c1 attach 7\nc1 1 create cells 2 empty\nc1 2 writeef 1 0 42\nc1 cancel 2\nhold\nc1 gone\nflush\n"
+    # (what the lines that are cut print where they are in the syntax still: other sessions, names, words and numbers)
+    whole = (b"c1 welcome 7 1\n", b"c1 1 array 1 2\n", b"c1 2 done\n", b"c1 refused 2 not-waiting\n", b"", b"", b"")
+    shorter = {b"c1 2 writeef 1 0 4": b"c1 2 done\n"}
+    for count in range(len(given)):
+        *before, last = given[:count].split(b"\n")
+        printed = b"".join(whole[: len(before)])
+        if last in given.split(b"\n"):
+            wanted = (0, printed + whole[len(before)] if last else printed, b"")
+        elif in_syntax(last):
+            wanted = (0, printed + shorter[last], b"")
+        else:
+            wanted = (2, printed, b"femem: line %d\n" % (len(before) + 1))
+        same(place.run("run", given=given[:count]), wanted, given[:count])
+    return f"{count + 1} inputs"
+
+
+def with_streams(place, library, given, **how):
+    """A run under the preload: its status, output and errors, and whether a call failed."""
+    mark = place.path("mark")
+    env = {"LD_PRELOAD": library, "MARK": mark, **{key: str(value) for key, value in how.items()}}
+    ran = place.run("run", given=given, env=env)
+    failed = os.path.exists(mark)
+    if failed:
+        os.unlink(mark)
+    return ran, failed
+
+
+def until_none_fails(place, library, call, most, wanted):
+    """Fails each call of that kind in turn, in a run whose calls pass at most `most` bytes, and counts them."""
+    number = 0
+    while True:
+        number += 1
+        ran, failed = with_streams(place, library, FIRST_PATH, CALL=call, SHORT=most, FAIL=number)
+        if not failed:
+            same(ran, (0, FIRST_ANSWERS, b""), f"{call}, {most} bytes")
+            return number - 1
+        same(ran, (2, wanted((number - 1) * most), b"femem: input\n"), f"{call} {number}, {most} bytes")
+
+
+def short_streams(place):
+    """streams that pass few bytes in a read or a write, or interrupt each second one"""
+    library = preload(place, "streams.c")
+    sizes = (1, 2, 3, 7, 64)
+    for call in ("read", "write"):
+        for most in sizes:
+            same(with_streams(place, library, FIRST_PATH, CALL=call, SHORT=most), ((0, FIRST_ANSWERS, b""), False), f"{call}, {most} bytes")
+            same(with_streams(place, library, FIRST_PATH, CALL=call, SHORT=most, BREAK=1), ((0, FIRST_ANSWERS, b""), False), f"{call}, interrupted")
+
+
+@within(90)
+def streams_fail(place):
+    """each read of the input and each write of the output fails in turn: `femem: input`, and what is written is a front"""
+    library = preload(place, "streams.c")
+    answers = FIRST_ANSWERS.splitlines(keepends=True)
+    printed = lambda count: b"".join(answers[: FIRST_PATH[:count].count(b"\n")])
+    told = []
+    for most in (1, 5):
+        # (the last read gives nothing)
+        reads = until_none_fails(place, library, "read", most, printed)
+        same(reads, -(-len(FIRST_PATH) // most) + 1, "reads")
+        writes = until_none_fails(place, library, "write", most, lambda count: FIRST_ANSWERS[:count])
+        same(writes, -(-len(FIRST_ANSWERS) // most), "writes")
+        told.append(f"{reads} reads and {writes} writes of {most} bytes")
+    return ", ".join(told)
+
+
+# What the first path prints where its array finds no memory.
+NO_MEMORY = b"c1 welcome 7 1\nc1 refused 1 no-memory\nc1 2 no-array\nc1 3 no-array\nc1 4 no-array\n"
+
+
+# What is printed where the creation, or one of two reports, finds no memory: what is asked behind it is answered as ever.
+ARRAY, WAITS = b"c1 1 array 1 2\n", b"c1 waiting 1\nc1 word 1 0 session 7 number 2 readfe\nc1 session 7 waits 1\nc1 all-wait yes\n"
+REST = b"c1 2 value 5\nc1 3 done\n"
+ASKED_AGAIN = tuple(
+    (0, b"c1 welcome 7 1\n" + b"".join(it) + b"c1 4 array 1 2\n", b"")
+    for it in (
+        (b"c1 refused 1 no-memory\n", ARRAY, WAITS, WAITS, REST, b"c1 waiting 0\n"),
+        (ARRAY, ARRAY, b"c1 refused 0 no-memory\n", WAITS, REST, b"c1 waiting 0\n"),
+        (ARRAY, ARRAY, WAITS, b"c1 refused 0 no-memory\n", REST, b"c1 waiting 0\n"),
+        (ARRAY, ARRAY, WAITS, WAITS, REST, b"c1 refused 0 no-memory\n"),
+    )
+)
+
+
+@within(120)
+def refuse_each(place):
+    """each allocation of four schedules is refused in turn: the run ends with status 3, or a creation or a report is answered `no-memory`"""
+    library = preload(place, "../refuse.c")
+    mark = place.path("refused")
+    told = []
+    for name in ("first_path", "broadcast", "remove_answers_waiters", "asked_again"):
+        given, output = content_of(f"{name}.txt"), content_of(f"{name}.out")
+        number = named = 0
+        while True:
+            number += 1
+            ran = place.run("run", given=given, env={"LD_PRELOAD": library, "REFUSE": str(number), "REFUSED": mark})
+            if not os.path.exists(mark):
+                same(ran, (0, output, b""), name)
+                break
+            os.unlink(mark)
+            if name == "first_path" and ran == (0, NO_MEMORY, b"") or name == "asked_again" and ran in ASKED_AGAIN:
+                named += 1
+            elif name == "asked_again":
+                holds(ran[0] == 3 or ran == (0, output, b""), f"{name}, allocation {number} refused: {ran}")
+            elif ran[0] == 0:
+                holds(ran[1] == output or is_refused(output, ran[1]), f"{name}, allocation {number} refused: {ran}")
+            else:
+                same((ran[0], ran[2] in (b"femem: memory\n", b"femem: store device\n")), (3, True), f"{name}, {number}")
+                holds(is_front(ran[1], output) or is_front(ran[1], NO_MEMORY), f"{name}, allocation {number} refused: {ran}")
+        holds(number > 50 and (named or name not in ("first_path", "asked_again")), f"{name}: {number - 1} allocations, {named} told no-memory")
+        told.append(f"{name} {number - 1}")
+    return ", ".join(told)
+
+
+def is_front(text, whole):
+    return whole.startswith(text)
+
+
+def is_refused(output, found):
+    """Whether the first line that differs refuses what a request is answered there."""
+    for wanted, line in zip(output.splitlines(), found.splitlines()):
+        if line != wanted:
+            conn, number, *_ = wanted.split()
+            return line == conn + b" refused " + number + b" no-memory"
+    return False
+
+
+def streams_closed(place):
+    """an input or an output that is closed, a folder, or a pipe that nobody reads is `femem: input`"""
+    told = (2, b"", b"femem: input\n")
+    shell = lambda text: ended(place, ["/bin/sh", "-c", text, "sh", place.program, place.folder])
+    same(shell('exec "$1" run <&-'), told, "no input")
+    same(shell('exec "$1" run < "$2"'), told, "a folder")
+    same(shell('echo c1 attach 7 | "$1" run >&-'), told, "no output")
+    same(shell('echo c1 attach 7 | "$1" run > /dev/full'), told, "a full device")
+    ours, theirs = os.pipe()
+    os.close(ours)
+    with os.fdopen(theirs, "wb") as pipe:
+        same(place.run("run", given=b"c1 attach 7\n", stdout=pipe), told, "a pipe that nobody reads")
+        # (what prints nothing needs no output)
+        same(place.run("run", given=b"hold\n", stdout=pipe), (0, b"", b""))
+
+
+def ended(place, words):
+    """Status, output and errors of a process without input."""
+    process = place.start(words, "shell")
+    status = process.wait(30)
+    return status, place.read("shell.out"), place.read("shell.err")
+
+
+CHECKS = (
+    worked_schedules,
+    full_cascade,
+    sessions_come_and_go,
+    stray_lines,
+    names_are_bytes,
+    longest_lines,
+    cut_anywhere,
+    short_streams,
+    streams_fail,
+    streams_closed,
+    refuse_each,
+)
