@@ -16,7 +16,6 @@ pub enum Said {
     Remove(u64),
     /// A word of array 1.
     Access(u64, u32, Op),
-    Settle(u64),
     Report,
 }
 
@@ -26,8 +25,6 @@ pub enum Told {
     /// A session, whose floor is 1.
     Welcome(u64),
     Answer(u64, Answer),
-    /// A refusal, by its number.
-    Refused(u64, u8),
 }
 
 fn request_of(rt: &impl Abort, said: Said) -> Request {
@@ -50,7 +47,6 @@ fn request_of(rt: &impl Abort, said: Said) -> Request {
 fn message_of(rt: &impl Abort, said: Said) -> ClientMessage {
     match said {
         Said::Attach(session) => ClientMessage::Attach { session },
-        Said::Settle(floor) => ClientMessage::Settle { floor },
         Said::Report => ClientMessage::Report,
         Said::Create(number, ..) | Said::Remove(number) | Said::Access(number, ..) => {
             ClientMessage::Call {
@@ -67,13 +63,6 @@ pub fn put_said(rt: &impl Abort, out: &mut Vec<u8>, said: Said) {
     if put_message(out, &message).is_err() {
         assert!(rt; put_message(out, &message).is_ok());
     }
-}
-
-/// The frame of what is said.
-pub fn frame_of(rt: &impl Abort, alloc: Global, said: Said) -> Vec<u8> {
-    let mut frame = Vec::new(alloc);
-    put_said(rt, &mut frame, said);
-    frame
 }
 
 fn put(rt: &impl Abort, out: &mut Vec<u8>, bytes: &[u8]) {
@@ -117,11 +106,6 @@ pub fn put_told(rt: &impl Abort, out: &mut Vec<u8>, told: Told) {
             put(rt, out, &1u64.to_be_bytes());
         }
         Told::Answer(number, answer) => put_answer(rt, out, number, answer),
-        Told::Refused(number, refusal) => {
-            put(rt, out, &[0, 0, 0, 10, 70]);
-            put(rt, out, &number.to_be_bytes());
-            put(rt, out, &[refusal]);
-        }
     }
 }
 

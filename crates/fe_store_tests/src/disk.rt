@@ -1,11 +1,7 @@
-//! What a stop leaves of a disk in memory, a fuse at each call, and the other disks.
+//! A file as a disk, a sync that is held, and a disk in memory where memory ends.
 mod file;
-mod fuse;
 mod held;
-mod liar;
 mod memory;
-mod once;
-mod plain;
 
 use fe_disk::{DeviceFault, Disk};
 use std::process::Abort;

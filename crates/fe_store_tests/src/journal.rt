@@ -1,84 +1,75 @@
-//! The bytes of a store, and what is found of one after a stop at each device call.
-mod bytes;
-mod memory;
-mod pieces;
-mod steps;
-mod stops;
-mod torn_gates;
-
-use fe_disk::{DeviceFault, Disk, MemoryDisk};
-use fe_journal::{Format, Found, Journal};
-use pieces::Piece;
+//! Formatting and opening where memory ends: the disk comes back, and what was asked is done once there is memory.
+//! `rt try --test --fail-alloc N`, for N from 1 on, takes each allocation away in turn; where all are granted, each call has to
+//! do it at once.
+use fe_disk::{Disk, MemoryDisk};
+use fe_journal::{Found, Journal, StoreFault};
 use std::alloc::Global;
 use std::process::Abort;
+use std::test::Fail;
 
-// What a store holds: its generation, its image, and the payloads of its first two groups, which are
-// `Nothing` where there is no such group. It has no third.
-#[derive(Clone, Copy)]
-struct Held {
-    generation: u64,
-    image: Piece,
-    first: Piece,
-    second: Piece,
+/// The bytes of a store.
+const DEVICE_BYTES: usize = 4_202_496;
+
+/// The image of the first state (`docs/formats.md`, "Image").
+const EMPTY: [u8; 24] = [
+    0, 0, 0, 0, 0, 0, 0, 0, 0, 0, 0, 0, 0, 0, 0, 1, 0, 0, 0, 0, 0, 0, 0, 0,
+];
+
+// The journal wants memory, or the disk for its record of the call, which is then a fault of the device.
+fn wants_memory(fault: StoreFault, disk: &MemoryDisk) -> bool {
+    match fault {
+        StoreFault::NoMemory => disk.failures() == 0,
+        StoreFault::Device => disk.failures() == 1,
+        StoreFault::Unformatted | StoreFault::Damaged { offset: _ } => false,
+    }
 }
 
-const NEW: Held = Held {
-    generation: 1,
-    image: Piece::EmptyImage,
-    first: Piece::Nothing,
-    second: Piece::Nothing,
-};
+fn formatted(rt: &impl Abort, alloc: Global, disk: MemoryDisk) -> MemoryDisk {
+    match Journal::format(alloc, disk) {
+        Ok(journal) => journal.into_disk(),
+        Err((fault, disk)) => {
+            assert!(rt; wants_memory(fault, &disk));
+            Journal::format(alloc, disk)
+                .ok()
+                .expect(rt, "formatted")
+                .into_disk()
+        }
+    }
+}
 
-fn is_held(found: Found<MemoryDisk>, held: &Held) -> bool {
+fn found_again(rt: &impl Abort, alloc: Global, disk: MemoryDisk) -> Found<MemoryDisk> {
+    match Journal::find(alloc, disk) {
+        Ok(found) => found,
+        Err((fault, disk)) => {
+            assert!(rt; wants_memory(fault, &disk));
+            Journal::find(alloc, disk).ok().expect(rt, "found")
+        }
+    }
+}
+
+// Whether the store is a new one.
+fn is_new(found: Found<MemoryDisk>) -> bool {
     let Found {
         journal,
         image,
-        mut groups,
+        groups,
     } = found;
-    let is_first = groups.payload().unwrap_or(&[]) == held.first.bytes();
-    groups.skip();
-    let is_second = groups.payload().unwrap_or(&[]) == held.second.bytes();
-    groups.skip();
-    let is_held = journal.generation() == held.generation
-        && image.as_slice() == held.image.bytes()
-        && is_first
-        && is_second
+    let is_new = journal.generation() == 1
+        && image.as_slice() == EMPTY.as_slice()
         && groups.payload().is_none();
     drop(journal);
     drop(image);
     drop(groups);
-    is_held
+    is_new
 }
 
-fn new_store(rt: &impl Abort, alloc: Global, format: Format) -> Journal<MemoryDisk> {
-    let disk = MemoryDisk::new(alloc, 4_202_496).ok().expect(rt, "a disk");
-    Journal::format_in(alloc, format, disk)
-        .ok()
-        .expect(rt, "formatted")
-}
-
-fn found(rt: &impl Abort, alloc: Global, disk: MemoryDisk) -> Found<MemoryDisk> {
-    Journal::find(alloc, disk).ok().expect(rt, "found")
-}
-
-// Writes in the bytes of a disk that has them.
-fn write(
-    rt: &impl Abort,
-    disk: &mut MemoryDisk,
-    at: usize,
-    bytes: &[u8],
-) -> Result<(), DeviceFault> {
-    assert!(rt; bytes.len() <= disk.size() && at <= disk.size() - bytes.len());
-    disk.write_at(at, bytes)
-}
-
-// Fills the buffer from the bytes of a disk that has them.
-fn read(
-    rt: &impl Abort,
-    disk: &mut MemoryDisk,
-    at: usize,
-    buffer: &mut [u8],
-) -> Result<(), DeviceFault> {
-    assert!(rt; buffer.len() <= disk.size() && at <= disk.size() - buffer.len());
-    disk.read_at(at, buffer)
+#[test]
+fn store_where_memory_ends(rt: HostRuntime) -> Result<(), Fail> {
+    let disk = match MemoryDisk::new(rt.alloc(), DEVICE_BYTES) {
+        Ok(disk) => disk,
+        Err(_) => MemoryDisk::new(rt.alloc(), DEVICE_BYTES)?,
+    };
+    let disk = formatted(&rt, rt.alloc(), disk);
+    assert!(rt; is_new(found_again(&rt, rt.alloc(), disk)));
+    Ok(())
 }

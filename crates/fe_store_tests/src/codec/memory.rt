@@ -1,26 +1,31 @@
 // Reading and putting where memory ends. `rt try --test --fail-alloc N`, for N from 1 on, takes each allocation away in
 // turn: what was to be put is not there then, and the call does its work when it is made again.
-use super::{GROUP, LONG_IMAGE};
+use super::RECORD;
 use fe_codec::{Format, ImageFault, put_image, read_group, read_image};
 use fe_state::{Entry, State};
 use std::alloc::{AllocError, Global};
 use std::process::Abort;
 use std::test::Fail;
 
+/// An image of format 2: array 1 `cells` of one word, and session 7 from floor 1 on.
+const IMAGE: &[u8] = b"\0\0\0\0\0\0\0\x09\0\0\0\0\0\0\0\x02\0\0\0\x01\0\0\0\x01\
+    \0\0\0\0\0\0\0\x01\x05cells\0\0\0\0\0\0\0\0\0\0\0\0\0\0\0\0\0\0\0\0\0\0\0\0\0\0\0\0\0\0\x01\x01\0\0\0\0\0\0\0\x2a\
+    \0\0\0\0\0\0\0\x07\0\0\0\0\0\0\0\x01\0\0\0\0";
+
 fn image_at_last(rt: &impl Abort, alloc: Global) -> Result<State, ImageFault> {
-    match read_image(alloc, Format::Two, &LONG_IMAGE) {
+    match read_image(alloc, Format::Two, IMAGE) {
         Ok(state) => Ok(state),
         Err(fault) => {
             assert!(rt; fault == ImageFault::NoMemory);
-            read_image(alloc, Format::Two, &LONG_IMAGE)
+            read_image(alloc, Format::Two, IMAGE)
         }
     }
 }
 
 fn group_at_last(alloc: Global) -> Result<Option<Vec<Entry>>, AllocError> {
-    match read_group(alloc, Format::One, &GROUP) {
+    match read_group(alloc, Format::One, &RECORD) {
         Ok(read) => Ok(read),
-        Err(_) => read_group(alloc, Format::One, &GROUP),
+        Err(_) => read_group(alloc, Format::One, &RECORD),
     }
 }
 
@@ -42,7 +47,7 @@ fn check_group(rt: &impl Abort, alloc: Global) -> Result<(), Fail> {
 fn check_put(rt: &impl Abort, alloc: Global, state: &State) -> Result<(), Fail> {
     let mut out = Vec::new(alloc);
     put_at_last(rt, state, &mut out)?;
-    assert!(rt; out.as_slice() == LONG_IMAGE.as_slice());
+    assert!(rt; out.as_slice() == IMAGE);
     Ok(())
 }
 

@@ -1,0 +1,167 @@
+//! Calls of a keeper.
+
+use crate::act::{Act, Verb};
+use crate::made::{Made, image_of};
+use crate::trouble::Trouble;
+use fe_disk::Disk;
+use fe_keeper::{Fault, Keeper};
+use fe_state::{BATCH_ENTRIES, Batch, Entry, State};
+use std::alloc::Global;
+
+/// Opens a store, and makes the calls up to the first that is refused.
+pub fn made<D: Disk>(alloc: Global, disk: D, acts: &[Act]) -> (D, Result<Made, Trouble>) {
+    match Keeper::open(alloc, disk) {
+        Ok(keeper) => {
+            let mut keeper = keeper;
+            let made = make_all(alloc, &mut keeper, acts);
+            (keeper.into_disk(), made)
+        }
+        Err((fault, disk)) => (disk, Ok(Made::refused(alloc, fault))),
+    }
+}
+
+/// Makes the calls up to the first that is refused.
+pub fn make_all<D: Disk>(
+    alloc: Global,
+    keeper: &mut Keeper<D>,
+    acts: &[Act],
+) -> Result<Made, Trouble> {
+    let mut made = Made::new(alloc);
+    for act in acts {
+        let outcome = make(alloc, keeper, act);
+        if made.note(outcome)? {
+            meet(alloc, keeper, act, &mut made)?;
+            return Ok(made);
+        }
+    }
+    made.before = image_of(alloc, keeper.state())?;
+    Ok(made)
+}
+
+fn make<D: Disk>(alloc: Global, keeper: &mut Keeper<D>, act: &Act) -> Result<bool, Fault> {
+    match act.verb {
+        Verb::Append => append(alloc, keeper, act.entries.as_slice()),
+        Verb::Begin => keeper.checkpoint_begin(),
+        Verb::Step => keeper.checkpoint_step(),
+        Verb::Finish => keeper.checkpoint_finish(),
+        _ => Ok(false),
+    }
+}
+
+// Appends the entries at the keeper's place. They come back, whether they are taken or not.
+fn append<D: Disk>(
+    alloc: Global,
+    keeper: &mut Keeper<D>,
+    entries: &[Entry],
+) -> Result<bool, Fault> {
+    let batch = batch_of(alloc, keeper.state().place(), entries)?;
+    match keeper.append(batch) {
+        Ok(back) => {
+            let is_back = back.entries.as_slice() == entries;
+            drop(back);
+            Ok(is_back)
+        }
+        Err((fault, back)) => {
+            let is_back = back.entries.as_slice() == entries;
+            drop(back);
+            if is_back { Err(fault) } else { Ok(false) }
+        }
+    }
+}
+
+fn batch_of(alloc: Global, first: u64, entries: &[Entry]) -> Result<Batch, Fault> {
+    let mut batch = Batch::new(alloc, first)?;
+    for entry in entries {
+        if batch.entries.as_slice().len() < BATCH_ENTRIES {
+            batch.push(*entry);
+        }
+    }
+    Ok(batch)
+}
+
+// What may be found where the device failed in a call. Each call behind it is refused, and the replica stays.
+fn meet<D: Disk>(
+    alloc: Global,
+    keeper: &mut Keeper<D>,
+    act: &Act,
+    made: &mut Made,
+) -> Result<(), Trouble> {
+    made.before = image_of(alloc, keeper.state())?;
+    if made.fault != Some(Fault::Device) {
+        return Ok(());
+    }
+    made.after = image_with(alloc, keeper.state(), act.entries.as_slice())?;
+    made.is_sound = has_failed(alloc, keeper, act);
+    let image = image_of(alloc, keeper.state())?;
+    made.is_sound &= image.as_slice() == made.before.as_slice();
+    Ok(())
+}
+
+fn has_failed<D: Disk>(alloc: Global, keeper: &mut Keeper<D>, act: &Act) -> bool {
+    let failed = Err(Fault::Failed);
+    keeper.has_failed()
+        && append(alloc, keeper, act.entries.as_slice()) == failed
+        && keeper.checkpoint_begin() == failed
+        && keeper.checkpoint_step() == failed
+        && keeper.checkpoint_finish() == failed
+}
+
+// The image of the state behind the entries.
+fn image_with(alloc: Global, state: &State, entries: &[Entry]) -> Result<Vec<u8>, Trouble> {
+    let mut state = state.copy()?;
+    let image = advanced(alloc, &mut state, entries);
+    drop(state);
+    image
+}
+
+fn advanced(alloc: Global, state: &mut State, entries: &[Entry]) -> Result<Vec<u8>, Trouble> {
+    advance(state, entries)?;
+    image_of(alloc, state)
+}
+
+/// Takes the entries, which are legal.
+pub fn advance(state: &mut State, entries: &[Entry]) -> Result<(), Trouble> {
+    for entry in entries {
+        if state.check(entry).is_err() {
+            return Err(Trouble::Syntax);
+        }
+        state.advance(*entry)?;
+    }
+    Ok(())
+}
+
+/// The image of the state that a store is opened with, or why it is not opened.
+pub fn found<D: Disk>(alloc: Global, disk: D) -> (D, Result<Vec<u8>, Fault>) {
+    match Keeper::open(alloc, disk) {
+        Ok(keeper) => {
+            let image = image_of(alloc, keeper.state());
+            (keeper.into_disk(), image.map_err(|_| Fault::NoMemory))
+        }
+        Err((fault, disk)) => (disk, Err(fault)),
+    }
+}
+
+/// What a store is opened with: its place, how many bytes of its journal are used, and its format.
+pub fn opened<D: Disk>(alloc: Global, disk: D) -> (D, Result<String, Trouble>) {
+    match Keeper::open(alloc, disk) {
+        Ok(keeper) => {
+            let place = keeper.state().place();
+            let used = keeper.used();
+            let format = keeper.store_format();
+            let text = format!(in alloc; "place {place} used {used} format {format:?}");
+            (keeper.into_disk(), text.map_err(Trouble::from))
+        }
+        Err((fault, disk)) => {
+            let text = format!(in alloc; "{fault:?}");
+            (disk, text.map_err(Trouble::from))
+        }
+    }
+}
+
+/// Makes a store of the disk. Whether it met a fault.
+pub fn formatted<D: Disk>(alloc: Global, disk: D) -> (D, bool) {
+    match Keeper::format(alloc, disk) {
+        Ok(keeper) => (keeper.into_disk(), false),
+        Err((_, disk)) => (disk, true),
+    }
+}

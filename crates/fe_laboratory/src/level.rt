@@ -1,0 +1,63 @@
+//! What a script calls: a disk alone, a journal, a keeper or a desk.
+
+use crate::act::Act;
+use crate::made::Made;
+use crate::trouble::Trouble;
+use crate::{desks, disks, journals, keepers};
+use fe_disk::Disk;
+use fe_keeper::Fault;
+use std::alloc::Global;
+
+/// What is called.
+#[derive(Clone, Copy, Debug, PartialEq, Eq)]
+pub enum Level {
+    Disk,
+    Journal,
+    Keeper,
+    Desk,
+}
+
+impl Level {
+    pub fn of(word: &str) -> Result<Level, Trouble> {
+        match word {
+            "disk" => Ok(Level::Disk),
+            "journal" => Ok(Level::Journal),
+            "keeper" => Ok(Level::Keeper),
+            "desk" => Ok(Level::Desk),
+            _ => Err(Trouble::Syntax),
+        }
+    }
+
+    /// Makes the calls over the disk, which has a store of the state with that image unless it is called itself.
+    pub fn made<D: Disk>(
+        self,
+        alloc: Global,
+        disk: D,
+        acts: &[Act],
+        start: &[u8],
+    ) -> (D, Result<Made, Trouble>) {
+        match self {
+            Level::Disk => disks::made(alloc, disk, acts),
+            Level::Journal => journals::made(alloc, disk, acts),
+            Level::Keeper => keepers::made(alloc, disk, acts),
+            Level::Desk => desks::made(alloc, disk, acts, start),
+        }
+    }
+
+    /// What is found on the disk: what a journal holds, or else the image of the state that a store is opened with.
+    pub fn found<D: Disk>(self, alloc: Global, disk: D) -> (D, Result<Vec<u8>, Fault>) {
+        match self {
+            Level::Journal => journals::held(alloc, disk),
+            Level::Desk => desks::found(alloc, disk),
+            _ => keepers::found(alloc, disk),
+        }
+    }
+
+    /// Makes a store of the disk. Whether it met a fault.
+    pub fn formatted<D: Disk>(self, alloc: Global, disk: D) -> (D, bool) {
+        match self {
+            Level::Desk => desks::formatted(alloc, disk),
+            _ => keepers::formatted(alloc, disk),
+        }
+    }
+}

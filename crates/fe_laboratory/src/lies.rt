@@ -1,0 +1,162 @@
+//! Stores that are read with one byte changed, from a disk that forgets what is written.
+
+use crate::act::Act;
+use crate::desks::{store_fault, take_all};
+use crate::keepers::make_all;
+use crate::level::Level;
+use crate::made::image_of;
+use crate::trouble::Trouble;
+use crate::words::{first_word, number};
+use fe_desk::Desk;
+use fe_disk::Liar;
+use fe_keeper::{Fault, Keeper};
+use std::alloc::Global;
+
+/// The bytes of a device.
+const DEVICE_BYTES: usize = 4_202_496;
+
+/// A store's bytes, and calls over it.
+#[derive(Clone, Copy)]
+pub struct Lie<'a> {
+    pub alloc: Global,
+    pub level: Level,
+    pub bytes: &'a [u8],
+    pub acts: &'a [Act],
+    /// The image of the state that the bytes stand for.
+    pub start: &'a [u8],
+}
+
+// The image of what a store was opened with, or why it was not, and whether the calls behind that were told what they may be.
+type Told = (Result<Vec<u8>, Fault>, bool);
+
+impl<'a> Lie<'a> {
+    // The bytes with another at the place.
+    fn changed(&self, at: usize, change: u8) -> Result<Liar, Trouble> {
+        let mut bytes = self.bytes.to_vec(self.alloc)?;
+        match bytes.get_mut(at) {
+            Some(byte) => *byte ^= change,
+            None => return Err(Trouble::Disk),
+        }
+        Ok(Liar::new(bytes))
+    }
+
+    fn kept(&self, liar: Liar) -> Result<Told, Trouble> {
+        match Keeper::open(self.alloc, liar) {
+            Ok(keeper) => {
+                let mut keeper = keeper;
+                let told = self.keep(&mut keeper);
+                drop(keeper.into_disk());
+                told
+            }
+            Err((fault, liar)) => {
+                drop(liar);
+                Ok((Err(fault), true))
+            }
+        }
+    }
+
+    // Each call of a keeper has an answer that is no fault of the device, which never fails.
+    fn keep(&self, keeper: &mut Keeper<Liar>) -> Result<Told, Trouble> {
+        let image = image_of(self.alloc, keeper.state())?;
+        let mut is_sound = true;
+        for act in self.acts.chunks(1) {
+            let made = make_all(self.alloc, keeper, act)?;
+            is_sound &= matches!(made.fault, None | Some(Fault::Mismatch { place: _ }));
+        }
+        Ok((Ok(image), is_sound))
+    }
+
+    fn desked(&self, liar: Liar) -> Result<Told, Trouble> {
+        match Desk::open(self.alloc, liar) {
+            Ok(desk) => {
+                let mut desk = desk;
+                let told = self.sit(&mut desk);
+                drop(desk.into_disk());
+                told
+            }
+            Err((fault, liar)) => {
+                drop(liar);
+                Ok((Err(store_fault(fault)), true))
+            }
+        }
+    }
+
+    // A desk takes every step.
+    fn sit(&self, desk: &mut Desk<Liar>) -> Result<Told, Trouble> {
+        let image = image_of(self.alloc, desk.keeper().state())?;
+        let made = take_all(self.alloc, desk, self.acts)?;
+        let is_sound = made.fault.is_none() && made.is_sound;
+        Ok((Ok(image), is_sound))
+    }
+
+    /// Whether a store is opened as is wanted whose byte at the place is changed: with a fault, in the `same` state, in another
+    /// or with damage near the byte and before an end (`other END`), or, by a desk, as by a keeper (`kept`).
+    pub fn is_as(&self, at: usize, change: u8, wanted: &str) -> Result<bool, Trouble> {
+        let liar = self.changed(at, change)?;
+        let (found, is_sound) = match self.level {
+            Level::Desk => self.desked(liar)?,
+            _ => self.kept(liar)?,
+        };
+        let (word, rest) = first_word(wanted);
+        let is_wanted = match word {
+            "same" => is_image(&found, self.start),
+            "other" => is_other(&found, self.start, at, number(rest)? as usize),
+            "kept" => self.is_kept(at, change, &found)?,
+            _ => is_fault(self.alloc, &found, wanted)?,
+        };
+        drop(found);
+        Ok(is_wanted && is_sound)
+    }
+
+    // Whether a keeper is opened with the same.
+    fn is_kept(
+        &self,
+        at: usize,
+        change: u8,
+        found: &Result<Vec<u8>, Fault>,
+    ) -> Result<bool, Trouble> {
+        let liar = self.changed(at, change)?;
+        let (liar, kept) = crate::keepers::found(self.alloc, liar);
+        drop(liar);
+        match (found, &kept) {
+            (Ok(image), Ok(kept)) => Ok(image.as_slice() == kept.as_slice()),
+            (Err(fault), Err(kept)) => Ok(fault == kept && is_read(*fault)),
+            _ => Ok(false),
+        }
+    }
+}
+
+fn is_image(found: &Result<Vec<u8>, Fault>, image: &[u8]) -> bool {
+    match found {
+        Ok(found) => found.as_slice() == image,
+        Err(_) => false,
+    }
+}
+
+// Another state, or damage from 80 bytes before the byte on, which is the length of a record.
+fn is_other(found: &Result<Vec<u8>, Fault>, image: &[u8], at: usize, end: usize) -> bool {
+    match found {
+        Ok(found) => found.as_slice() != image,
+        Err(Fault::Damaged { offset }) => *offset <= end && at < offset.saturating_add(80),
+        Err(_) => false,
+    }
+}
+
+fn is_fault(alloc: Global, found: &Result<Vec<u8>, Fault>, wanted: &str) -> Result<bool, Trouble> {
+    match found {
+        Ok(_) => Ok(false),
+        Err(fault) => {
+            let text = format!(in alloc; "{fault:?}")?;
+            Ok(text.as_str() == wanted)
+        }
+    }
+}
+
+// Whether the fault is one of what is read.
+fn is_read(fault: Fault) -> bool {
+    match fault {
+        Fault::Unformatted => true,
+        Fault::Damaged { offset } => offset < DEVICE_BYTES,
+        _ => false,
+    }
+}

@@ -1,0 +1,95 @@
+//! What came of calls.
+
+use crate::trouble::Trouble;
+use fe_codec::{Format, put_image};
+use fe_keeper::Fault;
+use fe_state::State;
+use std::alloc::Global;
+
+/// What was written to a connection number.
+#[derive(Drop)]
+pub struct Written {
+    pub conn: u64,
+    pub bytes: Vec<u8>,
+}
+
+/// What came of calls over a disk.
+#[derive(Drop)]
+pub struct Made {
+    /// The fault of the first call that had one.
+    pub fault: Option<Fault>,
+    /// Of each call `y` or `n`, or `x` where it had a fault.
+    pub told: String,
+    /// Whether all was as it is to be behind the fault.
+    pub is_sound: bool,
+    /// The images of the states of which one is found on the disk. Both are empty where no store was opened.
+    pub before: Vec<u8>,
+    pub after: Vec<u8>,
+    /// What a desk wrote, and how many entries the groups have that it handed to its store.
+    pub written: Vec<Written>,
+    pub groups: String,
+}
+
+impl Made {
+    /// Nothing yet.
+    pub fn new(alloc: Global) -> Made {
+        Made {
+            fault: None,
+            told: String::new(alloc),
+            is_sound: true,
+            before: Vec::new(alloc),
+            after: Vec::new(alloc),
+            written: Vec::new(alloc),
+            groups: String::new(alloc),
+        }
+    }
+
+    /// The store was not opened, or formatted.
+    pub fn refused(alloc: Global, fault: Fault) -> Made {
+        let mut made = Made::new(alloc);
+        made.fault = Some(fault);
+        made
+    }
+
+    /// Notes how a call ended. It tells whether it had a fault.
+    pub fn note(&mut self, outcome: Result<bool, Fault>) -> Result<bool, Trouble> {
+        match outcome {
+            Ok(true) => self.told.push_str("y")?,
+            Ok(false) => self.told.push_str("n")?,
+            Err(fault) => {
+                self.told.push_str("x")?;
+                if self.fault.is_none() {
+                    self.fault = Some(fault);
+                }
+                return Ok(true);
+            }
+        }
+        Ok(false)
+    }
+
+    /// Whether the image is one of those that may be found.
+    pub fn allows(&self, image: &[u8], start: &[u8]) -> bool {
+        if self.before.is_empty() {
+            return image == start;
+        }
+        image == self.before.as_slice() || image == self.after.as_slice()
+    }
+}
+
+/// The image of the state, in format 2.
+pub fn image_of(alloc: Global, state: &State) -> Result<Vec<u8>, Trouble> {
+    let mut image = Vec::new(alloc);
+    put_image(Format::Two, state, &mut image)?;
+    Ok(image)
+}
+
+/// How calls ended: `ok`, or the first fault.
+pub fn outcome_text(alloc: Global, made: &Made) -> Result<String, Trouble> {
+    if !made.is_sound {
+        return Ok(String::from_str(alloc, "unsound")?);
+    }
+    match made.fault {
+        None => Ok(String::from_str(alloc, "ok")?),
+        Some(fault) => Ok(format!(in alloc; "{fault:?}")?),
+    }
+}

@@ -1,0 +1,235 @@
+//! Calls over copies of a disk that stop or fail at a call.
+
+use crate::act::Act;
+use crate::level::Level;
+use crate::made::Made;
+use crate::tally::{Counts, Tally};
+use crate::trouble::Trouble;
+use fe_disk::{Disk, FailOnce, Fuse, MemoryDisk, Torn};
+use fe_keeper::Fault;
+use std::alloc::Global;
+
+/// What a stop does to what is not synced.
+pub const TORN: [Torn; 4] = [Torn::Kept, Torn::Lost, Torn::Byte(0x01), Torn::Byte(0x37)];
+
+/// More calls of the device than any run makes.
+pub const PLENTY: u64 = 100;
+
+/// The calls of the device that an opening makes (`docs/store.md`).
+const OPENING: u64 = 5;
+
+/// Calls over a store.
+#[derive(Clone, Copy)]
+pub struct Trial<'a> {
+    pub alloc: Global,
+    pub level: Level,
+    pub store: &'a MemoryDisk,
+    pub acts: &'a [Act],
+    /// What is found on the store.
+    pub start: &'a [u8],
+}
+
+/// What came of the calls, and the disk then.
+#[derive(Drop)]
+pub struct Run {
+    pub disk: MemoryDisk,
+    pub made: Made,
+    pub counts: Counts,
+    pub failures: u64,
+}
+
+/// The stops that are tried behind a run.
+#[derive(Clone, Copy)]
+pub enum Stops {
+    /// Of each kind, with a stop at each device call of the opening behind it.
+    Each,
+    /// Of one kind alone.
+    One(Torn),
+}
+
+impl<'a> Trial<'a> {
+    /// The calls over a disk that passes so many device calls.
+    pub fn fused(&self, calls: u64) -> Result<Run, Trouble> {
+        let copy = self.store.stopped(Torn::Kept)?;
+        let fuse = Fuse::new(Tally::new(copy), calls);
+        let (fuse, made) = self.level.made(self.alloc, fuse, self.acts, self.start);
+        let failures = fuse.failures();
+        let (disk, counts) = fuse.into_inner().into_parts();
+        ran(disk, made, counts, failures)
+    }
+
+    /// The calls over a disk of which one call fails, behind so many others.
+    pub fn failing(&self, calls: u64) -> Result<Run, Trouble> {
+        let copy = self.store.stopped(Torn::Kept)?;
+        let once = FailOnce::new(Tally::new(copy), calls);
+        let (once, made) = self.level.made(self.alloc, once, self.acts, self.start);
+        let failures = once.failures();
+        let (disk, counts) = once.into_inner().into_parts();
+        ran(disk, made, counts, failures)
+    }
+
+    /// What is found on the disk that a stop of this kind leaves.
+    pub fn left(&self, disk: &MemoryDisk, torn: Torn) -> Result<Result<Vec<u8>, Fault>, Trouble> {
+        let copy = disk.stopped(torn)?;
+        let (copy, found) = self.level.found(self.alloc, copy);
+        drop(copy);
+        Ok(found)
+    }
+
+    // Whether a stop of this kind leaves what is allowed.
+    fn leaves(&self, disk: &MemoryDisk, torn: Torn, made: &Made) -> Result<bool, Trouble> {
+        match self.left(disk, torn)? {
+            Ok(image) => Ok(made.allows(image.as_slice(), self.start)),
+            Err(_) => Ok(false),
+        }
+    }
+
+    // The same, with a stop at each device call of an opening behind it.
+    fn leaves_behind_stops(
+        &self,
+        disk: &MemoryDisk,
+        torn: Torn,
+        made: &Made,
+    ) -> Result<bool, Trouble> {
+        let mut left = disk.stopped(torn)?;
+        for calls in 0..OPENING {
+            let fuse = Fuse::new(left, calls);
+            let (fuse, found) = self.level.found(self.alloc, fuse);
+            let is_met = matches!(found, Err(Fault::Device));
+            drop(found);
+            let stopped = fuse.into_inner();
+            left = stopped.stopped(torn)?;
+            drop(stopped);
+            if !is_met {
+                return Ok(false);
+            }
+        }
+        self.leaves(&left, torn, made)
+    }
+
+    // Whether the run had so many device calls and the one fault, and all stops leave what is allowed.
+    fn is_left(&self, run: &Run, calls: u64, stops: Stops) -> Result<bool, Trouble> {
+        if !is_sound(run, calls) {
+            return Ok(false);
+        }
+        match stops {
+            Stops::One(torn) => self.leaves(&run.disk, torn, &run.made),
+            Stops::Each => {
+                for torn in TORN {
+                    if !self.leaves_behind_stops(&run.disk, torn, &run.made)? {
+                        return Ok(false);
+                    }
+                }
+                Ok(true)
+            }
+        }
+    }
+
+    /// Stops the calls at each device call, up to the first at which nothing stops. How many there were, or the first behind
+    /// which something was wrong.
+    pub fn fuse_each(&self, stops: Stops) -> Result<Result<u64, u64>, Trouble> {
+        for calls in 0..PLENTY {
+            let run = self.fused(calls)?;
+            let is_good = self.is_left(&run, calls, stops);
+            let is_met = run.made.fault.is_some();
+            drop(run);
+            if !is_good? {
+                return Ok(Err(calls));
+            }
+            if !is_met {
+                return Ok(Ok(calls));
+            }
+        }
+        Ok(Err(PLENTY))
+    }
+
+    /// Has each device call fail once, in the same way.
+    pub fn fail_once_each(&self) -> Result<Result<u64, u64>, Trouble> {
+        for calls in 0..PLENTY {
+            let run = self.failing(calls)?;
+            let is_good = self.is_left(&run, calls, Stops::One(Torn::Kept));
+            let is_met = run.made.fault.is_some();
+            drop(run);
+            if !is_good? {
+                return Ok(Err(calls));
+            }
+            if !is_met {
+                return Ok(Ok(calls));
+            }
+        }
+        Ok(Err(PLENTY))
+    }
+
+    // Stops each kind of stop behind the run, and has the calls stopped again at each device call.
+    fn fuse_again(&self, run: &Run) -> Result<bool, Trouble> {
+        for torn in TORN {
+            let store = run.disk.stopped(torn)?;
+            let told = self.again_over(&store, torn);
+            drop(store);
+            if told?.is_err() {
+                return Ok(false);
+            }
+        }
+        Ok(true)
+    }
+
+    fn again_over(&self, store: &MemoryDisk, torn: Torn) -> Result<Result<u64, u64>, Trouble> {
+        let Ok(start) = self.left(store, Torn::Kept)? else {
+            return Ok(Err(0));
+        };
+        let trial = Trial {
+            alloc: self.alloc,
+            level: self.level,
+            store,
+            acts: self.acts,
+            start: start.as_slice(),
+        };
+        trial.fuse_each(Stops::One(torn))
+    }
+
+    /// Stops the calls at each device call, and behind that again.
+    pub fn fuse_twice(&self) -> Result<Result<u64, u64>, Trouble> {
+        for calls in 0..PLENTY {
+            let run = self.fused(calls)?;
+            let is_good = self.fuse_again(&run);
+            let is_met = run.made.fault.is_some();
+            drop(run);
+            if !is_good? {
+                return Ok(Err(calls));
+            }
+            if !is_met {
+                return Ok(Ok(calls));
+            }
+        }
+        Ok(Err(PLENTY))
+    }
+}
+
+fn ran(
+    disk: MemoryDisk,
+    made: Result<Made, Trouble>,
+    counts: Counts,
+    failures: u64,
+) -> Result<Run, Trouble> {
+    match made {
+        Ok(made) => Ok(Run {
+            disk,
+            made,
+            counts,
+            failures,
+        }),
+        Err(trouble) => {
+            drop(disk);
+            Err(trouble)
+        }
+    }
+}
+
+// Whether the one fault there was is that of the device, which was asked so many calls.
+fn is_sound(run: &Run, calls: u64) -> bool {
+    let is_told = match run.made.fault {
+        None => run.failures == 0,
+        Some(fault) => fault == Fault::Device && run.failures == 1,
+    };
+    is_told && run.made.is_sound && run.counts.total() == calls
+}

@@ -1,0 +1,40 @@
+use fe_disk::DeviceFault;
+use std::alloc::{AllocError, AllocFailed};
+use std::io;
+
+/// Why a line of a script is not carried out.
+#[derive(Clone, Copy, Debug, PartialEq, Eq)]
+pub enum Trouble {
+    /// There is no memory.
+    Memory,
+    /// The line is outside the syntax.
+    Syntax,
+    /// The disk has no such bytes, or a call of it failed where none is to fail.
+    Disk,
+    /// Standard input is no text, or standard output takes nothing.
+    Stream,
+}
+
+impl From<AllocError> for Trouble {
+    fn from(_: AllocError) -> Trouble {
+        Trouble::Memory
+    }
+}
+
+impl<T: Drop> From<AllocFailed<T>> for Trouble {
+    fn from(_: AllocFailed<T>) -> Trouble {
+        Trouble::Memory
+    }
+}
+
+impl From<DeviceFault> for Trouble {
+    fn from(_: DeviceFault) -> Trouble {
+        Trouble::Disk
+    }
+}
+
+impl From<io::Error> for Trouble {
+    fn from(_: io::Error) -> Trouble {
+        Trouble::Stream
+    }
+}

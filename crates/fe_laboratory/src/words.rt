@@ -1,0 +1,51 @@
+//! The words of a line.
+
+use crate::trouble::Trouble;
+use fe_disk::Torn;
+
+/// The first word of the text, and the text behind the space that ends it.
+pub fn first_word(text: &str) -> (&str, &str) {
+    match text.split_once(' ') {
+        Some(parts) => parts,
+        None => (text, ""),
+    }
+}
+
+/// The number that a word is.
+pub fn number(word: &str) -> Result<u64, Trouble> {
+    match word.parse::<u64>() {
+        Ok(number) => Ok(number),
+        Err(_) => Err(Trouble::Syntax),
+    }
+}
+
+/// The number that the first word is, and the text behind it.
+pub fn first_number(text: &str) -> Result<(u64, &str), Trouble> {
+    let (word, rest) = first_word(text);
+    Ok((number(word)?, rest))
+}
+
+fn digit(letter: u8) -> Result<u8, Trouble> {
+    match letter {
+        b'0'..=b'9' => Ok(letter - b'0'),
+        b'a'..=b'f' => Ok(letter - b'a' + 10),
+        _ => Err(Trouble::Syntax),
+    }
+}
+
+/// The byte that two digits to the base 16 spell.
+pub fn byte_of(pair: &[u8]) -> Result<u8, Trouble> {
+    match pair {
+        [high, low] => Ok(digit(*high)?.wrapping_mul(16) | digit(*low)?),
+        _ => Err(Trouble::Syntax),
+    }
+}
+
+/// What a stop does: `kept`, `lost`, or a byte.
+pub fn torn_of(word: &str) -> Result<Torn, Trouble> {
+    match word {
+        "kept" => Ok(Torn::Kept),
+        "lost" => Ok(Torn::Lost),
+        _ => Ok(Torn::Byte(byte_of(word.as_bytes())?)),
+    }
+}
