@@ -9,6 +9,7 @@ store are in a temporary folder.
 import json
 import os
 import pathlib
+import random
 import signal
 import subprocess
 import sys
@@ -134,13 +135,31 @@ def raising(client, k):
     return values
 
 
+def count_once(path, file, progress, steps):
+    """Adds 1 so many times, each once, over whatever kills this process. `progress` says how far it has come."""
+    done = 0
+    if os.path.exists(progress):
+        with open(progress) as found:
+            done = int(found.read())
+    with Client(path, session_file=file, reconnect_timeout=100.0) as client:
+        word = shared_array(client, "once_each", 1, full=True)
+        while done < steps:
+            client.once(done, requests.int_fetch_add(word, 0, 1))
+            done += 1
+            with open(progress + ".new", "w") as new:
+                new.write(str(done))
+            os.rename(progress + ".new", progress)
+            client.forget(done - 1)
+
+
 WORK = {w.__name__: w for w in (lock, semaphore, queue, barrier, counter, future, once, raising)}
 
 
 def work_as_told(path, k):
     """A process: for each name on standard input it does that work, and prints what came of it."""
     # A slow machine may not get to each client before the server is killed again.
-    with Client(path, 1000 + k, reconnect_timeout=100.0) as client:
+    # Two of three have further sessions.
+    with Client(path, 1000 + k, sessions=1 + k % 3, reconnect_timeout=100.0) as client:
         print("ready", flush=True)
         for line in sys.stdin:
             print(json.dumps(WORK[line.strip()](client, k)), flush=True)
@@ -228,8 +247,9 @@ def try_shell(path):
         [sys.executable, "-m", "femem", path], cwd=ROOT, input=lines, capture_output=True, text=True, timeout=30
     )
     out = shell.stdout.splitlines()
-    expect("shell", (shell.returncode, out[1:3], out[4:]), (0, ["done", "value 42"], ["waiting 0", "done"]))
-    expect("shell", (out[0][:6], out[3][:8]), ("array ", "not-now:"))
+    # The clients of the patterns wait where reports show that they are there.
+    expect("shell", (shell.returncode, out[1:3], out[-1]), (0, ["done", "value 42"], "done"))
+    expect("shell", (out[0][:6], out[3][:8], out[4]), ("array ", "not-now:", f"waiting {PROCESSES}"))
 
 
 def try_kills(server, processes):
@@ -248,6 +268,32 @@ def try_kills(server, processes):
     expect("the counter's end", end, len(values))
     if sorted(values) != list(range(end)):
         raise Failure("a value of the counter was answered twice")
+
+
+def try_restarts(server):
+    """A process that is killed again and again, and its server in turns with it, has counted exactly."""
+    steps, kills = 600, 0
+    file, progress = server.path + ".session", server.path + ".progress"
+    chance = random.Random(3)
+    end = time.monotonic() + 100
+    while time.monotonic() < end:
+        process = subprocess.Popen([sys.executable, __file__, "--count", server.path, file, progress, str(steps)])
+        try:
+            # Half of them are killed early, so that there are many whatever the machine.
+            status = process.wait(0.15 + chance.random() * (0.2 if kills < 20 else 60.0))
+        except subprocess.TimeoutExpired:
+            process.kill()
+            process.wait()
+            kills += 1
+            if kills % 4 == 0:
+                server.kill()
+                server.start()
+            continue
+        expect("a process that counts", status, 0)
+        break
+    with Client(server.path, 1) as client:
+        expect(f"the count after {kills} kills of the client", client.readff(client.find("once_each"), 0), steps)
+    return kills
 
 
 def try_no_server(server):
@@ -279,6 +325,7 @@ def check(program):
                 print(f"kills: {KILLS}, and the counter's end is exact", flush=True)
             finally:
                 processes.close()
+            print(f"restarts: {try_restarts(server)} kills of a client with a session file, and its count is exact", flush=True)
             try_no_server(server)
             print("no server: it is told in time", flush=True)
         finally:
@@ -288,6 +335,9 @@ def check(program):
 def main(words):
     if len(words) == 3 and words[0] == "--work":
         work_as_told(words[1], int(words[2]))
+        return 0
+    if len(words) == 5 and words[0] == "--count":
+        count_once(*words[1:4], int(words[4]))
         return 0
     if len(words) != 1:
         print("usage: check.py PROGRAM", file=sys.stderr)

@@ -35,10 +35,17 @@ def _metadata():
     return "\n".join(head) + "\n\n" + (ROOT / "README.md").read_text()
 
 
+def _scripts():
+    """The commands that an installation makes, from the last table of pyproject.toml."""
+    lines = (ROOT / "pyproject.toml").read_text().split("[project.scripts]\n")[1].splitlines()
+    return "[console_scripts]\n" + "".join(line.replace('"', "") + "\n" for line in lines)
+
+
 def build_wheel(wheel_directory, config_settings=None, metadata_directory=None):
     info = f"{_stem()}.dist-info"
     files = {f"femem/{path.name}": path.read_bytes() for path in _files()}
     files[f"{info}/METADATA"] = _metadata().encode()
+    files[f"{info}/entry_points.txt"] = _scripts().encode()
     files[f"{info}/WHEEL"] = b"Wheel-Version: 1.0\nGenerator: femem\nRoot-Is-Purelib: true\nTag: py3-none-any\n"
     record = ""
     for name, content in files.items():

@@ -23,23 +23,23 @@ def ran(place, words, seconds):
     return (said.strip().splitlines() or [""])[-1]
 
 
-@within(180)
+@within(420)
 def tests_in_python(place):
     """the tests of the Python client"""
-    return ran(place, [sys.executable, "-m", "unittest", "discover", "-s", os.path.join(CLIENTS, "python", "tests")], 170)
+    return ran(place, [sys.executable, "-m", "unittest", "discover", "-s", os.path.join(CLIENTS, "python", "tests")], 400)
 
 
-@within(180)
+@within(300)
 def python(place):
-    """the Python client against a real server: every pattern, kills, a server that never comes back"""
-    return ran(place, [sys.executable, os.path.join(CLIENTS, "python", "check.py"), place.program], 170)
+    """the Python client against a real server: every pattern, kills of either, a server that never comes back"""
+    return ran(place, [sys.executable, os.path.join(CLIENTS, "python", "check.py"), place.program], 280)
 
 
-@within(120)
+@within(300)
 def tests_in_c(place):
     """the tests of the C client, plain and with the sanitizers"""
     compiler()
-    return ran(place, ["make", "-s", "-C", os.path.join(CLIENTS, "c"), "test"], 110)
+    return ran(place, ["make", "-s", "-C", os.path.join(CLIENTS, "c"), "test"], 290)
 
 
 @within(120)

@@ -10,8 +10,10 @@
 `femem.aio` is the same for asyncio, `femem.patterns` has locks, queues and the like.
 """
 
+import logging
+
 from . import requests
-from .client import Client
+from .client import Client, Pipeline, Recovered
 from .errors import (
     AnswerError,
     ArrayLimit,
@@ -28,11 +30,14 @@ from .errors import (
     NoMemory,
     NotAttached,
     NotNow,
+    NotOwner,
     NotWaiting,
     NumberUsed,
     ProtocolError,
     Refused,
     ServerUnreachable,
+    SessionFileError,
+    SessionInUse,
     SessionLimit,
     SessionLost,
     Spent,
@@ -42,8 +47,13 @@ from .errors import (
     Withdrawn,
     WordLimit,
 )
+from .observer import Observer
 from .reports import Report, Waiter
 from .requests import Array, Request
+
+__version__ = "1.1.0"
+
+logging.getLogger("femem").addHandler(logging.NullHandler())
 
 __all__ = [
     "AnswerError",
@@ -63,13 +73,19 @@ __all__ = [
     "NoMemory",
     "NotAttached",
     "NotNow",
+    "NotOwner",
     "NotWaiting",
     "NumberUsed",
+    "Observer",
+    "Pipeline",
     "ProtocolError",
+    "Recovered",
     "Refused",
     "Report",
     "Request",
     "ServerUnreachable",
+    "SessionFileError",
+    "SessionInUse",
     "SessionLimit",
     "SessionLost",
     "Spent",

@@ -1,7 +1,7 @@
-"""`python3 -m femem PATH [--session S]`: a shell for a server."""
+"""`python3 -m femem [OPTION ..] [SOCKET] [COMMAND ..]`: a shell for a server."""
 
 import sys
 
 from .shell import main
 
-sys.exit(main(sys.argv[1:]))
+sys.exit(main())

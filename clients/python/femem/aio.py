@@ -6,21 +6,29 @@
         print(await client.readfe(slot, 0))
 
 What each operation answers, when it waits and which errors it has stands at the same name in `femem.Client`. A task that
-is cancelled while it awaits an operation takes it back, and is not told whether it had happened; `timeout=` tells.
+is cancelled while it awaits an operation takes it back and waits for the server's word on it: where the operation had
+happened the task gets its answer, and is not cancelled there. So `asyncio.wait_for` loses no value.
 """
 
 from __future__ import annotations
 
 import asyncio
+import os
+import weakref
+from functools import partial
 from types import TracebackType
-from typing import Any, Optional, Type, TypeVar, Union, cast
+from typing import Any, Awaitable, Iterable, List, Optional, Type, TypeVar, Union, cast
 
-from . import requests
-from .client import DEFAULT, FIRST_PAUSE, LONGEST_PAUSE, Timeout
+from . import errors, requests
+from .client import DEFAULT, FIRST_PAUSE, LONGEST_PAUSE, Key, Path, Recovered, Timeout
+from .client import choose_session, key_bytes, request_of, seconds_of
 from .core import Core, Phase
+from .jobs import Job
 from .errors import FememError
 from .reports import Report
 from .requests import Array, ArrayLike, Request
+from .sessionfile import SessionFile
+from .sides import Sides, numbers
 from .tickets import Ticket
 
 T = TypeVar("T")
@@ -34,32 +42,92 @@ class AsyncClient:
 
     def __init__(
         self,
-        path: str,
-        session: int,
+        path: Path,
+        session: Optional[int] = None,
         *,
+        sessions: int = 1,
+        session_file: Optional[Path] = None,
         timeout: Optional[float] = None,
         reconnect_timeout: Optional[float] = 30.0,
         probe_interval: float = 5.0,
     ) -> None:
-        self.path = path
-        self.session = session
-        self.timeout = timeout
-        self._core = Core(session, reconnect_timeout, probe_interval)
+        self.timeout = seconds_of(timeout)
+        patience = seconds_of(reconnect_timeout, "reconnect_timeout")
+        pause = seconds_of(probe_interval, "probe_interval")
+        choice = choose_session(path, session, session_file, sessions)
+        self.path = os.fsdecode(path)
+        self.session = choice.session
+        self._is_temporary = choice.is_temporary
+        self._patience = patience
+        self._process = os.getpid()
+        self._pause = 3600.0 if pause is None else pause
+        self._core = Core(choice.session, patience, self._pause, choice.file, self._now, choice.sessions > 1)
+        self._count = choice.sessions
+        self._sides: Sides[AsyncClient] = Sides(())
         self._transport: Optional[asyncio.Transport] = None
         self._timer: Optional[asyncio.TimerHandle] = None
         self._connecting: Optional[asyncio.Task[None]] = None
+        self._helpers: List[asyncio.Task[None]] = []
+        self.recovered: List[Recovered] = []
+        _clients.add(self)
+
+    def __repr__(self) -> str:
+        failure = self.failure
+        how = self._core.phase.value if failure is None else f"{type(failure).__name__}: {failure}"
+        more = f" and {len(self._sides)} more" if self._sides else ""
+        return f"<femem asyncio client of session {self.session}{more} at {self.path}: {how}>"
 
     async def open(self) -> None:
-        """Connects and attaches. Errors: `ServerUnreachable`, `SessionLimit`, `Closing`, `Spent`, `ProtocolError`."""
+        """Connects and attaches. The errors are those of `Client`."""
         self._changed = asyncio.Event()
+        file = self._core.file
+        if file is not None and file.is_ending:
+            try:
+                await self._end_session(file)
+            except BaseException:
+                file.abandon()
+                raise
         opening = self._future(self._core.open(self._now()))
+        self.recovered = [
+            Recovered(ticket.request.what, ticket.key, self._future(ticket))
+            for ticket in self._core.recovered
+            if ticket.request is not None
+        ]
         self._connecting = asyncio.get_running_loop().create_task(self._keep_connected())
         self._move()
         try:
             await opening
         except BaseException:
+            self._is_temporary = False
             await self.close()
             raise
+        try:
+            await self._open_sides()
+        except BaseException:
+            await self.close()
+            raise
+
+    async def _end_session(self, file: SessionFile) -> None:
+        """Its former process was ending the session: that is done first, and the file begins with another one."""
+        async with AsyncClient(self.path, file.session, reconnect_timeout=self._patience) as former:
+            await former.bye()
+        file.start_over()
+        self._core.begin_anew()
+        self.session = file.session
+
+    async def _open_sides(self) -> None:
+        sides = [
+            AsyncClient(self.path, number, reconnect_timeout=self._patience, probe_interval=self._pause)
+            for number in numbers(self.session, self._count)
+        ]
+        opened: List[AsyncClient] = []
+        try:
+            for side in sides:
+                await side.open()
+                side._is_temporary = True
+                opened.append(side)
+        finally:
+            self._sides = Sides(opened)
 
     async def __aenter__(self) -> AsyncClient:
         await self.open()
@@ -74,84 +142,179 @@ class AsyncClient:
         await self.close()
 
     @property
+    def sessions(self) -> List[int]:
+        """As `Client.sessions`."""
+        return [self.session, *(side.session for side in self._sides)]
+
+    @property
     def failure(self) -> Optional[FememError]:
         """As `Client.failure`."""
         return self._core.failure
 
     async def close(self) -> None:
         """As `Client.close`."""
+        if self._is_temporary:
+            self._is_temporary = False
+            try:
+                await self._leave(True)
+            except FememError:
+                pass
         self._core.close()
         self._move()
         if self._connecting is not None:
             await self._connecting
+        self._core.close_file()
 
     async def bye(self) -> None:
         """As `Client.bye`."""
-        future = self._future(self._core.leave(self._now()))
+        await self._leave(False)
+        self._is_temporary = False
+        await self.close()
+
+    async def _leave(self, at_any_rate: bool) -> None:
+        ticket: Ticket[None] = Ticket(None)
+        future = self._future(ticket)
+        self._core.leave(self._now(), ticket, at_any_rate)
         self._move()
         await future
-        await self.close()
 
     # The operations, as of `Client`.
 
     async def create(
         self, name: Union[str, bytes], length: int, full: bool = False, *, timeout: Timeout = DEFAULT
     ) -> Array:
-        return await self.submit(requests.create(name, length, full), timeout=timeout)
+        return await self._call(requests.create(name, length, full), timeout)
 
     async def find(self, name: Union[str, bytes], *, timeout: Timeout = DEFAULT) -> Array:
-        return await self.submit(requests.find(name), timeout=timeout)
+        return await self._call(requests.find(name), timeout)
 
     async def remove(self, array: ArrayLike, *, timeout: Timeout = DEFAULT) -> None:
-        return await self.submit(requests.remove(array), timeout=timeout)
+        return await self._call(requests.remove(array), timeout)
 
     async def readfe(self, array: ArrayLike, index: int, *, nowait: bool = False, timeout: Timeout = DEFAULT) -> int:
-        return await self.submit(requests.readfe(array, index, nowait), timeout=timeout)
+        return await self._call(requests.readfe(array, index, nowait), timeout)
 
     async def readff(self, array: ArrayLike, index: int, *, nowait: bool = False, timeout: Timeout = DEFAULT) -> int:
-        return await self.submit(requests.readff(array, index, nowait), timeout=timeout)
+        return await self._call(requests.readff(array, index, nowait), timeout)
 
     async def readxx(self, array: ArrayLike, index: int, *, timeout: Timeout = DEFAULT) -> int:
-        return await self.submit(requests.readxx(array, index), timeout=timeout)
+        return await self._call(requests.readxx(array, index), timeout)
 
     async def writeef(
         self, array: ArrayLike, index: int, value: int, *, nowait: bool = False, timeout: Timeout = DEFAULT
     ) -> None:
-        return await self.submit(requests.writeef(array, index, value, nowait), timeout=timeout)
+        return await self._call(requests.writeef(array, index, value, nowait), timeout)
 
     async def writeff(
         self, array: ArrayLike, index: int, value: int, *, nowait: bool = False, timeout: Timeout = DEFAULT
     ) -> None:
-        return await self.submit(requests.writeff(array, index, value, nowait), timeout=timeout)
+        return await self._call(requests.writeff(array, index, value, nowait), timeout)
 
     async def writexf(self, array: ArrayLike, index: int, value: int, *, timeout: Timeout = DEFAULT) -> None:
-        return await self.submit(requests.writexf(array, index, value), timeout=timeout)
+        return await self._call(requests.writexf(array, index, value), timeout)
 
     async def purge(self, array: ArrayLike, index: int, *, timeout: Timeout = DEFAULT) -> None:
-        return await self.submit(requests.purge(array, index), timeout=timeout)
+        return await self._call(requests.purge(array, index), timeout)
 
     async def int_fetch_add(
         self, array: ArrayLike, index: int, value: int, *, nowait: bool = False, timeout: Timeout = DEFAULT
     ) -> int:
-        return await self.submit(requests.int_fetch_add(array, index, value, nowait), timeout=timeout)
+        return await self._call(requests.int_fetch_add(array, index, value, nowait), timeout)
 
     async def report(self) -> Report:
-        future = self._future(self._core.report(self._now()))
+        """As `Client.report`."""
+        ticket: Ticket[Report] = Ticket(None)
+        future = self._future(ticket)
+        self._core.report(self._now(), ticket)
         self._move()
         return await future
 
     def submit(self, request: Request[T], *, timeout: Timeout = DEFAULT) -> asyncio.Future[T]:
-        """Asks without waiting for the answer. A future that is cancelled takes its request back."""
-        seconds = self.timeout if timeout is DEFAULT else cast(Optional[float], timeout)
-        future = self._future(self._core.submit(request, self._now(), seconds))
+        """Asks without waiting for the answer. A future that is cancelled takes its request back, and nobody is told
+        whether it had happened; what is awaited by the operations' own names is told."""
+        return self._submit(Ticket(request_of(request)), timeout)
+
+    async def submit_many(self, asked: Iterable[Request[Any]], *, timeout: Timeout = DEFAULT) -> List[Any]:
+        """As `Client.submit_many`."""
+        tickets: List[Ticket[Any]] = [Ticket(request_of(request)) for request in asked]
+        seconds = self._seconds(timeout)
+        self._check_loop()
+        futures = [self._future(ticket) for ticket in tickets]
+        self._core.take(tickets, self._now(), seconds)
         self._move()
-        return future
+        found: List[Any] = await asyncio.gather(*futures, return_exceptions=True)
+        return found
+
+    async def once(self, key: Key, request: Request[T], *, timeout: Timeout = DEFAULT) -> T:
+        """As `Client.once`."""
+        ticket: Ticket[T] = Ticket(request_of(request))
+        ticket.key = key_bytes(key)
+        if self._core.file is None:
+            raise ValueError("a key needs a client with a session file")
+        return await self._told(ticket, self._submit(ticket, timeout))
+
+    def forget(self, key: Key) -> None:
+        """As `Client.forget`."""
+        if self._core.file is None:
+            raise ValueError("a key needs a client with a session file")
+        self._core.forget(key_bytes(key))
 
     # What stands behind these.
 
     @staticmethod
     def _now() -> float:
         return asyncio.get_running_loop().time()
+
+    def _seconds(self, timeout: Timeout) -> Optional[float]:
+        return self.timeout if timeout is DEFAULT else seconds_of(timeout)
+
+    def _check_loop(self) -> None:
+        if self._process != os.getpid():
+            raise errors.Closed("a client is of the process that made it")
+
+    def _submit(self, ticket: Ticket[T], timeout: Timeout) -> asyncio.Future[T]:
+        seconds = self._seconds(timeout)
+        self._check_loop()
+        future = self._future(ticket)
+        self._core.take((ticket,), self._now(), seconds)
+        self._move()
+        return future
+
+    async def _call(self, request: Request[T], timeout: Timeout) -> T:
+        ticket = Ticket(request)
+        return await self._told(ticket, self._submit(ticket, timeout))
+
+    async def _run_job(self, job: Job[T]) -> T:
+        """Runs an operation of several steps. A task that is cancelled takes it back, and is told where it is done."""
+        self._check_loop()
+        future = self._future(job)
+        self._core.start(job, self._now())
+        self._move()
+        return await self._told(job, future)
+
+    async def _told(self, ticket: Ticket[T], future: asyncio.Future[T]) -> T:
+        try:
+            return await asyncio.shield(future)
+        except asyncio.CancelledError:
+            if future.cancelled():
+                raise
+            self._take_back(ticket, False)
+            try:
+                return await asyncio.shield(future)
+            except errors.Withdrawn:
+                raise asyncio.CancelledError from None
+            except asyncio.CancelledError:
+                # Cancelled once more: nobody waits for the server's word.
+                self._take_back(ticket, True)
+                future.cancel()
+                raise
+
+    def _take_back(self, ticket: Ticket[Any], is_abandoned: bool) -> None:
+        if isinstance(ticket, Job):
+            (self._core.abandon if is_abandoned else self._core.interrupt)(ticket, self._now())
+        else:
+            self._core.withdraw(ticket, self._now())
+        self._move()
 
     def _future(self, ticket: Ticket[T]) -> asyncio.Future[T]:
         future: asyncio.Future[Any] = asyncio.get_running_loop().create_future()
@@ -166,20 +329,21 @@ class AsyncClient:
 
         def cancelled(future: asyncio.Future[Any]) -> None:
             if future.cancelled() and not ticket.done:
-                self._core.withdraw(ticket, self._now())
-                self._move()
+                self._take_back(ticket, True)
 
         ticket.finished = finished
         future.add_done_callback(cancelled)
         return future
 
     def _move(self) -> None:
-        """After each change: sends, tells who is done, and sets the clock."""
-        if self._transport is not None and self._core.to_send:
-            self._transport.write(bytes(self._core.to_send))
-            self._core.to_send.clear()
-        for ticket in self._core.take_ended():
-            ticket.finished()
+        """After each change: sends, tells who is done, which may bring more, and sets the clock."""
+        while True:
+            self._flush()
+            ended = self._core.take_ended()
+            if not ended:
+                break
+            for ticket in ended:
+                ticket.finished()
         if self._timer is not None:
             self._timer.cancel()
             self._timer = None
@@ -189,6 +353,77 @@ class AsyncClient:
         time = self._core.next_time()
         if time is not None and time != float("inf"):
             self._timer = asyncio.get_running_loop().call_at(time, self._tick)
+
+    def _flush(self) -> None:
+        core = self._core
+        if core.file is not None and core.file.must_sync and core.failure is None:
+            try:
+                core.file.commit()
+            except errors.SessionFileError as error:
+                core.fail(error)
+        if core.fences:
+            fences, core.fences = core.fences, []
+            for session, ticket in fences:
+                self._helpers.append(asyncio.get_running_loop().create_task(self._fence(session, ticket)))
+        if core.moves:
+            self._move_waits()
+        if self._transport is not None and core.to_send:
+            self._transport.write(bytes(core.to_send))
+            core.to_send.clear()
+
+    def _move_waits(self) -> None:
+        """Has further sessions ask what has to wait."""
+        for ticket in self._core.take_moved():
+            side = self._sides.choose()
+            asked: Ticket[Any] = Ticket(ticket.request)
+            asked.finished = partial(self._has_come_back, side, ticket, asked)
+            self._core.moved_to(ticket, partial(side._take_back_for, asked))
+            side._core.take((asked,), self._now())
+            side._move()
+
+    def _take_back_for(self, ticket: Ticket[Any], why: errors.Withdrawn) -> None:
+        self._core.withdraw(ticket, self._now(), why)
+        self._move()
+
+    def _has_come_back(self, side: AsyncClient, ticket: Ticket[Any], asked: Ticket[Any]) -> None:
+        """A further session has done it. A session that is of no further use ends the client."""
+        self._sides.give_back(side)
+        self._core.has_come_back(ticket, asked)
+        if side.failure is not None:
+            self._core.fail(type(side.failure)(*side.failure.args))
+        self._move()
+
+    async def _close_sides(self) -> None:
+        """As of `Client`."""
+        is_there = isinstance(self._core.failure, errors.Closed)
+        for side in self._sides:
+            side._is_temporary = is_there
+            await side.close()
+            is_there = is_there and isinstance(side.failure, errors.Closed)
+
+    async def _fence(self, session: int, ticket: Ticket[None]) -> None:
+        failed: Optional[BaseException] = None
+        try:
+            async with AsyncClient(self.path, session):
+                pass
+        except errors.FememError as error:
+            failed = error
+        self._core.fenced(ticket, failed)
+        self._helpers = [task for task in self._helpers if task is not asyncio.current_task()]
+        self._move()
+
+    def _forked(self) -> None:
+        """In a child of the process: as of `Client`. The loop is the parent's too, so its socket alone is closed."""
+        self._core.failure = errors.Closed("a client is of the process that made it")
+        self._core.phase = Phase.ENDED
+        self._is_temporary = False
+        if self._transport is not None:
+            inherited = getattr(self._transport.get_extra_info("socket"), "_sock", None)
+            if inherited is not None:
+                inherited.close()
+            self._transport = None
+        if self._core.file is not None:
+            self._core.file.abandon()
 
     def _tick(self) -> None:
         self._core.tick(self._now())
@@ -204,7 +439,7 @@ class AsyncClient:
                     asyncio.get_running_loop().create_unix_connection(lambda: connection, self.path), 1.0
                 )
             except (OSError, asyncio.TimeoutError) as error:
-                self._core.trouble = str(error)
+                self._core.trouble = f"{self.path}: {error}"
             else:
                 await self._until_lost(connection)
             if connection.was_ready:
@@ -212,6 +447,7 @@ class AsyncClient:
             await self._sleep(pause)
             pause = min(2 * pause, LONGEST_PAUSE)
         self._move()
+        await self._close_sides()
 
     async def _until_lost(self, connection: _Connection) -> None:
         while self._core.failure is None and not connection.is_lost:
@@ -259,3 +495,38 @@ class _Connection(asyncio.Protocol):
     def close(self) -> None:
         if self._transport is not None:
             self._transport.abort()
+
+
+# The clients of this process, whose children close what they inherit of them.
+_clients: weakref.WeakSet[AsyncClient] = weakref.WeakSet()
+
+
+def _in_child() -> None:
+    for client in list(_clients):
+        client._forked()
+
+
+os.register_at_fork(after_in_child=_in_child)
+
+from ._aiopatterns import (  # noqa: E402
+    Barrier,
+    BoundedQueue,
+    Counter,
+    Future,
+    Lock,
+    Once,
+    Semaphore,
+    shared_array,
+)
+
+__all__ = [
+    "AsyncClient",
+    "Barrier",
+    "BoundedQueue",
+    "Counter",
+    "Future",
+    "Lock",
+    "Once",
+    "Semaphore",
+    "shared_array",
+]

@@ -1,23 +1,38 @@
-"""The client for threads."""
+"""The client for threads.
+
+A thread of the client's own has the connection and the core. Whoever asks only appends to a list, in one step, and waits:
+so an exception out of a signal's handler, wherever it comes, leaves nothing half done.
+"""
 
 from __future__ import annotations
 
+import logging
+import math
 import os
-import selectors
+import secrets
+import select
 import socket
 import threading
 import time
+import weakref
+from collections import deque
 from concurrent.futures import Future
+from functools import partial
 from types import TracebackType
-from typing import Any, List, Optional, Type, TypeVar, Union
+from typing import Any, Callable, Deque, Iterable, List, NamedTuple, Optional, Sequence, Type, TypeVar, Union
 
 from . import errors, requests
 from .core import Core, Phase
+from .jobs import Job
 from .reports import Report
 from .requests import Array, ArrayLike, Request
+from .sessionfile import SessionFile
+from .sides import Sides, count_of, numbers
 from .tickets import Ticket
 
 T = TypeVar("T")
+
+log = logging.getLogger("femem")
 
 # How long the thread waits between attempts to connect, in seconds: the first time, and at most.
 FIRST_PAUSE = 0.01
@@ -28,6 +43,10 @@ _CONNECT_TIME = 1.0
 
 _READ_BYTES = 65536
 
+# How long after something happened the thread looks at the clock for what is due by it, in seconds: less than anything
+# takes that becomes due by what happened, but for what the core says is urgent.
+_LOOK_AFTER = 0.02
+
 
 class _Default:
     """Stands for "what the client was made with"."""
@@ -36,6 +55,75 @@ class _Default:
 DEFAULT = _Default()
 Timeout = Union[float, None, _Default]
 
+Path = Union[str, bytes, "os.PathLike[str]"]
+Key = Union[str, bytes, int]
+
+
+class Recovered(NamedTuple):
+    """A request that a former process with the same session file had no answer for: what it was, and under which key.
+
+    `future` is done once its answer is there.
+    """
+
+    what: str
+    key: Optional[bytes]
+    future: Any
+
+    def result(self, timeout: Optional[float] = None) -> Any:
+        """The answer, or it is raised."""
+        return self.future.result(timeout)
+
+
+def seconds_of(timeout: object, what: str = "timeout") -> Optional[float]:
+    """A number of seconds, or `None` for ever."""
+    if timeout is None:
+        return None
+    if isinstance(timeout, bool) or not isinstance(timeout, (int, float)):
+        raise TypeError(f"{what} is not a number of seconds: {timeout!r}")
+    if math.isnan(timeout):
+        raise ValueError(f"{what} is not a number of seconds: {timeout!r}")
+    return None if timeout == math.inf else float(timeout)
+
+
+def key_bytes(key: Key) -> bytes:
+    """A key as the session file has it. Keys that are equal as text are one."""
+    if isinstance(key, bool) or not isinstance(key, (str, bytes, int)):
+        raise TypeError(f"a key is a str, bytes or an int: {key!r}")
+    spelled = key if isinstance(key, bytes) else str(key).encode("utf-8")
+    if not 1 <= len(spelled) <= 1024:
+        raise ValueError(f"a key has 1 to 1024 bytes: {key!r}")
+    return spelled
+
+
+def request_of(request: object) -> Request[Any]:
+    if not isinstance(request, Request):
+        raise TypeError(f"not a request of femem.requests: {request!r}")
+    return request
+
+
+class SessionChoice(NamedTuple):
+    """Which session a client has: its number, the file that holds it, and whether it ends with the client."""
+
+    session: int
+    file: Optional[SessionFile]
+    is_temporary: bool
+    sessions: int
+
+
+def choose_session(path: Path, session: Optional[int], session_file: Optional[Path], sessions: int) -> SessionChoice:
+    """A session that is given, or that of the file, or one that is chosen at random and ends with the client."""
+    if not isinstance(path, (str, bytes, os.PathLike)):
+        raise TypeError(f"the path of a socket is a str: {path!r}")
+    number = None if session is None else requests.number_of_bits(session, 64, "session")
+    count = count_of(sessions, session_file is not None)
+    if session_file is None:
+        return SessionChoice(secrets.randbits(63) if number is None else number, None, number is None, count)
+    file = SessionFile(os.fsdecode(session_file))
+    if number is not None and number != file.session:
+        file.abandon()
+        raise ValueError(f"{file.path} is of session {file.session}, not {number}")
+    return SessionChoice(file.session, file, False, count)
+
 
 class Client:
     """A session of a femem server, over its Unix socket.
@@ -43,40 +131,109 @@ class Client:
     It may be used by several threads at once, by one process, and one client at a time should have a session. It connects
     again by itself when the server was stopped and started, and sends again what has no answer.
 
+    Without a session, it has one of its own that ends with it. With `session_file` the session is that of the file, and
+    goes on when the process was killed and is started again.
+
     `timeout` is that of each operation that names none: after so many seconds the operation is taken back, if it waits.
     `reconnect_timeout` is how long the server may be unreachable, or owe a reply, while something is asked of it; `None`
     is for ever.
+
+    With `sessions` it has so many: what waits is asked over the further ones, 32 requests over each, and so holds up
+    nothing else. They end with the client. Their numbers follow from that of its own session.
     """
 
     def __init__(
         self,
-        path: str,
-        session: int,
+        path: Path,
+        session: Optional[int] = None,
         *,
+        sessions: int = 1,
+        session_file: Optional[Path] = None,
         timeout: Optional[float] = None,
         reconnect_timeout: Optional[float] = 30.0,
         probe_interval: float = 5.0,
     ) -> None:
-        """Connects and attaches. Errors: `ServerUnreachable`, `SessionLimit`, `Closing`, `Spent`, `ProtocolError`."""
-        self.path = path
-        self.session = session
-        self.timeout = timeout
-        self._core = Core(session, reconnect_timeout, probe_interval)
+        """Connects and attaches.
+
+        Errors: `ServerUnreachable`, `SessionLimit`, `Closing`, `Spent`, `ProtocolError`; of the file `SessionInUse`,
+        `SessionFileError`.
+        """
+        self.timeout = seconds_of(timeout)
+        patience = seconds_of(reconnect_timeout, "reconnect_timeout")
+        pause = seconds_of(probe_interval, "probe_interval")
+        choice = choose_session(path, session, session_file, sessions)
+        self.path = os.fsdecode(path)
+        if choice.file is not None and choice.file.is_ending:
+            self._end_session(choice.file, patience)
+            choice = choice._replace(session=choice.file.session)
+        self.session = choice.session
+        self._is_temporary = choice.is_temporary
+        self._core = Core(
+            choice.session,
+            patience,
+            3600.0 if pause is None else pause,
+            choice.file,
+            moves_waits=choice.sessions > 1,
+        )
+        self._sides: Sides[Client] = Sides(())
         self._process = os.getpid()
-        self._longest_sleep = probe_interval
-        self._lock = threading.Lock()
+        self._longest_sleep = 3600.0 if pause is None else pause
+        # What is asked, in its order: each is called with the time by the thread.
+        self._asked: Deque[Callable[[float], object]] = deque()
+        self._is_asleep = False
+        self._is_over = False
+        # When the thread looks at the clock next.
+        self._look_at = 0.0
+        # Once the thread is no more, whoever asks does so in its place, one at a time.
+        self._ending = threading.RLock()
         self._socket: Optional[socket.socket] = None
         self._waker, self._woken = socket.socketpair()
         self._waker.setblocking(False)
         self._woken.setblocking(False)
         opening = self._future(self._core.open(time.monotonic()))
-        self._thread = threading.Thread(target=self._run, name=f"femem session {session}", daemon=True)
+        # What the former process with this session file had no answer for.
+        self.recovered: List[Recovered] = [
+            Recovered(ticket.request.what, ticket.key, self._future(ticket))
+            for ticket in self._core.recovered
+            if ticket.request is not None
+        ]
+        self._poll = select.poll()
+        self._thread = threading.Thread(target=self._run, name=f"femem session {self.session}", daemon=True)
+        _clients.add(self)
         self._thread.start()
         try:
             opening.result()
         except BaseException:
+            self._is_temporary = False
             self.close()
             raise
+        try:
+            self._open_sides(choice.sessions, patience, pause)
+        except BaseException:
+            self.close()
+            raise
+
+    def _open_sides(self, count: int, patience: Optional[float], pause: Optional[float]) -> None:
+        sides: List[Client] = []
+        try:
+            for number in numbers(self.session, count):
+                wait = math.inf if pause is None else pause
+                sides.append(Client(self.path, number, reconnect_timeout=patience, probe_interval=wait))
+                sides[-1]._is_temporary = True
+        finally:
+            self._sides = Sides(sides)
+
+    def _end_session(self, file: SessionFile, patience: Optional[float]) -> None:
+        """Its former process was ending the session: that is done first, and the file begins with another one."""
+        with Client(self.path, file.session, reconnect_timeout=patience) as former:
+            former.bye()
+        file.start_over()
+
+    def __repr__(self) -> str:
+        failure = self.failure
+        how = self._core.phase.value if failure is None else f"{type(failure).__name__}: {failure}"
+        more = f" and {len(self._sides)} more" if self._sides else ""
+        return f"<femem client of session {self.session}{more} at {self.path}: {how}>"
 
     def __enter__(self) -> Client:
         return self
@@ -90,21 +247,29 @@ class Client:
         self.close()
 
     @property
+    def sessions(self) -> List[int]:
+        """The numbers of its sessions, its own first."""
+        return [self.session, *(side.session for side in self._sides)]
+
+    @property
     def failure(self) -> Optional[errors.FememError]:
         """Why this client is of no further use, or `None`. Each operation then raises it."""
         return self._core.failure
 
     def close(self) -> None:
-        """Closes the connection. The session is kept by the server; what waits is withdrawn there.
+        """Closes the connection. The session is kept by the server, but for one that the client chose; what waits is
+        withdrawn there.
 
         What has no answer ends with `Closed`: it happened once or not at all.
         """
-        with self._lock:
-            self._core.close()
-            ended = self._core.take_ended()
-        self._finish(ended)
-        self._wake()
-        if threading.current_thread() is not self._thread:
+        if self._is_temporary and not self._is_over and threading.current_thread() is not self._thread:
+            self._is_temporary = False
+            try:
+                self._leave(True)
+            except errors.FememError:
+                pass
+        self._ask(lambda now: self._core.close())
+        if threading.current_thread() is not self._thread and self._process == os.getpid():
             self._thread.join()
 
     def bye(self) -> None:
@@ -112,11 +277,15 @@ class Client:
 
         The server then keeps nothing of the session. Over a stop it is said again until it is so.
         """
-        with self._lock:
-            future = self._future(self._core.leave(time.monotonic()))
-            self._flush()
-        future.result()
+        self._leave(False)
+        self._is_temporary = False
         self.close()
+
+    def _leave(self, at_any_rate: bool) -> None:
+        ticket: Ticket[None] = Ticket(None)
+        future = self._future(ticket)
+        self._ask(lambda now: self._core.leave(now, ticket, at_any_rate))
+        future.result()
 
     # Arrays.
 
@@ -186,64 +355,135 @@ class Client:
 
     # More at a time.
 
-    def submit(self, request: Request[T], *, timeout: Timeout = DEFAULT) -> Future[T]:
+    def submit(self, request: Request[T], *, timeout: Timeout = DEFAULT, key: Optional[Key] = None) -> Future[T]:
         """Asks without waiting for the answer: `client.submit(requests.readfe(array, 0))`.
 
         Up to 32 requests are under way; further ones wait here for room. The server takes them in the order in which
         they are sent, which is that of these calls, but for requests that wait: they may be taken back and called again
-        behind others, to make room. `Future.cancel` does nothing; use `withdraw`.
+        behind others, to make room. `Future.cancel` does nothing; use `withdraw`. With a key, as `once`.
         """
-        return self._submit(request, timeout)[1]
+        ticket: Ticket[T] = Ticket(request_of(request)) if key is None else self._keyed(key, request)
+        future = self._future(ticket)
+        seconds = self._seconds(timeout)
+        self._ask(lambda now: self._core.take((ticket,), now, seconds))
+        return future
+
+    def submit_many(self, asked: Iterable[Request[Any]], *, timeout: Timeout = DEFAULT) -> List[Any]:
+        """Asks all of them in one step, and waits for all. The answers, in their order; an error stands for itself."""
+        tickets: List[Ticket[Any]] = [Ticket(request_of(request)) for request in asked]
+        seconds = self._seconds(timeout)
+        if tickets:
+            self._wait_for(tickets, lambda now: self._core.take(tickets, now, seconds))
+        return [ticket.result if ticket.error is None else ticket.error for ticket in tickets]
+
+    def pipeline(self) -> Pipeline:
+        """Requests that are put together first, and then asked in one step."""
+        return Pipeline(self)
 
     def withdraw(self, future: Future[Any]) -> None:
         """Takes back a request that waits. Its future ends with `Withdrawn`, or with its answer if it has happened."""
-        ticket = getattr(future, "ticket", None)
+        ticket: Any = getattr(future, "ticket", None)
         if ticket is not None:
-            self._withdraw(ticket)
+            self._ask(lambda now: self._core.withdraw(ticket, now))
 
     def report(self) -> Report:
         """What waits now, of all sessions. Never waits, and changes nothing. Errors: `NoMemory`."""
-        with self._lock:
-            future = self._future(self._core.report(time.monotonic()))
-            self._flush()
-        return future.result()
+        ticket: Ticket[Report] = Ticket(None)
+        self._wait_for((ticket,), lambda now: self._core.report(now, ticket))
+        return _result(ticket)
+
+    # Over the client's own restarts.
+
+    def once(self, key: Key, request: Request[T], *, timeout: Timeout = DEFAULT) -> T:
+        """The answer to the request that was asked under this key first, in this process or a former one.
+
+        It needs a session file, which keeps the answer until `forget`. `ValueError` where another request was asked
+        under the key. A request that was taken back, as after its time, was not asked.
+        """
+        ticket = self._keyed(key, request)
+        seconds = self._seconds(timeout)
+        self._wait_for((ticket,), lambda now: self._core.take((ticket,), now, seconds))
+        return _result(ticket)
+
+    def forget(self, key: Key) -> None:
+        """The key will not be asked again: the session file drops its answer."""
+        self._with_file()
+        spelled = key_bytes(key)
+        self._ask(lambda now: self._core.forget(spelled))
+
+    def _keyed(self, key: Key, request: Request[T]) -> Ticket[T]:
+        self._with_file()
+        ticket: Ticket[T] = Ticket(request_of(request))
+        ticket.key = key_bytes(key)
+        return ticket
+
+    def _with_file(self) -> None:
+        if self._core.file is None:
+            raise ValueError("a key needs a client with a session file")
 
     # What stands behind these.
 
+    def _seconds(self, timeout: Timeout) -> Optional[float]:
+        return self.timeout if isinstance(timeout, _Default) else seconds_of(timeout)
+
     def _call(self, request: Request[T], timeout: Timeout) -> T:
-        ticket, future = self._submit(request, timeout)
+        ticket: Ticket[T] = Ticket(request)
+        seconds = self._seconds(timeout)
+        self._wait_for((ticket,), lambda now: self._core.take((ticket,), now, seconds))
+        return _result(ticket)
+
+    def _run_job(self, job: Job[T]) -> T:
+        """Runs an operation of several steps. Where this thread is interrupted, it is taken back and undone."""
         try:
-            return future.result()
+            gate = threading.Lock()
+            gate.acquire()
+            job.finished = gate.release
+            self._ask(partial(self._core.start, job))
+            gate.acquire()
+            return _result(job)
+        except errors.FememError:
+            raise
         except BaseException:
-            # Where this thread was interrupted, nobody will take the answer.
-            if not future.done():
-                self._withdraw(ticket)
+            self._abandon(job)
             raise
 
-    def _submit(self, request: Request[T], timeout: Timeout) -> tuple[Ticket[T], Future[T]]:
-        seconds = self.timeout if isinstance(timeout, _Default) else timeout
-        if self._process != os.getpid():
-            raise errors.Closed("a client is of the process that made it")
-        with self._lock:
-            ticket = self._core.submit(request, time.monotonic(), seconds)
-            future = self._future(ticket)
-            self._flush()
-            # The thread knows nothing of these times yet.
-            must_wake = seconds is not None or ticket.number is None
-        if must_wake:
-            self._wake()
-        return ticket, future
+    def _abandon(self, job: Job[Any]) -> None:
+        """Nobody waits for it any more: it is taken back, or undone. Said twice it is done once."""
+        self._ask(partial(self._core.abandon, job))
 
-    def _withdraw(self, ticket: Ticket[Any]) -> None:
-        with self._lock:
-            self._core.withdraw(ticket, time.monotonic())
-            self._flush()
-            ended = self._core.take_ended()
-        self._finish(ended)
+    def _wait_for(self, tickets: Sequence[Ticket[Any]], ask: Callable[[float], object]) -> None:
+        """Asks, and waits until all are done. Where this thread is interrupted, they are taken back."""
+        try:
+            gate = threading.Lock()
+            gate.acquire()
+            left = len(tickets)
+
+            def finished() -> None:
+                nonlocal left
+                left -= 1
+                if not left:
+                    gate.release()
+
+            for ticket in tickets:
+                ticket.finished = finished
+            self._ask(ask)
+            gate.acquire()
+        except BaseException:
+            self._ask(lambda now: self._core.withdraw_all(tickets, now))
+            raise
+
+    def _ask(self, what: Callable[[float], object]) -> None:
+        """Has the thread do something. The one step of it that counts is the append."""
+        self._asked.append(what)
+        if self._is_asleep:
+            self._wake()  # the thread alone says when it is awake, so that an interruption here loses no call
+        if self._is_over:
+            with self._ending:
+                self._do_what_is_asked()
 
     @staticmethod
     def _future(ticket: Ticket[T]) -> Future[T]:
-        """The future of a ticket. It is set outside the lock, since what it calls may call the client."""
+        """The future of a ticket."""
         future: Future[Any] = Future()
         future.set_running_or_notify_cancel()
 
@@ -257,54 +497,130 @@ class Client:
         future.ticket = ticket  # type: ignore[attr-defined]
         return future
 
-    @staticmethod
-    def _finish(ended: List[Ticket[Any]]) -> None:
-        for ticket in ended:
-            ticket.finished()
-
     def _wake(self) -> None:
         try:
             self._waker.send(b"w")
         except OSError:
             pass  # it is awake, or it is no more
 
+    # The thread: it does what is asked, connects, reads, and looks at the clock.
+
+    def _do_what_is_asked(self) -> None:
+        asked = self._asked
+        while asked:
+            try:
+                what = asked.popleft()
+            except IndexError:
+                break
+            now = time.monotonic()
+            self._look_at = min(self._look_at, now + _LOOK_AFTER)
+            what(now)
+        self._move()
+
+    def _move(self) -> None:
+        """Sends what is to be sent, and tells who is done, which may bring more."""
+        while True:
+            self._flush()
+            ended = self._core.take_ended()
+            if not ended:
+                return
+            for ticket in ended:
+                ticket.finished()
+
     def _flush(self) -> None:
-        """Sends what the socket takes now; the thread sends the rest. The lock is held."""
-        if self._socket is None or not self._core.to_send:
+        """Sends what the socket takes now. What the session file has to hold stands in it before."""
+        core = self._core
+        if core.file is not None and core.file.must_sync and core.failure is None:
+            try:
+                core.file.commit()
+            except errors.SessionFileError as error:
+                core.fail(error)
+        if core.fences:
+            self._fence_all()
+        if core.moves:
+            self._move_waits()
+        if self._socket is None or not core.to_send:
             return
         try:
-            del self._core.to_send[: self._socket.send(self._core.to_send)]
+            del core.to_send[: self._socket.send(core.to_send)]
         except BlockingIOError:
             pass
         except OSError:
-            pass  # the thread sees it at its next read
-        if self._core.to_send:
-            self._wake()
+            core.to_send.clear()  # the next read says so too
 
-    # The thread: it connects, reads, and looks at the clock.
+    def _move_waits(self) -> None:
+        """Has further sessions ask what has to wait."""
+        for ticket in self._core.take_moved():
+            side = self._sides.choose()
+            asked: Ticket[Any] = Ticket(ticket.request)
+            back = partial(self._has_come_back, side, ticket, asked)
+            asked.finished = partial(self._ask, back)
+            self._core.moved_to(ticket, partial(side._take_back, asked))
+            side._ask(partial(side._take_one, asked))
+
+    def _take_one(self, ticket: Ticket[Any], now: float) -> None:
+        self._core.take((ticket,), now)
+
+    def _take_back(self, ticket: Ticket[Any], why: errors.Withdrawn) -> None:
+        self._ask(lambda now: self._core.withdraw(ticket, now, why))
+
+    def _has_come_back(self, side: Client, ticket: Ticket[Any], asked: Ticket[Any], now: float) -> None:
+        """A further session has done it. A session that is of no further use ends the client."""
+        self._sides.give_back(side)
+        self._core.has_come_back(ticket, asked)
+        if side.failure is not None:
+            self._core.fail(type(side.failure)(*side.failure.args))
+
+    def _close_sides(self) -> None:
+        """Ends the further sessions, as long as the server is there; what waits over them is withdrawn in any case."""
+        is_there = isinstance(self._core.failure, errors.Closed)
+        for side in self._sides:
+            side._is_temporary = is_there
+            side.close()
+            is_there = is_there and isinstance(side.failure, errors.Closed)
+
+    def _fence_all(self) -> None:
+        """Attaches the sessions anew, each from a thread of its own, since that waits for the server."""
+        fences, self._core.fences = self._core.fences, []
+        for session, ticket in fences:
+            threading.Thread(target=self._fence, args=(session, ticket), daemon=True).start()
+
+    def _fence(self, session: int, ticket: Ticket[None]) -> None:
+        failed: Optional[BaseException] = None
+        try:
+            Client(self.path, session).close()
+        except errors.FememError as error:
+            failed = error
+        self._ask(lambda now: self._core.fenced(ticket, failed))
 
     def _run(self) -> None:
         pause = FIRST_PAUSE
         try:
+            self._poll.register(self._woken, select.POLLIN)
             while self._core.failure is None:
                 connection = self._connect()
-                if connection is None:
-                    self._sleep(pause)
-                    pause = min(2 * pause, LONGEST_PAUSE)
-                    continue
-                with connection:
-                    if self._serve(connection):
-                        pause = FIRST_PAUSE
-                    else:
-                        self._sleep(pause)
-                        pause = min(2 * pause, LONGEST_PAUSE)
+                if connection is not None:
+                    with connection:
+                        if self._serve(connection):
+                            pause = FIRST_PAUSE
+                            continue
+                self._sleep(pause)
+                pause = min(2 * pause, LONGEST_PAUSE)
+        except Exception:
+            log.exception("session %d: a fault of the client", self.session)
         finally:
-            with self._lock:
-                self._core.fail(errors.Closed("the client's thread ended"))
-                ended = self._core.take_ended()
-            self._finish(ended)
-            self._waker.close()
-            self._woken.close()
+            self._end()
+
+    def _end(self) -> None:
+        self._core.fail(errors.Closed("the client's thread ended"))
+        if self._core.file is not None:
+            self._core.close_file()
+        with self._ending:
+            self._is_over = True
+            self._do_what_is_asked()
+        self._close_sides()
+        self._waker.close()
+        self._woken.close()
 
     def _connect(self) -> Optional[socket.socket]:
         connection = socket.socket(socket.AF_UNIX, socket.SOCK_STREAM)
@@ -312,73 +628,75 @@ class Client:
         try:
             connection.connect(self.path)
         except OSError as error:
-            self._core.trouble = str(error)
+            self._core.trouble = f"{self.path}: {error.strerror or error}"
             connection.close()
             return None
         connection.setblocking(False)
         return connection
 
     def _sleep(self, seconds: float) -> None:
-        """Without a connection: until the next attempt, or until somebody asks something."""
+        """Without a connection: until the next attempt."""
         end = time.monotonic() + seconds
-        with selectors.DefaultSelector() as selector:
-            selector.register(self._woken, selectors.EVENT_READ)
-            while self._tick() and time.monotonic() < end:
-                selector.select(self._until_next(end))
-                self._drain()
+        while self._tick() and time.monotonic() < end:
+            self._select(end)
 
     def _serve(self, connection: socket.socket) -> bool:
         """Until the connection breaks or the client ends. Whether the session was attached."""
-        with self._lock:
-            self._core.connected(time.monotonic())
-            self._socket = connection
-            self._flush()
+        core = self._core
+        core.connected(time.monotonic())
+        core.is_urgent = True
+        self._socket = connection
         was_ready = False
-        with selectors.DefaultSelector() as selector:
-            selector.register(self._woken, selectors.EVENT_READ)
-            events = selectors.EVENT_READ
-            selector.register(connection, events)
-            while self._tick():
-                wanted = selectors.EVENT_READ | (selectors.EVENT_WRITE if self._core.to_send else 0)
-                if wanted != events:
-                    events = wanted
-                    selector.modify(connection, events)
-                for key, _ in selector.select(self._until_next(None)):
-                    if key.fileobj is self._woken:
-                        self._drain()
-                    elif not self._read(connection):
-                        self._lose()
-                        return was_ready
-                was_ready = was_ready or self._core.phase is Phase.READY
-        self._lose()
+        stands = True
+        events = select.POLLIN
+        self._poll.register(connection, events)
+        while stands and self._tick():
+            wanted = select.POLLIN | (select.POLLOUT if core.to_send else 0)
+            if wanted != events:
+                events = wanted
+                self._poll.modify(connection, events)
+            if self._select(None):
+                stands = self._read(connection)
+            was_ready = was_ready or core.phase is Phase.READY
+        self._poll.unregister(connection)
+        self._socket = None
+        core.disconnected(time.monotonic())
+        core.is_urgent = True
         return was_ready
 
-    def _lose(self) -> None:
-        with self._lock:
-            self._socket = None
-            self._core.disconnected(time.monotonic())
-
     def _tick(self) -> bool:
-        """Does what is due by the clock. Whether the client goes on."""
-        with self._lock:
-            self._core.tick(time.monotonic())
-            self._flush()
-            ended = self._core.take_ended()
-            goes_on = self._core.failure is None
-        self._finish(ended)
-        return goes_on
-
-    def _until_next(self, end: Optional[float]) -> float:
-        with self._lock:
-            times = [self._core.next_time(), end]
+        """Does what is asked and what is due by the clock. Whether the client goes on."""
+        core = self._core
+        if self._asked or core.to_send:
+            self._do_what_is_asked()
         now = time.monotonic()
-        seconds = [time - now for time in times if time is not None]
-        return max(0.0, min([self._longest_sleep, *seconds]))
+        if core.is_urgent or now >= self._look_at:
+            core.is_urgent = False
+            core.tick(now)
+            self._move()
+            due = core.next_time()
+            self._look_at = math.inf if due is None else due
+        return core.failure is None
+
+    def _select(self, end: Optional[float]) -> bool:
+        """Sleeps until something is due or comes. Whether it came over the connection."""
+        self._is_asleep = True
+        due = self._look_at if end is None else min(end, self._look_at)
+        seconds = 0.0
+        if not self._asked and not self._core.is_urgent:
+            seconds = max(0.0, min(self._longest_sleep, due - time.monotonic()))
+        came = False
+        for file, _ in self._poll.poll(1000.0 * seconds):
+            if file == self._woken.fileno():
+                self._drain()
+            else:
+                came = True
+        self._is_asleep = False
+        return came
 
     def _drain(self) -> None:
         try:
-            while self._woken.recv(4096):
-                pass
+            self._woken.recv(4096)
         except OSError:
             pass
 
@@ -392,9 +710,90 @@ class Client:
             return False
         if not piece:
             return False
-        with self._lock:
-            self._core.received(piece, time.monotonic())
-            self._flush()
-            ended = self._core.take_ended()
-        self._finish(ended)
+        now = time.monotonic()
+        self._look_at = min(self._look_at, now + _LOOK_AFTER)
+        self._core.received(piece, now)
+        self._move()
         return True
+
+    def _forked(self) -> None:
+        """In a child of the process: what it inherited is the parent's, and is closed here without a word to anybody."""
+        self._core.failure = errors.Closed("a client is of the process that made it")
+        self._core.phase = Phase.ENDED
+        self._core.to_send = bytearray()  # the thread may have been sending the other one
+        self._is_over = True
+        self._ending = threading.RLock()
+        self._is_temporary = False
+        self._asked.clear()
+        for inherited in (self._socket, self._waker, self._woken):
+            if inherited is not None:
+                inherited.close()
+        self._socket = None
+        if self._core.file is not None:
+            self._core.file.abandon()
+
+
+class Pipeline:
+    """Requests of one client that are asked together: `submit_many` of what the methods put in.
+
+        with client.pipeline() as pipe:
+            pipe.int_fetch_add(hits, 0, 1)
+            pipe.readff(other, 3)
+        pipe.results
+    """
+
+    def __init__(self, client: Client) -> None:
+        self._client = client
+        self._requests: List[Request[Any]] = []
+        # The answers, once it was asked; an error stands for itself.
+        self.results: List[Any] = []
+
+    def add(self, request: Request[Any]) -> Pipeline:
+        """One more request."""
+        self._requests.append(request_of(request))
+        return self
+
+    def __getattr__(self, name: str) -> Callable[..., Pipeline]:
+        if name not in _OPERATIONS:
+            raise AttributeError(name)
+        make: Callable[..., Request[Any]] = getattr(requests, name)
+        return lambda *words, **more: self.add(make(*words, **more))
+
+    def run(self, *, timeout: Timeout = DEFAULT) -> List[Any]:
+        """Asks what was put in since the last time; the answers."""
+        asked, self._requests = self._requests, []
+        self.results = self._client.submit_many(asked, timeout=timeout)
+        return self.results
+
+    def __enter__(self) -> Pipeline:
+        return self
+
+    def __exit__(
+        self,
+        kind: Optional[Type[BaseException]],
+        error: Optional[BaseException],
+        trace: Optional[TracebackType],
+    ) -> None:
+        if kind is None:
+            self.run()
+
+
+_OPERATIONS = ("create", "find", "remove", *(what for what, _, _ in requests.OPERATIONS.values()))
+
+
+def _result(ticket: Ticket[T]) -> T:
+    if ticket.error is not None:
+        raise ticket.error
+    return ticket.result  # type: ignore[return-value]
+
+
+# The clients of this process, whose children close what they inherit of them.
+_clients: weakref.WeakSet[Client] = weakref.WeakSet()
+
+
+def _in_child() -> None:
+    for client in list(_clients):
+        client._forked()
+
+
+os.register_at_fork(after_in_child=_in_child)

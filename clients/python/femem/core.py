@@ -9,18 +9,28 @@ from __future__ import annotations
 
 import enum
 import itertools
+import logging
 import random
+import time
 from collections import deque
-from typing import Any, Deque, List, Optional, Set, TypeVar
+from typing import Any, Callable, Deque, Dict, List, Optional, Sequence, Set, Tuple, TypeVar
 
 from . import errors, frames, reports
 from .errors import ProtocolError
 from .flow import PATIENCE, Flow
+from .jobs import Batch, Fence, Job, Look, Pause, Present, Step, Wait
 from .meeting import FIRST_PROBE, Meeting, unexpected
-from .requests import Request
+from .requests import Request, number_of_bits, readff
+from .sessionfile import SessionFile
 from .tickets import Ticket, Timeouts
 
 T = TypeVar("T")
+
+log = logging.getLogger("femem")
+
+# How often a client with a session file attaches again that another connection has its session: what its former process
+# had on its way may take it.
+_FIGHTS = 20
 
 # How long a client waits about before it attaches once more a session that it could not get, in seconds.
 _ATTACH_PAUSE = 0.03
@@ -34,29 +44,57 @@ class Phase(enum.Enum):
     ENDED = "the client is of no further use"
 
 
+def _thrower(job: Job[Any], error: BaseException) -> Callable[[], Step]:
+    return lambda: job.steps.throw(error)
+
+
 class Core:
     """One session's requests, over any number of connections. Times are in seconds, of one clock."""
 
-    def __init__(self, session: int, reconnect_timeout: Optional[float], probe_interval: float = 5.0) -> None:
-        if not 0 <= session < 2**64:
-            raise ValueError(f"a session is a number of 64 bits: {session}")
-        self.session = session
+    def __init__(
+        self,
+        session: int,
+        reconnect_timeout: Optional[float],
+        probe_interval: float = 5.0,
+        file: Optional[SessionFile] = None,
+        clock: Callable[[], float] = time.monotonic,
+        moves_waits: bool = False,
+    ) -> None:
+        self.session = number_of_bits(session, 64, "session")
         self.phase = Phase.DOWN
         self.failure: Optional[errors.FememError] = None
         self.to_send = bytearray()
         # Why the last attempt to connect failed, if it did; whoever connects says so.
         self.trouble = ""
+        self.file = file
+        self.clock = clock
+        # The sessions that patterns want to have taken from whoever has them; whoever connects does it.
+        self.fences: List[Tuple[int, Ticket[None]]] = []
+        # What the patterns of this client hold: the generation of each lock, by the id of its array.
+        self.holdings: Dict[int, int] = {}
+        self.releasing: Set[int] = set()
+        self._presence: Optional[Ticket[int]] = None
+        self._fights = 0
         self._reconnect_timeout = float("inf") if reconnect_timeout is None else reconnect_timeout
         self._probe_interval = probe_interval
         self._probes = itertools.count(FIRST_PROBE)
         self._ended: List[Ticket[Any]] = []
-        self._flow = Flow(self.to_send, self._ended)
+        self._flow = Flow(self.to_send, self._ended, file, moves_waits)
+        # What another session asks, and how that takes it back.
+        self._elsewhere: Dict[Ticket[Any], Callable[[errors.Withdrawn], object]] = {}
         self._reports: Deque[Ticket[reports.Report]] = deque()
+        self._pauses: Set[Ticket[None]] = set()
         self._leaving: Optional[Ticket[None]] = None
         self._opening: Optional[Ticket[None]] = None
         self._timeouts = Timeouts()
+        # What a former process with the same session file had no answer for.
+        self.recovered: List[Ticket[Any]] = []
+        if file is not None and file.floor is not None:
+            self.recovered = self._flow.resume(file)
         # Whether the session was attached more than once by this client.
-        self._was_away = False
+        self._was_away = self._flow.window is not None
+        # Whether something may be due sooner than `next_time` said. Whoever looks at the clock clears it.
+        self.is_urgent = True
         # Since when something is asked that is not done.
         self._asked_at = 0.0
         # Whether the server is there; else, since when it is not.
@@ -82,38 +120,92 @@ class Core:
 
     def open(self, now: float) -> Ticket[None]:
         """A ticket that is done once the session is attached for the first time."""
-        self._opening = self._new(None, now)
+        self._opening = Ticket(None)
+        self._admit(self._opening, now)
+        self._asked_at = now
         return self._opening
+
+    def begin_anew(self) -> None:
+        """Before it is opened: the file has another session now, of which nothing was asked."""
+        assert self.file is not None
+        self.session = self.file.session
+        self._flow = Flow(self.to_send, self._ended, self.file)
+        self.recovered = []
+        self._was_away = False
 
     def submit(self, request: Request[T], now: float, timeout: Optional[float] = None) -> Ticket[T]:
         """A request, sent as soon as the window has room. It is taken back once `timeout` seconds are over."""
-        ticket = self._new(request, now)
-        if timeout is not None:
-            self._timeouts.add(now + timeout, ticket)
-        self._flow.add(ticket)
-        self._pump(now)
+        ticket = Ticket(request)
+        self._check()
+        self.take([ticket], now, timeout)
         return ticket
 
-    def report(self, now: float) -> Ticket[reports.Report]:
-        ticket: Ticket[reports.Report] = self._new(None, now)
-        self._reports.append(ticket)
+    def take(self, tickets: Sequence[Ticket[Any]], now: float, timeout: Optional[float] = None) -> None:
+        """As `submit`, for tickets that somebody made. Where nothing can be asked any more they end with the error."""
+        for ticket in tickets:
+            if self._admit(ticket, now):
+                if timeout is not None:
+                    self.is_urgent = True
+                    self._timeouts.add(now + timeout, ticket)
+                self._flow.add(ticket)
         self._pump(now)
-        return ticket
 
-    def leave(self, now: float) -> Ticket[None]:
-        """Ends the session. `StillWaiting` where something has no answer yet."""
-        if self._is_busy():
-            raise errors.StillWaiting("a request of this client has no answer yet")
-        self._leaving = self._new(None, now)
-        self._pump(now)
-        return self._leaving
+    def report(self, now: float, ticket: Optional[Ticket[reports.Report]] = None) -> Ticket[reports.Report]:
+        asked: Ticket[reports.Report] = ticket or Ticket(None)
+        if self._admit(asked, now):
+            self._reports.append(asked)
+            self._pump(now)
+        return asked
+
+    def leave(
+        self, now: float, ticket: Optional[Ticket[None]] = None, at_any_rate: bool = False
+    ) -> Ticket[None]:
+        """Ends the session. `StillWaiting` where something has no answer yet, unless it is to end at any rate."""
+        asked: Ticket[None] = ticket or Ticket(None)
+        if self.failure is None and self._is_busy() and not at_any_rate:
+            error = errors.StillWaiting("a request of this client has no answer yet")
+            if ticket is None:
+                raise error
+            self._end(ticket, error=error)
+        elif self._admit(asked, now):
+            self._leaving = asked
+            if self.file is not None:
+                self.file.ending()
+            self._pump(now)
+        return asked
+
+    def close_file(self) -> None:
+        """At the end of the client. A session that was ended leaves nothing to be held."""
+        if self.file is not None:
+            if self._leaving is not None and self._leaving.done and self._leaving.error is None:
+                self.file.remove()
+            else:
+                self.file.close()
+
+    def forget(self, key: bytes) -> None:
+        """The answer that is kept under this key is not asked for again."""
+        assert self.file is not None
+        self.file.forget(key)
 
     def withdraw(self, ticket: Ticket[Any], now: float, why: Optional[errors.Withdrawn] = None) -> None:
         """Takes a request back, if it waits. It ends with `why`, or with its answer where it has happened."""
         if ticket.done or ticket.request is None:
             return
         ticket.taken_back = why or errors.Withdrawn(ticket.request.what)
-        self._flow.withdraw(ticket, now, self.phase is Phase.READY)
+        if not ticket.taken:
+            ticket.taken = True
+            self._end(ticket, error=ticket.taken_back)  # whoever asked was interrupted before it got here
+            return
+        if ticket in self._elsewhere:
+            self._elsewhere[ticket](ticket.taken_back)
+        else:
+            self._flow.withdraw(ticket, now, self.phase is Phase.READY)
+
+    def withdraw_all(self, tickets: Sequence[Ticket[Any]], now: float) -> None:
+        """Takes these back, of which some may not have come here yet."""
+        for ticket in tickets:
+            if ticket.request is not None:
+                self.withdraw(ticket, now)
 
     def close(self) -> None:
         self.fail(errors.Closed("the client is closed"))
@@ -123,20 +215,49 @@ class Core:
         if self.failure is not None:
             return
         self.failure = failure
+        if not isinstance(failure, errors.Closed):
+            log.error("session %d: %s: %s", self.session, type(failure).__name__, failure)
         self.phase = Phase.ENDED
         self._start_over()
         tickets: List[Ticket[Any]] = [*self._flow.take_all(), *self._reports]
         tickets += [ticket for ticket in (self._leaving, self._opening) if ticket is not None]
+        tickets += [*self._pauses, *(ticket for _, ticket in self.fences), *self._elsewhere]
+        self._elsewhere.clear()
         self._reports.clear()
+        self._pauses.clear()
+        self.fences.clear()
         for ticket in tickets:
             if not ticket.done:
                 self._end(ticket, error=self._failure_again())
 
     def take_ended(self) -> List[Ticket[Any]]:
         """The tickets that ended since the last call. Whoever takes them calls `finished` of each."""
-        ended = self._ended[:]
-        self._ended.clear()
+        ended: List[Ticket[Any]] = []
+        while self._ended:
+            ended.append(self._ended.pop(0))
         return ended
+
+    # What waits, where the client has further sessions.
+
+    @property
+    def moves(self) -> bool:
+        """Whether there is something to `take_moved`."""
+        return bool(self._flow.moved)
+
+    def take_moved(self) -> List[Ticket[Any]]:
+        """What has to wait. Whoever takes it has another session ask it, and says so by `moved_to`."""
+        moved = [ticket for ticket in self._flow.moved if not ticket.done]
+        self._flow.moved.clear()
+        return moved
+
+    def moved_to(self, ticket: Ticket[Any], take_back: Callable[[errors.Withdrawn], object]) -> None:
+        """Another session asks it, and takes it back by this."""
+        self._elsewhere[ticket] = take_back
+
+    def has_come_back(self, ticket: Ticket[Any], asked: Ticket[Any]) -> None:
+        """It has ended there, as what that session was asked in its place."""
+        if self._elsewhere.pop(ticket, None) is not None:
+            self._end(ticket, asked.result, asked.error)
 
     # What happens to the connection.
 
@@ -189,8 +310,11 @@ class Core:
             ticket = self._timeouts.take(now)
             if ticket is None:
                 break
-            assert ticket.request is not None
-            self.withdraw(ticket, now, errors.TimedOut(ticket.request.what))
+            if ticket.request is None:
+                self._pauses.discard(ticket)
+                self._end(ticket)
+            else:
+                self.withdraw(ticket, now, errors.TimedOut(ticket.request.what))
         if self._is_busy() and self._give_up_at() <= now:
             self._give_up()
             return
@@ -204,7 +328,8 @@ class Core:
     def _is_busy(self) -> bool:
         """Whether something is asked that is not done."""
         alone = (self._leaving, self._opening)
-        return self._flow.is_busy() or bool(self._reports) or any(t is not None and not t.done for t in alone)
+        asked = self._flow.is_busy() or bool(self._elsewhere) or bool(self._reports)
+        return asked or any(ticket is not None and not ticket.done for ticket in alone)
 
     def _probe_at(self) -> Optional[float]:
         """When to ask whether the server is there, and whether the session is still this client's.
@@ -237,14 +362,26 @@ class Core:
 
     # Tickets.
 
-    def _new(self, request: Optional[Request[T]], now: float) -> Ticket[T]:
+    def _check(self) -> None:
+        """Raises why nothing can be asked any more."""
         if self.failure is not None:
             raise self._failure_again()
         if self._leaving is not None:
             raise errors.Closed("the session is being ended")
+
+    def _admit(self, ticket: Ticket[Any], now: float) -> bool:
+        """Whether the ticket may be asked. Else it ends, or has ended before it came here."""
+        if ticket.done or ticket.taken:
+            return False
+        ticket.taken = True
+        try:
+            self._check()
+        except errors.FememError as error:
+            self._end(ticket, error=error)
+            return False
         if not self._is_busy():
             self._asked_at = now
-        return Ticket(request)
+        return True
 
     def _failure_again(self) -> errors.FememError:
         """A new one for each who is told, since an error that two threads raise gets the traces of both."""
@@ -254,6 +391,120 @@ class Core:
     def _end(self, ticket: Ticket[T], result: Optional[T] = None, error: Optional[BaseException] = None) -> None:
         ticket.end(result, error)
         self._ended.append(ticket)
+
+    # Jobs: operations of several steps.
+
+    def start(self, job: Job[Any], now: float) -> None:
+        if self._admit(job, now):
+            self._advance(job, lambda: next(job.steps))
+
+    def abandon(self, job: Job[Any], now: float) -> None:
+        """Nobody waits for it any more: it is taken back where it waits, and undone where it is done."""
+        job.is_abandoned = True
+        if job.done:
+            self._undo(job, now)
+        else:
+            self.interrupt(job, now)
+
+    def interrupt(self, job: Job[Any], now: float) -> None:
+        """Takes back what it waits for. It ends with `Withdrawn`, or is done where all had happened."""
+        if not job.taken:
+            job.taken = True
+            self._end(job, error=errors.Withdrawn("it was not begun"))
+        job.is_interrupted = True
+        for ticket in list(job.asked):
+            if ticket in self._pauses:
+                self._pauses.discard(ticket)
+                self._end(ticket, error=errors.Withdrawn("interrupted"))
+            elif ticket.request is not None and ticket.request.may_wait:
+                self.withdraw(ticket, now)
+
+    def _undo(self, job: Job[Any], now: float) -> None:
+        undo, job.undo = job.undo, None
+        if undo is not None and job.error is None:
+            self.start(Job(undo(job.result)), now)
+
+    def _advance(self, job: Job[Any], go_on: Callable[[], Step]) -> None:
+        """Lets it run to its next step, or to its end."""
+        while True:
+            try:
+                step = go_on()
+            except StopIteration as end:
+                self._end(job, end.value)
+            except Exception as error:
+                self._end(job, error=error)
+            else:
+                try:
+                    self._ask(job, step)
+                except errors.FememError as error:
+                    go_on = _thrower(job, error)
+                    continue
+                return
+            if job.is_abandoned:
+                self._undo(job, self.clock())
+            return
+
+    def _ask(self, job: Job[Any], step: Step) -> None:
+        now = self.clock()
+        self._check()
+        if job.is_interrupted and isinstance(step, (Wait, Pause)):
+            raise errors.Withdrawn("interrupted")
+        tickets: List[Ticket[Any]]
+        if isinstance(step, Batch):
+            tickets = [Ticket(request) for request in step.requests]
+        elif isinstance(step, Wait):
+            tickets = [Ticket(step.request)]
+        else:
+            tickets = [Ticket(None)]
+        for ticket in tickets:
+            ticket.ends_with_process = isinstance(step, Wait)
+        left = len(tickets)
+
+        def finished() -> None:
+            nonlocal left
+            left -= 1
+            if not left:
+                self._answer(job, step, tickets)
+
+        for ticket in tickets:
+            ticket.finished = finished
+        job.asked = tickets
+        if isinstance(step, (Batch, Wait)):
+            self.take(tickets, now, step.seconds if isinstance(step, Wait) else None)
+        elif isinstance(step, Look):
+            self.report(now, tickets[0])
+        elif isinstance(step, Pause):
+            self.is_urgent = True
+            self._pauses.add(tickets[0])
+            self._timeouts.add(now + step.seconds, tickets[0])
+        elif isinstance(step, Fence):
+            self.fences.append((step.session, tickets[0]))
+        else:
+            self._be_present(step, now)
+            self._end(tickets[0])
+
+    def _answer(self, job: Job[Any], step: Step, tickets: List[Ticket[Any]]) -> None:
+        job.asked = []
+        if isinstance(step, Batch):
+            outcomes = [ticket.result if ticket.error is None else ticket.error for ticket in tickets]
+            ends = self.failure is not None
+            self._advance(job, _thrower(job, self._failure_again()) if ends else lambda: job.steps.send(outcomes))
+        elif tickets[0].error is not None:
+            self._advance(job, _thrower(job, tickets[0].error))
+        else:
+            self._advance(job, lambda: job.steps.send(tickets[0].result))
+
+    def _be_present(self, step: Present, now: float) -> None:
+        if self._presence is None or self._presence.done:
+            self._presence = Ticket(readff(step.array, 0))
+            self._presence.is_presence = True
+            self._presence.ends_with_process = True
+            self.take([self._presence], now)
+
+    def fenced(self, ticket: Ticket[None], error: Optional[BaseException]) -> None:
+        """Whoever connects has done what `fences` says, or could not."""
+        if not ticket.done:
+            self._end(ticket, error=error)
 
     # Sending.
 
@@ -269,6 +520,7 @@ class Core:
         self.phase = Phase.ATTACHING
         self._meeting = None
         self._probe = None
+        self.is_urgent = True
         self._attach_at = now + _ATTACH_PAUSE * (0.5 + random.random())
 
     def _send_probe(self, now: float) -> None:
@@ -341,8 +593,12 @@ class Core:
             self._meeting = None
             self.phase = Phase.READY
             self._in_contact = True
-            if self._opening is not None and not self._opening.done:
-                self._end(self._opening)
+            self._is_open()
+
+    def _is_open(self) -> None:
+        log.info("session %d: attached", self.session)
+        if self._opening is not None and not self._opening.done:
+            self._end(self._opening)
 
     def _take_settled(self, floor: int) -> None:
         window = self._flow.window
@@ -358,6 +614,7 @@ class Core:
         if self.phase is Phase.ATTACHING:
             self.phase = Phase.READY
             self._was_away = True
+            self._is_open()
             if self._leaving is None:
                 self._flow.send_again(now)
             self._send_probe(now)
@@ -417,8 +674,12 @@ class Core:
         Before this client asked anything that may be what a former process still had on its way: it attaches again.
         """
         if self._flow.window is not None:
-            raise errors.TakenOver(f"another connection has session {self.session}")
-        if self.phase is Phase.MEETING or number == self._probe:
+            if self.file is None or self._fights >= _FIGHTS:
+                raise errors.TakenOver(f"another connection has session {self.session}")
+            if self.phase is Phase.READY or number == self._probe:
+                self._fights += 1
+                self._attach_later(now)
+        elif self.phase is Phase.MEETING or number == self._probe:
             self._attach_later(now)
 
     def _take_attach_refusal(self, refusal: frames.Refusal, now: float) -> None:

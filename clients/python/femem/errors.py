@@ -125,6 +125,18 @@ class TimedOut(Withdrawn, TimeoutError):
     """The request was taken back because its time was over: nothing of it happened."""
 
 
+class SessionFileError(FememError):
+    """The session file can't be read or written, or is none. Nothing was sent that it does not have."""
+
+
+class SessionInUse(SessionFileError):
+    """Another client has the session file open."""
+
+
+class NotOwner(FememError):
+    """The lock is free, or another one's: whoever releases it does not hold it, or not any more."""
+
+
 class Closed(FememError):
     """The client is closed. What it had no answer for happened once or not at all."""
 

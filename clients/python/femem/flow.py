@@ -3,10 +3,12 @@
 from __future__ import annotations
 
 from collections import deque
-from typing import Any, Deque, List, Optional, Set
+from typing import Any, Deque, Dict, List, Optional, Set
 
 from . import errors, frames
 from .errors import ProtocolError
+from .requests import of_frame
+from .sessionfile import Asked, SessionFile
 from .tickets import Ticket
 from .window import Window
 
@@ -20,11 +22,22 @@ _OF_SETTLE = (frames.BELOW_FLOOR, frames.BEYOND_WINDOW, frames.STILL_WAITING, fr
 class Flow:
     """What is sent goes to `to_send`, and tickets that end go to `ended`.
 
-    There is no window, and nothing is sent, until `begin`.
+    There is no window, and nothing is sent, until `begin`. Where it moves waits, what would wait goes to `moved`.
     """
 
-    def __init__(self, to_send: bytearray, ended: List[Ticket[Any]]) -> None:
+    def __init__(
+        self,
+        to_send: bytearray,
+        ended: List[Ticket[Any]],
+        file: Optional[SessionFile] = None,
+        moves_waits: bool = False,
+    ) -> None:
+        self.moved: List[Ticket[Any]] = []
+        self._moves_waits = moves_waits
         self.window: Optional[Window[Ticket[Any]]] = None
+        self._file = file
+        # What was asked under a key and has no answer yet.
+        self._keys: Dict[bytes, Ticket[Any]] = {}
         self._to_send = to_send
         self._ended = ended
         self._queue: Deque[Ticket[Any]] = deque()
@@ -38,12 +51,54 @@ class Flow:
     def begin(self, floor: int) -> None:
         """From this floor on no number was used."""
         self.window = Window(floor)
+        if self._file is not None:
+            self._file.begin(floor)
+
+    def resume(self, file: SessionFile) -> List[Ticket[Any]]:
+        """Goes on where the file's former process ended: its requests that have no answer, which are sent again."""
+        assert file.floor is not None
+        tickets: Dict[int, Ticket[Any]] = {}
+        for number, asked in sorted(file.unanswered.items()):
+            ticket: Ticket[Any] = Ticket(of_frame(asked.frame))
+            ticket.number = number
+            ticket.taken = True
+            ticket.key = asked.key
+            if asked.key is not None:
+                self._keys[asked.key] = ticket
+            if asked.ends_with_process:
+                ticket.taken_back = errors.Withdrawn("its process ended")
+            tickets[number] = ticket
+        self.window = Window.of_file(file.floor, file.asked_floor, file.next, tickets, file.answers, file.ended)
+        return [ticket for ticket in tickets.values() if ticket.taken_back is None]
 
     def add(self, ticket: Ticket[Any]) -> None:
-        self._queue.append(ticket)
+        if ticket.key is None or not self._is_known(ticket, ticket.key):
+            may_wait = ticket.request is not None and ticket.request.may_wait
+            # Reports show under which session a client is there.
+            ticket.asks_first = self._moves_waits and may_wait and not ticket.is_presence
+            self._queue.append(ticket)
+
+    def _is_known(self, ticket: Ticket[Any], key: bytes) -> bool:
+        """Whether somebody asked under the key before: then the ticket ends as that one did, or does."""
+        assert self._file is not None and ticket.request is not None
+        first = self._keys.get(key)
+        known = self._file.keyed.get(key)
+        if first is None and known is None:
+            self._keys[key] = ticket
+            return False
+        frame = first.request.frame if first is not None and first.request is not None else known[0] if known else b""
+        if frame != ticket.request.frame:
+            self._end(ticket, error=ValueError(f"another request was asked under the key {key!r}"))
+        elif first is not None:
+            first.followers = [*(first.followers or ()), ticket]
+        elif known is not None:
+            self._end_by(ticket, known[1])
+        return True
 
     def is_busy(self) -> bool:
-        return bool(self._queue) or self.window is not None and bool(self.window.unanswered)
+        """Whether something is asked that somebody waits for."""
+        asked = [] if self.window is None else self.window.unanswered.values()
+        return bool(self._queue) or any(not ticket.is_presence for ticket in asked)
 
     def owed(self) -> List[float]:
         """Since when the server owes what it owes."""
@@ -54,7 +109,8 @@ class Flow:
 
     def take_all(self) -> List[Ticket[Any]]:
         """Everything that is under way, which is given up."""
-        tickets = list(self._queue)
+        tickets = [*self._queue, *self.moved]
+        self.moved.clear()
         if self.window is not None:
             tickets = [*self.window.unanswered.values(), *tickets]
             self.window.unanswered.clear()
@@ -75,9 +131,15 @@ class Flow:
         while self._queue and window.has_room():
             ticket = self._queue.popleft()
             ticket.number = window.give(ticket)
+            if self._file is not None:
+                assert ticket.request is not None
+                asked = Asked(ticket.request.frame, ticket.key, ticket.ends_with_process)
+                self._file.asked(ticket.number, asked)
             self._send(ticket, now)
         floor = window.next_floor()
         if floor is not None:
+            if self._file is not None:
+                self._file.settling(floor)
             self._settle(floor, now)
             self._send_queue(window, now)
 
@@ -106,7 +168,8 @@ class Flow:
     def withdraw(self, ticket: Ticket[Any], now: float, is_ready: bool) -> None:
         """Takes a ticket back, which says what it then ends with. Where nothing can be sent now, `send_again` does it."""
         if ticket.number is None:
-            self._queue.remove(ticket)
+            if ticket in self._queue:
+                self._queue.remove(ticket)
             self._end(ticket, error=ticket.taken_back)
         elif is_ready:
             self._cancel(ticket, now)
@@ -119,7 +182,7 @@ class Flow:
         assert ticket.request is not None and ticket.number is not None
         ticket.sent_at = now
         ticket.cancel_sent = False
-        self._to_send += ticket.request.spell(ticket.number)
+        self._to_send += ticket.request.spell(ticket.number, ticket.asks_first)
 
     def _cancel(self, ticket: Ticket[Any], now: float) -> None:
         assert ticket.number is not None
@@ -132,15 +195,14 @@ class Flow:
     def _end(self, ticket: Ticket[Any], result: Any = None, error: Optional[BaseException] = None) -> None:
         ticket.end(result, error)
         self._ended.append(ticket)
+        if ticket.key is not None and self._keys.get(ticket.key) is ticket:
+            del self._keys[ticket.key]
+        for follower in ticket.followers or ():
+            if not follower.done:
+                self._end(follower, result, None if error is None else type(error)(*error.args))
 
-    # Replies.
-
-    def answered(self, answer: frames.Answer) -> bool:
-        """Whether a request ended by it; else it came before."""
-        assert self.window is not None
-        ticket = self.window.answer(answer)
-        if ticket is None:
-            return False
+    def _end_by(self, ticket: Ticket[Any], answer: frames.Answer) -> None:
+        """Ends it as the answer says. `ProtocolError` is raised besides."""
         assert ticket.request is not None
         try:
             result = ticket.request.result(answer)
@@ -151,19 +213,47 @@ class Flow:
             raise
         else:
             self._end(ticket, result)
+
+    # Replies.
+
+    def answered(self, answer: frames.Answer) -> bool:
+        """Whether a request ended by it; else it came before."""
+        assert self.window is not None
+        ticket = self.window.answer(answer)
+        if ticket is None:
+            return False
+        if self._file is not None:
+            self._file.answered(answer)
+        if ticket.asks_first and answer.code == frames.NOT_NOW:
+            self._has_to_wait(ticket)
+        else:
+            self._end_by(ticket, answer)
         return True
+
+    def _has_to_wait(self, ticket: Ticket[Any]) -> None:
+        if ticket.taken_back is not None:
+            self._end(ticket, error=ticket.taken_back)
+        else:
+            ticket.number = None
+            self.moved.append(ticket)
 
     def withdrawn(self, number: int) -> None:
         window = self.window
         if window is None or number not in self._cancelled or number not in window.unanswered:
             raise ProtocolError(f"number {number} is withdrawn, which nobody asked for")
         self._cancelled.discard(number)
-        ticket = window.end(number)
+        ticket = self._end_number(window, number)
         if ticket.taken_back is not None:
             self._end(ticket, error=ticket.taken_back)
         else:
             ticket.number = None
             self._queue.append(ticket)
+
+    def _end_number(self, window: Window[Ticket[Any]], number: int) -> Ticket[Any]:
+        """The number ends without an answer: nothing of its request happened."""
+        if self._file is not None:
+            self._file.has_ended(number)
+        return window.end(number)
 
     def settled(self, floor: int) -> None:
         assert self.window is not None
@@ -178,6 +268,8 @@ class Flow:
     def _note_floor(self, window: Window[Ticket[Any]]) -> None:
         if window.asked == window.floor:
             self._settle_sent = None
+        if self._file is not None:
+            self._file.settled(window.floor)
 
     def refused(self, refusal: frames.Refusal) -> bool:
         """Whether it is of a request, a cancel or a settle. That of a settle is raised: then nothing can go on."""
@@ -190,7 +282,7 @@ class Flow:
         elif number == window.asked != window.floor and code in _OF_SETTLE:
             raise errors.REFUSALS[code](f"settle {number}")
         elif number in window.unanswered and code in _OF_CALL:
-            ticket = window.end(number)
+            ticket = self._end_number(window, number)
             assert ticket.request is not None
             self._end(ticket, error=errors.REFUSALS[code](ticket.request.what))
         else:

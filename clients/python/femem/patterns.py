@@ -4,75 +4,127 @@ Each has a name, and whoever gives the same name (and the same size) shares it. 
 array is made in one step that either happened or not, so it does not matter who is first or when a server stops.
 
 A stop of the server loses nothing that was answered, and a client that goes on waits again by itself, so all of them go on
-over stops. A client that is gone for good is another matter: what its process held or had begun stays so. Each says what
-that is. What takes several operations has no time-out, not that of its client either.
+over stops. What a client leaves that is gone for good, each says. What takes several operations is run by the client's own
+thread (femem/steps.py), so an interruption of the caller leaves nothing half done; it has no time-out of its client.
 """
 
 from __future__ import annotations
 
+import operator
 import time
 from types import TracebackType
-from typing import Any, Callable, List, Optional, Tuple, Type
+from typing import Callable, List, Optional, Type, TypeVar
 
-from . import requests
-from .client import Client
-from .errors import NameTaken, NoArray, NotNow, TimedOut
-from .requests import Array, Request
+from . import steps
+from .client import Client, seconds_of
+from .errors import FememError, NameTaken, NotNow
+from .jobs import Job, Steps
+from .requests import Array, number_of_bits
+
+T = TypeVar("T")
+
+# How long a client that is in the middle of a change may not be seen before another one goes on in its place, in seconds.
+REPAIR_AFTER = 5.0
+
+
+def client_of(client: object) -> Client:
+    if not isinstance(client, Client):
+        raise TypeError(f"not a femem.Client: {client!r}")
+    return client
+
+
+def end_of(timeout: Optional[float]) -> Optional[float]:
+    """The time at which so many seconds are over."""
+    seconds = seconds_of(timeout)
+    return None if seconds is None else time.monotonic() + seconds
+
+
+def size_of(size: int, what: str) -> int:
+    found = number_of_bits(size, 16, what)
+    if not found:
+        raise ValueError(f"{what} is at least 1")
+    return found
 
 
 def shared_array(client: Client, name: str, length: int, full: bool) -> Array:
     """The array of that name; it is made where it is not there. `ValueError` where it has another length."""
-    while True:
-        try:
-            return client.create(name, length, full)
-        except NameTaken:
-            pass
-        try:
-            array = client.find(name)
-        except NoArray:
-            continue  # it was removed in between
-        if array.length != length:
-            raise ValueError(f"{name} has {array.length} words, not {length}")
-        return array
+    return _run(client, steps.shared_array(name, length, full))
+
+
+def _run(client: Client, work: Steps[T], undo: Optional[Callable[[T], Steps[None]]] = None) -> T:
+    return client_of(client)._run_job(Job(work, undo))
 
 
 class Lock:
-    """Held by one at a time: a word that is full while nobody has it, and whose value is the session that had it last.
+    """Held by one at a time. Its word has the session of whoever holds it.
 
-    A client that is gone for good while it held the lock leaves it held; `break_open` frees it.
+    A client that is gone for good while it held the lock leaves it held. `owner` says whose it is, `break_open` frees it,
+    and `acquire(takeover_after=..)` does so where the owner is not to be seen.
     """
 
     def __init__(self, client: Client, name: str) -> None:
-        self._client = client
-        self._word = shared_array(client, name, 1, full=True)
+        self._client = client_of(client)
+        self._steps = steps.LockSteps(client._core, name)
+        _run(client, self._steps.find())
 
-    def acquire(self, timeout: Optional[float] = None) -> bool:
-        """Waits for the lock. Whether it was got in time."""
-        try:
-            self._client.readfe(self._word, 0, timeout=timeout)
-        except TimedOut:
-            return False
-        return True
+    def acquire(self, timeout: Optional[float] = None, *, takeover_after: Optional[float] = None) -> bool:
+        """Waits for the lock. Whether it was got in time.
+
+        With `takeover_after`, an owner that was not to be seen for so many seconds loses the lock; `broke` is its session
+        then. It may be connecting again only, and go on with what the lock was for: `generation` tells the two apart.
+        """
+        patience = seconds_of(takeover_after, "takeover_after")
+        return self._acquire(end_of(timeout), False, patience)
 
     def try_acquire(self) -> bool:
         """Takes the lock if it is free now."""
+        return self._acquire(None, True, None)
+
+    def _acquire(self, end: Optional[float], nowait: bool, patience: Optional[float]) -> bool:
+        job = Job(self._steps.acquire(end, nowait, patience), self._steps.release_if_got)
         try:
-            self._client.readfe(self._word, 0, nowait=True)
-        except NotNow:
-            return False
-        return True
+            return self._client._run_job(job)
+        except FememError:
+            raise
+        except BaseException:
+            self._client._abandon(job)
+            raise
 
     def release(self) -> None:
-        """Gives the lock back. Whoever does not hold it must not."""
-        self._client.writeef(self._word, 0, self._client.session, timeout=None)
+        """Gives the lock back. `NotOwner` at once where it is free, or not this client's session's."""
+        _run(self._client, self._steps.release())
+
+    @property
+    def generation(self) -> Optional[int]:
+        """The number of this client's last acquisition: greater than that of each acquisition before it."""
+        return self._steps.generation
+
+    @property
+    def broke(self) -> Optional[int]:
+        """The session whose lock the last `acquire` took over, or `None`."""
+        return self._steps.broke
+
+    def owner(self) -> Optional[int]:
+        """The session that holds the lock, or `None`. It may be this client's own, of a process before this one."""
+        return _run(self._client, self._steps.owner())
+
+    def locked(self) -> bool:
+        return self.owner() is not None
 
     def break_open(self) -> None:
-        """Frees the lock, whoever holds it."""
-        self._client.writexf(self._word, 0, self._client.session)
+        """Frees the lock, whoever holds it. The owner's `release` is `NotOwner` then."""
+        _run(self._client, self._steps.break_open())
 
     def __enter__(self) -> Lock:
-        self.acquire()
-        return self
+        job = Job(self._steps.acquire(None, False, None), self._steps.release_if_got)
+        try:
+            self._client._run_job(job)
+            return self
+        except FememError:
+            raise
+        except BaseException:
+            self._client._abandon(job)
+            raise
 
     def __exit__(
         self,
@@ -83,88 +135,37 @@ class Lock:
         self.release()
 
 
-class _Shared:
-    """Some words that are changed together: a state, whose word is empty while somebody changes it, and signals.
+class Semaphore:
+    """Held by `permits` at a time. Each permit's word has the session of whoever holds it.
 
-    A signal is full where somebody who waits for it may go on. Who goes on empties it, looks at the state, and fills it
-    again if there is something left for the next. So nobody holds anything while it waits, and a client that is gone for
-    good while it waited leaves nothing behind. Signals are full at first, and one that is full for nothing does no harm.
-
-    What is done once the state is taken is sent in one, the new state last. A client that is gone for good in the middle
-    of that leaves the state taken, or a signal empty that should be full; `break_open` puts that right.
+    A client that is gone for good while it held a permit leaves it held: `holders` says whose they are, and
+    `release(holder=..)` gives one back. One that is gone within `acquire` or `release` did it wholly or not at all; the
+    next one goes on in its place, `repair_after` seconds after it was last seen.
     """
 
-    _signals: Tuple[int, ...] = (1,)
-
-    def __init__(self, client: Client, name: str, length: int) -> None:
-        self._client = client
-        self._words = shared_array(client, name, length, full=True)
-
-    def _wait_for(self, signal: int, end: Optional[float]) -> None:
-        left = None if end is None else max(0.0, end - time.monotonic())
-        try:
-            self._client.readfe(self._words, signal, timeout=left)
-        except TimedOut:
-            raise
-        except BaseException:
-            # Interrupted: it may have emptied the signal, and somebody else wants it.
-            if self._client.failure is None:
-                self._client.submit(self._fill(signal))
-            raise
-
-    def _take_state(self) -> int:
-        return self._client.readfe(self._words, 0, timeout=None)
-
-    def _leave_state(self, state: int, *before: Request[Any]) -> List[Any]:
-        """Does these and then puts the state back; what each answered."""
-        last = requests.writeef(self._words, 0, state)
-        futures = [self._client.submit(request, timeout=None) for request in (*before, last)]
-        return [future.result() for future in futures]
-
-    def _fill(self, word: int, value: int = 0) -> Request[None]:
-        return requests.writexf(self._words, word, value)
-
-    def break_open(self) -> None:
-        """Frees the state as it was before, where a client that was changing it is gone for good."""
-        state = self._client.readxx(self._words, 0)
-        for signal in self._signals:
-            self._client.writexf(self._words, signal, 0)
-        self._client.writexf(self._words, 0, state)
-
-
-class Semaphore(_Shared):
-    """Held by `permits` at a time.
-
-    A client that is gone for good while it held a permit leaves it held; another one may `release` it. One that is gone in
-    the middle of `acquire` or `release`, but not while it waited, may leave the others waiting; `break_open` ends that.
-    """
-
-    _FREE = 1  # the signal that a permit is free
-
-    def __init__(self, client: Client, name: str, permits: int) -> None:
+    def __init__(self, client: Client, name: str, permits: int, *, repair_after: float = REPAIR_AFTER) -> None:
         """`permits` is the same for all who share it."""
-        super().__init__(client, name, 2)
-        self._permits = permits
+        self._client = client_of(client)
+        pause = seconds_of(repair_after, "repair_after")
+        count = size_of(permits, "permits")
+        self._steps = steps.SemaphoreSteps(client._core, name, count, 1e9 if pause is None else pause)
+        _run(client, self._steps.find())
 
     def acquire(self, timeout: Optional[float] = None) -> bool:
         """Waits for a permit. Whether one was got in time."""
-        end = None if timeout is None else time.monotonic() + timeout
-        while True:
-            try:
-                self._wait_for(self._FREE, end)
-            except TimedOut:
-                return False
-            held = self._take_state()
-            if held < self._permits:
-                more = [self._fill(self._FREE)] if held + 1 < self._permits else []
-                self._leave_state(held + 1, *more)
-                return True
-            self._leave_state(held)
+        return _run(self._client, self._steps.acquire(end_of(timeout), False), self._steps.release_if_got)
 
-    def release(self) -> None:
-        """Gives a permit back. Whoever holds none must not."""
-        held = self._take_state()
-        self._leave_state(max(0, held - 1), self._fill(self._FREE))
+    def try_acquire(self) -> bool:
+        """Takes a permit if one is free now."""
+        return _run(self._client, self._steps.acquire(None, True), self._steps.release_if_got)
+
+    def release(self, holder: Optional[int] = None) -> None:
+        """Gives a permit back: this client's, or that of the session which is named. `NotOwner` where it has none."""
+        _run(self._client, self._steps.release(holder))
+
+    def holders(self) -> List[int]:
+        """The sessions that hold a permit, each as often as it holds one."""
+        return _run(self._client, self._steps.holders())
 
     def __enter__(self) -> Semaphore:
         self.acquire()
@@ -179,87 +180,71 @@ class Semaphore(_Shared):
         self.release()
 
 
-class BoundedQueue(_Shared):
+class BoundedQueue:
     """At most `capacity` values of 64 bits, first in, first out, each taken once.
 
-    A `put` or `get` of a client that is gone for good happened wholly or not at all. Where it went in the middle of it, but
-    not while it waited, it may leave the others waiting; `break_open` ends that.
+    A `put` or `get` of a client that is gone for good happened wholly or not at all, and the next one goes on in its
+    place, `repair_after` seconds after it was last seen.
     """
 
-    _VALUES, _ROOM = 1, 2  # the signals that a value is there, and that there is room
-    _SLOTS = 3
-    _signals = (1, 2)
-
-    def __init__(self, client: Client, name: str, capacity: int) -> None:
-        super().__init__(client, name, self._SLOTS + capacity)
-        self._capacity = capacity
+    def __init__(self, client: Client, name: str, capacity: int, *, repair_after: float = REPAIR_AFTER) -> None:
+        self._client = client_of(client)
+        pause = seconds_of(repair_after, "repair_after")
+        count = size_of(capacity, "capacity")
+        self._steps = steps.QueueSteps(client._core, name, count, 1e9 if pause is None else pause)
+        _run(client, self._steps.find())
 
     def put(self, value: int, timeout: Optional[float] = None) -> None:
         """Waits for room, and adds a value. `TimedOut` where there is none in time."""
-        end = None if timeout is None else time.monotonic() + timeout
-        while True:
-            self._wait_for(self._ROOM, end)
-            state = self._take_state()
-            first, count = divmod(state, 2**32)
-            if count < self._capacity:
-                slot = self._SLOTS + (first + count) % self._capacity
-                more = [self._fill(self._ROOM)] if count + 1 < self._capacity else []
-                self._leave_state(state + 1, self._fill(slot, value), self._fill(self._VALUES), *more)
-                return
-            self._leave_state(state)
+        _run(self._client, self._steps.put(number_of_bits(value, 64, "value"), end_of(timeout), False))
+
+    def put_nowait(self, value: int) -> None:
+        """Adds a value. `NotNow` where there is no room."""
+        _run(self._client, self._steps.put(number_of_bits(value, 64, "value"), None, True))
 
     def get(self, timeout: Optional[float] = None) -> int:
         """Waits for a value, and takes it. `TimedOut` where there is none in time."""
-        end = None if timeout is None else time.monotonic() + timeout
-        while True:
-            self._wait_for(self._VALUES, end)
-            state = self._take_state()
-            first, count = divmod(state, 2**32)
-            if count > 0:
-                look = requests.readxx(self._words, self._SLOTS + first)
-                more = [self._fill(self._VALUES)] if count > 1 else []
-                after = (first + 1) % self._capacity * 2**32 + count - 1
-                value: int = self._leave_state(after, look, self._fill(self._ROOM), *more)[0]
-                return value
-            self._leave_state(state)
+        return _run(self._client, self._steps.get(end_of(timeout), False))
+
+    def get_nowait(self) -> int:
+        """Takes a value. `NotNow` where there is none."""
+        return _run(self._client, self._steps.get(None, True))
+
+    def qsize(self) -> int:
+        """How many values are there now."""
+        return _run(self._client, self._steps.size())
 
 
 class Barrier:
     """`parties` wait for each other, again and again. Its arrays are NAME and NAME_n.
 
-    Who arrived counts, even if its client is gone since; who is gone for good before it arrives is waited for.
+    Who arrived counts, even if its client is gone since or its time was over; who is gone for good before it arrives is
+    waited for.
     """
 
     def __init__(self, client: Client, name: str, parties: int) -> None:
-        self._client = client
-        self._parties = parties
-        self._gates = shared_array(client, name, 2, full=False)
-        self._arrived = shared_array(client, name + "_n", 1, full=True)
+        self._client = client_of(client)
+        self._steps = steps.BarrierSteps(client._core, name, size_of(parties, "parties"))
+        _run(client, self._steps.find())
 
-    def wait(self) -> int:
-        """Waits until all have arrived. The number of this arrival, 0 to `parties` - 1; the last one opens the gate."""
-        turn = self._client.int_fetch_add(self._arrived, 0, 1, timeout=None)
-        round, arrival = divmod(turn, self._parties)
-        gate = round % 2
-        if arrival == self._parties - 1:
-            # All have left the other gate, or they would not be here: it can be closed for the next round.
-            self._client.purge(self._gates, 1 - gate, timeout=None)
-            self._client.writexf(self._gates, gate, round, timeout=None)
-        else:
-            self._client.readff(self._gates, gate, timeout=None)
-        return arrival
+    def wait(self, timeout: Optional[float] = None) -> int:
+        """Waits until all have arrived. The number of this arrival, 0 to `parties` - 1; the last one opens the gate.
+
+        `TimedOut` where not all arrive in time. This one has arrived all the same.
+        """
+        return _run(self._client, self._steps.wait(end_of(timeout)))
 
 
 class Counter:
     """A number modulo 2^64. Each addition counts once, whatever stops; nothing of it waits for a client."""
 
     def __init__(self, client: Client, name: str) -> None:
-        self._client = client
+        self._client = client_of(client)
         self._word = shared_array(client, name, 1, full=True)
 
     def add(self, amount: int = 1) -> int:
         """Adds, and answers the number of before. An amount below 0 is taken off."""
-        return self._client.int_fetch_add(self._word, 0, amount % 2**64)
+        return self._client.int_fetch_add(self._word, 0, operator.index(amount) % 2**64)
 
     def value(self) -> int:
         return self._client.readff(self._word, 0)
@@ -272,7 +257,7 @@ class Future:
     """
 
     def __init__(self, client: Client, name: str) -> None:
-        self._client = client
+        self._client = client_of(client)
         self._word = shared_array(client, name, 1, full=False)
 
     def set(self, value: int) -> bool:
@@ -302,7 +287,7 @@ class Once:
     """
 
     def __init__(self, client: Client, name: str) -> None:
-        self._client = client
+        self._client = client_of(client)
         self._name = name
 
     def run(self, work: Callable[[], int]) -> int:

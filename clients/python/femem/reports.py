@@ -81,19 +81,7 @@ def parse(text: str) -> Report:
 
 
 def graph(report: Report) -> str:
-    """The waits as a graph for Graphviz: from each session to the words that it waits at.
+    """As `observer.graph`, without names and owners."""
+    from .observer import graph as drawn
 
-    Who will fill or empty a word is not known to the server, so no arrow leaves a word.
-    """
-    lines = ["digraph waits {", "  rankdir=LR;"]
-    if report.all_wait:
-        lines.append('  label="every attached session waits";')
-    for session in report.sessions:
-        lines.append(f'  "s{session}" [shape=box, label="session {session}"];')
-    for array, index in dict.fromkeys((w.array, w.index) for w in report.waiters):
-        lines.append(f'  "w{array}_{index}" [label="word {index} of array {array}"];')
-    for w in report.waiters:
-        label = f"{w.operation} (number {w.number}), needs {w.needs}"
-        lines.append(f'  "s{w.session}" -> "w{w.array}_{w.index}" [label="{label}"];')
-    lines.append("}")
-    return "\n".join(lines) + "\n"
+    return drawn(report)

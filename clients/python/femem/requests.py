@@ -1,9 +1,13 @@
-"""What can be asked of the server, as values: `client.submit(requests.readfe(array, 0))`."""
+"""What can be asked of the server, as values: `client.submit(requests.readfe(array, 0))`.
+
+A request is spelled as it is made, so a wrong argument is told here, before the client has done anything for it.
+"""
 
 from __future__ import annotations
 
+import operator
 from dataclasses import dataclass
-from typing import Any, Callable, Generic, TypeVar, Union
+from typing import Any, Callable, Dict, Generic, SupportsIndex, Tuple, TypeVar, Union
 
 from . import frames
 from .errors import ANSWER_ERRORS, BadLength, BadName, ProtocolError
@@ -21,15 +25,31 @@ class Array:
 
 ArrayLike = Union[Array, int]
 
+# The kind of a call of an operation that is not to wait.
+_NOWAIT = b"\x0b"
 
-@dataclass(frozen=True)
+
 class Request(Generic[T]):
     """A request. `spell` gives its frame under a number, `read` makes a result of an answer that is no error."""
 
-    what: str
-    spell: Callable[[int], bytes]
-    read: Callable[[frames.Answer], T]
-    may_wait: bool = False
+    __slots__ = ("what", "frame", "read", "may_wait")
+
+    def __init__(
+        self, what: str, frame: bytes, read: Callable[[frames.Answer], T], may_wait: bool = False
+    ) -> None:
+        self.what = what
+        # The frame under number 0. The number stands at the same place in each.
+        self.frame = frame
+        self.read = read
+        self.may_wait = may_wait
+
+    def __repr__(self) -> str:
+        return f"<femem request: {self.what}>"
+
+    def spell(self, number: int, nowait: bool = False) -> bytes:
+        """The frame under this number. With `nowait`, of an operation that may wait: so that it does not."""
+        head = self.frame[:4] + _NOWAIT if nowait else self.frame[:5]
+        return head + number.to_bytes(8, "big") + self.frame[13:]
 
     def result(self, answer: frames.Answer) -> T:
         """The result, or the answer's error; `ProtocolError` where the answer is none of this request."""
@@ -58,89 +78,122 @@ def _array(answer: frames.Answer) -> Array:
 
 def _name_bytes(name: Union[str, bytes]) -> bytes:
     """Names that are not plain are the server's to refuse, but for those that no frame has room for."""
-    spelled = name.encode("utf-8") if isinstance(name, str) else bytes(name)
+    if not isinstance(name, (str, bytes)):
+        raise TypeError(f"a name is a str or bytes: {name!r}")
+    spelled = name.encode("utf-8") if isinstance(name, str) else name
     if len(spelled) > frames.LONGEST_NAME:
         raise BadName(repr(name))
     return spelled
 
 
-def _number(number: int, bits: int, what: str) -> int:
-    if not 0 <= number < 2**bits:
-        raise ValueError(f"{what} is not a number of {bits} bits: {number}")
-    return number
+def number_of_bits(number: SupportsIndex, bits: int, what: str) -> int:
+    """The number, as an `int`. `TypeError` where it is no whole number, `ValueError` where it has more bits."""
+    try:
+        found = operator.index(number)
+    except TypeError:
+        raise TypeError(f"{what} is not a whole number: {number!r}") from None
+    if not 0 <= found < 2**bits:
+        raise ValueError(f"{what} is not a number of {bits} bits: {found}")
+    return found
+
+
+def _flag(flag: object, what: str) -> bool:
+    if isinstance(flag, int) and flag in (0, 1):
+        return bool(flag)
+    raise TypeError(f"{what} is not True or False: {flag!r}")
 
 
 def create(name: Union[str, bytes], length: int, full: bool = False) -> Request[Array]:
     spelled = _name_bytes(name)
-    if not 0 <= length < 2**32:
-        raise BadLength(f"{length}")
-    return Request(
-        f"create {name!r} {length}", lambda number: frames.create(number, spelled, length, full), _array
-    )
+    try:
+        size = operator.index(length)
+    except TypeError:
+        raise TypeError(f"length is not a whole number: {length!r}") from None
+    if not 0 <= size < 2**32:
+        raise BadLength(f"{size}")
+    return Request(f"create {name!r} {size}", frames.create(0, spelled, size, _flag(full, "full")), _array)
 
 
 def find(name: Union[str, bytes]) -> Request[Array]:
-    spelled = _name_bytes(name)
-    return Request(f"find {name!r}", lambda number: frames.find(number, spelled), _array)
+    return Request(f"find {name!r}", frames.find(0, _name_bytes(name)), _array)
 
 
 def remove(array: ArrayLike) -> Request[None]:
     id = _id(array)
-    return Request(f"remove {id}", lambda number: frames.remove(number, id), _done)
+    return Request(f"remove {id}", frames.remove(0, id), _done)
 
 
 def _id(array: ArrayLike) -> int:
-    return array.id if isinstance(array, Array) else _number(array, 64, "array")
+    return number_of_bits(array.id if isinstance(array, Array) else array, 64, "array")
 
 
 def _access(
-    what: str,
-    code: int,
-    array: ArrayLike,
-    index: int,
-    operand: int,
-    nowait: bool,
-    read: Callable[[frames.Answer], Any],
-    may_wait: bool = True,
+    code: int, array: ArrayLike, index: int, operand: int = 0, nowait: bool = False
 ) -> Request[Any]:
+    what, read, may_wait = OPERATIONS[code]
     id = _id(array)
-    _number(index, 32, "index")
-    _number(operand, 64, "value")
-    return Request(
-        f"{what} {id} {index}",
-        lambda number: frames.access(number, code, id, index, operand, nowait),
-        read,
-        may_wait and not nowait,
-    )
+    at = number_of_bits(index, 32, "index")
+    value = number_of_bits(operand, 64, "value")
+    is_patient = not _flag(nowait, "nowait")
+    frame = frames.access(0, code, id, at, value, not is_patient)
+    return Request(f"{what} {id} {at}", frame, read, may_wait and is_patient)
+
+
+# Of each operation: its name, how its answer is read, and whether it may wait.
+OPERATIONS: Dict[int, Tuple[str, Callable[[frames.Answer], Any], bool]] = {
+    frames.READFE: ("readfe", _value, True),
+    frames.READFF: ("readff", _value, True),
+    frames.READXX: ("readxx", _value, False),
+    frames.WRITEEF: ("writeef", _done, True),
+    frames.WRITEFF: ("writeff", _done, True),
+    frames.WRITEXF: ("writexf", _done, False),
+    frames.PURGE: ("purge", _done, False),
+    frames.INT_FETCH_ADD: ("int_fetch_add", _value, True),
+}
 
 
 def readfe(array: ArrayLike, index: int, nowait: bool = False) -> Request[int]:
-    return _access("readfe", frames.READFE, array, index, 0, nowait, _value)
+    return _access(frames.READFE, array, index, 0, nowait)
 
 
 def readff(array: ArrayLike, index: int, nowait: bool = False) -> Request[int]:
-    return _access("readff", frames.READFF, array, index, 0, nowait, _value)
+    return _access(frames.READFF, array, index, 0, nowait)
 
 
 def readxx(array: ArrayLike, index: int) -> Request[int]:
-    return _access("readxx", frames.READXX, array, index, 0, False, _value, may_wait=False)
+    return _access(frames.READXX, array, index)
 
 
 def writeef(array: ArrayLike, index: int, value: int, nowait: bool = False) -> Request[None]:
-    return _access("writeef", frames.WRITEEF, array, index, value, nowait, _done)
+    return _access(frames.WRITEEF, array, index, value, nowait)
 
 
 def writeff(array: ArrayLike, index: int, value: int, nowait: bool = False) -> Request[None]:
-    return _access("writeff", frames.WRITEFF, array, index, value, nowait, _done)
+    return _access(frames.WRITEFF, array, index, value, nowait)
 
 
 def writexf(array: ArrayLike, index: int, value: int) -> Request[None]:
-    return _access("writexf", frames.WRITEXF, array, index, value, False, _done, may_wait=False)
+    return _access(frames.WRITEXF, array, index, value)
 
 
 def purge(array: ArrayLike, index: int) -> Request[None]:
-    return _access("purge", frames.PURGE, array, index, 0, False, _done, may_wait=False)
+    return _access(frames.PURGE, array, index)
 
 
 def int_fetch_add(array: ArrayLike, index: int, value: int, nowait: bool = False) -> Request[int]:
-    return _access("int_fetch_add", frames.INT_FETCH_ADD, array, index, value, nowait, _value)
+    return _access(frames.INT_FETCH_ADD, array, index, value, nowait)
+
+
+def of_frame(frame: bytes) -> Request[Any]:
+    """The request that has this frame under number 0, as `Request.frame` gives it."""
+    kind = frame[4]
+    if kind in (5, 11):
+        code, array, index = frame[13], int.from_bytes(frame[14:22], "big"), int.from_bytes(frame[22:26], "big")
+        what, read, may_wait = OPERATIONS[code]
+        return Request(f"{what} {array} {index}", frame, read, may_wait and kind == 5)
+    if kind == 4:
+        return Request(f"remove {int.from_bytes(frame[13:21], 'big')}", frame, _done)
+    name = frame[14 : 14 + frame[13]].decode("utf-8", "replace")
+    if kind in (3, 13):
+        return Request(f"find {name!r}", frame, _array)
+    return Request(f"create {name!r} {int.from_bytes(frame[-5:-1], 'big')}", frame, _array)

@@ -1,17 +1,27 @@
-"""A small shell: an operation a line, the wait report, and the waits as a graph."""
+"""The shell: an operation a line, or one from the command line; what waits, as text, graph, page and metrics.
+
+What only looks attaches no session. The first operation attaches one, which ends with the shell.
+"""
 
 from __future__ import annotations
 
 import argparse
+import atexit
+import json
+import math
 import os
 import re
+import signal
+import subprocess
 import sys
 import time
 from typing import Any, Callable, Dict, List, Optional, Tuple
 
-from . import reports, requests
+from . import observer, requests
 from .client import Client
-from .errors import FememError, NoArray
+from .errors import FememError, NoArray, ServerUnreachable
+from .observer import Observer, overview
+from .patterns import BoundedQueue, Lock
 from .requests import Array, ArrayLike, Request
 
 HELP = """\
@@ -26,9 +36,13 @@ writeff ARRAY INDEX VALUE           waits for full, leaves full
 writexf ARRAY INDEX VALUE           leaves full
 purge ARRAY INDEX                   value 0, empty
 int_fetch_add ARRAY INDEX VALUE     waits for full, adds, leaves full
+lock NAME -- COMMAND ..             runs the command while it holds the lock
+queue put NAME VALUE [CAPACITY]     adds a value to a queue (of 8, if it is new)
+queue get NAME [CAPACITY]           takes a value from it
 report                              what waits, as the server says it
-watch [SECONDS]                     what waits, again and again, until Ctrl-C
-graph [FILE]                        what waits, as a graph for Graphviz
+watch [SECONDS] [--html FILE]       what waits, again and again, until Ctrl-C; or as a page
+graph [FILE] [--owners]             what waits, as a graph for Graphviz; FILE.svg is a picture
+metrics                             what waits, as text for Prometheus
 help                                this
 quit                                the end (also Ctrl-D)
 
@@ -43,25 +57,67 @@ class Usage(Exception):
     """A line that says nothing."""
 
 
-def main(arguments: Words) -> int:
-    """The shell's status: 0, or 1 where the server can't be used."""
-    parser = argparse.ArgumentParser(prog="python3 -m femem", description="A shell for a femem server.")
-    parser.add_argument("path", help="the server's socket")
+# The statuses, as the program `femem` has them, and 1 for an answer that is an error.
+FAILED, USAGE, SOCKET = 1, 2, 4
+
+# How long the shell waits for a server that does not answer, in seconds.
+PATIENCE = 30.0
+
+
+def main(arguments: Optional[Words] = None) -> int:
+    """The shell's status: 0, 1 where an operation failed, 2 for wrong words, 4 where the server can't be used."""
+    words = sys.argv[1:] if arguments is None else arguments
+    parser = argparse.ArgumentParser(
+        prog="femem-shell",
+        usage="python3 -m femem [OPTION ..] [SOCKET] [COMMAND ..]",
+        description="A shell for a femem server. Without SOCKET it is that of the environment's FEMEM_SOCKET.",
+        epilog=HELP,
+        formatter_class=argparse.RawDescriptionHelpFormatter,
+    )
     parser.add_argument(
         "--session", type=int, help="the session, which is kept; without it, one that is ended with the shell"
     )
-    parser.add_argument("--reconnect-timeout", type=float, default=30.0, help="in seconds (30)")
-    given = parser.parse_args(arguments)
-    session = 2**63 + os.getpid() if given.session is None else given.session
+    parser.add_argument("--store", help="the server's store, for names of arrays and sessions")
+    parser.add_argument("--program", default="femem", help="the program femem (femem)")
+    parser.add_argument("--timeout", type=float, help="of each operation that names none, in seconds")
+    parser.add_argument("--json", action="store_true", help="answers as JSON, one a line")
+    parser.add_argument("--reconnect-timeout", type=float, default=PATIENCE, help="in seconds (30)")
+    parser.add_argument("--html", metavar="FILE", help="of watch: a page in place of lines")
+    parser.add_argument("--owners", action="store_true", help="of graph: whose the locks are that somebody waits for")
+    parser.add_argument("words", nargs="*", help=argparse.SUPPRESS)
+    at = words.index("--") if "--" in words else len(words)
+    given = parser.parse_intermixed_args(words[:at])
+    path, command = split(given.words)
+    command = [*command, *(["--html", given.html] if given.html else []), *(["--owners"] if given.owners else [])]
+    command += words[at:]
+    if path is None:
+        parser.error("no socket is given, and there is no FEMEM_SOCKET")
+    for number in (signal.SIGTERM, signal.SIGHUP):
+        signal.signal(number, lambda number, _: sys.exit(128 + number))
+    shell = Shell(path, given)
     try:
-        with Client(given.path, session, reconnect_timeout=given.reconnect_timeout) as client:
-            Shell(client).run()
-            if given.session is None:
-                client.bye()
+        return shell.run_one(command) if command else shell.run()
+    except ServerUnreachable as error:
+        print(f"femem: {describe(error)}", file=sys.stderr)
+        return SOCKET
     except (FememError, ValueError) as error:
         print(f"femem: {describe(error)}", file=sys.stderr)
-        return 1
-    return 0
+        return FAILED
+    except KeyboardInterrupt:
+        return 128 + signal.SIGINT
+    finally:
+        shell.close()
+
+
+def split(words: Words) -> Tuple[Optional[str], Words]:
+    """The socket, and the command behind it."""
+    if words and not is_command(words[0]):
+        return words[0], words[1:]
+    return os.environ.get("FEMEM_SOCKET"), words
+
+
+def is_command(word: str) -> bool:
+    return word in COMMANDS
 
 
 def describe(error: BaseException) -> str:
@@ -73,43 +129,81 @@ def describe(error: BaseException) -> str:
 class Shell:
     """Lines of one client."""
 
-    def __init__(self, client: Client) -> None:
-        self._client = client
+    def __init__(self, path: str, given: argparse.Namespace) -> None:
+        self._path = path
+        self._given = given
+        self._observer = Observer(
+            path, store=given.store, program=given.program, timeout=given.reconnect_timeout
+        )
+        self._own: Optional[Client] = None
         self._names: Dict[str, Array] = {}
         self._is_terminal = sys.stdin.isatty()
+        self._status = 0
         self._others: Dict[str, Callable[[Words], None]] = {
             "report": self._report,
             "watch": self._watch,
             "graph": self._graph,
+            "metrics": self._metrics,
+            "lock": self._lock,
+            "queue": self._queue,
             "help": self._help,
         }
 
-    def run(self) -> None:
+    @property
+    def _client(self) -> Client:
+        """The client of the shell's operations, which attaches at the first one."""
+        if self._own is None:
+            self._observer.report()  # a wrong path is told at once
+            self._own = Client(
+                self._path, self._given.session, reconnect_timeout=self._given.reconnect_timeout,
+                timeout=self._given.timeout,
+            )  # fmt: skip
+        return self._own
+
+    def close(self) -> None:
+        self._observer.close()
+        if self._own is not None:
+            self._own.close()
+
+    def run_one(self, words: Words) -> int:
+        """One command of the command line: its status."""
+        try:
+            self._do(words)
+        except Usage as usage:
+            print(f"femem: {usage}", file=sys.stderr)
+            return USAGE
+        return self._status
+
+    def run(self) -> int:
         """Takes lines until the input ends or one says so, or the client is of no further use, which it raises."""
+        self._observer.report()
         if self._is_terminal:
             prepare_readline(self._completions)
         while True:
-            if self._client.failure is not None:
-                raise self._client.failure
+            if self._own is not None and self._own.failure is not None:
+                raise self._own.failure
             try:
                 line = input("femem> " if self._is_terminal else "")
             except EOFError:
-                return
+                return 0
             except KeyboardInterrupt:
                 print()
                 continue
             words = line.split()
             if words and words[0] in ("quit", "exit"):
-                return
+                return 0
             if words:
                 self._take(words)
 
+    def _do(self, words: Words) -> None:
+        if words[0] in self._others:
+            self._others[words[0]](words[1:])
+        else:
+            self._operate(words)
+
     def _take(self, words: Words) -> None:
         try:
-            if words[0] in self._others:
-                self._others[words[0]](words[1:])
-            else:
-                self._operate(words)
+            self._do(words)
         except Usage as usage:
             print(f"? {usage} ('help' lists what there is)", flush=True)
         except KeyboardInterrupt:
@@ -117,14 +211,18 @@ class Shell:
         except (FememError, ValueError) as error:
             if isinstance(error, NoArray):
                 self._names.clear()  # another client may have removed it
-            if self._client.failure is None:
-                print(describe(error), flush=True)
+            if self._own is None or self._own.failure is None:
+                self._say(describe(error), {"error": describe(error)})
+
+    def _say(self, text: str, fact: Any) -> None:
+        print(json.dumps(fact) if self._given.json else text, flush=True)
 
     # Operations.
 
     def _operate(self, words: Words) -> None:
         request, timeout = self._request(words)
-        future = self._client.submit(request, timeout=timeout)
+        limit = self._given.timeout if timeout is None else timeout
+        future = self._client.submit(request, timeout=limit)
         try:
             result = future.result()
         except KeyboardInterrupt:
@@ -135,9 +233,11 @@ class Shell:
         if isinstance(result, Array):
             if words[0] in ("create", "find"):
                 self._names[words[1]] = result
-            print(f"array {result.id} length {result.length}", flush=True)
+            self._say(f"array {result.id} length {result.length}", {"array": result.id, "length": result.length})
+        elif result is None:
+            self._say("done", {"done": True})
         else:
-            print("done" if result is None else f"value {result}", flush=True)
+            self._say(f"value {result}", {"value": result})
 
     def _request(self, words: Words) -> Tuple[Request[Any], Optional[float]]:
         operation, rest = words[0], words[1:]
@@ -182,31 +282,91 @@ class Shell:
     @staticmethod
     def _seconds(word: str) -> float:
         try:
-            return float(word)
+            seconds = float(word)
         except ValueError:
             raise Usage(f"{word} is no time") from None
+        if not 0 <= seconds < math.inf:
+            raise Usage(f"{word} is no time")
+        return seconds
 
     # The others.
 
     def _report(self, rest: Words) -> None:
-        print(self._client.report().text, end="", flush=True)
+        report = self._observer.report()
+        if self._given.json:
+            waiters = [waiter.__dict__ for waiter in report.waiters]
+            print(json.dumps({"waiters": waiters, "all_wait": report.all_wait}), flush=True)
+        else:
+            print(report.text, end="", flush=True)
 
     def _watch(self, rest: Words) -> None:
-        pause = self._seconds(rest[0]) if rest else 1.0
+        words = list(rest)
+        file: Optional[str] = None
+        if "--html" in words:
+            at = words.index("--html")
+            if at + 1 == len(words):
+                raise Usage("--html has a file behind it")
+            file = words[at + 1]
+            del words[at : at + 2]
+        pause = self._seconds(words[0]) if words else 1.0
         while True:
-            print(time.strftime("%H:%M:%S"), overview(self._client.report()), flush=True)
+            report = self._observer.report()
+            if file is None:
+                print(time.strftime("%H:%M:%S"), overview(report, self._observer.look()), flush=True)
+            else:
+                owners = self._observer.owners(report)
+                write(file, observer.page(report, self._observer.look(), owners, pause))
             time.sleep(pause)
 
     def _graph(self, rest: Words) -> None:
-        text = reports.graph(self._client.report())
-        if not rest:
+        words = [word for word in rest if word != "--owners"]
+        report = self._observer.report()
+        owners = self._observer.owners(report) if len(words) < len(rest) else {}
+        text = observer.graph(report, self._observer.look(), owners)
+        if not words:
             print(text, end="", flush=True)
-            return
+        elif words[0].endswith(".svg"):
+            picture = observer.svg(text)
+            if picture is None:
+                raise Usage("the program dot is not installed")
+            write(words[0], picture)
+        else:
+            write(words[0], text)
+
+    def _metrics(self, rest: Words) -> None:
+        print(observer.metrics(self._observer.report(), self._observer.look()), end="", flush=True)
+
+    def _lock(self, rest: Words) -> None:
+        if len(rest) < 3 or rest[1] != "--":
+            raise Usage("lock is lock NAME -- COMMAND ..")
+        lock = Lock(self._client, rest[0])
+        if not lock.acquire(timeout=self._given.timeout):
+            raise ValueError(f"{rest[0]} is not free in time")
         try:
-            with open(rest[0], "w") as file:
-                file.write(text)
+            self._status = subprocess.run(rest[2:]).returncode
         except OSError as error:
             raise Usage(str(error)) from None
+        finally:
+            lock.release()
+
+    def _queue(self, rest: Words) -> None:
+        if len(rest) in (3, 4) and rest[0] == "put":
+            queue = self._queue_of(rest[1], rest[3:])
+            queue.put(number(rest[2]), timeout=self._given.timeout)
+            self._say("done", {"done": True})
+        elif len(rest) in (2, 3) and rest[0] == "get":
+            value = self._queue_of(rest[1], rest[2:]).get(timeout=self._given.timeout)
+            self._say(f"value {value}", {"value": value})
+        else:
+            raise Usage("queue is queue put NAME VALUE, or queue get NAME")
+
+    def _queue_of(self, name: str, capacity: Words) -> BoundedQueue:
+        """The queue of that name, of the capacity that it has."""
+        try:
+            found = self._client.find(name).length - 3
+        except NoArray:
+            found = 8
+        return BoundedQueue(self._client, name, number(capacity[0]) if capacity else found)
 
     @staticmethod
     def _help(rest: Words) -> None:
@@ -241,18 +401,32 @@ def number(word: str) -> int:
     return int(word)
 
 
-def overview(report: reports.Report) -> str:
-    """Who waits at which word, and for which tag of it."""
-    if not report.waiters:
-        return "nobody waits"
-    lines = ["every attached session waits" if report.all_wait else "not every attached session waits"]
-    words: Dict[Tuple[int, int], List[reports.Waiter]] = {}
-    for waiter in report.waiters:
-        words.setdefault((waiter.array, waiter.index), []).append(waiter)
-    for (array, index), waiters in words.items():
-        who = ", ".join(f"session {w.session} ({w.operation}, number {w.number})" for w in waiters)
-        lines.append(f"  word {index} of array {array} is to become {waiters[0].needs} for {who}")
-    return "\n".join(lines)
+COMMANDS = (
+    "create", "find", "remove", *OPERANDS, "report", "watch", "graph", "metrics", "lock", "queue", "help", "quit",
+)  # fmt: skip
+
+
+def write(path: str, text: str) -> None:
+    """Puts the text into the file in one step, so that whoever reads it sees all of it."""
+    try:
+        with open(path + ".new", "w") as file:
+            file.write(text)
+        os.replace(path + ".new", path)
+    except OSError as error:
+        raise Usage(str(error)) from None
+
+
+HISTORY = os.path.expanduser("~/.femem_history")
+
+
+def save_history() -> None:
+    import readline
+
+    try:
+        readline.set_history_length(1000)
+        readline.write_history_file(HISTORY)
+    except OSError:
+        pass
 
 
 def prepare_readline(completions: Callable[[str, str], List[str]]) -> None:
@@ -266,6 +440,11 @@ def prepare_readline(completions: Callable[[str, str], List[str]]) -> None:
         found = completions(readline.get_line_buffer()[: readline.get_endidx()], text)
         return found[state] if state < len(found) else None
 
+    try:
+        readline.read_history_file(HISTORY)
+    except OSError:
+        pass
+    atexit.register(save_history)
     readline.set_completer_delims(" ")
     readline.set_completer(complete)
     readline.parse_and_bind("tab: complete")

@@ -7,7 +7,7 @@ the answers of the others until the server has dropped them, since an answer may
 
 from __future__ import annotations
 
-from typing import Dict, Generic, List, Optional, TypeVar, Union
+from typing import Dict, Generic, Iterable, List, Optional, TypeVar, Union
 
 from . import frames
 from .errors import ProtocolError, SessionLost, TakenOver
@@ -33,6 +33,26 @@ class Window(Generic[T]):
         self.unanswered: Dict[int, T] = {}  # ascending, since numbers are given in order
         self._next = floor
         self._answers: Dict[int, Union[frames.Answer, str]] = {}
+
+    @classmethod
+    def of_file(
+        cls,
+        floor: int,
+        asked: int,
+        next: int,
+        unanswered: Dict[int, T],
+        answers: Dict[int, frames.Answer],
+        ended: Iterable[int],
+    ) -> Window[T]:
+        """The window as a former process left it."""
+        window: Window[T] = cls(floor)
+        window.asked = asked
+        window._next = next
+        window.unanswered = unanswered
+        window._answers.update(answers)
+        for number in ended:
+            window._answers[number] = _SETTLED_OTHERWISE
+        return window
 
     def has_room(self) -> bool:
         return self._next < self.asked + frames.WINDOW

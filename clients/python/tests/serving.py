@@ -30,6 +30,7 @@ class ModelServer:
 
     def kill(self):
         if self._thread is not None:
+            self._stop.shutdown(socket.SHUT_RDWR)  # a child may have it too
             self._stop.close()
             self._thread.join()
             self._thread = None

@@ -7,6 +7,7 @@ from serving import WithFolder
 
 import femem
 from femem import requests
+from femem import aio
 from femem.aio import AsyncClient
 
 
@@ -105,3 +106,95 @@ class Asyncio(WithFolder):
     def test_no_server(self):
         with self.assertRaises(femem.ServerUnreachable):
             self.run_with(None, reconnect_timeout=0.3)
+
+
+class Patterns(WithFolder):
+    def run_all(self, work, count=5):
+        self.server()
+
+        async def one(k):
+            async with AsyncClient(self.path, 100 + k) as client:
+                return await work(client, k)
+
+        async def main():
+            return await asyncio.wait_for(asyncio.gather(*[one(k) for k in range(count)]), 100)
+
+        return asyncio.run(main())
+
+    def test_lock(self):
+        inside = []
+
+        async def work(client, k):
+            lock = aio.Lock(client, "lock")
+            for _ in range(5):
+                async with lock:
+                    inside.append(k)
+                    await asyncio.sleep(0.001)
+                    self.assertEqual(inside, [k])
+                    self.assertEqual(await lock.owner(), 100 + k)
+                    inside.remove(k)
+            with self.assertRaises(femem.NotOwner):
+                await lock.release()
+
+        self.run_all(work)
+
+    def test_a_task_that_is_cancelled_holds_no_lock(self):
+        async def work(client, k):
+            lock = aio.Lock(client, "lock")
+            await lock.acquire()
+            task = asyncio.ensure_future(aio.Lock(client, "lock").acquire())
+            await asyncio.sleep(0.05)
+            task.cancel()
+            with self.assertRaises(asyncio.CancelledError):
+                await task
+            await lock.release()
+            self.assertFalse(await lock.locked())
+
+        self.run_all(work, 1)
+
+    def test_queue_and_semaphore(self):
+        inside = []
+
+        async def work(client, k):
+            queue = aio.BoundedQueue(client, "queue", 3)
+            semaphore = aio.Semaphore(client, "semaphore", 2)
+            async with semaphore:
+                inside.append(k)
+                self.assertLessEqual(len(inside), 2)
+                await asyncio.sleep(0.005)
+                inside.remove(k)
+            if k == 0:
+                return [await queue.get() for _ in range(20)]
+            for value in range(5):
+                await queue.put(10 * k + value)
+            return []
+
+        got = self.run_all(work)[0]
+        self.assertEqual(sorted(got), [10 * k + value for k in range(1, 5) for value in range(5)])
+
+    def test_the_others(self):
+        async def work(client, k):
+            counter, future = aio.Counter(client, "counter"), aio.Future(client, "future")
+            await counter.add()
+            await aio.Barrier(client, "barrier", 5).wait(timeout=60)
+            self.assertEqual(await counter.value(), 5)
+            await future.set(k)
+
+            async def compute():
+                return 7
+
+            return await future.get(timeout=60), await aio.Once(client, "once").run(compute)
+
+        got = self.run_all(work)
+        self.assertEqual(len(set(got)), 1)
+        self.assertEqual(got[0][1], 7)
+
+    def test_a_client_of_another_kind(self):
+        self.server()
+        with femem.Client(self.path, 5) as client:
+            for make in (aio.Lock, aio.Counter, aio.Future, aio.Once):
+                with self.assertRaises(TypeError):
+                    make(client, "name")
+            for make in (aio.Semaphore, aio.BoundedQueue, aio.Barrier):
+                with self.assertRaises(TypeError):
+                    make(client, "name", 3)

@@ -1,5 +1,8 @@
 """The patterns, with threads that each have a client, over the model behind a socket that is killed in between."""
 
+import os
+import random
+import signal
 import threading
 import time
 
@@ -8,6 +11,7 @@ from serving import WithFolder
 
 import femem
 from femem import Client
+from femem.aio import AsyncClient
 from femem.patterns import Barrier, BoundedQueue, Counter, Future, Lock, Once, Semaphore
 
 
@@ -127,15 +131,6 @@ class Patterns(WithFolder):
         except femem.Closed:
             pass
 
-    def test_a_state_that_is_left_taken(self):
-        self.server()
-        with Client(self.path, 1) as client:
-            queue = BoundedQueue(client, "queue", 2)
-            queue.put(7)
-            client.readfe(client.find("queue"), 0)  # as a client that is gone in the middle
-            queue.break_open()
-            self.assertEqual(queue.get(timeout=30), 7)
-
     def test_barrier(self):
         arrived = []
 
@@ -208,3 +203,165 @@ class Patterns(WithFolder):
             BoundedQueue(client, "q", 2)
             with self.assertRaises(ValueError):
                 BoundedQueue(client, "q", 3)
+
+    def test_whose_a_lock_is(self):
+        self.server()
+        with Client(self.path, 1) as one, Client(self.path, 2) as two:
+            mine, yours = Lock(one, "lock"), Lock(two, "lock")
+            self.assertEqual((mine.owner(), mine.locked()), (None, False))
+            for lock in (mine, yours):
+                with self.assertRaises(femem.NotOwner):
+                    lock.release()
+            mine.acquire()
+            self.assertEqual((yours.owner(), yours.locked()), (1, True))
+            with self.assertRaises(femem.NotOwner):
+                yours.release()
+            self.assertFalse(yours.try_acquire())
+            mine.release()
+            yours.acquire()
+            self.assertGreater(yours.generation, mine.generation)
+            with self.assertRaises(femem.NotOwner):
+                mine.release()
+            self.assertEqual(mine.owner(), 2)
+
+    def test_a_lock_that_is_taken_over(self):
+        self.server()
+        with Client(self.path, 2) as two:
+            lock = Lock(two, "lock")
+            one = Client(self.path, 1)
+            first = Lock(one, "lock")
+            first.acquire()
+            # While its owner is to be seen it is not taken over.
+            self.assertFalse(lock.acquire(timeout=1.0, takeover_after=0.2))
+            one.close()
+            self.assertTrue(lock.acquire(timeout=60, takeover_after=0.2))
+            self.assertEqual((lock.broke, lock.owner()), (1, 2))
+            with Client(self.path, 1) as back:
+                again = Lock(back, "lock")
+                with self.assertRaises(femem.NotOwner):
+                    again.release()
+                self.assertFalse(again.try_acquire())
+            self.assertGreater(lock.generation, first.generation)
+            lock.release()
+
+    def test_the_former_owner_of_a_lock_is_told(self):
+        self.server()
+        with Client(self.path, 1) as one, Client(self.path, 2) as two:
+            mine, yours = Lock(one, "lock"), Lock(two, "lock")
+            mine.acquire()
+            yours.break_open()
+            self.assertTrue(yours.acquire(timeout=60))
+            with self.assertRaises(femem.NotOwner):
+                mine.release()
+            self.assertEqual(yours.owner(), 2)
+            yours.release()
+            self.assertTrue(mine.acquire(timeout=60))
+
+    def test_an_owner_that_is_started_again_releases_its_lock(self):
+        self.server()
+        file = self.path + ".session"
+        with Client(self.path, session_file=file) as client:
+            Lock(client, "lock").acquire()
+        with Client(self.path, session_file=file) as client, Client(self.path, 2) as other:
+            lock = Lock(client, "lock")
+            self.assertEqual(lock.owner(), client.session)
+            self.assertFalse(Lock(other, "lock").try_acquire())
+            lock.release()
+            self.assertTrue(Lock(other, "lock").acquire(timeout=60))
+
+    def test_a_lock_that_was_waited_for_by_a_process_that_ended_is_not_got_by_the_next(self):
+        self.server()
+        file = self.path + ".session"
+        with Client(self.path, 2) as other:
+            lock = Lock(other, "lock")
+            lock.acquire()
+            pid = os.fork()
+            if pid == 0:
+                with Client(self.path, session_file=file) as client:
+                    Lock(client, "lock").acquire()
+                os._exit(0)
+            deadline = time.monotonic() + 60
+            while not any(w.operation == "writeef" for w in other.report().waiters) and time.monotonic() < deadline:
+                time.sleep(0.01)
+            os.kill(pid, signal.SIGKILL)
+            os.waitpid(pid, 0)
+            with Client(self.path, session_file=file) as client:
+                self.assertEqual(client.recovered, [])
+                lock.release()
+                client.readxx(other.find("lock"), 0)
+                self.assertIsNone(lock.owner())
+
+    def test_a_queue_without_waiting(self):
+        self.server()
+        with Client(self.path, 1) as client:
+            queue = BoundedQueue(client, "queue", 2)
+            with self.assertRaises(femem.NotNow):
+                queue.get_nowait()
+            queue.put_nowait(1)
+            queue.put(2)
+            self.assertEqual(queue.qsize(), 2)
+            with self.assertRaises(femem.NotNow):
+                queue.put_nowait(3)
+            self.assertEqual([queue.get_nowait(), queue.get(), queue.qsize()], [1, 2, 0])
+
+    def test_a_barrier_in_time(self):
+        self.server()
+        with Client(self.path, 1) as one, Client(self.path, 2) as two:
+            with self.assertRaises(femem.TimedOut):
+                Barrier(one, "barrier", 2).wait(timeout=0.05)
+            self.assertEqual(Barrier(two, "barrier", 2).wait(timeout=60), 1)
+
+    def test_whose_the_permits_are(self):
+        self.server()
+        with Client(self.path, 1) as one, Client(self.path, 2) as two:
+            mine, yours = Semaphore(one, "semaphore", 2), Semaphore(two, "semaphore", 2)
+            mine.acquire()
+            mine.acquire()
+            self.assertEqual(yours.holders(), [1, 1])
+            self.assertFalse(yours.try_acquire())
+            with self.assertRaises(femem.NotOwner):
+                yours.release()
+            yours.release(holder=1)
+            self.assertTrue(yours.acquire(timeout=60))
+            self.assertEqual(sorted(mine.holders()), [1, 2])
+
+    def test_a_queue_that_killed_clients_leave_goes_on(self):
+        """40 clients are killed anywhere within put and get; the next one goes on, and values come in their order."""
+        server = self.server()
+        chance = random.Random(4)
+        begun = os.path.join(os.path.dirname(self.path), "begun")
+        for turn in range(40):
+            pid = os.fork()
+            if pid == 0:
+                client = Client(self.path, 2)
+                queue = BoundedQueue(client, "queue", 3, repair_after=0.1)
+                with open(begun, "w"):
+                    pass
+                for value in range(10**9):
+                    queue.put(value)
+                    queue.get()
+            deadline = time.monotonic() + 60
+            while not os.path.exists(begun) and time.monotonic() < deadline:
+                time.sleep(0.001)
+            time.sleep(chance.random() * 0.03)
+            os.kill(pid, signal.SIGKILL)
+            os.waitpid(pid, 0)
+            os.unlink(begun)
+            with Client(self.path, 1) as client:
+                queue = BoundedQueue(client, "queue", 3, repair_after=0.1)
+                queue.put(10**6, timeout=60)
+                values = [queue.get(timeout=60) for _ in range(queue.qsize())]
+                self.assertEqual(values[-1], 10**6)
+                self.assertEqual(values, sorted(values))
+                self.assertLessEqual(len(values), 2)
+        self.assertEqual(sorted(server.model.stored.sessions), [1, 2])
+
+    def test_a_client_of_another_kind(self):
+        self.server()
+        for make in (Lock, Counter, Future, Once):
+            for wrong in (AsyncClient(self.path, 5), None, self.path):
+                with self.assertRaises(TypeError):
+                    make(wrong, "name")
+        for make in (Semaphore, BoundedQueue, Barrier):
+            with self.assertRaises(TypeError):
+                make(AsyncClient(self.path, 5), "name", 3)

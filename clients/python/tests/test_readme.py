@@ -16,11 +16,11 @@ class Readme(WithFolder):
     def test_examples(self):
         self.server()
         examples = re.findall(r"```python\n(.*?)```", README.read_text(), re.DOTALL)
-        self.assertEqual(len(examples), 5)
+        self.assertEqual(len(examples), 7)
         for example in examples:
             wanted = re.findall(r"print\(.*# ([^;\n]+)", example)
             out = io.StringIO()
             with contextlib.redirect_stdout(out):
-                exec(example.replace("/run/femem.sock", self.path), {"__name__": "example"})
+                exec(example.replace("/run/femem.sock", self.path).replace("/tmp/readme", self.path), {"__name__": "example"})
             self.assertEqual(out.getvalue().splitlines(), [text.strip() for text in wanted])
         self.assertEqual([t.name for t in threading.enumerate() if t.name.startswith("femem session")], [])

@@ -5,10 +5,16 @@ import pathlib
 import signal
 import subprocess
 import sys
+import threading
 import time
 
 import paths  # noqa: F401
 from serving import WithFolder
+
+import femem
+from femem import Client, Observer
+from femem.observer import blocked, overview, parse_look
+from femem.patterns import Lock
 
 ROOT = pathlib.Path(paths.__file__).resolve().parents[1]
 
@@ -108,9 +114,9 @@ class Shell(WithFolder):
             if out[0] != "waiting 0":
                 break
             time.sleep(0.05)
-        self.assertEqual(out[1:], ["word 1 0 session 8 number 33 readfe", "session 8 waits 1", "all-wait no"])
+        self.assertEqual(out[1:], ["word 1 0 session 8 number 33 readfe", "session 8 waits 1", "all-wait yes"])
         out = self.say(["graph"])[0]
-        self.assertIn('  "s8" -> "w1_0" [label="readfe (number 33), needs full"];', out)
+        self.assertIn('  "s8" -> "w1_0" [label="readfe, needs full"];', out)
         out = self.say([f"graph {self.path}.dot"])[0]
         self.assertEqual(out, [])
         self.assertTrue(os.path.getsize(self.path + ".dot") > 0)
@@ -119,7 +125,7 @@ class Shell(WithFolder):
         watch.stdin.write("watch 0.1\nreadxx 1 0\n")
         watch.stdin.flush()
         lines = [watch.stdout.readline() for _ in range(4)]
-        self.assertIn("not every attached session waits", lines[0])
+        self.assertRegex(lines[0], "[0-9] every attached session waits")
         self.assertEqual(lines[1], "  word 0 of array 1 is to become full for session 8 (readfe, number 33)\n")
         watch.send_signal(signal.SIGINT)
         self.assertEqual(watch.communicate(timeout=60)[0].splitlines()[-1], "value 0")
@@ -130,8 +136,8 @@ class Shell(WithFolder):
 
     def test_no_server(self):
         out, err, status = self.say(["report"], "--reconnect-timeout", "0.3")
-        self.assertEqual((out, status), ([], 1))
-        self.assertIn("femem: server-unreachable", err)
+        self.assertEqual((out, status), ([], 4))
+        self.assertEqual(err, f"femem: server-unreachable: {self.path}: No such file or directory\n")
 
     def test_a_server_that_goes(self):
         server = self.server()
@@ -141,5 +147,148 @@ class Shell(WithFolder):
         self.assertEqual(shell.stdout.readline(), "array 1 length 1\n")
         server.kill()
         out, err = shell.communicate("readxx 1 0\nreadxx 1 0\n", timeout=60)
-        self.assertEqual((out, shell.returncode), ("", 1))
+        self.assertEqual((out, shell.returncode), ("", 4))
         self.assertTrue(err.startswith("femem: server-unreachable: "))
+
+    def one(self, *words, env=None, status=0):
+        """One command of the command line: what it printed."""
+        done = subprocess.run(
+            [sys.executable, "-m", "femem", *words],
+            cwd=ROOT,
+            stdin=subprocess.DEVNULL,
+            capture_output=True,
+            text=True,
+            timeout=60,
+            env={**os.environ, **(env or {})},
+        )
+        self.assertEqual(done.returncode, status, done.stderr)
+        return done.stdout + done.stderr
+
+    def test_one_command(self):
+        server = self.server()
+        self.assertEqual(self.one(self.path, "create", "jobs", "2"), "array 1 length 2\n")
+        self.assertEqual(self.one("writeef", "jobs", "0", "5", env={"FEMEM_SOCKET": self.path}), "done\n")
+        self.assertEqual(self.one(self.path, "--json", "readff", "jobs", "0"), '{"value": 5}\n')
+        self.assertEqual(self.one(self.path, "readfe", "jobs", "0", "nowait"), "value 5\n")
+        self.assertIn("not-now", self.one(self.path, "readfe", "jobs", "0", "nowait", status=1))
+        self.assertIn("timed-out", self.one(self.path, "--timeout", "0.1", "readfe", "jobs", "0", status=1))
+        self.assertIn("has 2 words", self.one(self.path, "readfe", "jobs", status=2))
+        self.assertIn("/nowhere", self.one("/nowhere", "report", status=4))
+        self.assertEqual(server.model.stored.sessions, {})
+
+    def test_lock_and_queue(self):
+        server = self.server()
+        say = [sys.executable, "-c", "print('inside')"]
+        self.assertEqual(self.one(self.path, "lock", "mine", "--", *say), "inside\n")
+        self.one(self.path, "lock", "mine", "--", sys.executable, "-c", "import sys; sys.exit(7)", status=7)
+        self.one(self.path, "queue", "put", "values", "3", "2")
+        self.one(self.path, "queue", "put", "values", "4")
+        self.assertIn("timed-out", self.one(self.path, "--timeout", "0.1", "queue", "put", "values", "5", status=1))
+        self.assertEqual(self.one(self.path, "queue", "get", "values"), "value 3\n")
+        self.assertEqual(server.model.stored.sessions, {})
+
+    def test_a_shell_that_is_ended_ends_its_session(self):
+        server = self.server()
+        for number in (signal.SIGTERM, signal.SIGHUP):
+            shell = self.start()
+            shell.stdin.write("create w 1\n" if number == signal.SIGTERM else "find w\n")
+            shell.stdin.flush()
+            self.assertIn("array 1", shell.stdout.readline())
+            self.assertEqual(len(server.model.stored.sessions), 1)
+            shell.stdin.write("readfe w 0\n")
+            shell.stdin.flush()
+            time.sleep(0.1)
+            shell.send_signal(number)
+            shell.communicate(timeout=60)
+            self.assertEqual(shell.returncode, 128 + number)
+            self.assertEqual(server.model.stored.sessions, {})
+
+
+class Looking(WithFolder):
+    """What an observer sees: it attaches nothing."""
+
+    def wait_for(self, observer, count):
+        deadline = time.monotonic() + 60
+        while len(observer.report().waiters) < count and time.monotonic() < deadline:
+            time.sleep(0.01)
+        return observer.report()
+
+    def test_a_deadlock_is_a_cycle_and_all_wait(self):
+        server = self.server()
+        with Client(self.path, 7) as one, Client(self.path, 8) as two, Observer(self.path) as observer:
+            a, b = Lock(one, "lock_a"), Lock(two, "lock_b")
+            a.acquire()
+            b.acquire()
+            threads = [
+                threading.Thread(target=Lock(one, "lock_b").acquire, args=(60,), daemon=True),
+                threading.Thread(target=Lock(two, "lock_a").acquire, args=(60,), daemon=True),
+            ]
+            for thread in threads:
+                thread.start()
+            report = self.wait_for(observer, 4)
+            self.assertTrue(report.all_wait)
+            self.assertEqual(sorted(server.model.stored.sessions), [7, 8])
+            first, second, presence = [one.find(name).id for name in ("lock_a", "lock_b", "presence")]
+            owners = observer.owners(report)
+            self.assertEqual(owners, {first: 7, second: 8})
+            # Those that wait to be seen are known without the store.
+            self.assertEqual(observer.look().present(), presence)
+            self.assertEqual(len(blocked(report, observer.look())), 2)
+            look = parse_look(
+                f"place 9\narray {first} lock_a 2\narray {presence} presence 1\nsession 7 floor 33 kept 4\n"
+            )
+            text = femem.observer.graph(report, look, owners)
+            for arrow in (f'"s7" -> "w{second}_0"', f'"w{second}_0" -> "s8"', f'"s8" -> "w{first}_0"', f'"w{first}_0" -> "s7"'):
+                self.assertIn(arrow, text)
+            self.assertIn("word 0 of lock_a", text)
+            self.assertNotIn(f'"w{presence}_0"', text)
+            shown = femem.observer.metrics(report, look)
+            for line in ("femem_waiting 2", "femem_all_wait 1", "femem_arrays 2", 'femem_session_waiting{session="7"} 1'):
+                self.assertIn(line + "\n", shown)
+            # Without those that wait only to be seen, nobody says that all wait.
+            b.release()
+            threads[0].join(60)
+            self.assertFalse(femem.observer.all_wait(observer.report(), look))
+            page = femem.observer.page(report, look, owners, 2.0)
+            self.assertIn("<td>lock_a</td><td>0</td>", page)
+            self.assertIn(">every attached session waits</span>", femem.observer.page(report, look, owners, 2.0))
+            self.assertIn('http-equiv="refresh" content="2"', page)
+            a.release()
+            for thread in threads:
+                thread.join(60)
+
+    def test_64_sessions_are_no_hindrance(self):
+        self.server()
+        clients = [Client(self.path, session) for session in range(64)]
+        with Observer(self.path) as observer:
+            self.assertEqual(observer.report().waiters, [])
+        out = subprocess.run(
+            [sys.executable, "-m", "femem", self.path, "report"], cwd=ROOT, capture_output=True, text=True, timeout=60
+        )
+        self.assertEqual((out.stdout, out.returncode), ("waiting 0\n", 0))
+        for client in clients:
+            client.close()
+
+    def test_a_server_that_is_started_again_and_one_that_is_gone(self):
+        server = self.server()
+        with Observer(self.path) as observer:
+            observer.report()
+            server.kill()
+            server.start()
+            self.assertEqual(observer.report().waiters, [])
+            server.kill()
+            with self.assertRaises(femem.ServerUnreachable):
+                observer.report()
+
+    def test_what_look_says(self):
+        self.server()
+        program = self.path + ".program"
+        with open(program, "w") as file:
+            file.write("#!/bin/sh\necho array 1 jobs 2\necho session 7 floor 33 kept 4\n")
+        os.chmod(program, 0o700)
+        with Client(self.path, 7) as client, Observer(self.path, store="x", program=program) as observer:
+            client.submit(femem.requests.readfe(client.create("jobs", 2), 1))
+            text = overview(self.wait_for(observer, 1), observer.look())
+            self.assertIn("word 1 of jobs is to become full for session 7", text)
+            self.assertIn("session 7: 4 answers kept, waits", text)
+        self.assertEqual(Observer(self.path, store="x", program="/nowhere").look().arrays, {})

@@ -48,6 +48,31 @@ class Strangers(unittest.TestCase):
         self.assertIsNone(core.failure)
         self.assertEqual(world.model.waiting, {})
 
+    def test_a_session_that_another_client_ended_and_began_anew_is_not_told(self):
+        """shared/review/clients/twice.py: the request is carried out twice, and no client can tell. So README.md says."""
+        world = World(1)
+        word = run(world, world.core(8), requests.create("counter", 1, True))
+        core = world.core(7)
+        world.settle_down([core])
+        ticket = core.submit(requests.int_fetch_add(word, 0, 1), world.now)
+        while core.to_send or world.links[core][1]:
+            world.push(core)
+        world.model.post()
+        world.model.gone(world.links[core][0])  # the reply is lost, and the connection with it
+        world.lose(core)
+        tidy = world.core(7)
+        world.settle_down([tidy])
+        tidy.leave(world.now)
+        world.settle_down([tidy])
+        self.assertIsInstance(tidy.failure, errors.Closed)
+        world.lose(tidy)
+        anew = world.core(7)
+        world.settle_down([anew])
+        world.lose(anew)
+        world.settle_down([core])
+        self.assertEqual((ticket.result, core.failure), (1, None))
+        self.assertEqual(run(world, core, requests.readff(word, 0)), 2)
+
     def met(self, world, ask):
         """A client with all of its first window answered, whose floor and further requests are lost on the way."""
         core = world.core(7)

@@ -1,0 +1,383 @@
+"""The session file: what a client has to know of its session when its own process is started again.
+
+It holds the session's number, its floor, the next number, each request that has no answer, and the answers that were
+asked for under a key. README.md, "The session file", has its format.
+
+An entry is written and synced before what it tells of is sent. So whatever the server may have seen stands in the file,
+and a request that is in the file and has no answer there may be sent again: it is carried out once.
+"""
+
+from __future__ import annotations
+
+import fcntl
+import os
+import secrets
+import struct
+import zlib
+from typing import Dict, List, NamedTuple, Optional, Tuple
+
+from . import frames
+from .errors import SessionFileError, SessionInUse
+
+MAGIC = b"femempy1"
+
+# The file is written anew once it is so long, and so many times as long as what it has to hold.
+_SHORT = 65536
+_GROWTH = 4
+
+_HEAD = struct.Struct(">II")
+_ANSWER = struct.Struct(">BQI")
+
+_ENDS_WITH_PROCESS = 1
+_HAS_KEY = 2
+
+
+class Asked(NamedTuple):
+    """A request as the file has it: its frame under number 0, its key if any, and whether it ends with its process."""
+
+    frame: bytes
+    key: Optional[bytes]
+    ends_with_process: bool
+
+
+class SessionFile:
+    """A file of one session, open and locked. `floor` is `None` as long as nothing was asked."""
+
+    def __init__(self, path: str) -> None:
+        """`SessionInUse` where another client has it, `SessionFileError` where it is no session file."""
+        self.path = path
+        self.session = 0
+        self.floor: Optional[int] = None
+        self.asked_floor = 0
+        self.next = 0
+        self.is_ending = False
+        self.unanswered: Dict[int, Asked] = {}
+        self.answers: Dict[int, frames.Answer] = {}
+        self.ended: List[int] = []
+        self.keyed: Dict[bytes, Tuple[bytes, frames.Answer]] = {}
+        self.must_sync = False
+        self._asked: Dict[int, Asked] = {}
+        self._pending = bytearray()
+        self._file = -1
+        try:
+            self._open()
+            self._read()
+        except OSError as error:
+            self.close()
+            raise SessionFileError(f"{path}: {error}") from error
+        except BaseException:
+            self.close()
+            raise
+
+    def _open(self) -> None:
+        """Opens and locks it. The file may be put in another's place in between, so it is looked for again then."""
+        while True:
+            self._file = os.open(self.path, os.O_RDWR | os.O_CREAT | os.O_CLOEXEC, 0o600)
+            try:
+                fcntl.flock(self._file, fcntl.LOCK_EX | fcntl.LOCK_NB)
+            except BlockingIOError:
+                raise SessionInUse(f"{self.path} is another client's") from None
+            try:
+                if os.path.samestat(os.stat(self.path), os.fstat(self._file)):
+                    return
+            except FileNotFoundError:
+                pass
+            os.close(self._file)
+
+    def close(self) -> None:
+        """Writes what is not written, and lets another client have the file."""
+        if self._file >= 0:
+            try:
+                if self._pending:
+                    self._write(self._file, self._block(bytes(self._pending)))
+            except OSError:
+                pass  # answers, which the server gives again
+            fcntl.flock(self._file, fcntl.LOCK_UN)  # a child may have it open for a moment yet
+            self.abandon()
+
+    def remove(self) -> None:
+        """The session is ended: nothing is left to be held."""
+        try:
+            os.unlink(self.path)
+        except OSError:
+            pass  # the next process finds that it was being ended
+        self.abandon()
+
+    def abandon(self) -> None:
+        """Closes it as it is, as a child does of its parent's."""
+        if self._file >= 0:
+            os.close(self._file)
+            self._file = -1
+
+    def start_over(self) -> None:
+        """Another session, after the end of this one."""
+        self.floor = None
+        self.is_ending = False
+        self.unanswered.clear()
+        self.answers.clear()
+        self.keyed.clear()
+        self._asked.clear()
+        self.ended.clear()
+        self._pending.clear()
+        self.session = secrets.randbits(63)
+        self.compact()
+
+    # Reading.
+
+    def _read(self) -> None:
+        content = b""
+        while True:
+            piece = os.read(self._file, 1 << 20)
+            if not piece:
+                break
+            content += piece
+        if not content.startswith(MAGIC) or len(content) == len(MAGIC):
+            if content and not MAGIC.startswith(content):
+                raise SessionFileError(f"{self.path} is no session file")
+            self.start_over()
+            return
+        end = self._take_blocks(content)
+        if not self.session:
+            raise SessionFileError(f"{self.path} is damaged: it names no session")
+        if end < len(content):
+            os.ftruncate(self._file, end)
+        os.lseek(self._file, end, os.SEEK_SET)
+        self._size = end
+        self._limit = max(_SHORT, _GROWTH * len(self._snapshot()))
+
+    def _take_blocks(self, content: bytes) -> int:
+        """Where the whole blocks end. What stands behind was being written when a process ended, and nothing of it sent."""
+        at = len(MAGIC)
+        while True:
+            end = block_end(content, at)
+            if end is None:
+                break
+            self._take_entries(content[at + _HEAD.size : end])
+            at = end
+        if len(content) - at >= _HEAD.size:
+            behind = at + _HEAD.size + _HEAD.unpack_from(content, at)[0]
+            if block_end(content, behind) is not None:
+                raise SessionFileError(f"{self.path} is damaged at byte {at}")
+        return at
+
+    def _take_entries(self, payload: bytes) -> None:
+        at = 0
+        try:
+            while at < len(payload):
+                at = self._take_entry(payload, at)
+        except (struct.error, KeyError, IndexError) as error:
+            raise SessionFileError(f"{self.path} is damaged: {error!r}") from None
+
+    def _take_entry(self, payload: bytes, at: int) -> int:
+        kind = payload[at : at + 1]
+        at += 1
+        if kind == b"A":
+            return self._take_asked(payload, at)
+        if kind == b"R":
+            (number,) = struct.unpack_from(">Q", payload, at)
+            code, value, length = _ANSWER.unpack_from(payload, at + 8)
+            self._note_answer(frames.Answer(number, code, value, length))
+            return at + 8 + _ANSWER.size
+        if kind in (b"K", b"X"):
+            key, at = _text(payload, at)
+            if kind == b"X":
+                self.keyed.pop(key, None)
+                return at
+            frame, at = _text(payload, at)
+            self.keyed[key] = (frame, frames.Answer(0, *_ANSWER.unpack_from(payload, at)))
+            return at + _ANSWER.size
+        if kind == b"Z":
+            self.is_ending = True
+            return at
+        (number,) = struct.unpack_from(">Q", payload, at)
+        if kind == b"S":
+            self.session = number
+        elif kind == b"B":
+            self.floor = self.asked_floor = self.next = number
+        elif kind == b"N":
+            self.next = number
+        elif kind == b"E":
+            self._note_end(number)
+        elif kind == b"F":
+            self.asked_floor = number
+        elif kind == b"G":
+            self._note_floor(number)
+        else:
+            raise SessionFileError(f"{self.path} is damaged: an entry {kind!r}")
+        return at + 8
+
+    def _take_asked(self, payload: bytes, at: int) -> int:
+        number, flags = struct.unpack_from(">QB", payload, at)
+        key, at = _text(payload, at + 9)
+        frame, at = _text(payload, at)
+        self._note_asked(number, Asked(frame, key if flags & _HAS_KEY else None, bool(flags & _ENDS_WITH_PROCESS)))
+        return at
+
+    # What an entry means.
+
+    def _note_asked(self, number: int, asked: Asked) -> None:
+        self.unanswered[number] = self._asked[number] = asked
+        self.next = max(self.next, number + 1)
+
+    def _note_answer(self, answer: frames.Answer) -> None:
+        asked = self._asked[answer.number]
+        self.unanswered.pop(answer.number, None)
+        self.answers[answer.number] = answer
+        if asked.key is not None:
+            self.keyed[asked.key] = (asked.frame, answer)
+
+    def _note_end(self, number: int) -> None:
+        self.unanswered.pop(number, None)
+        self.ended.append(number)
+
+    def _note_floor(self, floor: int) -> None:
+        self.floor = floor
+        self.asked_floor = max(floor, self.asked_floor)
+        self.answers = {number: answer for number, answer in self.answers.items() if number >= floor}
+        self._asked = {number: asked for number, asked in self._asked.items() if number >= floor}
+        self.ended = [number for number in self.ended if number >= floor]
+
+    # Writing: what happens is noted at once, and stands in the file from the next `commit` on.
+
+    def begin(self, floor: int) -> None:
+        self.floor = self.asked_floor = self.next = floor
+        self._pending += b"B" + struct.pack(">Q", floor)
+
+    def asked(self, number: int, asked: Asked) -> None:
+        self._note_asked(number, asked)
+        self._pending += _asked_entry(number, asked)
+        self.must_sync = True
+
+    def settling(self, floor: int) -> None:
+        """The floor is asked for. Answers below it stand in the file before, since the server then drops them."""
+        self.asked_floor = floor
+        self._pending += b"F" + struct.pack(">Q", floor)
+        self.must_sync = True
+
+    def answered(self, answer: frames.Answer) -> None:
+        self._note_answer(answer)
+        self._pending += _answer_entry(answer)
+
+    def has_ended(self, number: int) -> None:
+        """The request was withdrawn or refused: nothing of it happened."""
+        self._note_end(number)
+        self.must_sync = True  # whoever asked is told so, and the next process must not ask it again
+        self._pending += b"E" + struct.pack(">Q", number)
+
+    def settled(self, floor: int) -> None:
+        if floor != self.floor:
+            self._note_floor(floor)
+            self._pending += b"G" + struct.pack(">Q", floor)
+
+    def forget(self, key: bytes) -> None:
+        if self.keyed.pop(key, None) is not None:
+            self._pending += b"X" + _spelled(key)
+
+    def ending(self) -> None:
+        self._pending += b"Z"
+        self.must_sync = True
+
+    def commit(self) -> None:
+        """Everything noted so far is on the disk. `SessionFileError` where it can't be: then nothing may be sent."""
+        try:
+            if self._size + len(self._pending) > self._limit:
+                self.compact()
+                return
+            block = self._block(bytes(self._pending))
+            self._write(self._file, block)
+            os.fsync(self._file)
+        except OSError as error:
+            raise SessionFileError(f"{self.path}: {error}") from error
+        self._size += len(block)
+        self._pending.clear()
+        self.must_sync = False
+
+    def compact(self) -> None:
+        """Writes what is to be held into a new file, and puts it in the place of the old one."""
+        new = f"{self.path}.new"
+        file = os.open(new, os.O_RDWR | os.O_CREAT | os.O_TRUNC | os.O_CLOEXEC, 0o600)
+        try:
+            fcntl.flock(file, fcntl.LOCK_EX | fcntl.LOCK_NB)
+            content = MAGIC + self._block(self._snapshot())
+            self._write(file, content)
+            os.fsync(file)
+            self.replace(new)
+        except BaseException:
+            os.close(file)
+            raise
+        os.close(self._file)
+        self._file = file
+        self._size = len(content)
+        self._limit = max(_SHORT, _GROWTH * len(content))
+        self._pending.clear()
+        self.must_sync = False
+
+    def replace(self, new: str) -> None:
+        os.rename(new, self.path)
+        folder = os.open(os.path.dirname(os.path.abspath(self.path)), os.O_RDONLY)
+        try:
+            os.fsync(folder)
+        finally:
+            os.close(folder)
+
+    def _snapshot(self) -> bytes:
+        out = bytearray(b"S" + struct.pack(">Q", self.session))
+        if self.floor is not None:
+            out += b"B" + struct.pack(">Q", self.floor)
+            out += b"F" + struct.pack(">Q", self.asked_floor)
+            out += b"N" + struct.pack(">Q", self.next)
+        if self.is_ending:
+            out += b"Z"
+        for key, (frame, answer) in self.keyed.items():
+            out += b"K" + _spelled(key) + _spelled(frame)
+            out += _ANSWER.pack(answer.code, answer.value, answer.length)
+        for number, asked in sorted(self._asked.items()):
+            out += _asked_entry(number, asked)
+        for number, answer in self.answers.items():
+            # A key that was forgotten stays so.
+            forgotten = self._asked[number].key
+            out += _answer_entry(answer)
+            if forgotten is not None and forgotten not in self.keyed:
+                out += b"X" + _spelled(forgotten)
+        for number in self.ended:
+            out += b"E" + struct.pack(">Q", number)
+        return bytes(out)
+
+    @staticmethod
+    def _block(payload: bytes) -> bytes:
+        return _HEAD.pack(len(payload), zlib.crc32(payload)) + payload
+
+    @staticmethod
+    def _write(file: int, content: bytes) -> None:
+        while content:
+            content = content[os.write(file, content) :]
+
+
+def block_end(content: bytes, at: int) -> Optional[int]:
+    """Where the block at `at` ends, if it is whole."""
+    if len(content) - at < _HEAD.size:
+        return None
+    length, checksum = _HEAD.unpack_from(content, at)
+    end: int = at + _HEAD.size + length
+    whole = length > 0 and end <= len(content) and zlib.crc32(content[at + _HEAD.size : end]) == checksum
+    return end if whole else None
+
+
+def _asked_entry(number: int, asked: Asked) -> bytes:
+    flags = (_ENDS_WITH_PROCESS if asked.ends_with_process else 0) | (_HAS_KEY if asked.key is not None else 0)
+    return b"A" + struct.pack(">QB", number, flags) + _spelled(asked.key or b"") + _spelled(asked.frame)
+
+
+def _answer_entry(answer: frames.Answer) -> bytes:
+    return b"R" + struct.pack(">Q", answer.number) + _ANSWER.pack(answer.code, answer.value, answer.length)
+
+
+def _spelled(text: bytes) -> bytes:
+    return struct.pack(">H", len(text)) + text
+
+
+def _text(payload: bytes, at: int) -> Tuple[bytes, int]:
+    (length,) = struct.unpack_from(">H", payload, at)
+    if at + 2 + length > len(payload):
+        raise IndexError(at)
+    return payload[at + 2 : at + 2 + length], at + 2 + length

@@ -1,0 +1,57 @@
+"""The further sessions of a client, over which it asks what waits.
+
+Such a client asks each request without waiting first, over its own session, where requests are in order. What would wait
+goes to the further session that has the least of them. So its own session's numbers are always free soon.
+"""
+
+from __future__ import annotations
+
+import hashlib
+from typing import Dict, Generic, Iterator, List, Sequence, SupportsIndex, TypeVar
+
+from .requests import number_of_bits
+
+C = TypeVar("C")
+
+# The server keeps so many sessions.
+MOST = 64
+
+
+def count_of(sessions: SupportsIndex, has_file: bool) -> int:
+    """How many sessions a client is to have."""
+    count = number_of_bits(sessions, 16, "sessions")
+    if not 1 <= count <= MOST:
+        raise ValueError(f"sessions is 1 to {MOST}: {count}")
+    if count > 1 and has_file:
+        raise ValueError("a session file holds one session: it can't be used with sessions > 1")
+    return count
+
+
+def numbers(session: int, count: int) -> List[int]:
+    """The further sessions of one: always the same, so that whoever is started again takes them over, and far from others."""
+    spelled = [b"femem %d further %d" % (session, k) for k in range(1, count)]
+    return [int.from_bytes(hashlib.sha256(each).digest()[:8], "big") | 2**63 for each in spelled]
+
+
+class Sides(Generic[C]):
+    """Clients of one further session each, and how many requests each of them has."""
+
+    def __init__(self, clients: Sequence[C]) -> None:
+        self._clients = list(clients)
+        self._loads: Dict[int, int] = {id(client): 0 for client in clients}
+
+    def __iter__(self) -> Iterator[C]:
+        return iter(self._clients)
+
+    def __len__(self) -> int:
+        return len(self._clients)
+
+    def choose(self) -> C:
+        """The one that has the least, which has one more now."""
+        client = min(self._clients, key=lambda client: self._loads[id(client)])
+        self._loads[id(client)] += 1
+        return client
+
+    def give_back(self, client: C) -> None:
+        """One of its requests has ended."""
+        self._loads[id(client)] -= 1

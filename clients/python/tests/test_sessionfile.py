@@ -1,0 +1,416 @@
+"""At most once over the client's own restarts: a client with a session file is killed at each point, and goes on."""
+
+import asyncio
+import os
+import random
+import signal
+import struct
+import threading
+import time
+
+import paths  # noqa: F401
+from serving import WithFolder
+
+import femem
+from femem import Client, aio, requests, sessionfile
+from femem.aio import AsyncClient
+from femem.core import Core
+from femem.sessionfile import SessionFile
+
+POINTS = {
+    "before the write": (SessionFile, "commit", "before"),
+    "within the write": (SessionFile, "_write", "torn"),
+    "after the write": (SessionFile, "commit", "after"),
+    "before the send": (Client, "_flush", "before"),
+    "after the send": (Client, "_flush", "after"),
+    "before the answer is taken": (Core, "received", "before"),
+    "after the answer is taken": (Core, "received", "after"),
+    "before the compaction": (SessionFile, "compact", "before"),
+    "before the new file's place": (SessionFile, "replace", "before"),
+    "after the new file's place": (SessionFile, "replace", "after"),
+    "after the compaction": (SessionFile, "compact", "after"),
+}
+
+
+def die():
+    os.kill(os.getpid(), signal.SIGKILL)
+
+
+def dies(point, after):
+    """From now on this process is killed at that point, at its time number `after`."""
+    where, name, moment = POINTS[point]
+    todo = getattr(where, name)
+    count = 0
+
+    def instead(*words):
+        nonlocal count
+        count += 1
+        if count == after and moment == "before":
+            die()
+        if count == after and moment == "torn":
+            os.write(words[0], words[1][: len(words[1]) // 2])
+            die()
+        result = todo(*words)
+        if count == after and moment == "after":
+            die()
+        return result
+
+    setattr(where, name, staticmethod(instead) if name == "_write" else instead)
+
+
+class Killed(WithFolder):
+    BATCH = 4
+
+    def setUp(self):
+        super().setUp()
+        self.file = self.path + ".session"
+        self.progress = self.path + ".progress"
+
+    def child(self, work, *words):
+        """Runs the work in a child. Whether it came to its end, and was not killed."""
+        pid = os.fork()
+        if pid == 0:
+            status = 1
+            try:
+                # Short, so that there are compactions.
+                sessionfile._SHORT, sessionfile._GROWTH = 600, 1
+                work(*words)
+                status = 0
+            except BaseException as error:
+                os.write(2, f"child: {error!r}\n".encode())
+            finally:
+                os._exit(status)
+        status = os.waitpid(pid, 0)[1]
+        if os.WIFSIGNALED(status):
+            self.assertEqual(os.WTERMSIG(status), signal.SIGKILL)
+            return False
+        self.assertEqual(status, 0)
+        return True
+
+    def count(self, word, steps):
+        """Adds 1 so many times, four at a time, and notes how far it has come."""
+        done = 0
+        if os.path.exists(self.progress):
+            with open(self.progress) as file:
+                done = int(file.read())
+        with Client(self.path, session_file=self.file, reconnect_timeout=100.0) as client:
+            while done < steps:
+                keys = range(done, done + self.BATCH)
+                keys = [f"{word.id}-{step}" for step in keys]
+                futures = [client.submit(requests.int_fetch_add(word, 0, 1), key=key) for key in keys]
+                for future in futures:
+                    future.result(100)
+                done += self.BATCH
+                with open(self.progress + ".new", "w") as file:
+                    file.write(str(done))
+                os.rename(self.progress + ".new", self.progress)
+                for key in keys:
+                    client.forget(key)
+
+    def test_a_client_that_is_killed_at_each_point_counts_exactly(self):
+        server = self.server()
+        chance = random.Random(1)
+        with Client(self.path, 1) as watcher:
+            for point in POINTS:
+                with self.subTest(point=point):
+                    word = watcher.create(f"w{len(point)}{chance.randrange(10**6)}", 1, full=True)
+                    kills = 0
+
+                    def work(after):
+                        dies(point, after)
+                        self.count(word, 400)
+
+                    for _ in range(20):
+                        kills += not self.child(work, chance.randint(1, 9))
+                    self.assertGreaterEqual(kills, 10)
+                    self.child(self.count, word, 400)
+                    self.assertEqual(watcher.readff(word, 0), 400)
+                    os.unlink(self.progress)
+        self.assertEqual(len(server.model.stored.sessions), 2)
+
+    def test_client_and_server_are_killed_in_turns(self):
+        server = self.server()
+        chance = random.Random(2)
+        with Client(self.path, 1) as watcher:
+            word = watcher.create("word", 1, full=True)
+        for turn in range(20):
+            point = chance.choice(list(POINTS))
+
+            def work(after):
+                dies(point, after)
+                self.count(word, 400)
+
+            server.kill()
+            restart = threading.Timer(0.03, server.start)
+            pid = os.fork()
+            if pid == 0:
+                try:
+                    sessionfile._SHORT, sessionfile._GROWTH = 600, 1
+                    work(chance.randint(1, 9))
+                finally:
+                    os._exit(0)
+            restart.start()
+            os.waitpid(pid, 0)
+            restart.join()
+        self.child(self.count, word, 400)
+        with Client(self.path, 1) as watcher:
+            self.assertEqual(watcher.readff(word, 0), 400)
+
+    def test_asyncio(self):
+        self.server()
+
+        async def count(word, steps):
+            async with AsyncClient(self.path, session_file=self.file) as client:
+                for step in range(steps):
+                    await client.once(step, requests.int_fetch_add(word, 0, 1))
+
+        def work(word, after):
+            dies("after the answer is taken", after)
+            asyncio.run(count(word, 30))
+
+        with Client(self.path, 1) as watcher:
+            word = watcher.create("word", 1, full=True)
+        kills = 0
+        for after in (3, 5, 9, 12, 3, 4, 17, 5, 7, 9):
+            kills += not self.child(work, word, after)
+        self.assertGreater(kills, 5)
+        asyncio.run(count(word, 30))
+        with Client(self.path, 1) as watcher:
+            self.assertEqual(watcher.readff(word, 0), 30)
+
+
+class Files(WithFolder):
+    def setUp(self):
+        super().setUp()
+        self.file = self.path + ".session"
+
+    def abandon(self, client):
+        """As if the client's process were killed now."""
+        client._core.file.abandon()
+        client._core.file = None
+        client._core._flow._file = None
+        client.close()
+
+    def test_a_key_is_asked_once(self):
+        self.server()
+        with Client(self.path, session_file=self.file) as client:
+            word = client.create("word", 1, full=True)
+            add = requests.int_fetch_add(word, 0, 1)
+            self.assertEqual([client.once("a", add) for _ in range(3)], [0, 0, 0])
+            with self.assertRaises(ValueError):
+                client.once("a", requests.int_fetch_add(word, 0, 2))
+            with self.assertRaises(femem.NotNow):
+                client.once("b", requests.writeef(word, 0, 1, nowait=True))
+            session = client.session
+        with Client(self.path, session_file=self.file) as client:
+            self.assertEqual(client.session, session)
+            self.assertEqual([client.once("a", add) for _ in range(3)], [0, 0, 0])
+            with self.assertRaises(femem.NotNow):
+                client.once("b", requests.writeef(word, 0, 1, nowait=True))
+            client.forget("a")
+            self.assertEqual(client.once("a", add), 1)
+            self.assertEqual(client.recovered, [])
+        with Client(self.path, 5) as client:
+            with self.assertRaises(ValueError):
+                client.once("a", add)
+            with self.assertRaises(ValueError):
+                client.forget("a")
+
+    def test_two_that_ask_a_key_at_once_ask_it_once(self):
+        self.server()
+        with Client(self.path, session_file=self.file) as client:
+            word = client.create("word", 1)
+            futures = [client.submit(requests.readfe(word, 0), key="k") for _ in range(3)]
+            client.writeef(word, 0, 4)
+            self.assertEqual([future.result(30) for future in futures], [4, 4, 4])
+
+    def test_what_was_unanswered_is_recovered(self):
+        self.server()
+        client = Client(self.path, session_file=self.file)
+        word = client.create("word", 2)
+        client.submit(requests.readfe(word, 0))
+        client.submit(requests.readfe(word, 1), key="second")
+        client.readxx(word, 0)
+        self.abandon(client)
+        with Client(self.path, session_file=self.file) as client:
+            client.writeef(word, 0, 10)
+            client.writeef(word, 1, 11)
+            found = [(one.what, one.key, one.result(30)) for one in client.recovered]
+            # What was answered may stand there too, where the file does not know it yet.
+            self.assertEqual(found[:2], [("readfe 1 0", None, 10), ("readfe 1 1", b"second", 11)])
+            self.assertEqual(client.once("second", requests.readfe(word, 1)), 11)
+
+    def test_what_was_taken_back_is_not_asked_again(self):
+        self.server()
+        client = Client(self.path, session_file=self.file)
+        word = client.create("word", 1)
+        with self.assertRaises(femem.TimedOut):
+            client.readfe(word, 0, timeout=0.05)
+        self.abandon(client)
+        with Client(self.path, session_file=self.file) as client:
+            self.assertEqual(client.recovered, [])
+            client.writeef(word, 0, 1)
+            self.assertEqual(client.readff(word, 0), 1)
+
+    def test_a_file_is_of_one_client(self):
+        self.server()
+        with Client(self.path, session_file=self.file) as client:
+            with self.assertRaises(femem.SessionInUse):
+                Client(self.path, session_file=self.file)
+            with self.assertRaises(femem.SessionInUse):
+                AsyncClient(self.path, session_file=self.file)
+            session = client.session
+        with self.assertRaises(ValueError):
+            Client(self.path, session + 1, session_file=self.file)
+        Client(self.path, session, session_file=self.file).close()
+
+    def test_a_child_does_not_keep_the_file(self):
+        self.server()
+        client = Client(self.path, session_file=self.file)
+        go, held = os.pipe()
+        pid = os.fork()
+        if pid == 0:
+            os.close(held)
+            os.read(go, 1)
+            os._exit(0)
+        os.close(go)
+        client.close()
+        Client(self.path, session_file=self.file).close()
+        os.close(held)
+        os.waitpid(pid, 0)
+
+    def test_another_file_is_refused_and_not_touched(self):
+        self.server()
+        for content in (b"what a user wrote\n", b"femempy2" + bytes(40)):
+            with open(self.file, "wb") as file:
+                file.write(content)
+            with self.assertRaises(femem.SessionFileError):
+                Client(self.path, session_file=self.file)
+            with open(self.file, "rb") as file:
+                self.assertEqual(file.read(), content)
+
+    def test_damage_is_told_and_a_torn_end_is_not_damage(self):
+        self.server()
+        with Client(self.path, session_file=self.file) as client:
+            word = client.create("word", 1, full=True)
+            for _ in range(5):
+                client.int_fetch_add(word, 0, 1)
+        with open(self.file, "rb") as file:
+            whole = file.read()
+        for cut in range(len(whole) - 40, len(whole)):
+            with open(self.file, "wb") as file:
+                file.write(whole[:cut])
+            SessionFile(self.file).abandon()
+        first = 8 + struct.unpack(">I", whole[8:12])[0] + 8
+        with open(self.file, "wb") as file:
+            file.write(whole[: first + 12] + b"\xff" + whole[first + 13 :])
+        with self.assertRaises(femem.SessionFileError):
+            SessionFile(self.file)
+
+    def test_a_file_that_cannot_be_written_stops_the_client_before_it_sends(self):
+        server = self.server()
+        with Client(self.path, session_file=self.file) as client:
+            word = client.create("word", 1, full=True)
+            os.close(client._core.file._file)
+            client._core.file._file = os.open(self.file, os.O_RDONLY)
+            with self.assertRaises(femem.SessionFileError):
+                client.int_fetch_add(word, 0, 1)
+            self.assertEqual(server.model.stored.arrays[word.id][1][0][0], 0)
+
+    def test_one_sync_for_a_batch(self):
+        self.server()
+        syncs = []
+        commit = SessionFile.commit
+        self.addCleanup(setattr, SessionFile, "commit", commit)
+        SessionFile.commit = lambda file: (syncs.append(1), commit(file))
+        with Client(self.path, session_file=self.file) as client:
+            word = client.create("word", 1, full=True)
+            syncs.clear()
+            client.submit_many([requests.int_fetch_add(word, 0, 1)] * 16)
+            self.assertLessEqual(len(syncs), 3)
+            syncs.clear()
+            for _ in range(8):
+                client.int_fetch_add(word, 0, 1)
+            self.assertGreaterEqual(len(syncs), 8)
+
+    def test_the_file_stays_short(self):
+        self.server()
+        with Client(self.path, session_file=self.file) as client:
+            word = client.create("word", 1, full=True)
+            for _ in range(150):
+                client.submit_many([requests.int_fetch_add(word, 0, 1)] * 30)
+            self.assertEqual(client.readff(word, 0), 4500)
+            self.assertLess(os.path.getsize(self.file), 80_000)
+
+    def test_a_session_that_is_taken_from_the_file_is_told(self):
+        self.server()
+        with Client(self.path, session_file=self.file) as client:
+            word = client.create("word", 1, full=True)
+            session = client.session
+        Client(self.path, session).close()
+        with self.assertRaises(femem.TakenOver):
+            Client(self.path, session_file=self.file)
+        self.assertEqual(word.length, 1)
+
+    def test_bye_ends_the_file_too(self):
+        server = self.server()
+        client = Client(self.path, session_file=self.file)
+        client.create("word", 1)
+        client.bye()
+        self.assertFalse(os.path.exists(self.file))
+        self.assertEqual(server.model.stored.sessions, {})
+
+    def test_a_bye_that_is_broken_off_is_said_again(self):
+        server = self.server()
+        client = Client(self.path, session_file=self.file)
+        client.create("word", 1)
+        first = client.session
+        client._core.file.ending()
+        client._core.file.commit()
+        self.abandon(client)
+        with Client(self.path, session_file=self.file) as client:
+            self.assertNotEqual(client.session, first)
+            self.assertEqual(list(server.model.stored.sessions), [client.session])
+
+    def test_a_bye_that_is_broken_off_is_said_again_in_asyncio(self):
+        server = self.server()
+        former = Client(self.path, session_file=self.file)
+        word = former.create("word", 1)
+        former.submit(requests.readfe(word, 0))
+        former.readxx(word, 0)  # then its thread has nothing more to do
+        former._core.file.ending()
+        former._core.file.commit()
+        self.abandon(former)
+
+        async def main():
+            client = AsyncClient(self.path, session_file=self.file)
+            lock = aio.Lock(client, "lock")
+            async with client:
+                self.assertNotEqual(client.session, former.session)
+                self.assertEqual(list(server.model.stored.sessions), [client.session])
+                self.assertEqual(client.recovered, [])
+                async with lock:
+                    self.assertEqual(await lock.owner(), client.session)
+                self.assertEqual(await client.once("key", requests.readxx(word, 0)), 0)
+
+        asyncio.run(main())
+        server.kill()
+
+        async def alone():
+            async with AsyncClient(self.path, session_file=self.file, reconnect_timeout=0.2):
+                pass
+
+        file = SessionFile(self.file)
+        file.ending()
+        file.commit()
+        file.close()
+        # Where the server is not there, the file is free again.
+        for _ in range(2):
+            with self.assertRaises(femem.ServerUnreachable):
+                asyncio.run(alone())
+
+
+if __name__ == "__main__":
+    import unittest
+
+    unittest.main()
