@@ -1,98 +1,11 @@
-/* The client against a real server, which is killed and started again: check_server PROGRAM. Ends by itself within half
-   a minute, with status 0 where all was as it should be. */
+/* The client against a real server, which is killed and started again: check_server PROGRAM. Ends by itself within
+   100 seconds, usually within ten, with status 0 where all was as it should be. */
 #define _GNU_SOURCE
-#include "femem.h"
+#include "real.h"
 
-#include <errno.h>
-#include <fcntl.h>
-#include <signal.h>
-#include <stdio.h>
-#include <stdlib.h>
-#include <string.h>
 #include <sys/mman.h>
-#include <sys/stat.h>
-#include <sys/wait.h>
-#include <time.h>
-#include <unistd.h>
 
 enum { RAISERS = 4, MOST_RAISES = 20000, KILLS = 4 };
-
-static const char *program;
-static char folder[] = "/tmp/femem_check_XXXXXX", path[64], store[64], file[64];
-static pid_t server;
-static int checks, failures;
-static const femem_settings usual = {.wait = 10000, .reconnect = 10000};
-
-static void check(bool holds, const char *what, int line) {
-  checks++;
-  if (holds) return;
-  failures++;
-  printf("check_server.c:%d: %s\n", line, what);
-}
-#define CHECK(holds) check(holds, #holds, __LINE__)
-
-static void is_error(femem_error got, femem_error due, int line) {
-  char what[200];
-  snprintf(what, sizeof what, "'%s' where '%s' is due", femem_error_text(got), femem_error_text(due));
-  check(got == due, what, line);
-}
-#define ERROR(got, due) is_error(got, due, __LINE__)
-
-static void nap(long milliseconds) {
-  nanosleep(&(struct timespec){milliseconds / 1000, milliseconds % 1000 * 1000000}, NULL);
-}
-
-/* ---- the server ---- */
-
-static void stop_server(void) {
-  if (server <= 0) return;
-  kill(server, SIGKILL);
-  waitpid(server, NULL, 0);
-  server = 0;
-  unlink(path); /* what a stopped server leaves is the operator's to remove */
-}
-
-static void clean_up(void) {
-  stop_server();
-  unlink(store);
-  unlink(file);
-  rmdir(folder);
-}
-
-static void give_up(const char *what) {
-  printf("check_server: %s\n", what);
-  clean_up();
-  exit(1);
-}
-
-static void too_long(int signal) {
-  (void)signal;
-  static const char text[] = "check_server: not done in time\n";
-  if (write(1, text, sizeof text - 1) < 0) _exit(1);
-  if (server > 0) kill(server, SIGKILL);
-  _exit(1);
-}
-
-/* The socket's file means that the server is ready. */
-static void start_server(void) {
-  server = fork();
-  if (server == 0) {
-    execl(program, program, "serve", "--settings", file, (char *)NULL);
-    _exit(127);
-  }
-  struct stat there;
-  for (int tries = 0; tries < 1000 && stat(path, &there); tries++) {
-    if (waitpid(server, NULL, WNOHANG) == server) give_up("the server ended at its start");
-    nap(10);
-  }
-}
-
-static femem *opened(uint64_t session, const femem_settings *settings) {
-  femem *client;
-  femem_error error = femem_open(&client, path, session, settings);
-  if (error) give_up(femem_error_text(error));
-  return client;
-}
 
 /* ---- what each call answers ---- */
 
@@ -169,6 +82,131 @@ static void pipelines(void) {
   femem_close(client);
 }
 
+/* A thousand in one call; and one that waits among others, which is taken back when its time is over. */
+static void batches(void) {
+  enum { COUNT = 1000 };
+  static femem_request requests[COUNT];
+  static femem_answer answers[COUNT];
+  femem *client = opened(7, &usual), *brief = opened(8, &(femem_settings){.wait = 1500, .reconnect = 5000});
+  femem_request create = {.operation = FEMEM_CREATE, .name_length = 7, .name = "batches", .length = 2, .full = true};
+  femem_answer made;
+  ERROR(femem_call(client, &create, &made), FEMEM_OK);
+  for (int i = 0; i < COUNT; i++)
+    requests[i] = (femem_request){.operation = FEMEM_INT_FETCH_ADD, .array = made.array, .operand = 1};
+  femem_error error = femem_batch(client, requests, COUNT, answers);
+  ERROR(error, FEMEM_OK);
+  unsigned right = 0;
+  for (unsigned i = 0; i < COUNT; i++) right += answers[i].error == FEMEM_OK && answers[i].value == i;
+  CHECK(right == COUNT);
+  requests[0] = (femem_request){.operation = FEMEM_PURGE, .array = made.array, .index = 1};
+  requests[1] = (femem_request){.operation = FEMEM_READFE, .array = made.array, .index = 1};
+  ERROR(femem_batch(brief, requests, 20, answers), FEMEM_OK);
+  ERROR(answers[1].error, FEMEM_WITHDRAWN);
+  ERROR(answers[19].error, FEMEM_OK);
+  CHECK(answers[19].value == COUNT + 17 && femem_out(brief) == 0 && femem_ready(brief) == 0);
+  ERROR(femem_bye(brief), FEMEM_OK);
+  femem_close(brief);
+  femem_close(client);
+}
+
+/* ---- what waits ---- */
+
+/* Calls that run out of time leave nothing behind, however many they are. */
+static void out_of_time(void) {
+  femem *client = opened(7, &(femem_settings){.wait = 100, .reconnect = 5000}), *other = opened(8, &usual);
+  uint64_t array = 0, value = 0;
+  unsigned by_themselves = 0;
+  femem_answer answer;
+  ERROR(femem_create(other, "out_of_time", 1, false, &array), FEMEM_OK);
+  for (int i = 0; i < 36; i++) {
+    femem_error error = femem_readfe(client, array, 0, &value);
+    by_themselves += error == FEMEM_WITHDRAWN;
+    /* On a slow machine the cancel's reply may be late too. */
+    while (error == FEMEM_TIMEOUT) error = femem_cancel(client, femem_number(client), &answer);
+    ERROR(error, FEMEM_WITHDRAWN);
+  }
+  CHECK(by_themselves > 0 && femem_out(client) == 0 && femem_ready(client) == 0);
+  ERROR(femem_writeef(other, array, 0, 100), FEMEM_OK);
+  femem_request request = {.operation = FEMEM_READXX, .array = array};
+  ERROR(femem_call_within(client, &request, 10000, &answer), FEMEM_OK);
+  CHECK(answer.value == 100); /* no read that was given up has taken it */
+  request.operation = FEMEM_READFE;
+  ERROR(femem_call_within(client, &request, 10000, &answer), FEMEM_OK);
+  CHECK(answer.value == 100);
+  femem_close(client);
+  ERROR(femem_remove(other, array), FEMEM_OK);
+  ERROR(femem_bye(other), FEMEM_OK);
+  femem_close(other);
+}
+
+/* Requests that wait stop no other of their client, and happen once each. */
+static void in_the_way(void) {
+  enum { WAITING = 20 };
+  femem *client = opened(7, &usual), *other = opened(8, &usual);
+  uint64_t array = 0, value = 0, numbers[WAITING];
+  femem_answer answer;
+  ERROR(femem_create(other, "in_the_way", WAITING + 1, false, &array), FEMEM_OK);
+  ERROR(femem_writeef(other, array, WAITING, 0), FEMEM_OK);
+  for (uint32_t i = 0; i < WAITING; i++) ERROR(femem_send_readfe(client, array, i, &numbers[i]), FEMEM_OK);
+  for (uint64_t due = 0; due < 200; due++) {
+    ERROR(femem_int_fetch_add(client, array, WAITING, 1, &value), FEMEM_OK);
+    CHECK(value == due);
+  }
+  CHECK(femem_out(client) == WAITING);
+  for (uint32_t i = 0; i < WAITING; i++) ERROR(femem_writeef(other, array, i, 1000 + i), FEMEM_OK);
+  for (uint32_t i = WAITING; i-- > 0;) {
+    ERROR(femem_wait(client, numbers[i], &answer, 10000), FEMEM_OK);
+    CHECK(answer.number == numbers[i] && answer.error == FEMEM_OK && answer.value == 1000 + i);
+  }
+  CHECK(femem_out(client) == 0 && femem_ready(client) == 0);
+  /* Each word is empty again: nothing was read twice, and nothing by a request that was moved. */
+  for (uint32_t i = 0; i < WAITING; i++) ERROR(femem_writeef(other, array, i, 0), FEMEM_OK);
+  ERROR(femem_remove(other, array), FEMEM_OK);
+  ERROR(femem_bye(client), FEMEM_OK);
+  ERROR(femem_bye(other), FEMEM_OK);
+  femem_close(client);
+  femem_close(other);
+}
+
+/* A child has a copy of the client, and can't disturb the one that is its parent's. */
+static void forked(void) {
+  femem *client = opened(7, &usual);
+  uint64_t array = 0, value = 1, number = 0;
+  femem_answer answer;
+  ERROR(femem_create(client, "forked", 2, true, &array), FEMEM_OK);
+  ERROR(femem_purge(client, array, 1), FEMEM_OK);
+  ERROR(femem_send_readfe(client, array, 1, &number), FEMEM_OK);
+  ERROR(femem_flush(client), FEMEM_OK);
+  fflush(stdout);
+  pid_t child = fork();
+  if (child == 0) {
+    const char *text;
+    bool told = femem_int_fetch_add(client, array, 0, 1, &value) == FEMEM_FORKED &&
+                femem_send_purge(client, array, 0, NULL) == FEMEM_FORKED && femem_flush(client) == FEMEM_FORKED &&
+                femem_cancel(client, number, &answer) == FEMEM_FORKED &&
+                femem_next(client, &answer, 0) == FEMEM_FORKED &&
+                femem_report(client, &text) == FEMEM_FORKED && femem_settle(client) == FEMEM_FORKED &&
+                femem_reconnect(client, 0) == FEMEM_FORKED;
+    femem_close(client);
+    _exit(told ? 0 : 1);
+  }
+  int status = 1;
+  waitpid(child, &status, 0);
+  CHECK(WIFEXITED(status) && WEXITSTATUS(status) == 0);
+  ERROR(femem_int_fetch_add(client, array, 0, 1, &value), FEMEM_OK);
+  CHECK(value == 0);
+  ERROR(femem_writeef(client, array, 1, 5), FEMEM_OK);
+  ERROR(femem_wait(client, number, &answer, 10000), FEMEM_OK);
+  CHECK(answer.value == 5 && femem_reconnects(client) == 0);
+  child = fork();
+  if (child == 0) _exit(femem_bye(client) == FEMEM_FORKED ? 0 : 1);
+  waitpid(child, &status, 0);
+  CHECK(WIFEXITED(status) && WEXITSTATUS(status) == 0);
+  ERROR(femem_remove(client, array), FEMEM_OK);
+  ERROR(femem_bye(client), FEMEM_OK);
+  femem_close(client);
+}
+
 /* ---- stops ---- */
 
 static struct shared {
@@ -220,11 +258,11 @@ static void kills(void) {
   for (int raiser = 0; raiser < RAISERS; raiser++)
     if ((raisers[raiser] = fork()) == 0) raise_count(raiser, array);
   for (int round = 0; round < KILLS; round++) {
-    nap(400);
+    pause_for(400);
     stop_server();
     start_server();
   }
-  nap(400);
+  pause_for(400);
   shared->stop = 1;
   for (int raiser = 0; raiser < RAISERS; raiser++) {
     waitpid(raisers[raiser], NULL, 0);
@@ -275,29 +313,15 @@ static void waiting(void) {
 }
 
 int main(int count, char **words_given) {
-  if (count != 2) {
-    fprintf(stderr, "usage: check_server PROGRAM\n");
-    return 2;
-  }
-  program = words_given[1];
-  signal(SIGALRM, too_long);
-  alarm(30);
-  if (!mkdtemp(folder)) return 1;
-  snprintf(path, sizeof path, "%s/socket", folder);
-  snprintf(store, sizeof store, "%s/store", folder);
-  snprintf(file, sizeof file, "%s/settings.toml", folder);
-  FILE *settings = fopen(file, "w");
-  if (!settings) return 1;
-  fprintf(settings, "socket = \"%s\"\nstore = \"%s\"\nformat = true\n", path, store);
-  fclose(settings);
   shared = mmap(NULL, sizeof *shared, PROT_READ | PROT_WRITE, MAP_SHARED | MAP_ANONYMOUS, -1, 0);
-  if (shared == MAP_FAILED) return 1;
-  start_server();
+  if (shared == MAP_FAILED || !begin_real("check_server", count, words_given)) return 2;
   words();
   pipelines();
+  batches();
+  out_of_time();
+  in_the_way();
+  forked();
   kills();
   waiting();
-  clean_up();
-  printf("femem client against %s: %d checks, %d failed\n", program, checks, failures);
-  return failures ? 1 : 0;
+  return end_real();
 }

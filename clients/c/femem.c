@@ -2,6 +2,7 @@
    attaching, and the calls. Everything that the server can make a client keep has a fixed size. */
 #define _POSIX_C_SOURCE 200809L
 #include "femem.h"
+#include "session_file.h"
 
 #include <errno.h>
 #include <fcntl.h>
@@ -10,9 +11,15 @@
 #include <stdlib.h>
 #include <string.h>
 #include <sys/socket.h>
+#include <sys/types.h>
 #include <sys/un.h>
 #include <time.h>
 #include <unistd.h>
+
+/* Where a test may stop the process. */
+#ifndef FEMEM_POINT
+#define FEMEM_POINT(name) ((void)0)
+#endif
 
 enum {
   WINDOW = 32,              /* numbers from the floor on that may be used */
@@ -21,7 +28,8 @@ enum {
   SETTLE_FRAME = 13,
   LONGEST_REPORT = 262144,
   INPUT = 8192,
-  OUTPUT = 4096             /* more than a whole window, its cancels and what stands beside them */
+  OUTPUT = 8192,
+  RESERVE = 4096            /* of the output: more than a whole window, its cancels and what stands beside them */
 };
 
 /* The greatest floor; numbers are below 2^63. */
@@ -41,11 +49,19 @@ typedef struct reply {
   uint64_t value;           /* value or id of an answer, floor of a welcome */
 } reply;
 
-/* A number's request and answer. Both stay until the number 32 above takes the place. */
-typedef enum slot_state { FREE, OUT, ANSWERED, TAKEN } slot_state;
+/* A number's request and answer. Both stay until the number 32 above takes the place. A request has two numbers: that
+   of its caller, which stays, is its answer's, and `wire` is the one that the server knows. They differ once it was
+   moved: cancelled, and sent again under a later number, since it waited in the way of others. PARKED is between the
+   two. */
+typedef enum slot_state { FREE, OUT, PARKED, ANSWERED, TAKEN } slot_state;
+typedef enum cancelled { NOT, TO_MOVE, TO_END } cancelled;
 typedef struct slot {
   slot_state state;
-  bool cancelling;
+  cancelled cancelled;      /* why a cancel is out */
+  bool given_up;            /* by a call whose time was over: nobody waits for the withdrawal */
+  bool keyed;               /* the session file keeps the answer */
+  bool recovered;           /* of an earlier life: perhaps nobody takes the answer */
+  uint64_t wire;
   femem_request request;
   femem_answer answer;
 } slot;
@@ -56,6 +72,7 @@ typedef enum phase { CLOSED, OPENING, RETURNING, SERVED } phase;
 typedef enum asked { NOTHING, ASKED, COMING, HERE } asked;
 
 struct femem {
+  pid_t owner;              /* the process that opened it */
   int descriptor, system;
   phase phase;
   femem_error broken;       /* why it is CLOSED */
@@ -68,9 +85,12 @@ struct femem {
   uint64_t floor_told, floor_asked, low, next;  /* low: the least number that is not taken; next: the next to use */
   uint64_t resumed_end;     /* the end of the window that was resumed; 0 where none was */
   uint64_t last, returns;
-  slot slots[WINDOW];
-  unsigned out, ready, first_ready;
-  uint64_t ready_numbers[WINDOW];
+  slot slots[WINDOW];       /* by their numbers on the wire */
+  unsigned out, ready, first_ready, moving; /* moving: requests whose cancel is out so that they move */
+  uint64_t ready_numbers[WINDOW];           /* on the wire */
+  session_file *file;       /* NULL where there is none, as of the next */
+  femem_recovered *recovered;
+  unsigned recovered_count, retaken; /* retaken: how often the session was attached again since another had it */
   asked report;
   femem_error report_error;
   char *text;
@@ -242,9 +262,22 @@ static void put_cancel(femem *client, uint64_t number) {
 
 static slot *slot_of(femem *client, uint64_t number) { return &client->slots[number % WINDOW]; }
 
-static bool is_known(femem *client, uint64_t number) {
+static bool is_known(femem *client, uint64_t wire) {
+  slot *place = slot_of(client, wire);
+  return place->state != FREE && place->wire == wire;
+}
+
+static bool is_active(const slot *place) {
+  return place->state == OUT || place->state == PARKED || place->state == ANSWERED;
+}
+
+/* The request that has that number for its caller, and whose answer was not taken. */
+static slot *find(femem *client, uint64_t number) {
   slot *place = slot_of(client, number);
-  return place->state != FREE && place->answer.number == number;
+  if (is_active(place) && place->answer.number == number) return place;
+  for (place = client->slots; place < client->slots + WINDOW; place++)
+    if (is_active(place) && place->answer.number == number) return place;
+  return NULL;
 }
 
 static void put_slot(femem *client, uint64_t number) {
@@ -260,7 +293,7 @@ static void put_again(femem *client) {
   for (uint64_t number = client->low; number < client->next; number++) {
     if (slot_of(client, number)->state != OUT) continue;
     put_slot(client, number);
-    if (slot_of(client, number)->cancelling) put_cancel(client, number);
+    if (slot_of(client, number)->cancelled == TO_END) put_cancel(client, number);
   }
   if (client->report == ASKED) put_bare(client, REPORT);
   if (client->bye) put_bare(client, BYE);
@@ -275,16 +308,57 @@ static void close_line(femem *client, femem_error why) {
   client->broken = why;
   client->input_end = client->output_begin = client->output_end = 0;
   if (client->report == COMING) client->report = ASKED;
+  /* What was to be moved is sent again under the number that it has. */
+  client->moving = 0;
+  for (slot *place = client->slots; place < client->slots + WINDOW; place++) {
+    if (place->state == PARKED) place->state = OUT;
+    if (place->cancelled == TO_MOVE) place->cancelled = NOT;
+  }
 }
 
-static void answered(femem *client, uint64_t number, femem_answer answer) {
-  slot *place = slot_of(client, number);
-  answer.number = number;
+static void advance(femem *client) {
+  while (client->low < client->next && slot_of(client, client->low)->state == TAKEN) client->low++;
+}
+
+/* Sends what was withdrawn so that it moves: under the next numbers, for which there is room since the floor can rise
+   above the old ones. What is kept from that by an answer that nobody took gets its own number again. A new number is
+   at most 32 above the old one of the same request, so no place is needed that has another. */
+static void move_parked(femem *client) {
+  uint64_t first = client->low, end = client->next;
+  while (client->low < end && !(slot_of(client, client->low)->state == OUT ||
+                                slot_of(client, client->low)->state == ANSWERED)) client->low++;
+  if (client->low > client->floor_asked) put_settle(client, client->low);
+  for (uint64_t wire = first; wire < end; wire++) {
+    slot *place = slot_of(client, wire);
+    if (place->state != PARKED || place->wire != wire) continue;
+    slot moved = *place;
+    moved.state = OUT;
+    moved.wire = client->next < client->floor_asked + WINDOW ? client->next++ : wire;
+    place->state = TAKEN;
+    place->answer.error = FEMEM_WITHDRAWN;
+    *slot_of(client, moved.wire) = moved;
+    if (client->file && moved.wire != wire) session_file_move(client->file, wire, moved.wire);
+    put_slot(client, moved.wire);
+  }
+}
+
+/* A cancel that was to move a request is done, or is no longer for that. */
+static void end_move(femem *client) {
+  if (--client->moving == 0) move_parked(client);
+}
+
+static void answered(femem *client, slot *place, femem_answer answer) {
+  bool moving = place->cancelled == TO_MOVE;
+  answer.number = place->answer.number;
   place->answer = answer;
-  place->state = ANSWERED;
-  place->cancelling = false;
+  place->cancelled = NOT;
   client->out--;
-  client->ready_numbers[(client->first_ready + client->ready++) % WINDOW] = number;
+  bool wanted = !place->keyed && (!place->given_up || answer.error != FEMEM_WITHDRAWN);
+  place->state = wanted ? ANSWERED : TAKEN;
+  if (!wanted && client->file) session_file_end(client->file, place->wire, &answer);
+  if (wanted) client->ready_numbers[(client->first_ready + client->ready++) % WINDOW] = place->wire;
+  else advance(client);
+  if (moving) end_move(client);
 }
 
 /* Whether a request may be answered so. */
@@ -324,7 +398,8 @@ static femem_error take_answer(femem *client, const reply *told) {
   if (told->code == ANSWER_ARRAY) answer.array = told->value;
   if (place->state != OUT) return is_same(&place->answer, &answer) ? FEMEM_OK : FEMEM_CHANGED_ANSWER;
   if (!fits(&place->request, told)) return FEMEM_STRANGE_REPLY;
-  answered(client, told->number, answer);
+  FEMEM_POINT("answered");
+  answered(client, place, answer);
   return FEMEM_OK;
 }
 
@@ -332,15 +407,25 @@ static femem_error take_withdrawn(femem *client, const reply *told) {
   if (client->phase == OPENING) return FEMEM_OK;
   if (!is_known(client, told->number)) return FEMEM_WRONG_NUMBER;
   slot *place = slot_of(client, told->number);
-  if (place->state != OUT || !place->cancelling || client->cancels == 0) return FEMEM_WRONG_NUMBER;
+  if (place->state != OUT || place->cancelled == NOT || client->cancels == 0) return FEMEM_WRONG_NUMBER;
   client->cancels--;
-  answered(client, told->number, (femem_answer){.error = FEMEM_WITHDRAWN});
+  if (place->cancelled == TO_END) {
+    answered(client, place, (femem_answer){.error = FEMEM_WITHDRAWN});
+    return FEMEM_OK;
+  }
+  place->state = PARKED;
+  place->cancelled = NOT;
+  end_move(client);
   return FEMEM_OK;
 }
 
+/* A welcome and as many settles as were sent may still be answered: it may have been another connection's settle that
+   was. Of a session file more lives may have been stopped just before. */
 static void serve(femem *client, uint64_t floor) {
   client->floor_told = client->floor_asked = client->low = client->next = floor;
-  client->settles = client->cancels = client->attaches = 0;
+  client->cancels = 0;
+  client->attaches = 1;
+  if (client->file) client->settles = client->attaches = WINDOW;
   client->phase = SERVED;
   client->opened = true;
 }
@@ -352,7 +437,6 @@ static femem_error take_first_welcome(femem *client, uint64_t floor) {
   client->floor_told = floor;
   if (client->settings.resume) {
     serve(client, floor);
-    client->attaches = 1;
     client->resumed_end = floor + WINDOW;
     return FEMEM_OK;
   }
@@ -412,19 +496,27 @@ static femem_error take_refused_report(femem *client, femem_error refusal) {
 static femem_error take_not_waiting(femem *client, const reply *told) {
   if (client->cancels == 0 || told->number >= client->next) return FEMEM_WRONG_NUMBER;
   client->cancels--;
-  if (is_known(client, told->number)) slot_of(client, told->number)->cancelling = false;
+  if (!is_known(client, told->number)) return FEMEM_OK;
+  slot *place = slot_of(client, told->number);
+  bool moving = place->cancelled == TO_MOVE;
+  place->cancelled = NOT;
+  if (moving) end_move(client);
   return FEMEM_OK;
 }
 
 static femem_error take_refused(femem *client, const reply *told) {
   femem_error refusal = (femem_error)(100 + told->code);
+  /* A session file's session is nobody else's: what has it now is what is left of an earlier life, whose attach was
+     read later than this one's. */
+  bool own = client->file && client->retaken < WINDOW;
+  if (refusal == FEMEM_REFUSED_NOT_ATTACHED && own) return client->retaken++, FEMEM_DISCONNECTED;
   if (client->phase == OPENING) return take_opening_refusal(client, told, refusal);
   if (client->phase == RETURNING) return told->number == client->session ? refusal : FEMEM_STRANGE_REPLY;
   if (refusal == FEMEM_REFUSED_NOT_ATTACHED) return refusal;
   if (refusal == FEMEM_REFUSED_NOT_WAITING) return take_not_waiting(client, told);
   if (told->number == 0) return take_refused_report(client, refusal);
   if (is_known(client, told->number) && slot_of(client, told->number)->state == OUT) {
-    answered(client, told->number, (femem_answer){.error = refusal});
+    answered(client, slot_of(client, told->number), (femem_answer){.error = refusal});
     return FEMEM_OK;
   }
   bool settle = client->settles > 0 && told->number <= client->floor_asked && told->number >= client->floor_told;
@@ -527,8 +619,16 @@ static femem_error system_fault(femem *client, femem_error error) {
   return error;
 }
 
+/* A session file has all that is sent before it is sent. */
+static bool is_kept(femem *client) {
+  if (!client->file || session_file_sync(client->file, client->floor_told, client->next)) return true;
+  system_fault(client, FEMEM_FILE_FAULT);
+  return false;
+}
+
 /* Writes as much as the socket takes. */
 static void write_some(femem *client) {
+  if (client->output_begin < client->output_end && !is_kept(client)) return;
   while (client->output_begin < client->output_end) {
     size_t size = client->output_end - client->output_begin;
     ssize_t count = send(client->descriptor, client->output + client->output_begin, size, MSG_NOSIGNAL);
@@ -536,6 +636,7 @@ static void write_some(femem *client) {
     if (count < 0 && (errno == EAGAIN || errno == EWOULDBLOCK)) return;
     /* A server that went may have left replies, which are read first; the reading then tells. */
     client->output_begin += count < 0 ? size : (size_t)count;
+    FEMEM_POINT("sent");
   }
 }
 
@@ -550,10 +651,15 @@ static femem_error read_some(femem *client) {
   return digest(client);
 }
 
+/* A child that a fork made has a copy of the client, and must not speak for it. */
+static bool is_copy(const femem *client) { return client->owner != getpid(); }
+
 /* Writes what is to be written, and waits for bytes once. FEMEM_TIMEOUT where the end has come before any. */
 static femem_error step(femem *client, int64_t end) {
+  if (is_copy(client)) return FEMEM_FORKED;
   if (client->phase == CLOSED) return client->broken;
   write_some(client);
+  if (client->phase == CLOSED) return client->broken;
   struct pollfd line = {.fd = client->descriptor, .events = POLLIN};
   if (client->output_begin < client->output_end) line.events |= POLLOUT;
   int events = poll(&line, 1, poll_time(end));
@@ -586,7 +692,7 @@ static femem_error attach(femem *client, int64_t end) {
   client->broken = FEMEM_OK;
   client->welcomed = false;
   client->attaches++;
-  if (!client->opened) client->floor_told = client->opening_tries = 0;
+  if (!client->opened) client->floor_told = client->settles = client->opening_tries = 0;
   put_short(client, ATTACH, client->session);
   while (error == FEMEM_OK && client->phase != SERVED) {
     error = step(client, end);
@@ -625,6 +731,7 @@ static femem_error mend(femem *client, femem_error error, int64_t end) {
 
 /* Whether something may be sent. */
 static femem_error usable(femem *client) {
+  if (is_copy(client)) return FEMEM_FORKED;
   if (client->ended || client->bye) return FEMEM_ENDED;
   return client->phase == CLOSED ? mend(client, client->broken, moment(client->settings.wait)) : FEMEM_OK;
 }
@@ -633,12 +740,22 @@ static femem_error usable(femem *client) {
 
 typedef bool (*condition)(femem *, uint64_t);
 
-static bool is_answered(femem *client, uint64_t number) { return slot_of(client, number)->state == ANSWERED; }
+static bool is_answered(femem *client, uint64_t number) {
+  slot *place = find(client, number);
+  return !place || place->state == ANSWERED;
+}
+
 static bool is_settled(femem *client, uint64_t floor) { return client->floor_told >= floor; }
 
 static bool any_answered(femem *client, uint64_t unused) {
   (void)unused;
-  return client->ready > 0;
+  return client->ready > 0 || client->out == 0;
+}
+
+/* Nothing is being moved, and the least number that held the floor is not being cancelled. */
+static bool is_moved(femem *client, uint64_t wire) {
+  slot *place = slot_of(client, wire);
+  return client->moving == 0 && !(place->wire == wire && place->state == OUT && place->cancelled == TO_END);
 }
 
 static bool is_reported(femem *client, uint64_t unused) {
@@ -651,8 +768,10 @@ static bool is_ended(femem *client, uint64_t unused) {
   return client->ended;
 }
 
+/* It writes, since what waits for this has no other reason to look at the socket again. */
 static bool is_written(femem *client, uint64_t unused) {
   (void)unused;
+  if (client->phase != CLOSED) write_some(client);
   return client->output_begin == client->output_end;
 }
 
@@ -666,49 +785,136 @@ static femem_error wait_for(femem *client, condition holds, uint64_t number, int
   }
 }
 
+static femem_error write_all(femem *client, int64_t end) {
+  femem_error error = wait_for(client, is_written, 0, end);
+  return error == FEMEM_OK && client->phase == CLOSED ? client->broken : error;
+}
+
 /* Gives an answer that is here to the caller. */
-static void hand_out(femem *client, uint64_t number, femem_answer *answer) {
+static void hand_out(femem *client, slot *place, femem_answer *answer) {
   unsigned at = client->first_ready;
-  while (client->ready_numbers[at] != number) at = (at + 1) % WINDOW;
+  while (client->ready_numbers[at] != place->wire) at = (at + 1) % WINDOW;
   for (; at != client->first_ready; at = (at + WINDOW - 1) % WINDOW)
     client->ready_numbers[at] = client->ready_numbers[(at + WINDOW - 1) % WINDOW];
   client->first_ready = (client->first_ready + 1) % WINDOW;
   client->ready--;
-  slot *place = slot_of(client, number);
   place->state = TAKEN;
+  if (client->file) session_file_end(client->file, place->wire, &place->answer);
   *answer = place->answer;
-  while (client->low < client->next && slot_of(client, client->low)->state == TAKEN) client->low++;
+  advance(client);
 }
 
 /* ---- the calls ---- */
 
-femem_error femem_open(femem **client, const char *path, uint64_t session, const femem_settings *settings) {
-  if (!client) return FEMEM_BAD_CALL;
-  *client = NULL;
+/* A client that is not connected yet. */
+static femem_error make(femem **client, const char *path, uint64_t session, const femem_settings *settings) {
   struct sockaddr_un address = {.sun_family = AF_UNIX};
   if (!path || strlen(path) >= sizeof address.sun_path) return FEMEM_BAD_CALL;
   memcpy(address.sun_path, path, strlen(path));
-  femem *made = calloc(1, sizeof *made);
+  femem *made = *client = calloc(1, sizeof *made);
   if (!made) return FEMEM_MEMORY;
+  made->owner = getpid();
   made->descriptor = -1;
   made->address = address;
   made->session = session;
   made->settings = settings ? *settings : (femem_settings){.wait = FEMEM_FOREVER};
-  bool again = made->settings.reconnect > 0;
-  femem_error error = reach(made, moment(again ? made->settings.reconnect : made->settings.wait), again);
-  if (error) femem_close(made);
-  else *client = made;
+  return FEMEM_OK;
+}
+
+static femem_error reach_first(femem *client) {
+  bool again = client->settings.reconnect > 0;
+  return reach(client, moment(again ? client->settings.reconnect : client->settings.wait), again);
+}
+
+femem_error femem_open(femem **client, const char *path, uint64_t session, const femem_settings *settings) {
+  if (!client) return FEMEM_BAD_CALL;
+  *client = NULL;
+  femem_error error = make(client, path, session, settings);
+  if (error == FEMEM_OK) error = reach_first(*client);
+  if (error == FEMEM_OK) return FEMEM_OK;
+  femem_close(*client);
+  *client = NULL;
+  return error;
+}
+
+/* An earlier life was about to end its session: that is done first. */
+static femem_error end_left(session_file *file, const char *path, const femem_settings *settings) {
+  femem *left;
+  femem_error error = femem_open(&left, path, file->session, settings);
+  if (error) return error;
+  error = femem_bye(left);
+  femem_close(left);
+  if (error) return error;
+  return session_file_begin(file) ? FEMEM_OK : FEMEM_FILE_FAULT;
+}
+
+static void recover(femem *client, uint64_t wire) {
+  const kept_request *kept = &client->file->requests[wire % WINDOW];
+  slot *place = slot_of(client, wire);
+  *place = (slot){.state = TAKEN}; /* ended, and its answer is not known here */
+  if (kept->wire != wire) return;
+  *place = (slot){.state = OUT, .wire = wire, .request = kept->request, .answer.number = kept->number,
+                  .keyed = kept->key, .recovered = true};
+  client->out++;
+  femem_recovered *listed = &client->recovered[client->recovered_count++];
+  *listed = (femem_recovered){.number = kept->number, .request = kept->request};
+  if (kept->key) memcpy(listed->key, kept->key->key, sizeof listed->key);
+}
+
+/* What the session file says of the earlier life. A later one cannot know how many settles and attaches that still had
+   under way. */
+static femem_error restore(femem *client) {
+  const session_file *file = client->file;
+  client->recovered = calloc(WINDOW, sizeof *client->recovered);
+  if (!client->recovered) return FEMEM_MEMORY;
+  client->session = file->session;
+  if (file->next == 0) return FEMEM_OK;
+  client->opened = true;
+  client->settles = client->attaches = WINDOW;
+  client->floor_told = file->floor;
+  client->next = file->next;
+  client->low = file->next > file->floor + WINDOW ? file->next - WINDOW : file->floor;
+  for (uint64_t wire = client->low; wire < client->next; wire++) recover(client, wire);
+  advance(client);
+  client->floor_asked = client->low;
+  return FEMEM_OK;
+}
+
+femem_error femem_open_file(femem **client, const char *path, const char *file, const femem_settings *settings) {
+  if (!client) return FEMEM_BAD_CALL;
+  *client = NULL;
+  if (!file || (settings && settings->resume)) return FEMEM_BAD_CALL;
+  femem *made = NULL;
+  femem_error error = make(&made, path, 0, settings);
+  if (error == FEMEM_OK) error = session_file_open(&made->file, file);
+  if (error == FEMEM_OK && made->file->leaving) error = end_left(made->file, path, settings);
+  if (error == FEMEM_OK) error = restore(made);
+  if (error == FEMEM_OK) error = reach_first(made);
+  if (error == FEMEM_OK) {
+    made->returns = 0;
+    *client = made;
+    return FEMEM_OK;
+  }
+  int why = error == FEMEM_FILE_FAULT && made->system ? made->system : errno;
+  femem_close(made);
+  errno = why;
   return error;
 }
 
 void femem_close(femem *client) {
   if (!client) return;
+  /* What was taken since the last request. Where it fails the next life is told of it once more. */
+  if (client->file && client->opened && !is_copy(client))
+    session_file_sync(client->file, client->floor_told, client->next);
   close_line(client, FEMEM_DISCONNECTED);
+  session_file_close(client->file);
+  free(client->recovered);
   free(client->text);
   free(client);
 }
 
 femem_error femem_reconnect(femem *client, int64_t within) {
+  if (is_copy(client)) return FEMEM_FORKED;
   if (client->ended) return FEMEM_ENDED;
   close_line(client, FEMEM_DISCONNECTED);
   return reach(client, moment(within), true);
@@ -721,18 +927,77 @@ static bool is_spelled(const femem_request *request) {
 }
 
 static bool is_full(const femem *client) { return client->next >= client->floor_asked + WINDOW; }
+static bool is_stuck(const femem *client) { return is_full(client) && client->low == client->floor_asked; }
 
-femem_error femem_send(femem *client, const femem_request *request, uint64_t *number) {
+/* Cancels what waits under the lower half of the window's numbers, so that it moves. */
+static void begin_moves(femem *client) {
+  for (uint64_t wire = client->low; wire < client->floor_asked + WINDOW / 2; wire++) {
+    slot *place = slot_of(client, wire);
+    if (place->wire != wire || place->state != OUT || place->cancelled != NOT) continue;
+    place->cancelled = TO_MOVE;
+    client->moving++;
+    put_cancel(client, wire);
+  }
+}
+
+/* Drops a recovered answer that nobody takes, and answers whether there was one. */
+static bool drop_recovered(femem *client) {
+  for (uint64_t wire = client->low; wire < client->next; wire++) {
+    slot *place = slot_of(client, wire);
+    if (place->wire != wire || place->state != ANSWERED || !place->recovered) continue;
+    femem_answer unwanted;
+    hand_out(client, place, &unwanted);
+    return true;
+  }
+  return false;
+}
+
+static bool is_crowded(const femem *client) { return client->out + client->ready >= WINDOW; }
+
+/* One of 32 requests has ended, or the one that holds the floor. */
+static bool has_place(femem *client, uint64_t wire) {
+  const slot *place = slot_of(client, wire);
+  return !is_crowded(client) || place->wire != wire || place->state != OUT;
+}
+
+/* Makes room for one more number, where the least one that is not taken holds the floor 32 below. It waits for what
+   nobody else waits for, and moves what waits. */
+static femem_error make_room(femem *client) {
+  int64_t end = moment(client->settings.wait);
+  if (is_stuck(client)) step(client, 0); /* takes what is there; what came of the connection is told below */
+  for (bool first = true; is_stuck(client); first = false) {
+    femem_error error = usable(client);
+    if (error) return error;
+    slot *place = slot_of(client, client->low);
+    bool crowded = is_crowded(client), alone = place->keyed || place->recovered || place->given_up;
+    if ((crowded || (place->state == ANSWERED && alone)) && drop_recovered(client)) continue;
+    if (place->state == ANSWERED || (crowded && !alone) || client->settings.resume) return FEMEM_WINDOW_FULL;
+    if (!first && is_past(end)) return FEMEM_TIMEOUT;
+    error = write_all(client, end);
+    if (error) return error;
+    if (!crowded && client->moving == 0) begin_moves(client);
+    error = wait_for(client, crowded ? has_place : is_moved, client->low, end);
+    if (error) return error;
+  }
+  return FEMEM_OK;
+}
+
+/* `key` may be NULL. */
+static femem_error send_request(femem *client, const femem_request *request, const char *key, uint64_t *number) {
   if (!is_spelled(request)) return FEMEM_BAD_CALL;
-  femem_error error = usable(client);
-  if (error) return error;
-  if (is_full(client) && client->low == client->floor_asked) return FEMEM_WINDOW_FULL;
-  if (!has_room(client, LONGEST_REQUEST + 2 * SETTLE_FRAME)) error = femem_flush(client);
+  /* A second request of one write finds what the first has found. */
+  bool found = client->phase == SERVED && !client->bye && client->output_begin < client->output_end;
+  femem_error error = found ? FEMEM_OK : usable(client);
+  if (error == FEMEM_OK) error = make_room(client);
+  if (error == FEMEM_OK && !has_room(client, RESERVE)) error = femem_flush(client);
   if (error) return error;
   /* A settle goes in the same write as a call: behind it, or before it where it has to make room. */
   if (is_full(client)) put_settle(client, client->low);
-  uint64_t own = client->last = client->next++;
-  *slot_of(client, own) = (slot){.state = OUT, .request = *request, .answer.number = own};
+  uint64_t own = client->next;
+  if (client->file && !session_file_ask(client->file, own, own, request, key)) return FEMEM_MEMORY;
+  client->last = client->next++;
+  *slot_of(client, own) =
+      (slot){.state = OUT, .wire = own, .request = *request, .answer.number = own, .keyed = key != NULL};
   client->out++;
   put_slot(client, own);
   if (client->low - client->floor_asked >= SETTLE_AFTER) put_settle(client, client->low);
@@ -740,48 +1005,67 @@ femem_error femem_send(femem *client, const femem_request *request, uint64_t *nu
   return FEMEM_OK;
 }
 
+femem_error femem_send(femem *client, const femem_request *request, uint64_t *number) {
+  return send_request(client, request, NULL, number);
+}
+
 femem_error femem_flush(femem *client) {
+  if (is_copy(client)) return FEMEM_FORKED;
   if (client->phase == CLOSED) {
     femem_error error = mend(client, client->broken, moment(client->settings.wait));
     if (error) return error;
   }
-  write_some(client);
-  return wait_for(client, is_written, 0, moment(client->settings.wait));
+  return write_all(client, moment(client->settings.wait));
 }
 
 femem_error femem_next(femem *client, femem_answer *answer, int64_t within) {
   if (client->ready == 0 && client->out == 0) return FEMEM_NOTHING_OUT;
   femem_error error = wait_for(client, any_answered, 0, moment(within));
-  if (error == FEMEM_OK) hand_out(client, client->ready_numbers[client->first_ready], answer);
+  if (error == FEMEM_OK) hand_out(client, slot_of(client, client->ready_numbers[client->first_ready]), answer);
   return error;
+}
+
+/* How a request has ended whose answer nobody takes, since it has a key. */
+static femem_answer end_of(const femem *client, uint64_t number) {
+  const slot *last = NULL;
+  for (const slot *place = client->slots; place < client->slots + WINDOW; place++)
+    if (place->state == TAKEN && place->answer.number == number && (!last || place->wire > last->wire)) last = place;
+  return last ? last->answer : (femem_answer){.number = number, .error = FEMEM_WITHDRAWN};
 }
 
 femem_error femem_wait(femem *client, uint64_t number, femem_answer *answer, int64_t within) {
-  if (!is_known(client, number) || slot_of(client, number)->state == TAKEN) return FEMEM_NOTHING_OUT;
+  slot *place = find(client, number);
+  if (!place) return FEMEM_NOTHING_OUT;
+  place->given_up = false;
   femem_error error = wait_for(client, is_answered, number, moment(within));
-  if (error == FEMEM_OK) hand_out(client, number, answer);
-  return error;
+  if (error) return error;
+  place = find(client, number);
+  if (place) hand_out(client, place, answer);
+  else *answer = end_of(client, number);
+  return FEMEM_OK;
 }
 
-femem_error femem_call(femem *client, const femem_request *request, femem_answer *answer) {
-  uint64_t number;
-  femem_error error = femem_send(client, request, &number);
-  if (error == FEMEM_OK) error = femem_wait(client, number, answer, client->settings.wait);
-  return error ? error : answer->error;
+/* Asks for a request back, if it is out. */
+static femem_error ask_back(femem *client, uint64_t number) {
+  femem_error error = has_room(client, RESERVE) ? FEMEM_OK : femem_flush(client);
+  slot *place = find(client, number);
+  if (error || !place || place->state == ANSWERED || place->cancelled == TO_END) return error;
+  if (place->state == PARKED) {
+    answered(client, place, (femem_answer){.error = FEMEM_WITHDRAWN});
+    return FEMEM_OK;
+  }
+  bool moving = place->cancelled == TO_MOVE;
+  place->cancelled = TO_END;
+  /* A client that is not connected says it when it comes back. */
+  if (!moving && client->phase == SERVED) put_cancel(client, place->wire);
+  if (moving) end_move(client);
+  return FEMEM_OK;
 }
 
 femem_error femem_cancel(femem *client, uint64_t number, femem_answer *answer) {
-  if (!is_known(client, number) || slot_of(client, number)->state == TAKEN) return FEMEM_NOTHING_OUT;
-  slot *place = slot_of(client, number);
-  femem_error error = FEMEM_OK;
-  if (place->state == OUT && !place->cancelling) {
-    if (!has_room(client, SETTLE_FRAME)) error = femem_flush(client);
-    if (error) return error;
-    place->cancelling = true;
-    /* A client that is not connected says it when it comes back. */
-    if (client->phase == SERVED) put_cancel(client, number);
-  }
-  error = femem_wait(client, number, answer, client->settings.wait);
+  if (!find(client, number)) return FEMEM_NOTHING_OUT;
+  femem_error error = ask_back(client, number);
+  if (error == FEMEM_OK) error = femem_wait(client, number, answer, client->settings.wait);
   return error ? error : answer->error;
 }
 
@@ -790,9 +1074,134 @@ femem_error femem_call_within(femem *client, const femem_request *request, int64
   femem_error error = femem_send(client, request, &number);
   if (error) return error;
   error = femem_wait(client, number, answer, within);
-  if (error == FEMEM_TIMEOUT) return femem_cancel(client, number, answer);
+  if (error != FEMEM_TIMEOUT) return error ? error : answer->error;
+  error = femem_cancel(client, number, answer);
+  slot *place = find(client, number);
+  if (place) place->given_up = true;
+  return error;
+}
+
+femem_error femem_call(femem *client, const femem_request *request, femem_answer *answer) {
+  return femem_call_within(client, request, client->settings.wait, answer);
+}
+
+/* ---- over the client's own restarts ---- */
+
+static bool is_key(const char *key) { return key && *key && strnlen(key, FEMEM_KEY + 1) <= FEMEM_KEY; }
+
+static bool is_same_request(const femem_request *one, const femem_request *other) {
+  uint8_t spelled[2][LONGEST_REQUEST];
+  size_t size = put_request(spelled[0], 0, one);
+  return put_request(spelled[1], 0, other) == size && memcmp(spelled[0], spelled[1], size) == 0;
+}
+
+/* Asks under a key, unless that was asked before. */
+static femem_error begin_once(femem *client, const char *key, const femem_request *request, uint64_t *number) {
+  const kept_key *kept = session_file_find(client->file, key);
+  if (!kept) return send_request(client, request, key, number);
+  if (!is_same_request(&kept->request, request)) return FEMEM_OTHER_REQUEST;
+  *number = kept->number;
+  return FEMEM_OK;
+}
+
+/* The answer of a key; where its time is over the request is taken back. */
+static femem_error end_once(femem *client, const char *key, femem_answer *answer) {
+  uint64_t number = answer->number;
+  femem_error error = wait_for(client, is_answered, number, moment(client->settings.wait));
+  if (error == FEMEM_TIMEOUT && (error = ask_back(client, number)) == FEMEM_OK)
+    error = wait_for(client, is_answered, number, moment(client->settings.wait));
+  if (error) return error;
+  const kept_key *kept = session_file_find(client->file, key);
+  *answer = kept ? kept->answer : end_of(client, number);
+  return FEMEM_OK;
+}
+
+femem_error femem_once(femem *client, const char *key, const femem_request *request, femem_answer *answer) {
+  if (!client->file || !is_key(key) || !is_spelled(request)) return FEMEM_BAD_CALL;
+  femem_error error = begin_once(client, key, request, &answer->number);
+  if (error == FEMEM_OK) error = end_once(client, key, answer);
   return error ? error : answer->error;
 }
+
+femem_error femem_forget(femem *client, const char *key) {
+  if (!client->file || !is_key(key)) return FEMEM_BAD_CALL;
+  if (is_copy(client)) return FEMEM_FORKED;
+  const kept_key *kept = session_file_find(client->file, key);
+  if (!kept) return FEMEM_NOTHING_OUT;
+  if (!kept->is_answered) return FEMEM_BAD_CALL;
+  session_file_forget(client->file, key);
+  return FEMEM_OK;
+}
+
+femem_error femem_recovered_at(const femem *client, unsigned index, femem_recovered *recovered) {
+  if (!client->file) return FEMEM_BAD_CALL;
+  if (index >= client->recovered_count) return FEMEM_NOTHING_OUT;
+  *recovered = client->recovered[index];
+  return FEMEM_OK;
+}
+
+/* ---- many at once ---- */
+
+/* A batch. `keys` is NULL where it has none. */
+typedef struct batch {
+  const char *const *keys;
+  const femem_request *requests;
+  femem_answer *answers;
+  size_t count, sent, taken;
+} batch;
+
+/* Sends what has a number, and says why that is not all of it. No place is used again before its answer is taken. */
+static femem_error send_more(femem *client, batch *many) {
+  while (many->sent < many->count && many->sent - many->taken < WINDOW) {
+    const femem_request *request = &many->requests[many->sent];
+    femem_answer *answer = &many->answers[many->sent];
+    femem_error error = many->keys ? begin_once(client, many->keys[many->sent], request, &answer->number)
+                                   : femem_send(client, request, &answer->number);
+    if (error) return error;
+    answer->error = FEMEM_TIMEOUT;
+    many->sent++;
+  }
+  return FEMEM_OK;
+}
+
+/* Takes the next answer; where its time is over the request is taken back. */
+static femem_error take_next(femem *client, batch *many) {
+  femem_answer *answer = &many->answers[many->taken];
+  uint64_t number = answer->number;
+  if (many->keys) return end_once(client, many->keys[many->taken], answer);
+  femem_error error = femem_wait(client, number, answer, client->settings.wait);
+  if (error != FEMEM_TIMEOUT) return error;
+  error = femem_cancel(client, number, answer);
+  return find(client, number) ? error : FEMEM_OK;
+}
+
+static femem_error run_batch(femem *client, batch many) {
+  for (size_t i = 0; i < many.count; i++) {
+    if (!is_spelled(&many.requests[i]) || (many.keys && !is_key(many.keys[i]))) return FEMEM_BAD_CALL;
+    many.answers[i] = (femem_answer){.error = FEMEM_NOTHING_OUT};
+  }
+  while (many.taken < many.count) {
+    femem_error error = send_more(client, &many);
+    if (error && (error != FEMEM_WINDOW_FULL || many.sent == many.taken)) return error;
+    /* Half a window, so that the server has the other half meanwhile. */
+    size_t end = many.sent - many.taken > WINDOW / 2 ? many.taken + WINDOW / 2 : many.sent;
+    for (; many.taken < end; many.taken++)
+      if ((error = take_next(client, &many)) != FEMEM_OK) return error;
+  }
+  return FEMEM_OK;
+}
+
+femem_error femem_batch(femem *client, const femem_request *requests, size_t count, femem_answer *answers) {
+  return run_batch(client, (batch){.requests = requests, .answers = answers, .count = count});
+}
+
+femem_error femem_batch_once(femem *client, const char *const *keys, const femem_request *requests, size_t count,
+                             femem_answer *answers) {
+  if (!client->file || !keys) return FEMEM_BAD_CALL;
+  return run_batch(client, (batch){.keys = keys, .requests = requests, .answers = answers, .count = count});
+}
+
+/* ---- the session ---- */
 
 femem_error femem_settle(femem *client) {
   femem_error error = usable(client);
@@ -822,11 +1231,15 @@ femem_error femem_bye(femem *client) {
   if (client->out > 0) return FEMEM_BAD_CALL;
   femem_error error = client->bye && !client->ended ? FEMEM_OK : usable(client);
   if (error) return error;
+  if (!client->bye && client->file) session_file_leave(client->file);
   if (!client->bye) put_bare(client, BYE);
   client->bye = true;
   error = wait_for(client, is_ended, 0, moment(client->settings.wait));
-  if (error == FEMEM_OK) close_line(client, FEMEM_ENDED);
-  return error;
+  if (error) return error;
+  close_line(client, FEMEM_ENDED);
+  /* Where this fails the next life ends the session once more. */
+  if (client->file) session_file_begin(client->file);
+  return FEMEM_OK;
 }
 
 /* ---- requests by name ---- */
@@ -922,6 +1335,7 @@ femem_error femem_send_int_fetch_add(femem *client, uint64_t array, uint32_t ind
 int femem_descriptor(const femem *client) { return client->descriptor; }
 unsigned femem_out(const femem *client) { return client->out; }
 unsigned femem_ready(const femem *client) { return client->ready; }
+uint64_t femem_session(const femem *client) { return client->session; }
 uint64_t femem_number(const femem *client) { return client->last; }
 uint64_t femem_floor(const femem *client) { return client->floor_told; }
 uint64_t femem_reconnects(const femem *client) { return client->returns; }
@@ -958,6 +1372,11 @@ const char *femem_error_text(femem_error error) {
     case FEMEM_BAD_CALL: return "an argument is not allowed";
     case FEMEM_ENDED: return "the session has ended";
     case FEMEM_MEMORY: return "no memory";
+    case FEMEM_FORKED: return "the client is another process's";
+    case FEMEM_FILE_FAULT: return "the session file could not be read, written or synced";
+    case FEMEM_FILE_IN_USE: return "another client has the session file";
+    case FEMEM_FILE_DAMAGED: return "the session file is damaged";
+    case FEMEM_OTHER_REQUEST: return "the key was asked with another request";
     case FEMEM_BAD_FRAME: return "the server sent a bad frame";
     case FEMEM_WRONG_NUMBER: return "the server replied to a number that is not out";
     case FEMEM_STRANGE_REPLY: return "the server sent a reply to nothing that was asked";

@@ -2,8 +2,8 @@
    version 2 (docs/formats.md, "Frames"). C11 and POSIX, nothing else. README.md beside this file says of each call what
    it answers, when it waits, and what a stop of the server does to it.
 
-   A client is used by one thread at a time. No call raises a signal, and none takes memory but femem_open and the first
-   femem_report. */
+   A client is used by one thread at a time. No call raises a signal, and none takes memory but femem_open, the first
+   femem_report, and what says so. */
 #ifndef FEMEM_H
 #define FEMEM_H
 
@@ -48,12 +48,17 @@ typedef enum femem_error {
   FEMEM_DISCONNECTED = 202,   /* the server ended the connection, or is gone */
   FEMEM_UNREACHABLE = 203,    /* no server was reached in time */
   FEMEM_SYSTEM = 204,         /* a call of the system failed: femem_errno */
-  FEMEM_WITHDRAWN = 205,      /* the request was cancelled, and has not happened */
+  FEMEM_WITHDRAWN = 205,      /* the request was taken back, and has not happened */
   FEMEM_WINDOW_FULL = 206,    /* no number is free: take answers first */
   FEMEM_NOTHING_OUT = 207,    /* nothing is out that could be answered */
   FEMEM_BAD_CALL = 208,       /* an argument is not as femem.h says */
   FEMEM_ENDED = 209,          /* the session has said bye */
   FEMEM_MEMORY = 210,         /* no memory here */
+  FEMEM_FORKED = 211,         /* the client is that of the process which forked this one */
+  FEMEM_FILE_FAULT = 212,     /* the session file can't be read, written or synced: femem_errno, or errno at opening */
+  FEMEM_FILE_IN_USE = 213,    /* another client has the session file */
+  FEMEM_FILE_DAMAGED = 214,   /* the session file says what no client writes */
+  FEMEM_OTHER_REQUEST = 215,  /* the key was asked with another request */
 
   /* The server, or who speaks in its place, does not keep to the formats. The connection is closed. */
   FEMEM_BAD_FRAME = 301,      /* bytes that are no reply's */
@@ -104,21 +109,27 @@ typedef struct femem_answer {
 #define FEMEM_FOREVER ((int64_t)-1)
 
 typedef struct femem_settings {
-  int64_t wait;      /* how long a call waits for its answer, FEMEM_FOREVER where no settings are given */
+  int64_t wait;      /* how long a call waits before it takes its request back; without settings for ever */
   int64_t reconnect; /* how long a client tries to reach a server that is gone; 0: not at all, as without settings */
   bool resume;       /* numbers go on at the session's floor; else what the session kept is settled first */
 } femem_settings;
 
 /* The client of a session on the socket at `path`. `settings` may be NULL. Where it fails, *client is NULL. */
 femem_error femem_open(femem **client, const char *path, uint64_t session, const femem_settings *settings);
+/* The client of the session that the file at `file` holds, which is made where it is missing. It holds the session's
+   number and every request that is unanswered, and is written and synced before anything is sent; so what an earlier
+   life of the program asked is sent again, and each request happens once. A lock on it keeps a second client out.
+   `resume` has to be false. The file's memory is taken here. */
+femem_error femem_open_file(femem **client, const char *path, const char *file, const femem_settings *settings);
 /* Lets go of the connection and the memory. The session stays on the server. NULL is allowed. */
 void femem_close(femem *client);
 /* Connects again, and sends again what is out, under the same numbers. */
 femem_error femem_reconnect(femem *client, int64_t within);
-/* Ends the session. Nothing may be out. */
+/* Ends the session. Nothing may be out. A session file begins a new one with the next client. */
 femem_error femem_bye(femem *client);
 
-/* One request and its answer. A name ends with a zero byte. */
+/* One request and its answer. A name ends with a zero byte. A request that is not answered in `wait` is taken back:
+   FEMEM_WITHDRAWN, or its answer if it had happened. */
 femem_error femem_create(femem *client, const char *name, uint32_t length, bool full, uint64_t *array);
 femem_error femem_find(femem *client, const char *name, uint64_t *array, uint32_t *length);
 femem_error femem_remove(femem *client, uint64_t array);
@@ -132,10 +143,19 @@ femem_error femem_purge(femem *client, uint64_t array, uint32_t index);
 femem_error femem_int_fetch_add(femem *client, uint64_t array, uint32_t index, uint64_t operand, uint64_t *value);
 /* Any request, also one that is not to wait. */
 femem_error femem_call(femem *client, const femem_request *request, femem_answer *answer);
-/* The same, cancelled where it is not answered in time: FEMEM_WITHDRAWN, or the answer that came first. */
+/* The same with a time of its own. */
 femem_error femem_call_within(femem *client, const femem_request *request, int64_t within, femem_answer *answer);
 
-/* Requests that are not waited for: `number` is what the answer will have. At most 32 numbers are out. */
+/* Any number of requests, in as few sends as the window allows: 32 in the first, 16 in each further one; with a session
+   file each send has one sync. answers[i] is that of requests[i]. FEMEM_OK where each has been answered, whatever its
+   error is; else why the batch was broken off. Then the error of an answer is FEMEM_TIMEOUT where the request is still
+   out under its number, and FEMEM_NOTHING_OUT where it was not sent. A program that is killed within a batch is told in
+   its next life of the requests that were out then alone: femem_batch_once knows of all. */
+femem_error femem_batch(femem *client, const femem_request *requests, size_t count, femem_answer *answers);
+
+/* Requests that are not waited for: `number` is what the answer will have. At most 32 are out or not taken. What waits
+   long keeps no other from being sent: it is taken back then, and sent again under a later number; for its caller it
+   keeps the one that it has. */
 femem_error femem_send(femem *client, const femem_request *request, uint64_t *number);
 femem_error femem_send_readfe(femem *client, uint64_t array, uint32_t index, uint64_t *number);
 femem_error femem_send_readff(femem *client, uint64_t array, uint32_t index, uint64_t *number);
@@ -160,10 +180,40 @@ femem_error femem_settle(femem *client);
 /* What waits on the server, as a text that ends with a zero byte; it is the client's until its next report. */
 femem_error femem_report(femem *client, const char **text);
 
+/* ---- over the client's own restarts: clients with a session file alone, others answer FEMEM_BAD_CALL ---- */
+
+/* The longest key. */
+enum { FEMEM_KEY = 64 };
+
+/* Asks once under that key, 1 to FEMEM_KEY bytes and a zero byte, whatever is stopped in between and however often
+   the program begins anew: the answer is that of the one time, and comes from the file where it is there. Where the
+   request has not happened (FEMEM_WITHDRAWN as by femem_call, or a refusal) the key is free again.
+   FEMEM_OTHER_REQUEST where the key has another one. Takes memory for a new key. */
+femem_error femem_once(femem *client, const char *key, const femem_request *request, femem_answer *answer);
+/* femem_batch under keys, one for each request. Asked again it has the same answers. */
+femem_error femem_batch_once(femem *client, const char *const *keys, const femem_request *requests, size_t count,
+                             femem_answer *answers);
+/* Forgets a key and its answer. FEMEM_NOTHING_OUT where there is none, FEMEM_BAD_CALL while its request is out. */
+femem_error femem_forget(femem *client, const char *key);
+
+/* A request of the earlier life, `number` of which femem_wait has the answer. One with a key is asked by femem_once;
+   the key of others is "". */
+typedef struct femem_recovered {
+  uint64_t number;
+  femem_request request;
+  char key[FEMEM_KEY + 1];
+} femem_recovered;
+
+/* The requests of the earlier life that had no answer, or whose answer was taken since something was last sent; at most
+   32, by their numbers. They are out as any others; an answer that is not taken is dropped where its place is
+   needed. FEMEM_NOTHING_OUT from the end of the list on. */
+femem_error femem_recovered_at(const femem *client, unsigned index, femem_recovered *recovered);
+
 /* What a client knows of itself. */
 int femem_descriptor(const femem *client);       /* for poll and its like; -1 where it is not connected */
 unsigned femem_out(const femem *client);         /* requests without an answer */
 unsigned femem_ready(const femem *client);       /* answers that are here and not taken */
+uint64_t femem_session(const femem *client);
 uint64_t femem_number(const femem *client);      /* of the last request; 0 before the first */
 uint64_t femem_floor(const femem *client);       /* the floor that the server has told last */
 uint64_t femem_reconnects(const femem *client);  /* how often it has come back */

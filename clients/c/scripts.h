@@ -24,7 +24,7 @@ static inline void rest(long microseconds) {
   nanosleep(&(struct timespec){microseconds / 1000000, microseconds % 1000000 * 1000}, NULL);
 }
 
-static void say_bytes(int line, const uint8_t *bytes, size_t count) {
+static inline void say_bytes(int line, const uint8_t *bytes, size_t count) {
   for (size_t at = 0; at < count;) {
     ssize_t size = send(line, bytes + at, count - at, MSG_NOSIGNAL);
     if (size <= 0) _exit(0); /* the client has hung up */
@@ -32,12 +32,12 @@ static void say_bytes(int line, const uint8_t *bytes, size_t count) {
   }
 }
 
-static void say(int line, const char *hex) {
+static inline void say(int line, const char *hex) {
   uint8_t bytes[512];
   say_bytes(line, bytes, bytes_of(hex, bytes));
 }
 
-static void hear(int line, const char *hex) {
+static inline void hear(int line, const char *hex) {
   uint8_t due[4096], got[4096];
   size_t count = bytes_of(hex, due), at = 0;
   while (at < count) {
@@ -53,27 +53,27 @@ static void hear(int line, const char *hex) {
   _exit(1);
 }
 
-static void hear_end(int line) {
+static inline void hear_end(int line) {
   uint8_t byte;
   if (recv(line, &byte, 1, 0) != 0) _exit(1);
 }
 
 /* A resuming client is welcomed at floor 1, and its numbers begin there. */
-static void welcome(int line) {
+static inline void welcome(int line) {
   hear(line, ATTACH_7);
   say(line, WELCOME_7);
 }
 
 typedef void (*script)(int listener);
 
-static int take_line(int listener) {
+static inline int take_line(int listener) {
   int line = accept(listener, NULL, NULL);
   if (line < 0) _exit(1);
   return line;
 }
 
 /* Begins a script on the socket at `path`, and answers its process. */
-static pid_t begin(script run) {
+static inline pid_t begin(script run) {
   unlink(path);
   int listener = socket(AF_UNIX, SOCK_STREAM, 0);
   struct sockaddr_un address = {.sun_family = AF_UNIX};
@@ -91,17 +91,61 @@ static pid_t begin(script run) {
 }
 
 /* The script has come to its end as it should. */
-static void end(pid_t child, int line) {
+static inline void end(pid_t child, int line) {
   int status = 0;
   waitpid(child, &status, 0);
   check(WIFEXITED(status) && WEXITSTATUS(status) == 0, "the server heard what was due", line);
 }
 #define END(child) end(child, __LINE__)
 
+/* ---- frames by their numbers ---- */
+
+/* Scripts with these count from 1, and so do the numbers of a program that resumes; those of another begin above the 32
+   that the session may have used. */
+static unsigned below;
+
+static inline void said(int line, const char *form, unsigned number) {
+  char hex[200];
+  snprintf(hex, sizeof hex, form, below + number, number);
+  say(line, hex);
+}
+
+static inline void heard(int line, const char *form, unsigned number) {
+  char hex[200];
+  snprintf(hex, sizeof hex, form, below + number);
+  hear(line, hex);
+}
+
+static const char read_of[] = "0000001e 05 %016x 10 0000000000000001 00000000 0000000000000000";
+static const char add_of[] = "0000001e 05 %016x 17 0000000000000001 00000000 0000000000000001";
+static const char cancel_of[] = "00000009 06 %016x";
+static const char settle_of[] = "00000009 07 %016x";
+static const char withdrawn_of[] = "00000009 43 %016x";
+static const char not_waiting_of[] = "0000000a 46 %016x 0a";
+static const char settled_of[] = "00000009 44 %016x";
+static const char value_of[] = "00000016 42 %016x 01 %016x 00000000"; /* its value is what the script counts */
+
+/* Several in one piece, so that the client reads all of them or none. */
+static inline void said_all(int line, const char *form, unsigned first, unsigned last) {
+  uint8_t bytes[1024];
+  size_t count = 0;
+  for (unsigned number = first; number <= last; number++) {
+    char hex[200];
+    snprintf(hex, sizeof hex, form, below + number, number);
+    count += bytes_of(hex, bytes + count);
+  }
+  say_bytes(line, bytes, count);
+}
+
+static inline pid_t begin_at(unsigned first, script run) {
+  below = first;
+  return begin(run);
+}
+
 static const femem_settings resuming = {.wait = 3000, .resume = true};
 static const femem_settings returning = {.wait = 6000, .reconnect = 3000, .resume = true};
 
-static femem *opened(const femem_settings *settings) {
+static inline femem *opened(const femem_settings *settings) {
   femem *client;
   femem_error error = femem_open(&client, path, 7, settings);
   is_error(error, FEMEM_OK, __LINE__);

@@ -88,7 +88,8 @@ static uint64_t draw(void) {
 /* A reply, mostly near to what is due, with a byte turned now and then. */
 static size_t odd_reply(uint8_t *at) {
   static const char *hex[] = {
-    WELCOME_7, VALUE("01", "05"), VALUE("02", "05"), DONE("03"), "00000009 43 0000000000000004", SETTLED_AT("01"),
+    WELCOME_7, VALUE("01", "05"), VALUE("02", "05"), DONE("03"), "00000009 43 0000000000000004",
+    "00000009 43 0000000000000001", "00000009 43 0000000000000002", SETTLED_AT("01"),
     "0000000a 46 0000000000000005 0a", "0000000a 46 0000000000000006 08", "00000009 45 0000000000000007",
     "00000006 47 6162636465", "0000000a 46 0000000000000000 08",
   };
@@ -101,12 +102,15 @@ static size_t odd_reply(uint8_t *at) {
 /* A client in some phase that has eight numbers out. */
 static void begin_any(femem *client) {
   char *text = client->text;
-  *client = (femem){.descriptor = -1, .session = 7, .text = text, .report = ASKED, .attaches = 2, .cancels = 1};
+  *client = (femem){.descriptor = -1, .session = 7, .text = text, .report = ASKED, .attaches = 2};
+  client->cancels = 3;
+  client->moving = 2;
   client->phase = draw() % 8 == 0 ? OPENING : draw() % 8 == 0 ? RETURNING : SERVED;
   client->floor_told = client->floor_asked = client->low = client->next = 1;
   for (uint64_t number = 1; client->phase != OPENING && number <= 8; number++) {
     slot *place = slot_of(client, number);
-    *place = (slot){.state = OUT, .cancelling = number == 4, .answer.number = number};
+    *place = (slot){.state = OUT, .wire = number, .answer.number = number};
+    place->cancelled = number == 4 ? TO_END : number < 3 ? TO_MOVE : NOT;
     place->request.operation = (femem_operation)(15 + number);
     client->out++;
     client->next++;
@@ -114,7 +118,11 @@ static void begin_any(femem *client) {
 }
 
 static bool is_sound(const femem *client) {
-  return client->out <= 8 && client->out + client->ready <= 8 && client->low <= client->next &&
+  unsigned moving = 0;
+  for (const slot *place = client->slots; place < client->slots + WINDOW; place++)
+    moving += place->cancelled == TO_MOVE;
+  bool counted = client->phase == OPENING || client->moving == moving;
+  return counted && client->out <= 8 && client->out + client->ready <= 8 && client->low <= client->next &&
          client->input_end <= INPUT && client->output_end <= OUTPUT;
 }
 
@@ -151,6 +159,7 @@ static void arguments(void) {
   ERROR(femem_create(&client, "a_name_that_has_thirty_three_byte", 1, true, NULL), FEMEM_BAD_NAME);
   ERROR(femem_open(NULL, "socket", 7, NULL), FEMEM_BAD_CALL);
   femem_close(NULL);
+  CHECK(sizeof(femem) < 22 * 1024);
   for (int error = -1; error < 400; error++) CHECK(femem_error_text((femem_error)error)[0] != 0);
 }
 

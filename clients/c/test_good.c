@@ -90,6 +90,40 @@ static void opening(void) {
   END(server);
 }
 
+/* The earlier program was stopped just after its attach: its welcome comes first, and has the same floor. Each of the
+   two is followed by a settle, and each of these is answered. Or the answer to its own settle comes in between. */
+static void twice_welcome_server(int listener) {
+  int line = take_line(listener);
+  hear(line, ATTACH_7);
+  say(line, WELCOME_7 WELCOME_7);
+  hear(line, SETTLE_TO("21") SETTLE_TO("21"));
+  say(line, SETTLED_AT("21"));
+  hear(line, ADD("21"));
+  say(line, SETTLED_AT("21") VALUE("21", "00"));
+  hear_end(line);
+  line = take_line(listener);
+  hear(line, ATTACH_7);
+  say(line, WELCOME_7);
+  hear(line, SETTLE_TO("21"));
+  say(line, SETTLED_AT("21") "00000011 41 0000000000000007 0000000000000021");
+  hear(line, ADD("21"));
+  say(line, SETTLED_AT("21") VALUE("21", "00"));
+  hear_end(line);
+}
+
+static void twice_welcome(void) {
+  test = "a session that another program attached just before";
+  pid_t server = begin(twice_welcome_server);
+  for (int i = 0; i < 2; i++) {
+    femem *client = opened(&(femem_settings){.wait = 3000});
+    uint64_t value = 1;
+    ERROR(femem_int_fetch_add(client, 1, 0, 1, &value), FEMEM_OK);
+    CHECK(value == 0 && femem_floor(client) == 33);
+    femem_close(client);
+  }
+  END(server);
+}
+
 static void refusing_server(int listener) {
   int line = take_line(listener);
   hear(line, ATTACH_7);
@@ -364,8 +398,8 @@ int main(void) {
   alarm(60);
   if (!mkdtemp(folder)) return 1;
   snprintf(path, sizeof path, "%s/socket", folder);
-  void (*const tests[])(void) = {worked, opening, refused_attach, window, comes_back, asked_back, half_report,
-                                 session_lost, taken_over};
+  void (*const tests[])(void) = {worked, opening, twice_welcome, refused_attach, window, comes_back,
+                                 asked_back, half_report, session_lost, taken_over};
   for (size_t i = 0; i < sizeof tests / sizeof *tests; i++) tests[i]();
   unlink(path);
   rmdir(folder);

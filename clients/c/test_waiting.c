@@ -1,0 +1,284 @@
+/* Requests that wait, against servers that are scripts: a call whose time is over takes its request back, and what
+   waits moves out of the way of others. Ends by itself; prints what failed. */
+#include "scripts.h"
+
+/* Welcomes a client that does not resume. */
+static void meet(int line) {
+  welcome(line);
+  hear(line, SETTLE_TO("21"));
+  say(line, SETTLED_AT("21"));
+}
+
+static const femem_settings patient = {.wait = 6000};
+static const femem_settings going_on = {.wait = 6000, .reconnect = 5000};
+
+/* ---- taking back ---- */
+
+static void patient_server(int listener) {
+  int line = take_line(listener);
+  welcome(line);
+  for (unsigned number = 1; number <= 40; number++) {
+    heard(line, read_of, number);
+    if (number == 17 || number == 33) heard(line, settle_of, number);
+    heard(line, cancel_of, number);
+    if (number == 17 || number == 33) said(line, settled_of, number);
+    said(line, withdrawn_of, number);
+  }
+  heard(line, add_of, 41);
+  said(line, value_of, 41);
+  hear_end(line);
+}
+
+/* Forty calls that run out of time leave nothing behind. */
+static void out_of_time(void) {
+  test = "calls that run out of time";
+  pid_t server = begin_at(0, patient_server);
+  femem *client = opened(&(femem_settings){.wait = 20, .resume = true});
+  uint64_t value = 0;
+  for (int i = 0; i < 40; i++) {
+    femem_error error;
+    /* On a slow machine the cancel's reply may be late too. */
+    error = femem_readfe(client, 1, 0, &value);
+    femem_answer answer;
+    while (error == FEMEM_TIMEOUT) error = femem_cancel(client, femem_number(client), &answer);
+    ERROR(error, FEMEM_WITHDRAWN);
+    CHECK(femem_out(client) == 0 && femem_ready(client) == 0);
+  }
+  femem_request request = {.operation = FEMEM_INT_FETCH_ADD, .array = 1, .operand = 1};
+  femem_answer answer = {0};
+  ERROR(femem_call_within(client, &request, 5000, &answer), FEMEM_OK);
+  CHECK(answer.value == 41);
+  femem_close(client);
+  END(server);
+}
+
+static void late_server(int listener) {
+  int line = take_line(listener);
+  welcome(line);
+  for (unsigned number = 1; number <= 32; number++) {
+    heard(line, read_of, number);
+    heard(line, cancel_of, number);
+  }
+  /* All in one piece, so that the client has read it all or nothing. */
+  char hex[4096] = "";
+  snprintf(hex, sizeof hex, VALUE("01", "01") "0000000a 46 0000000000000001 0a");
+  for (unsigned number = 2; number <= 32; number++)
+    snprintf(hex + strlen(hex), sizeof hex - strlen(hex), withdrawn_of, number);
+  uint8_t bytes[1024];
+  say_bytes(line, bytes, bytes_of(hex, bytes));
+  heard(line, settle_of, 33);
+  heard(line, add_of, 33);
+  said(line, value_of, 33);
+  hear_end(line);
+}
+
+/* The cancel's reply is late as well: the request is out until it comes, and its withdrawal holds no place then. An
+   answer does until it is taken. */
+static void late_withdrawals(void) {
+  test = "withdrawals that come late";
+  pid_t server = begin_at(0, late_server);
+  femem *client = opened(&(femem_settings){.wait = 5, .resume = true});
+  uint64_t value = 0;
+  for (unsigned due = 1; due <= 31; due++) {
+    ERROR(femem_readfe(client, 1, 0, &value), FEMEM_TIMEOUT);
+    CHECK(femem_out(client) == due);
+  }
+  femem_error last = femem_readfe(client, 1, 0, &value); /* the server speaks now, and may be in time */
+  CHECK(last == FEMEM_TIMEOUT || last == FEMEM_WITHDRAWN);
+  femem_answer answer = {0};
+  ERROR(femem_next(client, &answer, 5000), FEMEM_OK);
+  CHECK(answer.number == 1 && answer.value == 1);
+  femem_request request = {.operation = FEMEM_INT_FETCH_ADD, .array = 1, .operand = 1};
+  femem_error error;
+  /* Until all that is late has come. */
+  do error = femem_call_within(client, &request, 5000, &answer);
+  while (error == FEMEM_WINDOW_FULL || (error == FEMEM_TIMEOUT && femem_out(client) > 0 && femem_number(client) < 33));
+  ERROR(error, FEMEM_OK);
+  CHECK(answer.value == 33 && femem_out(client) == 0 && femem_ready(client) == 0);
+  femem_close(client);
+  END(server);
+}
+
+/* ---- moving on ---- */
+
+static void moving_server(int listener) {
+  int line = take_line(listener);
+  meet(line);
+  heard(line, read_of, 1);
+  for (unsigned number = 2; number <= 32; number++) {
+    heard(line, add_of, number);
+    said(line, value_of, number);
+  }
+  heard(line, cancel_of, 1);
+  said(line, withdrawn_of, 1);
+  heard(line, settle_of, 33);
+  heard(line, read_of, 33);
+  said(line, settled_of, 33);
+  for (unsigned number = 34; number <= 40; number++) {
+    heard(line, add_of, number);
+    said(line, value_of, number);
+  }
+  said(line, value_of, 33);
+  hear_end(line);
+}
+
+/* One request that waits stops nobody, and keeps the number that its caller has. */
+static void moves_on(void) {
+  test = "a request that waits moves on";
+  pid_t server = begin_at(32, moving_server);
+  femem *client = opened(&patient);
+  uint64_t number = 0, value = 0;
+  femem_answer answer = {0};
+  ERROR(femem_send_readfe(client, 1, 0, &number), FEMEM_OK);
+  for (unsigned due = 2; due <= 40; due++) {
+    if (due == 33) continue;
+    ERROR(femem_int_fetch_add(client, 1, 0, 1, &value), FEMEM_OK);
+    CHECK(value == due);
+  }
+  ERROR(femem_wait(client, number, &answer, 3000), FEMEM_OK);
+  CHECK(number == 33 && answer.number == 33 && answer.value == 33);
+  CHECK(femem_out(client) == 0 && femem_ready(client) == 0);
+  ERROR(femem_wait(client, number, &answer, 0), FEMEM_NOTHING_OUT);
+  femem_close(client);
+  END(server);
+}
+
+/* Of three that wait one happens before its cancel, one is taken back by its caller; then the connection goes. */
+static void several_server(int listener) {
+  int line = take_line(listener);
+  meet(line);
+  for (unsigned number = 1; number <= 3; number++) heard(line, read_of, number);
+  for (unsigned number = 4; number <= 32; number++) {
+    heard(line, add_of, number);
+    said(line, value_of, number);
+  }
+  for (unsigned number = 1; number <= 3; number++) heard(line, cancel_of, number);
+  said(line, withdrawn_of, 1);
+  said(line, value_of, 2);
+  said(line, not_waiting_of, 2);
+  said(line, withdrawn_of, 3);
+  heard(line, settle_of, 2);
+  heard(line, read_of, 33);
+  heard(line, read_of, 3); /* the answer of 2, which nobody took, leaves no number for it */
+  said(line, settled_of, 2);
+  heard(line, settle_of, 3); /* 2 is taken */
+  heard(line, add_of, 34);
+  said(line, settled_of, 3);
+  said(line, value_of, 34);
+  heard(line, cancel_of, 3); /* by its caller */
+  close(line);
+  line = take_line(listener);
+  hear(line, ATTACH_7);
+  say(line, "00000011 41 0000000000000007 0000000000000023");
+  heard(line, read_of, 3);
+  heard(line, cancel_of, 3);
+  heard(line, read_of, 33);
+  said(line, withdrawn_of, 3);
+  said(line, value_of, 33);
+  hear_end(line);
+}
+
+static void several_move(void) {
+  test = "several that wait, and a stop";
+  pid_t server = begin_at(32, several_server);
+  femem *client = opened(&going_on);
+  uint64_t numbers[3] = {0}, value = 0;
+  femem_answer answer = {0};
+  for (int i = 0; i < 3; i++) ERROR(femem_send_readfe(client, 1, 0, &numbers[i]), FEMEM_OK);
+  for (unsigned due = 4; due <= 32; due++) ERROR(femem_int_fetch_add(client, 1, 0, 1, &value), FEMEM_OK);
+  ERROR(femem_send_int_fetch_add(client, 1, 0, 1, NULL), FEMEM_WINDOW_FULL);
+  ERROR(femem_wait(client, numbers[1], &answer, 3000), FEMEM_OK);
+  CHECK(answer.value == 2);
+  ERROR(femem_int_fetch_add(client, 1, 0, 1, &value), FEMEM_OK);
+  CHECK(value == 34);
+  ERROR(femem_cancel(client, numbers[2], &answer), FEMEM_WITHDRAWN);
+  ERROR(femem_wait(client, numbers[0], &answer, 3000), FEMEM_OK);
+  CHECK(answer.value == 33 && answer.number == 33);
+  femem_close(client);
+  END(server);
+}
+
+/* A stop between a move's cancel and its reply: the request goes again under the number that it has. */
+static void stopped_server(int listener) {
+  int line = take_line(listener);
+  meet(line);
+  for (unsigned number = 1; number <= 2; number++) heard(line, read_of, number);
+  for (unsigned number = 3; number <= 32; number++) {
+    heard(line, add_of, number);
+    said(line, value_of, number);
+  }
+  for (unsigned number = 1; number <= 2; number++) heard(line, cancel_of, number);
+  said(line, withdrawn_of, 1);
+  close(line);
+  line = take_line(listener);
+  hear(line, ATTACH_7);
+  say(line, "00000011 41 0000000000000007 0000000000000021");
+  for (unsigned number = 1; number <= 2; number++) heard(line, read_of, number);
+  for (unsigned number = 1; number <= 2; number++) heard(line, cancel_of, number);
+  for (unsigned number = 1; number <= 2; number++) said(line, withdrawn_of, number);
+  heard(line, settle_of, 33);
+  heard(line, read_of, 33);
+  heard(line, read_of, 34);
+  heard(line, add_of, 35);
+  said(line, settled_of, 33);
+  for (unsigned number = 33; number <= 35; number++) said(line, value_of, number);
+  hear_end(line);
+}
+
+static void stopped_move(void) {
+  test = "a stop within a move";
+  pid_t server = begin_at(32, stopped_server);
+  femem *client = opened(&going_on);
+  uint64_t value = 0;
+  femem_answer answer = {0};
+  for (int i = 0; i < 2; i++) ERROR(femem_send_readfe(client, 1, 0, NULL), FEMEM_OK);
+  for (unsigned due = 3; due <= 32; due++) ERROR(femem_int_fetch_add(client, 1, 0, 1, &value), FEMEM_OK);
+  ERROR(femem_int_fetch_add(client, 1, 0, 1, &value), FEMEM_OK);
+  CHECK(value == 35 && femem_reconnects(client) == 1);
+  for (unsigned due = 1; due <= 2; due++) {
+    ERROR(femem_next(client, &answer, 3000), FEMEM_OK);
+    CHECK(answer.number == below + due && answer.value == 32 + due);
+  }
+  femem_close(client);
+  END(server);
+}
+
+/* A program that resumes counts on its numbers, so nothing of it moves. */
+static void resumed_server(int listener) {
+  int line = take_line(listener);
+  welcome(line);
+  heard(line, read_of, 1);
+  for (unsigned number = 2; number <= 32; number++) {
+    heard(line, add_of, number);
+    said(line, value_of, number);
+  }
+  said(line, value_of, 1);
+  hear_end(line);
+}
+
+static void resumed_stays(void) {
+  test = "nothing of a program that resumes moves";
+  pid_t server = begin_at(0, resumed_server);
+  femem *client = opened(&resuming);
+  uint64_t value = 0;
+  femem_answer answer = {0};
+  ERROR(femem_send_readfe(client, 1, 0, NULL), FEMEM_OK);
+  for (unsigned due = 2; due <= 32; due++) ERROR(femem_int_fetch_add(client, 1, 0, 1, &value), FEMEM_OK);
+  ERROR(femem_int_fetch_add(client, 1, 0, 1, &value), FEMEM_WINDOW_FULL);
+  ERROR(femem_next(client, &answer, 3000), FEMEM_OK);
+  femem_close(client);
+  END(server);
+}
+
+int main(void) {
+  setvbuf(stdout, NULL, _IOLBF, 0);
+  alarm(60);
+  if (!mkdtemp(folder)) return 1;
+  snprintf(path, sizeof path, "%s/socket", folder);
+  void (*const tests[])(void) = {out_of_time, late_withdrawals, moves_on, several_move, stopped_move, resumed_stays};
+  for (size_t i = 0; i < sizeof tests / sizeof *tests; i++) tests[i]();
+  unlink(path);
+  rmdir(folder);
+  printf("femem client, requests that wait: %d checks, %d failed\n", checks, failures);
+  return failures ? 1 : 0;
+}
