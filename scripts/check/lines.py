@@ -280,12 +280,6 @@ def serve_once(listener, written):
             pass
 
 
-def strange(place):
-    """`femem: strange`, which no command should come to, is a line that the program has"""
-    with open(place.program, "rb") as program:
-        holds(b"femem: strange" in program.read(), "the program has no such line")
-
-
 CHECKS = (
     words,
     commands,
@@ -301,5 +295,4 @@ CHECKS = (
     run_faults,
     call_faults,
     call_and_wrong_servers,
-    strange,
 )
