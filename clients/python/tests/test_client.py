@@ -113,7 +113,7 @@ class Operations(WithFolder):
             self.assertEqual(sorted(got), list(range(40)))
 
     def test_a_batch_is_one_send(self):
-        """shared/review/clients/protopipe.py"""
+        """A batch is one lock, one send and one wait."""
         self.server()
         with Client(self.path, 7, probe_interval=100.0) as client:
             word = client.create("word", 1, full=True)

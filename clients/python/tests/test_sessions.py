@@ -31,7 +31,7 @@ def unanswered(client):
 
 class Sessions(WithFolder):
     def test_a_thousand_tasks_that_wait_hold_nobody_up(self):
-        """shared/review/clients/waiters.py: an operation that never waits took 1.2 s."""
+        """Over one session an operation that never waits takes more than a second here."""
         self.server()
 
         async def main():

@@ -49,7 +49,7 @@ class Strangers(unittest.TestCase):
         self.assertEqual(world.model.waiting, {})
 
     def test_a_session_that_another_client_ended_and_began_anew_is_not_told(self):
-        """shared/review/clients/twice.py: the request is carried out twice, and no client can tell. So README.md says."""
+        """The request is carried out twice, and no client can tell. README.md says so."""
         world = World(1)
         word = run(world, world.core(8), requests.create("counter", 1, True))
         core = world.core(7)

@@ -343,7 +343,7 @@ class Forks(WithFolder):
             self.assertEqual(waiting.result(30), 3)
 
     def test_a_pool_of_processes_that_inherited_a_client(self):
-        """shared/review/clients/fork3.py"""
+        """Each process of a pool finds the inherited client closed, and the parent's goes on."""
         self.server()
         with Client(self.path, 7) as client:
             word = client.create("word", 1, full=True)
