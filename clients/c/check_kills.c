@@ -1,6 +1,6 @@
 /* A client with a session file that is killed again and again, at each point of its work and at any moment, against a
    real server that is killed in turns with it: check_kills PROGRAM. Every step is counted once. Ends by itself within
-   two minutes, with status 0 where all was as it should be. */
+   ten minutes, with status 0 where all was as it should be. */
 #define _GNU_SOURCE
 #include "real.h"
 
@@ -50,7 +50,7 @@ static void count_recovered(femem *client, progress *made) {
   femem_answer answer;
   for (unsigned i = 0; femem_recovered_at(client, i, &recovered) == FEMEM_OK; i++) {
     if (*recovered.key || recovered.number <= made->number) continue;
-    expect(femem_wait(client, recovered.number, &answer, 20000), "a recovered request");
+    expect(femem_wait(client, recovered.number, &answer, 60000), "a recovered request");
     expect(answer.error, "a recovered answer");
     made->number = recovered.number;
     note(made, answer.value);
@@ -95,7 +95,7 @@ static void step_batch(femem *client, progress *made, const femem_request *add) 
   femem_answer answer;
   for (int i = 0; i < BATCH; i++) expect(femem_send(client, add, &numbers[i]), "a send");
   for (int i = 0; i < BATCH; i++) {
-    expect(femem_wait(client, numbers[i], &answer, 20000), "a wait");
+    expect(femem_wait(client, numbers[i], &answer, 60000), "a wait");
     expect(answer.error, "an answer");
     made->number = numbers[i];
     note(made, answer.value);
@@ -134,7 +134,7 @@ static int life(const char *session, uint64_t array, uint32_t index, const char 
   if (worker == 0) {
     last_point = at;
     passes = times;
-    alarm(60);
+    alarm(120);
     work(session, array, index);
   }
   if (milliseconds > 0) {
@@ -179,8 +179,10 @@ static void kills_at(femem *observer, uint64_t array, uint32_t index, const char
   snprintf(name, sizeof name, "%s/notes%u", folder, index);
   notes = open(name, O_RDWR | O_CREAT, 0600);
   unsigned kills = 0, wanted = *at ? KILLS_AT_EACH : KILLS_AT_ANY;
+  /* A compaction comes after some hundred steps. */
+  unsigned passes_most = strstr(at, "compact") ? 2 : 4;
   for (unsigned i = 0; i < wanted; i++) {
-    int status = *at ? life(session, array, index, at, 1 + (int)(draw() % 4), 0)
+    int status = *at ? life(session, array, index, at, 1 + (int)(draw() % passes_most), 0)
                      : life(session, array, index, "never", 0, 1 + (long)(draw() % 40));
     kills += WIFSIGNALED(status) && WTERMSIG(status) == SIGKILL;
     if (!WIFSIGNALED(status)) CHECK(WIFEXITED(status) && WEXITSTATUS(status) == 0);

@@ -1,4 +1,4 @@
-/* What a check of kills gives to the client's text: it is told of each point at which a process may end, and the
+/* What a check of kills gives to the client's text: it calls kill_point at each point where a process may end, and the
    session file is written anew often. */
 #ifndef KILL_POINTS_H
 #define KILL_POINTS_H

@@ -18,7 +18,7 @@ static const char *program;
 static char folder[] = "/tmp/femem_check_XXXXXX", path[64], store[64], file[64];
 static pid_t server;
 static int checks, failures;
-static const femem_settings usual = {.wait = 10000, .reconnect = 10000};
+static const femem_settings usual = {.wait = 60000, .reconnect = 60000};
 
 static void check(bool holds, const char *what, int line) {
   checks++;
@@ -103,7 +103,7 @@ static bool begin_real(const char *name, int count, char **words_given) {
   program = words_given[1];
   setvbuf(stdout, NULL, _IOLBF, 0);
   signal(SIGALRM, too_long);
-  alarm(170);
+  alarm(580);
   if (!mkdtemp(folder)) return false;
   snprintf(path, sizeof path, "%s/socket", folder);
   snprintf(store, sizeof store, "%s/store", folder);

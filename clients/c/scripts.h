@@ -82,7 +82,7 @@ static inline pid_t begin(script run) {
   fflush(stdout);
   pid_t child = fork();
   if (child == 0) {
-    alarm(30);
+    alarm(100);
     run(listener);
     _exit(0);
   }
@@ -142,8 +142,8 @@ static inline pid_t begin_at(unsigned first, script run) {
   return begin(run);
 }
 
-static const femem_settings resuming = {.wait = 3000, .resume = true};
-static const femem_settings returning = {.wait = 6000, .reconnect = 3000, .resume = true};
+static const femem_settings resuming = {.wait = 20000, .resume = true};
+static const femem_settings returning = {.wait = 20000, .reconnect = 20000, .resume = true};
 
 static inline femem *opened(const femem_settings *settings) {
   femem *client;

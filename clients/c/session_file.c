@@ -249,7 +249,7 @@ static bool sync_folder(const char *path) {
   return synced;
 }
 
-/* Writes the file anew. Whoever opens the old one meanwhile finds that it is no longer at its path. */
+/* Writes the file anew. Whoever opens the old one meanwhile finds another one at its path. */
 static bool write_anew(session_file *file) {
   FEMEM_POINT("before the compaction");
   size_t length = strlen(file->path);

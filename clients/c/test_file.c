@@ -233,7 +233,7 @@ static void any_records(void) {
 
 /* ---- the client that has it ---- */
 
-static const femem_settings patient = {.wait = 6000}, going_on = {.wait = 6000, .reconnect = 5000};
+static const femem_settings patient = {.wait = 20000}, going_on = {.wait = 20000, .reconnect = 20000};
 
 static femem *client_opened(const femem_settings *settings, femem_error due, int line) {
   femem *client;
@@ -302,7 +302,7 @@ static void batch(void) {
   for (int i = 0; i < 32; i++) ERROR(femem_send_int_fetch_add(client, 1, 0, 1, NULL), FEMEM_OK);
   syncs = sends = early = 0;
   for (unsigned due = 1; due <= 32; due++) {
-    ERROR(femem_next(client, &answer, 3000), FEMEM_OK);
+    ERROR(femem_next(client, &answer, 20000), FEMEM_OK);
     CHECK(answer.value == due);
   }
   CHECK(syncs == 1 && sends == 1 && early == 0);
@@ -457,9 +457,9 @@ static void earlier(void) {
   CHECK(count == 3 && femem_out(client) + femem_ready(client) == 3);
   CHECK(recovered[0].number == 34 && recovered[1].number == 35 && recovered[2].number == 37);
   CHECK(recovered[0].request.operation == FEMEM_READFE && recovered[2].request.operand == 1 && !*recovered[2].key);
-  ERROR(femem_wait(client, 37, &answer, 3000), FEMEM_OK);
+  ERROR(femem_wait(client, 37, &answer, 20000), FEMEM_OK);
   CHECK(answer.value == 5);
-  ERROR(femem_wait(client, 34, &answer, 3000), FEMEM_OK);
+  ERROR(femem_wait(client, 34, &answer, 20000), FEMEM_OK);
   CHECK(answer.value == 2 && answer.number == 34);
   ERROR(femem_cancel(client, 35, &answer), FEMEM_WITHDRAWN);
   /* That of the key comes from the file: nothing is asked. */
@@ -566,11 +566,11 @@ static void file_fault(void) {
   CHECK(femem_errno(client) == EFBIG);
   ERROR(femem_int_fetch_add(client, 1, 0, 1, &value), FEMEM_FILE_FAULT);
   setrlimit(RLIMIT_FSIZE, &usual);
-  ERROR(femem_reconnect(client, 1000), FEMEM_FILE_FAULT);
+  ERROR(femem_reconnect(client, 20000), FEMEM_FILE_FAULT);
   femem_close(client);
   client = OPEN(&patient, FEMEM_OK);
   femem_answer answer = {0};
-  ERROR(femem_wait(client, 33, &answer, 3000), FEMEM_OK);
+  ERROR(femem_wait(client, 33, &answer, 20000), FEMEM_OK);
   CHECK(answer.value == 1 && femem_out(client) == 0);
   femem_close(client);
   END(server);

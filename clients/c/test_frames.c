@@ -1,14 +1,16 @@
-/* Tests of the client's frames: the worked ones, the decoder, and any bytes. It includes the client, so that it sees
-   what is inside. Ends by itself; prints what failed. */
+/* Tests of the client's frames: the worked ones, the decoder, and any bytes. Ends by itself; prints what failed. */
+#define _POSIX_C_SOURCE 200809L
 #include "testing.h"
 
-#include "femem.c"
+#include "client.h"
+
+#include <stdlib.h>
 
 /* ---- spelling ---- */
 
 static void spelled(uint64_t number, femem_request request, const char *hex, int line) {
   uint8_t due[64], got[LONGEST_REQUEST];
-  size_t count = bytes_of(hex, due), size = put_request(got, number, &request);
+  size_t count = bytes_of(hex, due), size = fe_put_request(got, number, &request);
   check(size == count && memcmp(due, got, count) == 0, hex, line);
 }
 
@@ -62,7 +64,7 @@ static void decoder(void) {
     bytes = realloc(bytes, count ? count : 1); /* a sanitizer tells of any byte that is read behind them */
     memcpy(bytes, read, count);
     reply told;
-    check(read_reply(bytes, count, &told) == table[i].takes, table[i].hex, __LINE__);
+    check(fe_read_reply(bytes, count, &told) == table[i].takes, table[i].hex, __LINE__);
     free(bytes);
   }
   static const struct { const char *hex; bool text; } texts[] = {
@@ -74,7 +76,7 @@ static void decoder(void) {
   };
   for (size_t i = 0; i < sizeof texts / sizeof *texts; i++) {
     uint8_t bytes[16];
-    check(is_text(bytes, bytes_of(texts[i].hex, bytes)) == texts[i].text, texts[i].hex, __LINE__);
+    check(fe_is_text(bytes, bytes_of(texts[i].hex, bytes)) == texts[i].text, texts[i].hex, __LINE__);
   }
 }
 
@@ -108,7 +110,7 @@ static void begin_any(femem *client) {
   client->phase = draw() % 8 == 0 ? OPENING : draw() % 8 == 0 ? RETURNING : SERVED;
   client->floor_told = client->floor_asked = client->low = client->next = 1;
   for (uint64_t number = 1; client->phase != OPENING && number <= 8; number++) {
-    slot *place = slot_of(client, number);
+    slot *place = fe_slot_of(client, number);
     *place = (slot){.state = OUT, .wire = number, .answer.number = number};
     place->cancelled = number == 4 ? TO_END : number < 3 ? TO_MOVE : NOT;
     place->request.operation = (femem_operation)(15 + number);
@@ -138,7 +140,7 @@ static void fuzz(void) {
     femem_error error = FEMEM_OK;
     for (int piece = 0; piece < 12 && error == FEMEM_OK; piece++) {
       client->input_end += odd_reply(client->input + client->input_end);
-      if (draw() % 3) error = digest(client);
+      if (draw() % 3) error = fe_digest(client);
     }
     broken += error != FEMEM_OK;
     sound = sound && is_sound(client);

@@ -82,7 +82,7 @@ static void opening_server(int listener) {
 static void opening(void) {
   test = "a session that another program had";
   pid_t server = begin(opening_server);
-  femem *client = opened(&(femem_settings){.wait = 3000});
+  femem *client = opened(&(femem_settings){.wait = 20000});
   uint64_t value = 1;
   ERROR(femem_int_fetch_add(client, 1, 0, 1, &value), FEMEM_OK);
   CHECK(value == 0 && femem_number(client) == 37 && femem_floor(client) == 37);
@@ -115,7 +115,7 @@ static void twice_welcome(void) {
   test = "a session that another program attached just before";
   pid_t server = begin(twice_welcome_server);
   for (int i = 0; i < 2; i++) {
-    femem *client = opened(&(femem_settings){.wait = 3000});
+    femem *client = opened(&(femem_settings){.wait = 20000});
     uint64_t value = 1;
     ERROR(femem_int_fetch_add(client, 1, 0, 1, &value), FEMEM_OK);
     CHECK(value == 0 && femem_floor(client) == 33);
@@ -184,17 +184,17 @@ static void window(void) {
   CHECK(number == 32 && femem_out(client) == 32);
   ERROR(femem_send_int_fetch_add(client, 1, 0, 1, &number), FEMEM_WINDOW_FULL);
   femem_answer answer = {0};
-  ERROR(femem_wait(client, 7, &answer, 3000), FEMEM_OK);
+  ERROR(femem_wait(client, 7, &answer, 20000), FEMEM_OK);
   CHECK(answer.number == 7 && answer.value == 7);
-  ERROR(femem_wait(client, 7, &answer, 3000), FEMEM_NOTHING_OUT);
-  ERROR(femem_wait(client, 33, &answer, 3000), FEMEM_NOTHING_OUT);
+  ERROR(femem_wait(client, 7, &answer, 20000), FEMEM_NOTHING_OUT);
+  ERROR(femem_wait(client, 33, &answer, 20000), FEMEM_NOTHING_OUT);
   for (uint64_t due = 32; due >= 1; due--) {
     if (due == 7) continue;
     ERROR(femem_send_purge(client, 1, 0, NULL), FEMEM_WINDOW_FULL);
-    ERROR(femem_next(client, &answer, 3000), FEMEM_OK);
+    ERROR(femem_next(client, &answer, 20000), FEMEM_OK);
     CHECK(answer.number == due && answer.value == due);
   }
-  ERROR(femem_next(client, &answer, 3000), FEMEM_NOTHING_OUT);
+  ERROR(femem_next(client, &answer, 20000), FEMEM_NOTHING_OUT);
   for (unsigned due = 33; due <= 50; due++) {
     ERROR(femem_int_fetch_add(client, 1, 0, 1, &value), FEMEM_OK);
     CHECK(value == due);
@@ -241,7 +241,7 @@ static void comes_back(void) {
   femem_answer answer = {0};
   for (int i = 0; i < 3; i++) ERROR(femem_send_int_fetch_add(client, 1, 0, 1, NULL), FEMEM_OK);
   for (uint64_t due = 1; due <= 3; due++) {
-    ERROR(femem_next(client, &answer, 3000), FEMEM_OK);
+    ERROR(femem_next(client, &answer, 20000), FEMEM_OK);
     CHECK(answer.number == due && answer.value == due - 1);
   }
   uint64_t value = 0;
@@ -285,8 +285,8 @@ static void asked_back(void) {
   ERROR(femem_cancel(client, number, &answer), FEMEM_DISCONNECTED);
   ERROR(femem_flush(client), FEMEM_DISCONNECTED);
   ERROR(femem_int_fetch_add(client, 1, 0, 1, &value), FEMEM_DISCONNECTED);
-  ERROR(femem_reconnect(client, 2000), FEMEM_OK);
-  ERROR(femem_wait(client, number, &answer, 2000), FEMEM_OK);
+  ERROR(femem_reconnect(client, 20000), FEMEM_OK);
+  ERROR(femem_wait(client, number, &answer, 20000), FEMEM_OK);
   CHECK(answer.error == FEMEM_WITHDRAWN && femem_floor(client) == 17);
   femem_close(client);
   END(server);
@@ -345,7 +345,7 @@ static void session_lost(void) {
   femem *client = opened(&returning);
   uint64_t value;
   ERROR(femem_int_fetch_add(client, 1, 0, 1, &value), FEMEM_SESSION_LOST);
-  ERROR(femem_reconnect(client, 1000), FEMEM_SESSION_LOST);
+  ERROR(femem_reconnect(client, 20000), FEMEM_SESSION_LOST);
   CHECK(femem_out(client) == 1);
   femem_close(client);
   END(server);
@@ -380,8 +380,8 @@ static void taken_over(void) {
   femem_answer answer = {0};
   uint64_t value = 1, number = 0;
   ERROR(femem_int_fetch_add(client, 1, 0, 1, &value), FEMEM_REFUSED_NOT_ATTACHED);
-  ERROR(femem_reconnect(client, 2000), FEMEM_OK);
-  ERROR(femem_wait(client, 1, &answer, 2000), FEMEM_OK);
+  ERROR(femem_reconnect(client, 20000), FEMEM_OK);
+  ERROR(femem_wait(client, 1, &answer, 20000), FEMEM_OK);
   CHECK(answer.value == 0);
   ERROR(femem_send_readfe(client, 1, 0, &number), FEMEM_OK);
   ERROR(femem_cancel(client, number, &answer), FEMEM_OK);
@@ -395,7 +395,7 @@ static void taken_over(void) {
 
 int main(void) {
   setvbuf(stdout, NULL, _IOLBF, 0);
-  alarm(60);
+  alarm(200);
   if (!mkdtemp(folder)) return 1;
   snprintf(path, sizeof path, "%s/socket", folder);
   void (*const tests[])(void) = {worked, opening, twice_welcome, refused_attach, window, comes_back,

@@ -9,8 +9,8 @@ static void meet(int line) {
   say(line, SETTLED_AT("21"));
 }
 
-static const femem_settings patient = {.wait = 6000};
-static const femem_settings going_on = {.wait = 6000, .reconnect = 5000};
+static const femem_settings patient = {.wait = 20000};
+static const femem_settings going_on = {.wait = 20000, .reconnect = 20000};
 
 /* ---- taking back ---- */
 
@@ -33,17 +33,19 @@ static void patient_server(int listener) {
 static void out_of_time(void) {
   test = "calls that run out of time";
   pid_t server = begin_at(0, patient_server);
-  femem *client = opened(&(femem_settings){.wait = 20, .resume = true});
+  femem *client = opened(&(femem_settings){.wait = 20, .reconnect = 20000, .resume = true});
   uint64_t value = 0;
+  unsigned at_once = 0;
   for (int i = 0; i < 40; i++) {
-    femem_error error;
-    /* On a slow machine the cancel's reply may be late too. */
-    error = femem_readfe(client, 1, 0, &value);
+    femem_error error = femem_readfe(client, 1, 0, &value);
     femem_answer answer;
+    /* On a slow machine the cancel's reply may be late too, but not each. */
+    at_once += error == FEMEM_WITHDRAWN;
     while (error == FEMEM_TIMEOUT) error = femem_cancel(client, femem_number(client), &answer);
     ERROR(error, FEMEM_WITHDRAWN);
     CHECK(femem_out(client) == 0 && femem_ready(client) == 0);
   }
+  CHECK(at_once > 0);
   femem_request request = {.operation = FEMEM_INT_FETCH_ADD, .array = 1, .operand = 1};
   femem_answer answer = {0};
   ERROR(femem_call_within(client, &request, 5000, &answer), FEMEM_OK);
@@ -77,7 +79,7 @@ static void late_server(int listener) {
 static void late_withdrawals(void) {
   test = "withdrawals that come late";
   pid_t server = begin_at(0, late_server);
-  femem *client = opened(&(femem_settings){.wait = 5, .resume = true});
+  femem *client = opened(&(femem_settings){.wait = 5, .reconnect = 20000, .resume = true});
   uint64_t value = 0;
   for (unsigned due = 1; due <= 31; due++) {
     ERROR(femem_readfe(client, 1, 0, &value), FEMEM_TIMEOUT);
@@ -86,7 +88,7 @@ static void late_withdrawals(void) {
   femem_error last = femem_readfe(client, 1, 0, &value); /* the server speaks now, and may be in time */
   CHECK(last == FEMEM_TIMEOUT || last == FEMEM_WITHDRAWN);
   femem_answer answer = {0};
-  ERROR(femem_next(client, &answer, 5000), FEMEM_OK);
+  ERROR(femem_next(client, &answer, 20000), FEMEM_OK);
   CHECK(answer.number == 1 && answer.value == 1);
   femem_request request = {.operation = FEMEM_INT_FETCH_ADD, .array = 1, .operand = 1};
   femem_error error;
@@ -135,7 +137,7 @@ static void moves_on(void) {
     ERROR(femem_int_fetch_add(client, 1, 0, 1, &value), FEMEM_OK);
     CHECK(value == due);
   }
-  ERROR(femem_wait(client, number, &answer, 3000), FEMEM_OK);
+  ERROR(femem_wait(client, number, &answer, 20000), FEMEM_OK);
   CHECK(number == 33 && answer.number == 33 && answer.value == 33);
   CHECK(femem_out(client) == 0 && femem_ready(client) == 0);
   ERROR(femem_wait(client, number, &answer, 0), FEMEM_NOTHING_OUT);
@@ -187,12 +189,12 @@ static void several_move(void) {
   for (int i = 0; i < 3; i++) ERROR(femem_send_readfe(client, 1, 0, &numbers[i]), FEMEM_OK);
   for (unsigned due = 4; due <= 32; due++) ERROR(femem_int_fetch_add(client, 1, 0, 1, &value), FEMEM_OK);
   ERROR(femem_send_int_fetch_add(client, 1, 0, 1, NULL), FEMEM_WINDOW_FULL);
-  ERROR(femem_wait(client, numbers[1], &answer, 3000), FEMEM_OK);
+  ERROR(femem_wait(client, numbers[1], &answer, 20000), FEMEM_OK);
   CHECK(answer.value == 2);
   ERROR(femem_int_fetch_add(client, 1, 0, 1, &value), FEMEM_OK);
   CHECK(value == 34);
   ERROR(femem_cancel(client, numbers[2], &answer), FEMEM_WITHDRAWN);
-  ERROR(femem_wait(client, numbers[0], &answer, 3000), FEMEM_OK);
+  ERROR(femem_wait(client, numbers[0], &answer, 20000), FEMEM_OK);
   CHECK(answer.value == 33 && answer.number == 33);
   femem_close(client);
   END(server);
@@ -236,7 +238,7 @@ static void stopped_move(void) {
   ERROR(femem_int_fetch_add(client, 1, 0, 1, &value), FEMEM_OK);
   CHECK(value == 35 && femem_reconnects(client) == 1);
   for (unsigned due = 1; due <= 2; due++) {
-    ERROR(femem_next(client, &answer, 3000), FEMEM_OK);
+    ERROR(femem_next(client, &answer, 20000), FEMEM_OK);
     CHECK(answer.number == below + due && answer.value == 32 + due);
   }
   femem_close(client);
@@ -265,14 +267,14 @@ static void resumed_stays(void) {
   ERROR(femem_send_readfe(client, 1, 0, NULL), FEMEM_OK);
   for (unsigned due = 2; due <= 32; due++) ERROR(femem_int_fetch_add(client, 1, 0, 1, &value), FEMEM_OK);
   ERROR(femem_int_fetch_add(client, 1, 0, 1, &value), FEMEM_WINDOW_FULL);
-  ERROR(femem_next(client, &answer, 3000), FEMEM_OK);
+  ERROR(femem_next(client, &answer, 20000), FEMEM_OK);
   femem_close(client);
   END(server);
 }
 
 int main(void) {
   setvbuf(stdout, NULL, _IOLBF, 0);
-  alarm(60);
+  alarm(200);
   if (!mkdtemp(folder)) return 1;
   snprintf(path, sizeof path, "%s/socket", folder);
   void (*const tests[])(void) = {out_of_time, late_withdrawals, moves_on, several_move, stopped_move, resumed_stays};

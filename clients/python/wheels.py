@@ -1,13 +1,24 @@
-"""Makes the package's wheel for `pip install`, with the standard library alone, so that nothing is fetched for it."""
+"""Makes the package's wheel and source archive, with the standard library alone, so that nothing is fetched for them.
+
+`pip install .` and `python3 -m build --no-isolation` call it; `python3 wheels.py FOLDER` makes both by itself. The same
+text gives the same bytes.
+"""
 
 import base64
+import gzip
 import hashlib
+import io
 import pathlib
 import re
+import sys
 import tarfile
 import zipfile
 
 ROOT = pathlib.Path(__file__).resolve().parent
+
+# What each file of an archive was last changed at: 2020-01-01.
+DATE = (2020, 1, 1, 0, 0, 0)
+SECONDS = 1577836800
 
 
 def _field(name):
@@ -15,7 +26,19 @@ def _field(name):
     return re.search(rf'^{name} = "(.*)"$', (ROOT / "pyproject.toml").read_text(), re.MULTILINE)[1]
 
 
-def _files():
+def _listed(name):
+    """The texts of a list of pyproject.toml."""
+    found = re.search(rf"^{name} = \[(.*?)\]$", (ROOT / "pyproject.toml").read_text(), re.MULTILINE | re.DOTALL)[1]
+    return re.findall(r'"(.*?)"', found)
+
+
+def _license():
+    """The licence: in the source archive it stands beside this file, in the repository at its top."""
+    beside = ROOT / "LICENSE"
+    return (beside if beside.exists() else ROOT.parents[1] / "LICENSE").read_bytes()
+
+
+def _modules():
     return sorted((ROOT / "femem").glob("*.py")) + [ROOT / "femem" / "py.typed"]
 
 
@@ -29,23 +52,29 @@ def _metadata():
         f"Name: {_field('name')}",
         f"Version: {_field('version')}",
         f"Summary: {_field('description')}",
+        "Author: the femem authors",
+        "License: MIT",
+        f"Keywords: {','.join(_listed('keywords'))}",
+        *(f"Classifier: {each}" for each in _listed("classifiers")),
         f"Requires-Python: {_field('requires-python')}",
         "Description-Content-Type: text/markdown",
+        "License-File: LICENSE",
     ]
-    return "\n".join(head) + "\n\n" + (ROOT / "README.md").read_text()
+    return ("\n".join(head) + "\n\n" + (ROOT / "README.md").read_text()).encode()
 
 
 def _scripts():
     """The commands that an installation makes, from the last table of pyproject.toml."""
     lines = (ROOT / "pyproject.toml").read_text().split("[project.scripts]\n")[1].splitlines()
-    return "[console_scripts]\n" + "".join(line.replace('"', "") + "\n" for line in lines)
+    return ("[console_scripts]\n" + "".join(line.replace('"', "") + "\n" for line in lines)).encode()
 
 
 def build_wheel(wheel_directory, config_settings=None, metadata_directory=None):
     info = f"{_stem()}.dist-info"
-    files = {f"femem/{path.name}": path.read_bytes() for path in _files()}
-    files[f"{info}/METADATA"] = _metadata().encode()
-    files[f"{info}/entry_points.txt"] = _scripts().encode()
+    files = {f"femem/{path.name}": path.read_bytes() for path in _modules()}
+    files[f"{info}/LICENSE"] = _license()
+    files[f"{info}/METADATA"] = _metadata()
+    files[f"{info}/entry_points.txt"] = _scripts()
     files[f"{info}/WHEEL"] = b"Wheel-Version: 1.0\nGenerator: femem\nRoot-Is-Purelib: true\nTag: py3-none-any\n"
     record = ""
     for name, content in files.items():
@@ -53,15 +82,40 @@ def build_wheel(wheel_directory, config_settings=None, metadata_directory=None):
         record += f"{name},sha256={digest},{len(content)}\n"
     files[f"{info}/RECORD"] = (record + f"{info}/RECORD,,\n").encode()
     wheel = f"{_stem()}-py3-none-any.whl"
-    with zipfile.ZipFile(pathlib.Path(wheel_directory) / wheel, "w", zipfile.ZIP_DEFLATED) as archive:
+    with zipfile.ZipFile(pathlib.Path(wheel_directory) / wheel, "w") as archive:
         for name, content in files.items():
-            archive.writestr(name, content)
+            entry = zipfile.ZipInfo(name, DATE)
+            entry.compress_type = zipfile.ZIP_DEFLATED
+            entry.external_attr = 0o644 << 16
+            archive.writestr(entry, content)
     return wheel
 
 
 def build_sdist(sdist_directory, config_settings=None):
+    files = {str(path.relative_to(ROOT)): path.read_bytes() for path in _modules()}
+    for name in ("pyproject.toml", "README.md", "wheels.py"):
+        files[name] = (ROOT / name).read_bytes()
+    files["LICENSE"] = _license()
+    files["PKG-INFO"] = _metadata()
     name = f"{_stem()}.tar.gz"
-    with tarfile.open(pathlib.Path(sdist_directory) / name, "w:gz") as archive:
-        for path in [ROOT / "pyproject.toml", ROOT / "README.md", ROOT / "wheels.py", *_files()]:
-            archive.add(path, f"{_stem()}/{path.relative_to(ROOT)}")
+    with open(pathlib.Path(sdist_directory) / name, "wb") as file:
+        with gzip.GzipFile("", "wb", fileobj=file, mtime=SECONDS) as packed, tarfile.open(fileobj=packed, mode="w") as archive:
+            for path, content in sorted(files.items()):
+                entry = tarfile.TarInfo(f"{_stem()}/{path}")
+                entry.size, entry.mtime = len(content), SECONDS
+                archive.addfile(entry, io.BytesIO(content))
     return name
+
+
+def main(words):
+    if len(words) != 1:
+        print("usage: wheels.py FOLDER", file=sys.stderr)
+        return 2
+    pathlib.Path(words[0]).mkdir(parents=True, exist_ok=True)
+    for build in (build_wheel, build_sdist):
+        print(pathlib.Path(words[0]) / build(words[0]))
+    return 0
+
+
+if __name__ == "__main__":
+    sys.exit(main(sys.argv[1:]))

@@ -1,18 +1,24 @@
 """Both clients: their own tests, and their programs against a real server."""
 
 import os
+import re
 import subprocess
 import sys
+import time
 
-from .harness import Wrong, compiler, within
+from .harness import Wrong, compiler, holds, within
 
 CLIENTS = os.path.normpath(os.path.join(os.path.dirname(os.path.realpath(__file__)), "..", "..", "clients"))
 
 
+def environment(place):
+    """Temporary files, and what Python keeps of the modules that it compiled, go into the check's folder."""
+    return {"PYTHONDONTWRITEBYTECODE": "", "PYTHONPYCACHEPREFIX": place.path("compiled"), "TMPDIR": place.folder}
+
+
 def ran(place, words, seconds):
     """Runs a program of a client to its end, and gives the last line that it printed."""
-    env = {"PYTHONDONTWRITEBYTECODE": "1", "TMPDIR": place.folder}
-    process = place.start(words, "client", env, stderr=subprocess.STDOUT, group=True)
+    process = place.start(words, "client", environment(place), stderr=subprocess.STDOUT, group=True)
     try:
         process.wait(seconds)
     except subprocess.TimeoutExpired:
@@ -23,30 +29,52 @@ def ran(place, words, seconds):
     return (said.strip().splitlines() or [""])[-1]
 
 
-@within(420)
+# How many files of tests run at a time.
+AT_ONCE = 4
+
+
+@within(900)
 def tests_in_python(place):
     """the tests of the Python client"""
-    return ran(place, [sys.executable, "-m", "unittest", "discover", "-s", os.path.join(CLIENTS, "python", "tests")], 400)
+    tests = os.path.join(CLIENTS, "python", "tests")
+    files = [name for name in os.listdir(tests) if name.startswith("test_") and name.endswith(".py")]
+    files.sort(reverse=True)  # those that take long come early so
+    env = environment(place)
+    left, running, count = list(files), {}, 0
+    while left or running:
+        while left and len(running) < AT_ONCE:
+            name = left.pop(0)
+            words = [sys.executable, "-W", "ignore", "-m", "unittest", "discover", "-s", tests, "-p", name]
+            running[name] = place.start(words, name, env, stderr=subprocess.STDOUT, group=True)
+        for name, process in list(running.items()):
+            if process.poll() is not None:
+                del running[name]
+                said = place.read(f"{name}.out").decode(errors="replace")
+                holds(process.returncode == 0, f"{name}: status {process.returncode}: {said[-3000:]}")
+                count += int(re.search(r"^Ran (\d+) tests? in", said, re.MULTILINE)[1])
+        time.sleep(0.02)
+    holds(count >= 150, f"{count} tests in {len(files)} files are few")
+    return f"{count} tests"
 
 
-@within(300)
+@within(600)
 def python(place):
     """the Python client against a real server: every pattern, kills of either, a server that never comes back"""
-    return ran(place, [sys.executable, os.path.join(CLIENTS, "python", "check.py"), place.program], 280)
+    return ran(place, [sys.executable, os.path.join(CLIENTS, "python", "check.py"), place.program], 580)
 
 
-@within(300)
+@within(600)
 def tests_in_c(place):
     """the tests of the C client, plain and with the sanitizers"""
     compiler()
-    return ran(place, ["make", "-s", "-C", os.path.join(CLIENTS, "c"), "test"], 290)
+    return ran(place, ["make", "-s", "-j4", "-C", os.path.join(CLIENTS, "c"), "test"], 590)
 
 
-@within(120)
+@within(600)
 def c(place):
     """the C client against a real server that is killed and started again"""
     compiler()
-    return ran(place, [os.path.join(CLIENTS, "c", "check"), place.program], 110)
+    return ran(place, [os.path.join(CLIENTS, "c", "check"), place.program], 590)
 
 
 CHECKS = (tests_in_c, c, tests_in_python, python)

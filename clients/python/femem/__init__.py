@@ -2,7 +2,7 @@
 
     from femem import Client
 
-    with Client("/run/femem.sock", session=7) as client:
+    with Client("/run/femem/femem.socket", session=7) as client:
         slot = client.create("slot", 1)
         client.writeef(slot, 0, 42)
         print(client.readfe(slot, 0))
@@ -51,7 +51,7 @@ from .observer import Observer
 from .reports import Report, Waiter
 from .requests import Array, Request
 
-__version__ = "1.1.0"
+__version__ = "1.0.0"
 
 logging.getLogger("femem").addHandler(logging.NullHandler())
 

@@ -1,6 +1,6 @@
 """The patterns for asyncio: as those of `femem.patterns`, each operation to be awaited. `femem.aio` has them.
 
-Their arrays are made, or found, by the first operation. A task that is cancelled within one takes it back, and is told
+Their arrays are made, or found, by the first operation. A task that is cancelled within one takes it back, and learns
 where it is done.
 """
 

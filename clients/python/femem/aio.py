@@ -1,6 +1,6 @@
 """The client for asyncio: the same operations, each to be awaited.
 
-    async with AsyncClient("/run/femem.sock", session=7) as client:
+    async with AsyncClient("/run/femem/femem.socket", session=7) as client:
         slot = await client.create("slot", 1)
         await client.writeef(slot, 0, 42)
         print(await client.readfe(slot, 0))
@@ -229,10 +229,19 @@ class AsyncClient:
         self._move()
         return await future
 
-    def submit(self, request: Request[T], *, timeout: Timeout = DEFAULT) -> asyncio.Future[T]:
-        """Asks without waiting for the answer. A future that is cancelled takes its request back, and nobody is told
-        whether it had happened; what is awaited by the operations' own names is told."""
-        return self._submit(Ticket(request_of(request)), timeout)
+    def submit(
+        self, request: Request[T], *, timeout: Timeout = DEFAULT, key: Optional[Key] = None
+    ) -> asyncio.Future[T]:
+        """Asks without waiting for the answer. A future that is cancelled takes its request back, and nobody learns
+        whether it had happened; whoever awaits an operation by its own name learns it. With a key, as `once`."""
+        ticket: Ticket[T] = Ticket(request_of(request)) if key is None else self._keyed(key, request)
+        return self._submit(ticket, timeout)
+
+    def withdraw(self, future: asyncio.Future[Any]) -> None:
+        """As `Client.withdraw`: the future of `submit` ends with `Withdrawn`, or with its answer."""
+        ticket: Any = getattr(future, "ticket", None)
+        if ticket is not None:
+            self._take_back(ticket, False)
 
     async def submit_many(self, asked: Iterable[Request[Any]], *, timeout: Timeout = DEFAULT) -> List[Any]:
         """As `Client.submit_many`."""
@@ -247,17 +256,23 @@ class AsyncClient:
 
     async def once(self, key: Key, request: Request[T], *, timeout: Timeout = DEFAULT) -> T:
         """As `Client.once`."""
-        ticket: Ticket[T] = Ticket(request_of(request))
-        ticket.key = key_bytes(key)
-        if self._core.file is None:
-            raise ValueError("a key needs a client with a session file")
+        ticket = self._keyed(key, request)
         return await self._told(ticket, self._submit(ticket, timeout))
 
     def forget(self, key: Key) -> None:
         """As `Client.forget`."""
+        self._with_file()
+        self._core.forget(key_bytes(key))
+
+    def _keyed(self, key: Key, request: Request[T]) -> Ticket[T]:
+        self._with_file()
+        ticket: Ticket[T] = Ticket(request_of(request))
+        ticket.key = key_bytes(key)
+        return ticket
+
+    def _with_file(self) -> None:
         if self._core.file is None:
             raise ValueError("a key needs a client with a session file")
-        self._core.forget(key_bytes(key))
 
     # What stands behind these.
 
@@ -285,7 +300,7 @@ class AsyncClient:
         return await self._told(ticket, self._submit(ticket, timeout))
 
     async def _run_job(self, job: Job[T]) -> T:
-        """Runs an operation of several steps. A task that is cancelled takes it back, and is told where it is done."""
+        """Runs an operation of several steps. A task that is cancelled takes it back, and learns where it is done."""
         self._check_loop()
         future = self._future(job)
         self._core.start(job, self._now())
@@ -333,6 +348,7 @@ class AsyncClient:
 
         ticket.finished = finished
         future.add_done_callback(cancelled)
+        future.ticket = ticket  # type: ignore[attr-defined]
         return future
 
     def _move(self) -> None:
@@ -365,7 +381,7 @@ class AsyncClient:
             fences, core.fences = core.fences, []
             for session, ticket in fences:
                 self._helpers.append(asyncio.get_running_loop().create_task(self._fence(session, ticket)))
-        if core.moves:
+        if core.moved:
             self._move_waits()
         if self._transport is not None and core.to_send:
             self._transport.write(bytes(core.to_send))

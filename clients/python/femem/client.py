@@ -43,8 +43,12 @@ _CONNECT_TIME = 1.0
 
 _READ_BYTES = 65536
 
+# How long the thread waits at its bell after the last answer, in seconds, before it looks at the connection again. A bell
+# is a lock, the cheapest thing to be woken at, and whoever calls in a row calls again soon.
+_LINGER = 0.01
+
 # How long after something happened the thread looks at the clock for what is due by it, in seconds: less than anything
-# takes that becomes due by what happened, but for what the core says is urgent.
+# takes that becomes due by what happened, except what the core calls urgent.
 _LOOK_AFTER = 0.02
 
 
@@ -134,11 +138,11 @@ class Client:
     Without a session, it has one of its own that ends with it. With `session_file` the session is that of the file, and
     goes on when the process was killed and is started again.
 
-    `timeout` is that of each operation that names none: after so many seconds the operation is taken back, if it waits.
+    `timeout`, in seconds, is that of each operation that names none: one that still waits then is taken back.
     `reconnect_timeout` is how long the server may be unreachable, or owe a reply, while something is asked of it; `None`
     is for ever.
 
-    With `sessions` it has so many: what waits is asked over the further ones, 32 requests over each, and so holds up
+    With `sessions=N` it has N sessions: what waits is asked over the further ones, 32 requests over each, and so holds up
     nothing else. They end with the client. Their numbers follow from that of its own session.
     """
 
@@ -180,9 +184,14 @@ class Client:
         self._longest_sleep = 3600.0 if pause is None else pause
         # What is asked, in its order: each is called with the time by the thread.
         self._asked: Deque[Callable[[float], object]] = deque()
+        # Where the thread sleeps, so that whoever asks knows what wakes it.
         self._is_asleep = False
+        self._is_at_bell = False
+        self._bell = threading.Lock()
+        self._bell.acquire()
         self._is_over = False
-        # When the thread looks at the clock next.
+        # The time when the thread saw it last, and when it looks what is due next.
+        self._now = time.monotonic()
         self._look_at = 0.0
         # Once the thread is no more, whoever asks does so in its place, one at a time.
         self._ending = threading.RLock()
@@ -190,6 +199,7 @@ class Client:
         self._waker, self._woken = socket.socketpair()
         self._waker.setblocking(False)
         self._woken.setblocking(False)
+        self._woken_number = self._woken.fileno()
         opening = self._future(self._core.open(time.monotonic()))
         # What the former process with this session file had no answer for.
         self.recovered: List[Recovered] = [
@@ -257,7 +267,7 @@ class Client:
         return self._core.failure
 
     def close(self) -> None:
-        """Closes the connection. The session is kept by the server, but for one that the client chose; what waits is
+        """Closes the connection. The server keeps the session, unless the client chose it itself; what waits is
         withdrawn there.
 
         What has no answer ends with `Closed`: it happened once or not at all.
@@ -359,7 +369,7 @@ class Client:
         """Asks without waiting for the answer: `client.submit(requests.readfe(array, 0))`.
 
         Up to 32 requests are under way; further ones wait here for room. The server takes them in the order in which
-        they are sent, which is that of these calls, but for requests that wait: they may be taken back and called again
+        they are sent, which is that of these calls, except requests that wait: they may be taken back and called again
         behind others, to make room. `Future.cancel` does nothing; use `withdraw`. With a key, as `once`.
         """
         ticket: Ticket[T] = Ticket(request_of(request)) if key is None else self._keyed(key, request)
@@ -428,9 +438,19 @@ class Client:
 
     def _call(self, request: Request[T], timeout: Timeout) -> T:
         ticket: Ticket[T] = Ticket(request)
-        seconds = self._seconds(timeout)
-        self._wait_for((ticket,), lambda now: self._core.take((ticket,), now, seconds))
-        return _result(ticket)
+        seconds = self.timeout if timeout is DEFAULT else self._seconds(timeout)
+        try:
+            gate = _new_gate()
+            gate.acquire()
+            ticket.finished = gate.release
+            self._ask(partial(self._core.take_one, ticket, seconds))
+            gate.acquire()
+        except BaseException:
+            self._ask(lambda now: self._core.withdraw(ticket, now))
+            raise
+        if ticket.error is not None:
+            raise ticket.error
+        return ticket.result  # type: ignore[return-value]
 
     def _run_job(self, job: Job[T]) -> T:
         """Runs an operation of several steps. Where this thread is interrupted, it is taken back and undone."""
@@ -475,8 +495,11 @@ class Client:
     def _ask(self, what: Callable[[float], object]) -> None:
         """Has the thread do something. The one step of it that counts is the append."""
         self._asked.append(what)
-        if self._is_asleep:
-            self._wake()  # the thread alone says when it is awake, so that an interruption here loses no call
+        # The thread alone says where it sleeps, and looks at the list before it does: an interruption here loses no call.
+        if self._is_at_bell:
+            self._ring()
+        elif self._is_asleep:
+            self._wake()
         if self._is_over:
             with self._ending:
                 self._do_what_is_asked()
@@ -497,6 +520,12 @@ class Client:
         future.ticket = ticket  # type: ignore[attr-defined]
         return future
 
+    def _ring(self) -> None:
+        try:
+            self._bell.release()
+        except RuntimeError:
+            pass  # somebody else has rung
+
     def _wake(self) -> None:
         try:
             self._waker.send(b"w")
@@ -512,20 +541,24 @@ class Client:
                 what = asked.popleft()
             except IndexError:
                 break
-            now = time.monotonic()
-            self._look_at = min(self._look_at, now + _LOOK_AFTER)
-            what(now)
+            self._something_happens()
+            what(self._now)
         self._move()
+
+    def _something_happens(self) -> None:
+        """Notes the time, and that the clock has to be looked at soon."""
+        self._now = now = time.monotonic()
+        if now + _LOOK_AFTER < self._look_at:
+            self._look_at = now + _LOOK_AFTER
 
     def _move(self) -> None:
         """Sends what is to be sent, and tells who is done, which may bring more."""
-        while True:
-            self._flush()
-            ended = self._core.take_ended()
-            if not ended:
-                return
-            for ticket in ended:
+        self._flush()
+        core = self._core
+        while core.ended:
+            for ticket in core.take_ended():
                 ticket.finished()
+            self._flush()
 
     def _flush(self) -> None:
         """Sends what the socket takes now. What the session file has to hold stands in it before."""
@@ -537,7 +570,7 @@ class Client:
                 core.fail(error)
         if core.fences:
             self._fence_all()
-        if core.moves:
+        if core.moved:
             self._move_waits()
         if self._socket is None or not core.to_send:
             return
@@ -556,10 +589,7 @@ class Client:
             back = partial(self._has_come_back, side, ticket, asked)
             asked.finished = partial(self._ask, back)
             self._core.moved_to(ticket, partial(side._take_back, asked))
-            side._ask(partial(side._take_one, asked))
-
-    def _take_one(self, ticket: Ticket[Any], now: float) -> None:
-        self._core.take((ticket,), now)
+            side._ask(partial(side._core.take_one, asked, None))
 
     def _take_back(self, ticket: Ticket[Any], why: errors.Withdrawn) -> None:
         self._ask(lambda now: self._core.withdraw(ticket, now, why))
@@ -651,13 +681,13 @@ class Client:
         events = select.POLLIN
         self._poll.register(connection, events)
         while stands and self._tick():
-            wanted = select.POLLIN | (select.POLLOUT if core.to_send else 0)
+            wanted = _IN_AND_OUT if core.to_send else select.POLLIN
             if wanted != events:
                 events = wanted
                 self._poll.modify(connection, events)
-            if self._select(None):
+            if self._select(math.inf):
                 stands = self._read(connection)
-            was_ready = was_ready or core.phase is Phase.READY
+                was_ready = was_ready or core.phase is _READY
         self._poll.unregister(connection)
         self._socket = None
         core.disconnected(time.monotonic())
@@ -667,32 +697,50 @@ class Client:
     def _tick(self) -> bool:
         """Does what is asked and what is due by the clock. Whether the client goes on."""
         core = self._core
-        if self._asked or core.to_send:
+        if self._asked:
             self._do_what_is_asked()
-        now = time.monotonic()
-        if core.is_urgent or now >= self._look_at:
+        else:
+            self._now = time.monotonic()
+            if core.to_send:
+                self._move()
+        if core.is_urgent or self._now >= self._look_at:
             core.is_urgent = False
-            core.tick(now)
+            core.tick(self._now)
             self._move()
             due = core.next_time()
-            self._look_at = math.inf if due is None else due
+            longest = self._now + self._longest_sleep
+            self._look_at = longest if due is None else min(due, longest)
         return core.failure is None
 
-    def _select(self, end: Optional[float]) -> bool:
-        """Sleeps until something is due or comes. Whether it came over the connection."""
+    def _select(self, end: float) -> bool:
+        """Sleeps until something is due or comes, or until the end. Whether it came over the connection."""
         self._is_asleep = True
-        due = self._look_at if end is None else min(end, self._look_at)
         seconds = 0.0
         if not self._asked and not self._core.is_urgent:
-            seconds = max(0.0, min(self._longest_sleep, due - time.monotonic()))
+            seconds = min(end, self._look_at) - self._now
         came = False
-        for file, _ in self._poll.poll(1000.0 * seconds):
-            if file == self._woken.fileno():
+        for file, _ in self._poll.poll(1000.0 * seconds if seconds > 0.0 else 0.0):
+            if file == self._woken_number:
                 self._drain()
             else:
                 came = True
         self._is_asleep = False
         return came
+
+    def _linger(self) -> None:
+        """Nothing is asked any more: tells who is done, and sleeps at the bell for a moment.
+
+        Telling is the last thing before it sleeps, since its caller wants the interpreter's lock at once. Whatever
+        comes over the connection meanwhile, nobody waits for it.
+        """
+        core = self._core
+        seconds = min(_LINGER, self._look_at - self._now)
+        self._is_at_bell = True
+        for ticket in core.take_ended():
+            ticket.finished()
+        if seconds > 0.0 and not self._asked and not core.ended and not core.is_urgent:
+            self._bell.acquire(timeout=seconds)
+        self._is_at_bell = False
 
     def _drain(self) -> None:
         try:
@@ -710,10 +758,14 @@ class Client:
             return False
         if not piece:
             return False
-        now = time.monotonic()
-        self._look_at = min(self._look_at, now + _LOOK_AFTER)
-        self._core.received(piece, now)
-        self._move()
+        self._something_happens()
+        core = self._core
+        core.received(piece, self._now)
+        self._flush()
+        if core.ended and core.is_idle and not core.to_send:
+            self._linger()
+        if core.ended:
+            self._move()
         return True
 
     def _forked(self) -> None:
@@ -779,6 +831,13 @@ class Pipeline:
 
 
 _OPERATIONS = ("create", "find", "remove", *(what for what, _, _ in requests.OPERATIONS.values()))
+
+
+# What makes the lock at which a caller waits for its answer.
+_new_gate = threading.Lock
+
+_READY = Phase.READY
+_IN_AND_OUT = select.POLLIN | select.POLLOUT
 
 
 def _result(ticket: Ticket[T]) -> T:

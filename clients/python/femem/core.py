@@ -1,6 +1,6 @@
 """The client without sockets and clocks: what to send, what a reply means, and when to do something unasked.
 
-`Core` is told what happened (connected, bytes came, the connection broke, so late it is), and says what to send, when it
+`Core` learns what happened (connected, bytes came, the connection broke, the time), and says what to send, when it
 wants to be called again, and which requests ended. Both clients, of threads and of asyncio, are thin shells round it.
 docs/formats.md, "What a client has to know", has the rules of the server that it rests on.
 """
@@ -17,6 +17,7 @@ from typing import Any, Callable, Deque, Dict, List, Optional, Sequence, Set, Tu
 
 from . import errors, frames, reports
 from .errors import ProtocolError
+from .frames import Answer
 from .flow import PATIENCE, Flow
 from .jobs import Batch, Fence, Job, Look, Pause, Present, Step, Wait
 from .meeting import FIRST_PROBE, Meeting, unexpected
@@ -44,6 +45,14 @@ class Phase(enum.Enum):
     ENDED = "the client is of no further use"
 
 
+# A member's name costs a call each time in some versions.
+_DOWN = Phase.DOWN
+_ATTACHING = Phase.ATTACHING
+_MEETING = Phase.MEETING
+_READY = Phase.READY
+_ENDED = Phase.ENDED
+
+
 def _thrower(job: Job[Any], error: BaseException) -> Callable[[], Step]:
     return lambda: job.steps.throw(error)
 
@@ -61,7 +70,7 @@ class Core:
         moves_waits: bool = False,
     ) -> None:
         self.session = number_of_bits(session, 64, "session")
-        self.phase = Phase.DOWN
+        self.phase = _DOWN
         self.failure: Optional[errors.FememError] = None
         self.to_send = bytearray()
         # Why the last attempt to connect failed, if it did; whoever connects says so.
@@ -78,8 +87,11 @@ class Core:
         self._reconnect_timeout = float("inf") if reconnect_timeout is None else reconnect_timeout
         self._probe_interval = probe_interval
         self._probes = itertools.count(FIRST_PROBE)
-        self._ended: List[Ticket[Any]] = []
-        self._flow = Flow(self.to_send, self._ended, file, moves_waits)
+        # What has ended since `take_ended`.
+        self.ended: List[Ticket[Any]] = []
+        # What has to wait, for `take_moved`.
+        self.moved: List[Ticket[Any]] = []
+        self._flow = Flow(self.to_send, self.ended, file, self.moved if moves_waits else None)
         # What another session asks, and how that takes it back.
         self._elsewhere: Dict[Ticket[Any], Callable[[errors.Withdrawn], object]] = {}
         self._reports: Deque[Ticket[reports.Report]] = deque()
@@ -97,6 +109,8 @@ class Core:
         self.is_urgent = True
         # Since when something is asked that is not done.
         self._asked_at = 0.0
+        # Whether it is known that nothing is asked: it was so after the last reply, and nothing was asked since.
+        self.is_idle = False
         # Whether the server is there; else, since when it is not.
         self._in_contact = False
         self._lost_at = 0.0
@@ -126,10 +140,10 @@ class Core:
         return self._opening
 
     def begin_anew(self) -> None:
-        """Before it is opened: the file has another session now, of which nothing was asked."""
+        """Before it is opened: the file has another session, and nothing was asked of that one."""
         assert self.file is not None
         self.session = self.file.session
-        self._flow = Flow(self.to_send, self._ended, self.file)
+        self._flow = Flow(self.to_send, self.ended, self.file)
         self.recovered = []
         self._was_away = False
 
@@ -150,6 +164,15 @@ class Core:
                 self._flow.add(ticket)
         self._pump(now)
 
+    def take_one(self, ticket: Ticket[Any], timeout: Optional[float], now: float) -> None:
+        """As `take`, for one."""
+        if self._admit(ticket, now):
+            if timeout is not None:
+                self.is_urgent = True
+                self._timeouts.add(now + timeout, ticket)
+            self._flow.add(ticket)
+            self._pump(now)
+
     def report(self, now: float, ticket: Optional[Ticket[reports.Report]] = None) -> Ticket[reports.Report]:
         asked: Ticket[reports.Report] = ticket or Ticket(None)
         if self._admit(asked, now):
@@ -162,7 +185,7 @@ class Core:
     ) -> Ticket[None]:
         """Ends the session. `StillWaiting` where something has no answer yet, unless it is to end at any rate."""
         asked: Ticket[None] = ticket or Ticket(None)
-        if self.failure is None and self._is_busy() and not at_any_rate:
+        if self.failure is None and self.is_busy() and not at_any_rate:
             error = errors.StillWaiting("a request of this client has no answer yet")
             if ticket is None:
                 raise error
@@ -199,10 +222,10 @@ class Core:
         if ticket in self._elsewhere:
             self._elsewhere[ticket](ticket.taken_back)
         else:
-            self._flow.withdraw(ticket, now, self.phase is Phase.READY)
+            self._flow.withdraw(ticket, now, self.phase is _READY)
 
     def withdraw_all(self, tickets: Sequence[Ticket[Any]], now: float) -> None:
-        """Takes these back, of which some may not have come here yet."""
+        """Takes these back; some of them may not have come here yet."""
         for ticket in tickets:
             if ticket.request is not None:
                 self.withdraw(ticket, now)
@@ -217,7 +240,7 @@ class Core:
         self.failure = failure
         if not isinstance(failure, errors.Closed):
             log.error("session %d: %s: %s", self.session, type(failure).__name__, failure)
-        self.phase = Phase.ENDED
+        self.phase = _ENDED
         self._start_over()
         tickets: List[Ticket[Any]] = [*self._flow.take_all(), *self._reports]
         tickets += [ticket for ticket in (self._leaving, self._opening) if ticket is not None]
@@ -232,22 +255,16 @@ class Core:
 
     def take_ended(self) -> List[Ticket[Any]]:
         """The tickets that ended since the last call. Whoever takes them calls `finished` of each."""
-        ended: List[Ticket[Any]] = []
-        while self._ended:
-            ended.append(self._ended.pop(0))
+        ended = self.ended[:]
+        del self.ended[: len(ended)]
         return ended
 
     # What waits, where the client has further sessions.
 
-    @property
-    def moves(self) -> bool:
-        """Whether there is something to `take_moved`."""
-        return bool(self._flow.moved)
-
     def take_moved(self) -> List[Ticket[Any]]:
         """What has to wait. Whoever takes it has another session ask it, and says so by `moved_to`."""
-        moved = [ticket for ticket in self._flow.moved if not ticket.done]
-        self._flow.moved.clear()
+        moved = [ticket for ticket in self.moved if not ticket.done]
+        self.moved.clear()
         return moved
 
     def moved_to(self, ticket: Ticket[Any], take_back: Callable[[errors.Withdrawn], object]) -> None:
@@ -262,49 +279,54 @@ class Core:
     # What happens to the connection.
 
     def connected(self, now: float) -> None:
-        if self.phase is not Phase.ENDED:
+        if self.phase is not _ENDED:
             self.trouble = ""
             self._start_over()
             self._attach(now)
 
     def disconnected(self, now: float) -> None:
         """The connection is gone, or could not be made."""
-        if self.phase is Phase.ENDED:
+        if self.phase is _ENDED:
             return
-        self.phase = Phase.DOWN
+        self.phase = _DOWN
         self._start_over()
         if self._in_contact:
             self._in_contact = False
             self._lost_at = now
 
     def received(self, piece: bytes, now: float) -> None:
-        if self.phase in (Phase.DOWN, Phase.ENDED):
+        if self.phase is _DOWN or self.phase is _ENDED:
             return
         try:
             for reply in self._decoder.feed(piece):
-                self._take(reply, now)
-                if self.failure is not None:
-                    return
+                if type(reply) is Answer and self.phase is _READY:
+                    if self._flow.answered(reply):
+                        self._heard(now)
+                else:
+                    self._take(reply, now)
+                    if self.failure is not None:
+                        return
         except errors.FememError as failure:
             self.fail(failure)
         else:
             self._pump(now)
+            self.is_idle = not self.is_busy()
 
     # What happens by the clock.
 
     def next_time(self) -> Optional[float]:
         """When `tick` has something to do, if nothing else happens before."""
-        if self.phase is Phase.ENDED:
+        if self.phase is _ENDED:
             return None
         times = [self._timeouts.first(), self._attach_at, self._probe_at()]
-        if self._is_busy():
+        if self.is_busy():
             times.append(self._give_up_at())
-        if self.phase is Phase.READY:
+        if self.phase is _READY:
             times += [ticket.sent_at + PATIENCE for ticket in self._flow.in_the_way()]
         return min((time for time in times if time is not None), default=None)
 
     def tick(self, now: float) -> None:
-        if self.phase is Phase.ENDED:
+        if self.phase is _ENDED:
             return
         while True:
             ticket = self._timeouts.take(now)
@@ -315,7 +337,7 @@ class Core:
                 self._end(ticket)
             else:
                 self.withdraw(ticket, now, errors.TimedOut(ticket.request.what))
-        if self._is_busy() and self._give_up_at() <= now:
+        if self.is_busy() and self._give_up_at() <= now:
             self._give_up()
             return
         if self._attach_at is not None and self._attach_at <= now:
@@ -325,28 +347,29 @@ class Core:
             self._send_probe(now)
         self._pump(now)
 
-    def _is_busy(self) -> bool:
+    def is_busy(self) -> bool:
         """Whether something is asked that is not done."""
-        alone = (self._leaving, self._opening)
-        asked = self._flow.is_busy() or bool(self._elsewhere) or bool(self._reports)
-        return asked or any(ticket is not None and not ticket.done for ticket in alone)
+        if self._flow.is_busy() or self._elsewhere or self._reports:
+            return True
+        opening, leaving = self._opening, self._leaving
+        return opening is not None and not opening.done or leaving is not None and not leaving.done
 
     def _probe_at(self) -> Optional[float]:
         """When to ask whether the server is there, and whether the session is still this client's.
 
         Nobody tells a client that its session was taken over, not even one that waits for its welcome.
         """
-        if self._probe is not None or self._attach_at is not None or self.phase is Phase.DOWN:
+        if self._probe is not None or self._attach_at is not None or self.phase is _DOWN:
             return None
         if self._bye_sent is not None:
             return None  # it would be refused for the closing
-        is_ready = self.phase is Phase.READY
+        is_ready = self.phase is _READY
         return self._probed_at + (self._probe_interval if is_ready else min(1.0, self._probe_interval))
 
     def _give_up_at(self) -> float:
         """When the server counts as unreachable: counted from the oldest thing that it owes, while something is asked."""
         owed: List[Optional[float]] = [] if self._in_contact else [self._lost_at]
-        if self.phase is Phase.READY:
+        if self.phase is _READY:
             owed += [*self._flow.owed(), self._report_sent, self._bye_sent]
             if self._probe is not None:
                 owed.append(self._probed_at)
@@ -374,23 +397,25 @@ class Core:
         if ticket.done or ticket.taken:
             return False
         ticket.taken = True
-        try:
-            self._check()
-        except errors.FememError as error:
-            self._end(ticket, error=error)
-            return False
-        if not self._is_busy():
+        if self.failure is not None or self._leaving is not None:
+            try:
+                self._check()
+            except errors.FememError as error:
+                self._end(ticket, error=error)
+                return False
+        if self.is_idle or not self.is_busy():
             self._asked_at = now
+        self.is_idle = False
         return True
 
     def _failure_again(self) -> errors.FememError:
-        """A new one for each who is told, since an error that two threads raise gets the traces of both."""
+        """A new one for each ticket, since an error that two threads raise gets the traces of both."""
         assert self.failure is not None
         return type(self.failure)(*self.failure.args)
 
     def _end(self, ticket: Ticket[T], result: Optional[T] = None, error: Optional[BaseException] = None) -> None:
         ticket.end(result, error)
-        self._ended.append(ticket)
+        self.ended.append(ticket)
 
     # Jobs: operations of several steps.
 
@@ -509,7 +534,7 @@ class Core:
     # Sending.
 
     def _attach(self, now: float) -> None:
-        self.phase = Phase.ATTACHING
+        self.phase = _ATTACHING
         self._attach_at = None
         self._probe = None
         self._probed_at = now
@@ -517,7 +542,7 @@ class Core:
 
     def _attach_later(self, now: float) -> None:
         """Not at a fixed time, so that two clients that want one session do not keep it from each other."""
-        self.phase = Phase.ATTACHING
+        self.phase = _ATTACHING
         self._meeting = None
         self._probe = None
         self.is_urgent = True
@@ -531,7 +556,7 @@ class Core:
 
     def _pump(self, now: float) -> None:
         """Sends what may be sent now."""
-        if self.phase is not Phase.READY:
+        if self.phase is not _READY:
             return
         if self._leaving is not None:
             if self._bye_sent is None:
@@ -554,7 +579,7 @@ class Core:
             self._take_refusal(reply, now)
         elif self._flow.window is None:
             self._take_stranger(reply, now)
-        elif self.phase is Phase.ATTACHING and isinstance(reply, (frames.Answer, frames.Settled)):
+        elif self.phase is _ATTACHING and isinstance(reply, (frames.Answer, frames.Settled)):
             # It may be to whoever had the session in between, if the welcome tells of one. Else it comes again.
             pass
         elif isinstance(reply, frames.Answer):
@@ -578,7 +603,7 @@ class Core:
             self._meeting.take(reply)
             self._go_on_meeting(self._meeting)
         elif isinstance(reply, frames.Welcome):
-            self.phase = Phase.MEETING
+            self.phase = _MEETING
             self._meeting = Meeting(reply.floor, self._probes)
             self._go_on_meeting(self._meeting)
         elif not isinstance(reply, (frames.Answer, frames.Settled)):
@@ -591,7 +616,7 @@ class Core:
         if meeting.new_floor is not None:
             self._flow.begin(meeting.new_floor)
             self._meeting = None
-            self.phase = Phase.READY
+            self.phase = _READY
             self._in_contact = True
             self._is_open()
 
@@ -611,8 +636,8 @@ class Core:
         # While the session is being ended it may be gone, and another one attached in its place.
         if self._leaving is None:
             self._flow.welcomed(floor)
-        if self.phase is Phase.ATTACHING:
-            self.phase = Phase.READY
+        if self.phase is _ATTACHING:
+            self.phase = _READY
             self._was_away = True
             self._is_open()
             if self._leaving is None:
@@ -653,7 +678,7 @@ class Core:
             self._take_not_attached(number, now)
         elif is_echo:
             self._take_echo(number, now)
-        elif self.phase is Phase.ATTACHING:
+        elif self.phase is _ATTACHING:
             self._take_attach_refusal(refusal, now)
         elif self._meeting is not None:
             self._meeting.take(refusal)
@@ -665,7 +690,7 @@ class Core:
         self._probes_sent.discard(number)
         self._probe = None
         self._probed_at = now
-        if self.phase is Phase.READY:
+        if self.phase is _READY:
             self._in_contact = True
 
     def _take_not_attached(self, number: int, now: float) -> None:
@@ -676,10 +701,10 @@ class Core:
         if self._flow.window is not None:
             if self.file is None or self._fights >= _FIGHTS:
                 raise errors.TakenOver(f"another connection has session {self.session}")
-            if self.phase is Phase.READY or number == self._probe:
+            if self.phase is _READY or number == self._probe:
                 self._fights += 1
                 self._attach_later(now)
-        elif self.phase is Phase.MEETING or number == self._probe:
+        elif self.phase is _MEETING or number == self._probe:
             self._attach_later(now)
 
     def _take_attach_refusal(self, refusal: frames.Refusal, now: float) -> None:

@@ -6,7 +6,8 @@ from collections import deque
 from typing import Any, Deque, Dict, List, Optional, Set
 
 from . import errors, frames
-from .errors import ProtocolError
+from .errors import AnswerError, ProtocolError
+from .frames import append_under
 from .requests import of_frame
 from .sessionfile import Asked, SessionFile
 from .tickets import Ticket
@@ -22,7 +23,7 @@ _OF_SETTLE = (frames.BELOW_FLOOR, frames.BEYOND_WINDOW, frames.STILL_WAITING, fr
 class Flow:
     """What is sent goes to `to_send`, and tickets that end go to `ended`.
 
-    There is no window, and nothing is sent, until `begin`. Where it moves waits, what would wait goes to `moved`.
+    There is no window, and nothing is sent, until `begin`. Where there is a list `moved`, what would wait goes there.
     """
 
     def __init__(
@@ -30,10 +31,9 @@ class Flow:
         to_send: bytearray,
         ended: List[Ticket[Any]],
         file: Optional[SessionFile] = None,
-        moves_waits: bool = False,
+        moved: Optional[List[Ticket[Any]]] = None,
     ) -> None:
-        self.moved: List[Ticket[Any]] = []
-        self._moves_waits = moves_waits
+        self._moved = moved
         self.window: Optional[Window[Ticket[Any]]] = None
         self._file = file
         # What was asked under a key and has no answer yet.
@@ -73,9 +73,10 @@ class Flow:
 
     def add(self, ticket: Ticket[Any]) -> None:
         if ticket.key is None or not self._is_known(ticket, ticket.key):
-            may_wait = ticket.request is not None and ticket.request.may_wait
-            # Reports show under which session a client is there.
-            ticket.asks_first = self._moves_waits and may_wait and not ticket.is_presence
+            if self._moved is not None:
+                may_wait = ticket.request is not None and ticket.request.may_wait
+                # Reports show under which session a client is there.
+                ticket.asks_first = may_wait and not ticket.is_presence
             self._queue.append(ticket)
 
     def _is_known(self, ticket: Ticket[Any], key: bytes) -> bool:
@@ -97,8 +98,13 @@ class Flow:
 
     def is_busy(self) -> bool:
         """Whether something is asked that somebody waits for."""
-        asked = [] if self.window is None else self.window.unanswered.values()
-        return bool(self._queue) or any(not ticket.is_presence for ticket in asked)
+        if self._queue:
+            return True
+        if self.window is not None:
+            for ticket in self.window.unanswered.values():
+                if not ticket.is_presence:
+                    return True
+        return False
 
     def owed(self) -> List[float]:
         """Since when the server owes what it owes."""
@@ -109,8 +115,9 @@ class Flow:
 
     def take_all(self) -> List[Ticket[Any]]:
         """Everything that is under way, which is given up."""
-        tickets = [*self._queue, *self.moved]
-        self.moved.clear()
+        tickets = [*self._queue, *(self._moved or ())]
+        if self._moved is not None:
+            self._moved.clear()
         if self.window is not None:
             tickets = [*self.window.unanswered.values(), *tickets]
             self.window.unanswered.clear()
@@ -121,27 +128,33 @@ class Flow:
 
     def send(self, now: float) -> None:
         """Requests as far as the window has room, and what makes more room."""
-        if self.window is not None:
-            self._send_queue(self.window, now)
+        window = self.window
+        if window is None:
+            return
+        if self._queue:
+            self._send_queue(window, now)
+        floor = window.next_floor()
+        while floor is not None:
+            if self._file is not None:
+                self._file.settling(floor)
+            self._settle(floor, now)
+            self._send_queue(window, now)
+            floor = window.next_floor()
+        if self._queue:
             for ticket in self.in_the_way():
                 if ticket.sent_at + PATIENCE <= now:
                     self._cancel(ticket, now)
 
     def _send_queue(self, window: Window[Ticket[Any]], now: float) -> None:
-        while self._queue and window.has_room():
-            ticket = self._queue.popleft()
+        queue = self._queue
+        while queue and window.has_room():
+            ticket = queue.popleft()
             ticket.number = window.give(ticket)
             if self._file is not None:
                 assert ticket.request is not None
                 asked = Asked(ticket.request.frame, ticket.key, ticket.ends_with_process)
                 self._file.asked(ticket.number, asked)
             self._send(ticket, now)
-        floor = window.next_floor()
-        if floor is not None:
-            if self._file is not None:
-                self._file.settling(floor)
-            self._settle(floor, now)
-            self._send_queue(window, now)
 
     def in_the_way(self) -> List[Ticket[Any]]:
         """What keeps the window from moving, while something is queued: requests that wait under its lowest numbers.
@@ -182,7 +195,7 @@ class Flow:
         assert ticket.request is not None and ticket.number is not None
         ticket.sent_at = now
         ticket.cancel_sent = False
-        self._to_send += ticket.request.spell(ticket.number, ticket.asks_first)
+        append_under(self._to_send, ticket.request.frame, ticket.number, ticket.asks_first)
 
     def _cancel(self, ticket: Ticket[Any], now: float) -> None:
         assert ticket.number is not None
@@ -197,16 +210,17 @@ class Flow:
         self._ended.append(ticket)
         if ticket.key is not None and self._keys.get(ticket.key) is ticket:
             del self._keys[ticket.key]
-        for follower in ticket.followers or ():
-            if not follower.done:
-                self._end(follower, result, None if error is None else type(error)(*error.args))
+        if ticket.followers is not None:
+            for follower in ticket.followers:
+                if not follower.done:
+                    self._end(follower, result, None if error is None else type(error)(*error.args))
 
     def _end_by(self, ticket: Ticket[Any], answer: frames.Answer) -> None:
         """Ends it as the answer says. `ProtocolError` is raised besides."""
         assert ticket.request is not None
         try:
             result = ticket.request.result(answer)
-        except errors.AnswerError as error:
+        except AnswerError as error:
             self._end(ticket, error=error)
         except ProtocolError as error:
             self._end(ticket, error=error)
@@ -231,11 +245,12 @@ class Flow:
         return True
 
     def _has_to_wait(self, ticket: Ticket[Any]) -> None:
+        assert self._moved is not None
         if ticket.taken_back is not None:
             self._end(ticket, error=ticket.taken_back)
         else:
             ticket.number = None
-            self.moved.append(ticket)
+            self._moved.append(ticket)
 
     def withdrawn(self, number: int) -> None:
         window = self.window

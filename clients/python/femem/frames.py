@@ -7,8 +7,7 @@ sends and holds at most one frame.
 from __future__ import annotations
 
 import struct
-from dataclasses import dataclass
-from typing import List, Union
+from typing import List, NamedTuple, Union
 
 from .errors import ProtocolError
 
@@ -49,9 +48,28 @@ def remove(number: int, array: int) -> bytes:
     return _frame(4, struct.pack(">QQ", number, array))
 
 
+# Length, kind, number, code, array, index and operand.
+_ACCESS = struct.Struct(">IBQBQIQ")
+
+
 def access(number: int, code: int, array: int, index: int, operand: int, nowait: bool) -> bytes:
-    kind = 11 if nowait else 5
-    return _frame(kind, struct.pack(">QBQIQ", number, code, array, index, operand))
+    """`struct.error` where an argument is no whole number or has too many bits."""
+    return _ACCESS.pack(30, 11 if nowait else 5, number, code, array, index, operand)
+
+
+_NUMBER = struct.Struct(">Q")
+
+
+def append_under(stream: bytearray, frame: bytes, number: int, nowait: bool = False) -> None:
+    """Appends a frame of a request that was spelled under number 0, under this number.
+
+    With `nowait`, of an operation that may wait: so that it does not.
+    """
+    at = len(stream) + 5
+    stream += frame
+    _NUMBER.pack_into(stream, at, number)
+    if nowait:
+        stream[at - 1] = 11
 
 
 def cancel(number: int) -> bytes:
@@ -70,14 +88,12 @@ def report() -> bytes:
     return _frame(9)
 
 
-@dataclass(frozen=True)
-class Welcome:
+class Welcome(NamedTuple):
     session: int
     floor: int
 
 
-@dataclass(frozen=True)
-class Answer:
+class Answer(NamedTuple):
     """`value` is the value of *value* and the id of *array*; `length` is that of *array*; else both are 0."""
 
     number: int
@@ -86,29 +102,24 @@ class Answer:
     length: int = 0
 
 
-@dataclass(frozen=True)
-class Withdrawn:
+class Withdrawn(NamedTuple):
     number: int
 
 
-@dataclass(frozen=True)
-class Settled:
+class Settled(NamedTuple):
     floor: int
 
 
-@dataclass(frozen=True)
-class Goodbye:
+class Goodbye(NamedTuple):
     session: int
 
 
-@dataclass(frozen=True)
-class Refusal:
+class Refusal(NamedTuple):
     number: int
     code: int
 
 
-@dataclass(frozen=True)
-class Report:
+class Report(NamedTuple):
     text: str
 
 
@@ -117,6 +128,24 @@ Reply = Union[Welcome, Answer, Withdrawn, Settled, Goodbye, Refusal, Report]
 # The length of each kind but a report's, which is 2 to 262,145.
 _LENGTHS = {65: 17, 66: 22, 67: 9, 68: 9, 69: 9, 70: 10}
 _REPORT = 71
+
+
+# An answer: length, kind, number, code, value and length of an array.
+_new_tuple = tuple.__new__
+_unpack_answer = struct.Struct(">IBQBQI").unpack_from
+
+
+def _read_plain_answers(piece: bytes, replies: List[Reply]) -> int:
+    """Appends the answers at the head of a piece that are *value* or *done*, as most are. How many bytes they took.
+
+    At anything else it stops, right or wrong, and leaves it to the reader of each kind.
+    """
+    for at in range(0, len(piece) - 25, 26):
+        size, kind, number, code, value, length = _unpack_answer(piece, at)
+        if size != 22 or kind != 66 or length or code != VALUE and (code != DONE or value):
+            return at
+        replies.append(_new_tuple(Answer, (number, code, value, 0)))
+    return len(piece) // 26 * 26
 
 
 class ReplyDecoder:
@@ -134,8 +163,14 @@ class ReplyDecoder:
 
         `ProtocolError` names the offset of the first frame that no server sends; of that piece nothing is handed out.
         """
-        self._rest += piece
         replies: List[Reply] = []
+        at = 0
+        if not self._rest:
+            at = _read_plain_answers(piece, replies)
+            self._offset += at
+            if at == len(piece):
+                return replies
+        self._rest += memoryview(piece)[at:]
         at = 0
         while True:
             end = self._end_of_frame(at)

@@ -15,7 +15,7 @@ T = TypeVar("T")
 
 
 class Wait:
-    """A request that may wait, for so many seconds: it ends with its result, or the error is raised in the generator.
+    """A request that may wait, for `seconds` at most: it ends with its result, or the error is raised in the generator.
 
     The next process with the same session file takes it back.
     """
@@ -63,8 +63,6 @@ Steps = Generator[Step, Any, T]
 
 class Job(Ticket[T]):
     """An operation of several steps."""
-
-    __slots__ = ("steps", "asked", "is_abandoned", "is_interrupted", "undo")
 
     def __init__(self, steps: Steps[T], undo: Optional[Callable[[T], Steps[Any]]] = None) -> None:
         super().__init__(None)

@@ -53,7 +53,7 @@ def parse_look(text: str) -> Look:
 class Observer:
     """Reports of a server. With the path of its store, names of arrays and sessions too, where `femem look` shows them.
 
-    `program` is the program `femem`.
+    `program` is the program `femem`. `trouble` is why the last look showed nothing, or empty.
     """
 
     def __init__(
@@ -63,6 +63,7 @@ class Observer:
         self._store = None if store is None else os.fsdecode(store)
         self._program = program
         self._timeout = seconds_of(timeout)
+        self.trouble = ""
         self._socket: Optional[socket.socket] = None
         # The array at which clients wait to be seen, once `owners` found it.
         self._presence: Optional[int] = None
@@ -147,8 +148,10 @@ class Observer:
             done = subprocess.run(
                 [self._program, "look", "--store", self._store], capture_output=True, text=True, timeout=self._timeout
             )
-        except (OSError, subprocess.SubprocessError):
+        except (OSError, subprocess.SubprocessError) as error:
+            self.trouble = f"{self._program}: {error}"
             return Look()
+        self.trouble = "" if done.returncode == 0 else done.stderr.strip() or f"status {done.returncode}"
         return parse_look(done.stdout) if done.returncode == 0 else Look()
 
     def owners(self, report: Report) -> Dict[int, int]:

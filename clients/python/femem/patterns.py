@@ -34,7 +34,7 @@ def client_of(client: object) -> Client:
 
 
 def end_of(timeout: Optional[float]) -> Optional[float]:
-    """The time at which so many seconds are over."""
+    """The time at which the timeout is over."""
     seconds = seconds_of(timeout)
     return None if seconds is None else time.monotonic() + seconds
 
@@ -70,7 +70,7 @@ class Lock:
     def acquire(self, timeout: Optional[float] = None, *, takeover_after: Optional[float] = None) -> bool:
         """Waits for the lock. Whether it was got in time.
 
-        With `takeover_after`, an owner that was not to be seen for so many seconds loses the lock; `broke` is its session
+        With `takeover_after`, an owner that was not to be seen for that long loses the lock; `broke` is its session
         then. It may be connecting again only, and go on with what the lock was for: `generation` tells the two apart.
         """
         patience = seconds_of(takeover_after, "takeover_after")

@@ -1,16 +1,18 @@
 """What can be asked of the server, as values: `client.submit(requests.readfe(array, 0))`.
 
-A request is spelled as it is made, so a wrong argument is told here, before the client has done anything for it.
+A request is spelled as it is made, so a wrong argument is an error here, before the client has done anything for it.
 """
 
 from __future__ import annotations
 
 import operator
+import struct
 from dataclasses import dataclass
 from typing import Any, Callable, Dict, Generic, SupportsIndex, Tuple, TypeVar, Union
 
 from . import frames
 from .errors import ANSWER_ERRORS, BadLength, BadName, ProtocolError
+from .frames import VALUE, access
 
 T = TypeVar("T")
 
@@ -25,42 +27,33 @@ class Array:
 
 ArrayLike = Union[Array, int]
 
-# The kind of a call of an operation that is not to wait.
-_NOWAIT = b"\x0b"
-
-
 class Request(Generic[T]):
-    """A request. `spell` gives its frame under a number, `read` makes a result of an answer that is no error."""
+    """A request. `frame` is its frame under number 0, `read` makes a result of an answer that is no error."""
 
-    __slots__ = ("what", "frame", "read", "may_wait")
+    __slots__ = ("frame", "read", "may_wait")
 
-    def __init__(
-        self, what: str, frame: bytes, read: Callable[[frames.Answer], T], may_wait: bool = False
-    ) -> None:
-        self.what = what
-        # The frame under number 0. The number stands at the same place in each.
+    def __init__(self, frame: bytes, read: Callable[[frames.Answer], T], may_wait: bool = False) -> None:
         self.frame = frame
         self.read = read
         self.may_wait = may_wait
 
+    @property
+    def what(self) -> str:
+        """The request in words: its operation and what it is asked of."""
+        return _in_words(self.frame)
+
     def __repr__(self) -> str:
         return f"<femem request: {self.what}>"
 
-    def spell(self, number: int, nowait: bool = False) -> bytes:
-        """The frame under this number. With `nowait`, of an operation that may wait: so that it does not."""
-        head = self.frame[:4] + _NOWAIT if nowait else self.frame[:5]
-        return head + number.to_bytes(8, "big") + self.frame[13:]
-
     def result(self, answer: frames.Answer) -> T:
         """The result, or the answer's error; `ProtocolError` where the answer is none of this request."""
-        error = ANSWER_ERRORS.get(answer.code)
-        if error is not None:
-            raise error(self.what)
+        if answer.code in ANSWER_ERRORS:
+            raise ANSWER_ERRORS[answer.code](self.what)
         return self.read(answer)
 
 
 def _value(answer: frames.Answer) -> int:
-    if answer.code != frames.VALUE:
+    if answer.code != VALUE:
         raise ProtocolError(f"answer {answer.code} to a request for a value")
     return answer.value
 
@@ -77,7 +70,7 @@ def _array(answer: frames.Answer) -> Array:
 
 
 def _name_bytes(name: Union[str, bytes]) -> bytes:
-    """Names that are not plain are the server's to refuse, but for those that no frame has room for."""
+    """Names that are not plain are the server's to refuse, except those that no frame has room for."""
     if not isinstance(name, (str, bytes)):
         raise TypeError(f"a name is a str or bytes: {name!r}")
     spelled = name.encode("utf-8") if isinstance(name, str) else name
@@ -111,16 +104,15 @@ def create(name: Union[str, bytes], length: int, full: bool = False) -> Request[
         raise TypeError(f"length is not a whole number: {length!r}") from None
     if not 0 <= size < 2**32:
         raise BadLength(f"{size}")
-    return Request(f"create {name!r} {size}", frames.create(0, spelled, size, _flag(full, "full")), _array)
+    return Request(frames.create(0, spelled, size, _flag(full, "full")), _array)
 
 
 def find(name: Union[str, bytes]) -> Request[Array]:
-    return Request(f"find {name!r}", frames.find(0, _name_bytes(name)), _array)
+    return Request(frames.find(0, _name_bytes(name)), _array)
 
 
 def remove(array: ArrayLike) -> Request[None]:
-    id = _id(array)
-    return Request(f"remove {id}", frames.remove(0, id), _done)
+    return Request(frames.remove(0, _id(array)), _done)
 
 
 def _id(array: ArrayLike) -> int:
@@ -130,13 +122,17 @@ def _id(array: ArrayLike) -> int:
 def _access(
     code: int, array: ArrayLike, index: int, operand: int = 0, nowait: bool = False
 ) -> Request[Any]:
-    what, read, may_wait = OPERATIONS[code]
-    id = _id(array)
-    at = number_of_bits(index, 32, "index")
-    value = number_of_bits(operand, 64, "value")
-    is_patient = not _flag(nowait, "nowait")
-    frame = frames.access(0, code, id, at, value, not is_patient)
-    return Request(f"{what} {id} {at}", frame, read, may_wait and is_patient)
+    _, read, may_wait = OPERATIONS[code]
+    if nowait is not False:
+        nowait = _flag(nowait, "nowait")
+    try:
+        id: Any = array.id if isinstance(array, Array) else array
+        frame = access(0, code, id, index, operand, nowait)
+    except (struct.error, TypeError):
+        # One of them is wrong: this says which.
+        at, value = number_of_bits(index, 32, "index"), number_of_bits(operand, 64, "value")
+        frame = frames.access(0, code, _id(array), at, value, nowait)
+    return Request(frame, read, may_wait and not nowait)
 
 
 # Of each operation: its name, how its answer is read, and whether it may wait.
@@ -188,12 +184,19 @@ def of_frame(frame: bytes) -> Request[Any]:
     """The request that has this frame under number 0, as `Request.frame` gives it."""
     kind = frame[4]
     if kind in (5, 11):
-        code, array, index = frame[13], int.from_bytes(frame[14:22], "big"), int.from_bytes(frame[22:26], "big")
-        what, read, may_wait = OPERATIONS[code]
-        return Request(f"{what} {array} {index}", frame, read, may_wait and kind == 5)
+        _, read, may_wait = OPERATIONS[frame[13]]
+        return Request(frame, read, may_wait and kind == 5)
+    return Request(frame, _done if kind == 4 else _array)
+
+
+def _in_words(frame: bytes) -> str:
+    kind = frame[4]
+    if kind in (5, 11):
+        array, index = int.from_bytes(frame[14:22], "big"), int.from_bytes(frame[22:26], "big")
+        return f"{OPERATIONS[frame[13]][0]} {array} {index}"
     if kind == 4:
-        return Request(f"remove {int.from_bytes(frame[13:21], 'big')}", frame, _done)
+        return f"remove {int.from_bytes(frame[13:21], 'big')}"
     name = frame[14 : 14 + frame[13]].decode("utf-8", "replace")
     if kind in (3, 13):
-        return Request(f"find {name!r}", frame, _array)
-    return Request(f"create {name!r} {int.from_bytes(frame[-5:-1], 'big')}", frame, _array)
+        return f"find {name!r}"
+    return f"create {name!r} {int.from_bytes(frame[-5:-1], 'big')}"

@@ -21,7 +21,7 @@ from .errors import SessionFileError, SessionInUse
 
 MAGIC = b"femempy1"
 
-# The file is written anew once it is so long, and so many times as long as what it has to hold.
+# The file is written anew once it has `_SHORT` bytes, and `_GROWTH` times what it has to hold.
 _SHORT = 65536
 _GROWTH = 4
 
@@ -261,7 +261,7 @@ class SessionFile:
     def has_ended(self, number: int) -> None:
         """The request was withdrawn or refused: nothing of it happened."""
         self._note_end(number)
-        self.must_sync = True  # whoever asked is told so, and the next process must not ask it again
+        self.must_sync = True  # whoever asked learns it, and the next process must not ask it again
         self._pending += b"E" + struct.pack(">Q", number)
 
     def settled(self, floor: int) -> None:

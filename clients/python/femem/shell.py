@@ -20,7 +20,7 @@ from typing import Any, Callable, Dict, List, Optional, Tuple
 from . import observer, requests
 from .client import Client
 from .errors import FememError, NoArray, ServerUnreachable
-from .observer import Observer, overview
+from .observer import Look, Observer, overview
 from .patterns import BoundedQueue, Lock
 from .requests import Array, ArrayLike, Request
 
@@ -135,6 +135,7 @@ class Shell:
         self._observer = Observer(
             path, store=given.store, program=given.program, timeout=given.reconnect_timeout
         )
+        self._trouble = ""
         self._own: Optional[Client] = None
         self._names: Dict[str, Array] = {}
         self._is_terminal = sys.stdin.isatty()
@@ -153,7 +154,7 @@ class Shell:
     def _client(self) -> Client:
         """The client of the shell's operations, which attaches at the first one."""
         if self._own is None:
-            self._observer.report()  # a wrong path is told at once
+            self._observer.report()  # a wrong path is an error at once
             self._own = Client(
                 self._path, self._given.session, reconnect_timeout=self._given.reconnect_timeout,
                 timeout=self._given.timeout,
@@ -291,6 +292,14 @@ class Shell:
 
     # The others.
 
+    def _look(self) -> Look:
+        """What the store says; why it says nothing is printed once."""
+        look = self._observer.look()
+        if self._observer.trouble and self._observer.trouble != self._trouble:
+            print(f"femem: the store shows no names: {self._observer.trouble}", file=sys.stderr)
+        self._trouble = self._observer.trouble
+        return look
+
     def _report(self, rest: Words) -> None:
         report = self._observer.report()
         if self._given.json:
@@ -312,17 +321,17 @@ class Shell:
         while True:
             report = self._observer.report()
             if file is None:
-                print(time.strftime("%H:%M:%S"), overview(report, self._observer.look()), flush=True)
+                print(time.strftime("%H:%M:%S"), overview(report, self._look()), flush=True)
             else:
                 owners = self._observer.owners(report)
-                write(file, observer.page(report, self._observer.look(), owners, pause))
+                write(file, observer.page(report, self._look(), owners, pause))
             time.sleep(pause)
 
     def _graph(self, rest: Words) -> None:
         words = [word for word in rest if word != "--owners"]
         report = self._observer.report()
         owners = self._observer.owners(report) if len(words) < len(rest) else {}
-        text = observer.graph(report, self._observer.look(), owners)
+        text = observer.graph(report, self._look(), owners)
         if not words:
             print(text, end="", flush=True)
         elif words[0].endswith(".svg"):
@@ -334,7 +343,7 @@ class Shell:
             write(words[0], text)
 
     def _metrics(self, rest: Words) -> None:
-        print(observer.metrics(self._observer.report(), self._observer.look()), end="", flush=True)
+        print(observer.metrics(self._observer.report(), self._look()), end="", flush=True)
 
     def _lock(self, rest: Words) -> None:
         if len(rest) < 3 or rest[1] != "--":

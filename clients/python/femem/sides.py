@@ -13,7 +13,7 @@ from .requests import number_of_bits
 
 C = TypeVar("C")
 
-# The server keeps so many sessions.
+# How many sessions the server keeps.
 MOST = 64
 
 

@@ -2,7 +2,7 @@
 
 What several words say together is changed by one client at a time, whose session stands in a word, the turn. Two sends do
 it: the first takes the turn and looks, the second changes the words and gives the turn back. A client that is gone in the
-middle left its change undone or done, but for the turn and the signals. The next one sees whose turn it is, makes sure
+middle left its change undone or done, apart from the turn and the signals. The next one sees whose turn it is, makes sure
 that this session is heard no more, and takes the turn's array away: one of all who try does that, and its id never comes
 back. Whoever has the turn sets the signals as the words say, and who waits for a signal looks again now and then.
 """

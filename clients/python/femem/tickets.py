@@ -19,46 +19,44 @@ def _nobody() -> None:
 class Ticket(Generic[T]):
     """Something asked of the server. Once `done`, it has a `result` or an `error`.
 
-    It is made by whoever asks, then taken by the core, then numbered and sent, and then done.
+    It is made by whoever asks, then taken by the core, then numbered and sent, and then done. What most tickets never
+    have stands in the class, since one is made for each request.
     """
 
-    __slots__ = (
-        "request", "number", "sent_at", "taken", "done", "result", "error", "finished", "taken_back", "cancel_sent",
-        "is_presence", "ends_with_process", "key", "followers", "asks_first",
-    )  # fmt: skip
+    number: Optional[int] = None
+    sent_at = 0.0
+    # Whether the core knows of it.
+    taken = False
+    done = False
+    result: Optional[T] = None
+    error: Optional[BaseException] = None
+    # What it ends with where it is taken back, once somebody wants that.
+    taken_back: Optional[Withdrawn] = None
+    # Whether a cancel of it was sent over this connection.
+    cancel_sent = False
+    # Whether it only shows that this client is there: nobody waits for it.
+    is_presence = False
+    # Whether the next process with the session file takes it back, and does not go on to wait.
+    ends_with_process = False
+    # Under which key the session file keeps its answer, and who else asked under that key meanwhile.
+    key: Optional[bytes] = None
+    followers: Optional[List[Ticket[T]]] = None
+    # Whether it is asked so that it does not wait: where it would, another session waits for it.
+    asks_first = False
 
-    def __init__(self, request: Optional[Request[T]]) -> None:
+    def __init__(self, request: Optional[Request[T]], finished: Callable[[], None] = _nobody) -> None:
         self.request = request
-        self.number: Optional[int] = None
-        self.sent_at = 0.0
-        # Whether the core knows of it.
-        self.taken = False
-        self.done = False
-        self.result: Optional[T] = None
-        self.error: Optional[BaseException] = None
-        self.finished: Callable[[], None] = _nobody
-        # What it ends with where it is taken back, once somebody wants that.
-        self.taken_back: Optional[Withdrawn] = None
-        # Whether a cancel of it was sent over this connection.
-        self.cancel_sent = False
-        # Whether it only shows that this client is there: nobody waits for it.
-        self.is_presence = False
-        # Whether the next process with the session file takes it back, and does not go on to wait.
-        self.ends_with_process = False
-        # Under which key the session file keeps its answer, and who else asked under that key meanwhile.
-        self.key: Optional[bytes] = None
-        self.followers: Optional[List[Ticket[T]]] = None
-        # Whether it is asked so that it does not wait: where it would, another session waits for it.
-        self.asks_first = False
+        # Called once it is done.
+        self.finished = finished
 
     def must_end(self) -> bool:
         """Whether the server owes an end of it, whatever others do."""
         return self.cancel_sent or self.asks_first or self.request is None or not self.request.may_wait
 
     def end(self, result: Optional[T] = None, error: Optional[BaseException] = None) -> None:
-        self.done = True
         self.result = result
         self.error = error
+        self.done = True
 
 
 class Timeouts:

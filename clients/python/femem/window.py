@@ -14,12 +14,14 @@ from .errors import ProtocolError, SessionLost, TakenOver
 
 T = TypeVar("T")
 
-# The floor is raised at the latest once so many numbers are answered.
+# The floor is raised at the latest once this many numbers are answered.
 _STEP = 16
 
 # The floor asked is less than a whole window above the one that stands. A client that takes the session over raises the
 # floor by a whole one, so the floor then tells that it was there.
 _LONGEST_STEP = frames.WINDOW - 1
+
+_WINDOW = frames.WINDOW
 
 _SETTLED_OTHERWISE = "no answer is due"
 
@@ -55,7 +57,7 @@ class Window(Generic[T]):
         return window
 
     def has_room(self) -> bool:
-        return self._next < self.asked + frames.WINDOW
+        return self._next < self.asked + _WINDOW
 
     def give(self, item: T) -> int:
         """The next number, for this request. There is room."""
@@ -85,7 +87,7 @@ class Window(Generic[T]):
 
     def next_floor(self) -> Optional[int]:
         """The floor to ask for now, if it should rise. One is asked for at a time."""
-        if self.asked != self.floor:
+        if self.asked != self.floor or self._next - self.floor < _STEP:
             return None
         floor = min(self.lowest(), self.floor + _LONGEST_STEP, frames.GREATEST_FLOOR)
         if floor - self.floor < _STEP and (self.has_room() or floor == self.floor):

@@ -71,6 +71,42 @@ class Asyncio(WithFolder):
 
         self.run_with(work)
 
+    def test_what_is_withdrawn(self):
+        self.server()
+
+        async def work(client):
+            word = await client.create("word", 1)
+            waiting = client.submit(requests.readfe(word, 0))
+            client.withdraw(waiting)
+            with self.assertRaises(femem.Withdrawn):
+                await waiting
+            done = client.submit(requests.readxx(word, 0))
+            self.assertEqual(await done, 0)
+            client.withdraw(done)  # it had happened
+            self.assertEqual(await done, 0)
+            with self.assertRaises(ValueError):
+                client.submit(requests.readxx(word, 0), key="a key needs a session file")
+
+        self.run_with(work)
+
+    def test_a_key_is_asked_once(self):
+        self.server()
+
+        async def work(client):
+            word = await client.create("word", 1, full=True)
+            add = requests.int_fetch_add(word, 0, 1)
+            futures = [client.submit(add, key="one") for _ in range(3)]
+            self.assertEqual(await asyncio.gather(*futures), [0, 0, 0])
+            self.assertEqual(await client.once("one", add), 0)
+            client.forget("one")
+            self.assertEqual(await client.once("one", add), 1)
+
+        async def main():
+            async with AsyncClient(self.path, session_file=self.path + ".session") as client:
+                await asyncio.wait_for(work(client), 60)
+
+        asyncio.run(main())
+
     def test_stops(self):
         server = self.server()
 

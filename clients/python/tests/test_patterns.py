@@ -291,6 +291,27 @@ class Patterns(WithFolder):
                 client.readxx(other.find("lock"), 0)
                 self.assertIsNone(lock.owner())
 
+    def test_a_put_and_a_get_are_two_sends_each(self):
+        """Where there is room, or a value: one that takes the turn and looks, and one that changes and gives it back."""
+        self.server()
+        with Client(self.path, 7, probe_interval=100.0) as client:
+            queue = BoundedQueue(client, "queue", 4)
+            queue.put(4)  # the first one finds the queue's arrays
+            inner, sent = client._socket, []
+
+            class Counting:
+                def send(self, content):
+                    sent.append(inner.send(content))
+                    return sent[-1]
+
+            client._socket = Counting()
+            for work in (lambda: queue.put(5), queue.get):
+                sent.clear()
+                work()
+                # A floor that rises may be sent by itself.
+                self.assertEqual(len([size for size in sent if size != 13]), 2, sent)
+            client._socket = inner
+
     def test_a_queue_without_waiting(self):
         self.server()
         with Client(self.path, 1) as client:

@@ -46,7 +46,7 @@ class Sessions(WithFolder):
                     self.assertEqual(client._core._flow._cancelled, set())
                 await asyncio.gather(*[other.writexf(words, index, index) for index in range(1000)])
                 self.assertEqual(await asyncio.gather(*tasks), list(range(1000)))
-                self.assertFalse(client._core._is_busy())
+                self.assertFalse(client._core.is_busy())
 
         asyncio.run(main())
 

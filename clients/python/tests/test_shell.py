@@ -291,4 +291,19 @@ class Looking(WithFolder):
             text = overview(self.wait_for(observer, 1), observer.look())
             self.assertIn("word 1 of jobs is to become full for session 7", text)
             self.assertIn("session 7: 4 answers kept, waits", text)
-        self.assertEqual(Observer(self.path, store="x", program="/nowhere").look().arrays, {})
+        nobody = Observer(self.path, store="x", program="/nowhere")
+        self.assertEqual(nobody.look().arrays, {})
+        self.assertIn("/nowhere", nobody.trouble)
+
+    def test_a_look_that_shows_nothing_says_why(self):
+        self.server()
+        program = self.path + ".program"
+        with open(program, "w") as file:
+            file.write("#!/bin/sh\necho femem: store device >&2\nexit 3\n")
+        os.chmod(program, 0o700)
+        words = ["--store", "x", "--program", program, self.path, "metrics"]
+        out = subprocess.run(
+            [sys.executable, "-m", "femem", *words], cwd=ROOT, capture_output=True, text=True, timeout=60
+        )
+        self.assertIn("femem_waiting 0\n", out.stdout)
+        self.assertEqual((out.stderr, out.returncode), ("femem: the store shows no names: femem: store device\n", 0))

@@ -123,7 +123,7 @@ class World:
             self.model.post()
             for core in cores:
                 self.pull(core)
-            if all(core.failure is not None or not core._is_busy() for core in cores):
+            if all(core.failure is not None or not core.is_busy() for core in cores):
                 return
         raise AssertionError("the clients do not come to an end")
 

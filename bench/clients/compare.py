@@ -1,0 +1,99 @@
+"""The clients of this repository beside redis-py and hiredis: prints a Markdown table.
+
+Both servers run at once, on Unix sockets: femem over a store in /dev/shm, Redis with neither log nor snapshots. What is
+compared is the processor time of the client's own process, user and system, not what the servers do or promise. The two
+clients of a language are in one process and work in turns, for a moment each.
+"""
+
+import argparse
+import json
+import os
+import pathlib
+import shutil
+import statistics
+import subprocess
+import sys
+import tempfile
+import time
+
+HERE = pathlib.Path(__file__).resolve().parent
+ROOT = HERE.parents[1]
+
+LOADS = {"call": "a call that waits for its answer", "batch 32": "32 in a batch", "batch 1000": "1,000 in a batch"}
+
+
+def started(words, socket):
+    """A server, once its socket is there."""
+    process = subprocess.Popen(words, stdin=subprocess.DEVNULL, stdout=subprocess.DEVNULL)
+    end = time.monotonic() + 20
+    while not os.path.exists(socket):
+        if process.poll() is not None or time.monotonic() > end:
+            raise SystemExit(f"no server: {words}")
+        time.sleep(0.01)
+    return process
+
+
+def python_with_redis():
+    for python in (sys.executable, "/usr/bin/python3"):
+        if subprocess.run([python, "-c", "import redis"], stderr=subprocess.DEVNULL).returncode == 0:
+            return python
+    raise SystemExit("no Python here has redis: apt-get install python3-redis")
+
+
+def c_program(folder):
+    library = ROOT / "clients" / "c"
+    subprocess.run(["make", "-s", "-C", library, "out/libfemem.a"], check=True)
+    made = os.path.join(folder, "calls")
+    words = ["cc", "-O2", "-Wall", "-o", made, HERE / "calls.c", f"-I{library}", library / "out" / "libfemem.a", "-lhiredis"]
+    subprocess.run(words, check=True)
+    return made
+
+
+def rounds_of(words):
+    """Of each load what each round told, as (ours, theirs) in microseconds of processor time for an operation."""
+    said = subprocess.run(words, check=True, stdout=subprocess.PIPE, text=True, timeout=600).stdout
+    return {name: json.loads(rounds) for name, rounds in (line.split("\t") for line in said.splitlines())}
+
+
+def print_rows(rounds, ours, theirs):
+    for name, text in LOADS.items():
+        pairs = rounds[name]
+        ratios = sorted(mine / other for mine, other in pairs)
+        mine, other = (statistics.median(pair[k] for pair in pairs) for k in (0, 1))
+        spread = f"{statistics.median(ratios):.2f} ({ratios[0]:.2f} to {ratios[-1]:.2f})"
+        print(f"| {text} | {ours} {mine:.1f} | {theirs} {other:.1f} | {spread} |", flush=True)
+
+
+def main():
+    parser = argparse.ArgumentParser(usage="bench/clients/run PROGRAM [--rounds N]")
+    parser.add_argument("program")
+    parser.add_argument("--rounds", type=int, default=25)
+    asked = parser.parse_args()
+    server = shutil.which("redis-server")
+    if server is None:
+        raise SystemExit("redis-server is not installed")
+    with tempfile.TemporaryDirectory(dir="/dev/shm") as folder:
+        femem, redis = os.path.join(folder, "femem.socket"), os.path.join(folder, "redis.socket")
+        settings = os.path.join(folder, "femem.toml")
+        with open(settings, "w") as file:
+            file.write(f'socket = "{femem}"\nstore = "{folder}/femem.store"\nformat = true\n')
+        servers = [
+            started([os.path.abspath(asked.program), "serve", "--settings", settings], femem),
+            started([server, "--port", "0", "--unixsocket", redis, "--save", "", "--appendonly", "no", "--dir", folder], redis),
+        ]
+        try:
+            told = [femem, redis, str(asked.rounds)]
+            python = rounds_of([python_with_redis(), HERE / "calls.py", *told])
+            c = rounds_of([c_program(folder), *told])
+        finally:
+            for process in servers:
+                process.kill()
+                process.wait()
+    print("| load | femem, µs | Redis, µs | ratio, the median of the rounds (least to most) |")
+    print("|---|---|---|---|")
+    print_rows(python, "Python", "redis-py")
+    print_rows(c, "C", "hiredis")
+
+
+if __name__ == "__main__":
+    main()

@@ -1,0 +1,191 @@
+/* The connection: moving bytes, attaching, and coming back. */
+#define _POSIX_C_SOURCE 200809L
+#include "client.h"
+
+#include <errno.h>
+#include <fcntl.h>
+#include <limits.h>
+#include <poll.h>
+#include <sys/socket.h>
+#include <time.h>
+#include <unistd.h>
+
+void fe_close_line(femem *client, femem_error why) {
+  if (client->descriptor >= 0) close(client->descriptor);
+  client->descriptor = -1;
+  client->phase = CLOSED;
+  client->broken = why;
+  client->input_end = client->output_begin = client->output_end = 0;
+  client->probes = 0;
+  if (client->report == COMING) client->report = ASKED;
+  /* What was to be moved is sent again under the number that it has. */
+  client->moving = 0;
+  for (slot *place = client->slots; place < client->slots + WINDOW; place++) {
+    if (place->state == PARKED) place->state = OUT;
+    if (place->cancelled == TO_MOVE) place->cancelled = NOT;
+  }
+}
+
+int64_t fe_now(void) {
+  struct timespec time;
+  clock_gettime(CLOCK_MONOTONIC, &time);
+  return (int64_t)time.tv_sec * 1000000 + time.tv_nsec / 1000;
+}
+
+/* A moment in microseconds, -1 for none. */
+int64_t fe_moment(int64_t within) {
+  if (within < 0) return -1;
+  return within > INT64_MAX / 4000 ? -1 : fe_now() + within * 1000;
+}
+
+bool fe_is_past(int64_t end) { return end >= 0 && fe_now() >= end; }
+
+static int poll_time(int64_t end) {
+  if (end < 0) return -1;
+  int64_t left = end - fe_now();
+  if (left <= 0) return 0;
+  int64_t rounded = (left + 999) / 1000;
+  return rounded > INT_MAX ? INT_MAX : (int)rounded;
+}
+
+static femem_error system_fault(femem *client, femem_error error) {
+  client->system = errno;
+  fe_close_line(client, error);
+  return error;
+}
+
+/* A session file has all that is sent before it is sent. */
+static bool is_kept(femem *client) {
+  if (!client->file || session_file_sync(client->file, client->floor_told, client->next)) return true;
+  system_fault(client, FEMEM_FILE_FAULT);
+  return false;
+}
+
+void fe_write_some(femem *client) {
+  if (client->output_begin < client->output_end && !is_kept(client)) return;
+  while (client->output_begin < client->output_end) {
+    size_t size = client->output_end - client->output_begin;
+    ssize_t count = send(client->descriptor, client->output + client->output_begin, size, MSG_NOSIGNAL);
+    if (count < 0 && errno == EINTR) continue;
+    if (count < 0 && (errno == EAGAIN || errno == EWOULDBLOCK)) return;
+    /* A server that went may have left replies, which are read first; the reading then tells. */
+    client->output_begin += count < 0 ? size : (size_t)count;
+    FEMEM_POINT("sent");
+  }
+}
+
+/* Reads once what is there. */
+static femem_error read_some(femem *client) {
+  ssize_t count;
+  do count = recv(client->descriptor, client->input + client->input_end, INPUT - client->input_end, 0);
+  while (count < 0 && errno == EINTR);
+  if (count < 0 && (errno == EAGAIN || errno == EWOULDBLOCK)) return FEMEM_OK;
+  if (count <= 0) return system_fault(client, FEMEM_DISCONNECTED);
+  client->input_end += (size_t)count;
+  client->quiet_since = fe_now();
+  return fe_digest(client);
+}
+
+bool fe_is_copy(const femem *client) { return client->owner != getpid(); }
+
+/* Asks whether the session is still this connection's, which nobody tells a client that only waits: what an earlier life
+   had on its way, or another client, may have attached it, and then its answers go there. */
+static void probe(femem *client) {
+  client->quiet_since = fe_now();
+  if (!fe_has_room(client, SETTLE_FRAME)) return;
+  client->probes++;
+  fe_put_short(client, CANCEL, PROBE);
+}
+
+femem_error fe_step(femem *client, int64_t end) {
+  if (fe_is_copy(client)) return FEMEM_FORKED;
+  if (client->phase == CLOSED) return client->broken;
+  fe_write_some(client);
+  if (client->phase == CLOSED) return client->broken;
+  int64_t probe_at = client->quiet_since + INT64_C(1000) * FEMEM_QUIET;
+  bool probes = client->phase == SERVED && !client->bye && (end < 0 || probe_at < end);
+  struct pollfd line = {.fd = client->descriptor, .events = POLLIN};
+  if (client->output_begin < client->output_end) line.events |= POLLOUT;
+  int events = poll(&line, 1, poll_time(probes ? probe_at : end));
+  if (events < 0 && errno != EINTR) return system_fault(client, FEMEM_SYSTEM);
+  if (events == 0 && !probes) return FEMEM_TIMEOUT;
+  if (events == 0) probe(client);
+  return events > 0 && (line.revents & ~POLLOUT) ? read_some(client) : FEMEM_OK;
+}
+
+static void nap(int64_t microseconds) {
+  struct timespec time = {microseconds / 1000000, microseconds % 1000000 * 1000};
+  nanosleep(&time, NULL);
+}
+
+static femem_error dial(femem *client) {
+  int line = socket(AF_UNIX, SOCK_STREAM, 0);
+  if (line < 0) return system_fault(client, FEMEM_SYSTEM);
+  client->descriptor = line;
+  if (fcntl(line, F_SETFD, FD_CLOEXEC) || fcntl(line, F_SETFL, O_NONBLOCK)) return system_fault(client, FEMEM_SYSTEM);
+  if (connect(line, (struct sockaddr *)&client->address, sizeof client->address) == 0) return FEMEM_OK;
+  return system_fault(client, FEMEM_UNREACHABLE);
+}
+
+static void put_attach(femem *client) {
+  if (!fe_has_room(client, SETTLE_FRAME)) return;
+  client->attaches++;
+  fe_put_short(client, ATTACH, client->session);
+}
+
+/* One connection and its attach, until the session is served. The attach is said again where no welcome comes: an
+   earlier life's attach may have been read later than this one's, and then the welcome went there. */
+static femem_error attach(femem *client, int64_t end) {
+  femem_error error = dial(client);
+  if (error) return error;
+  client->phase = client->opened ? RETURNING : OPENING;
+  client->broken = FEMEM_OK;
+  client->welcomed = false;
+  if (!client->opened) client->floor_told = client->settles = client->opening_tries = 0;
+  put_attach(client);
+  int64_t again = fe_moment(FEMEM_QUIET);
+  while (error == FEMEM_OK && client->phase != SERVED) {
+    bool repeats = !client->welcomed && (end < 0 || again < end);
+    error = fe_step(client, repeats ? again : end);
+    if (error == FEMEM_TIMEOUT && repeats) {
+      error = FEMEM_OK;
+      again = fe_moment(FEMEM_QUIET);
+      put_attach(client);
+    }
+    if (error == FEMEM_OK && client->phase != SERVED && fe_is_past(end)) error = FEMEM_TIMEOUT;
+  }
+  if (error == FEMEM_TIMEOUT) fe_close_line(client, FEMEM_TIMEOUT);
+  return error;
+}
+
+/* Tries until the end: a server that starts again, or one that has no connection or no session free at the moment. */
+femem_error fe_reach(femem *client, int64_t end, bool again) {
+  for (int64_t pause = 1000;; pause = pause < 50000 ? pause * 2 : pause) {
+    /* Before the first time too, so that a server that hangs up at each welcome is not asked without a rest. */
+    if (client->opened || pause > 1000) nap(pause);
+    femem_error error = attach(client, end);
+    bool passing = error == FEMEM_UNREACHABLE || error == FEMEM_DISCONNECTED || error == FEMEM_REFUSED_CLOSING;
+    if (!passing || !again) return error;
+    if (fe_is_past(end)) {
+      fe_close_line(client, FEMEM_UNREACHABLE);
+      return FEMEM_UNREACHABLE;
+    }
+  }
+}
+
+femem_error fe_mend(femem *client, femem_error error, int64_t end) {
+  if (error != FEMEM_DISCONNECTED || client->settings.reconnect <= 0 || client->ended) return error;
+  int64_t last = fe_moment(client->settings.reconnect);
+  bool earlier = end >= 0 && (last < 0 || end < last);
+  error = fe_reach(client, earlier ? end : last, true);
+  if (!earlier || (error != FEMEM_UNREACHABLE && error != FEMEM_TIMEOUT)) return error;
+  fe_close_line(client, FEMEM_DISCONNECTED);
+  return FEMEM_TIMEOUT;
+}
+
+/* Whether something may be sent. */
+femem_error fe_usable(femem *client) {
+  if (fe_is_copy(client)) return FEMEM_FORKED;
+  if (client->ended || client->bye) return FEMEM_ENDED;
+  return client->phase == CLOSED ? fe_mend(client, client->broken, fe_moment(client->settings.wait)) : FEMEM_OK;
+}

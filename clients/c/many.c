@@ -1,0 +1,117 @@
+/* Keys, which are asked once over the client's own restarts, and batches. */
+#define _POSIX_C_SOURCE 200809L
+#include "client.h"
+
+#include <string.h>
+
+static bool is_key(const char *key) { return key && *key && strnlen(key, FEMEM_KEY + 1) <= FEMEM_KEY; }
+
+static bool is_same_request(const femem_request *one, const femem_request *other) {
+  uint8_t spelled[2][LONGEST_REQUEST];
+  size_t size = fe_put_request(spelled[0], 0, one);
+  return fe_put_request(spelled[1], 0, other) == size && memcmp(spelled[0], spelled[1], size) == 0;
+}
+
+/* Asks under a key, unless that was asked before. */
+static femem_error begin_once(femem *client, const char *key, const femem_request *request, uint64_t *number) {
+  const kept_key *kept = session_file_find(client->file, key);
+  if (!kept) return fe_send_request(client, request, key, number);
+  if (!is_same_request(&kept->request, request)) return FEMEM_OTHER_REQUEST;
+  *number = kept->number;
+  return FEMEM_OK;
+}
+
+/* The answer of a key; where its time is over the request is taken back. */
+static femem_error end_once(femem *client, const char *key, femem_answer *answer) {
+  uint64_t number = answer->number;
+  femem_error error = fe_wait_for(client, fe_is_answered, number, fe_moment(client->settings.wait));
+  if (error == FEMEM_TIMEOUT && (error = fe_ask_back(client, number)) == FEMEM_OK)
+    error = fe_wait_for(client, fe_is_answered, number, fe_moment(client->settings.wait));
+  if (error) return error;
+  const kept_key *kept = session_file_find(client->file, key);
+  *answer = kept ? kept->answer : fe_end_of(client, number);
+  return FEMEM_OK;
+}
+
+femem_error femem_once(femem *client, const char *key, const femem_request *request, femem_answer *answer) {
+  if (!client->file || !is_key(key) || !fe_is_spelled(request)) return FEMEM_BAD_CALL;
+  femem_error error = begin_once(client, key, request, &answer->number);
+  if (error == FEMEM_OK) error = end_once(client, key, answer);
+  return error ? error : answer->error;
+}
+
+femem_error femem_forget(femem *client, const char *key) {
+  if (!client->file || !is_key(key)) return FEMEM_BAD_CALL;
+  if (fe_is_copy(client)) return FEMEM_FORKED;
+  const kept_key *kept = session_file_find(client->file, key);
+  if (!kept) return FEMEM_NOTHING_OUT;
+  if (!kept->is_answered) return FEMEM_BAD_CALL;
+  session_file_forget(client->file, key);
+  return FEMEM_OK;
+}
+
+femem_error femem_recovered_at(const femem *client, unsigned index, femem_recovered *recovered) {
+  if (!client->file) return FEMEM_BAD_CALL;
+  if (index >= client->recovered_count) return FEMEM_NOTHING_OUT;
+  *recovered = client->recovered[index];
+  return FEMEM_OK;
+}
+
+/* A batch. `keys` is NULL where it has none. */
+typedef struct batch {
+  const char *const *keys;
+  const femem_request *requests;
+  femem_answer *answers;
+  size_t count, sent, taken;
+} batch;
+
+/* Sends what has a number, and says why that is not all of it. No place is used again before its answer is taken. */
+static femem_error send_more(femem *client, batch *many) {
+  while (many->sent < many->count && many->sent - many->taken < WINDOW) {
+    const femem_request *request = &many->requests[many->sent];
+    femem_answer *answer = &many->answers[many->sent];
+    femem_error error = many->keys ? begin_once(client, many->keys[many->sent], request, &answer->number)
+                                   : femem_send(client, request, &answer->number);
+    if (error) return error;
+    answer->error = FEMEM_TIMEOUT;
+    many->sent++;
+  }
+  return FEMEM_OK;
+}
+
+/* Takes the next answer; where its time is over the request is taken back. */
+static femem_error take_next(femem *client, batch *many) {
+  femem_answer *answer = &many->answers[many->taken];
+  uint64_t number = answer->number;
+  if (many->keys) return end_once(client, many->keys[many->taken], answer);
+  femem_error error = femem_wait(client, number, answer, client->settings.wait);
+  if (error != FEMEM_TIMEOUT) return error;
+  error = femem_cancel(client, number, answer);
+  return fe_find(client, number) ? error : FEMEM_OK;
+}
+
+static femem_error run_batch(femem *client, batch many) {
+  for (size_t i = 0; i < many.count; i++) {
+    if (!fe_is_spelled(&many.requests[i]) || (many.keys && !is_key(many.keys[i]))) return FEMEM_BAD_CALL;
+    many.answers[i] = (femem_answer){.error = FEMEM_NOTHING_OUT};
+  }
+  while (many.taken < many.count) {
+    femem_error error = send_more(client, &many);
+    if (error && (error != FEMEM_WINDOW_FULL || many.sent == many.taken)) return error;
+    /* Half a window, so that the server has the other half meanwhile. */
+    size_t end = many.sent - many.taken > WINDOW / 2 ? many.taken + WINDOW / 2 : many.sent;
+    for (; many.taken < end; many.taken++)
+      if ((error = take_next(client, &many)) != FEMEM_OK) return error;
+  }
+  return FEMEM_OK;
+}
+
+femem_error femem_batch(femem *client, const femem_request *requests, size_t count, femem_answer *answers) {
+  return run_batch(client, (batch){.requests = requests, .answers = answers, .count = count});
+}
+
+femem_error femem_batch_once(femem *client, const char *const *keys, const femem_request *requests, size_t count,
+                             femem_answer *answers) {
+  if (!client->file || !keys) return FEMEM_BAD_CALL;
+  return run_batch(client, (batch){.keys = keys, .requests = requests, .answers = answers, .count = count});
+}

@@ -1,0 +1,122 @@
+/* Clients are made, opened and closed. */
+#define _POSIX_C_SOURCE 200809L
+#include "client.h"
+
+#include <errno.h>
+#include <stdlib.h>
+#include <string.h>
+#include <unistd.h>
+
+/* A client that is not connected yet. */
+static femem_error make(femem **client, const char *path, uint64_t session, const femem_settings *settings) {
+  struct sockaddr_un address = {.sun_family = AF_UNIX};
+  if (!path || strlen(path) >= sizeof address.sun_path) return FEMEM_BAD_CALL;
+  memcpy(address.sun_path, path, strlen(path));
+  femem *made = *client = calloc(1, sizeof *made);
+  if (!made) return FEMEM_MEMORY;
+  made->owner = getpid();
+  made->descriptor = -1;
+  made->address = address;
+  made->session = session;
+  made->settings = settings ? *settings : (femem_settings){.wait = FEMEM_FOREVER};
+  return FEMEM_OK;
+}
+
+static femem_error reach_first(femem *client) {
+  bool again = client->settings.reconnect > 0;
+  return fe_reach(client, fe_moment(again ? client->settings.reconnect : client->settings.wait), again);
+}
+
+femem_error femem_open(femem **client, const char *path, uint64_t session, const femem_settings *settings) {
+  if (!client) return FEMEM_BAD_CALL;
+  *client = NULL;
+  femem_error error = make(client, path, session, settings);
+  if (error == FEMEM_OK) error = reach_first(*client);
+  if (error == FEMEM_OK) return FEMEM_OK;
+  femem_close(*client);
+  *client = NULL;
+  return error;
+}
+
+/* An earlier life was about to end its session: that is done first. */
+static femem_error end_left(session_file *file, const char *path, const femem_settings *settings) {
+  femem *left;
+  femem_error error = femem_open(&left, path, file->session, settings);
+  if (error) return error;
+  error = femem_bye(left);
+  femem_close(left);
+  if (error) return error;
+  return session_file_begin(file) ? FEMEM_OK : FEMEM_FILE_FAULT;
+}
+
+static void recover(femem *client, uint64_t wire) {
+  const kept_request *kept = &client->file->requests[wire % WINDOW];
+  slot *place = fe_slot_of(client, wire);
+  *place = (slot){.state = TAKEN}; /* ended, and its answer is not known here */
+  if (kept->wire != wire) return;
+  *place = (slot){.state = OUT, .wire = wire, .request = kept->request, .answer.number = kept->number,
+                  .keyed = kept->key, .recovered = true};
+  client->out++;
+  femem_recovered *listed = &client->recovered[client->recovered_count++];
+  *listed = (femem_recovered){.number = kept->number, .request = kept->request};
+  if (kept->key) memcpy(listed->key, kept->key->key, sizeof listed->key);
+}
+
+/* What the session file says of the earlier life. A later one cannot know how many settles and attaches that still had
+   under way. */
+static femem_error restore(femem *client) {
+  const session_file *file = client->file;
+  client->recovered = calloc(WINDOW, sizeof *client->recovered);
+  if (!client->recovered) return FEMEM_MEMORY;
+  client->session = file->session;
+  if (file->next == 0) return FEMEM_OK;
+  client->opened = true;
+  client->settles = client->attaches = WINDOW;
+  client->floor_told = file->floor;
+  client->next = file->next;
+  client->low = file->next > file->floor + WINDOW ? file->next - WINDOW : file->floor;
+  for (uint64_t wire = client->low; wire < client->next; wire++) recover(client, wire);
+  fe_advance(client);
+  client->floor_asked = client->low;
+  return FEMEM_OK;
+}
+
+femem_error femem_open_file(femem **client, const char *path, const char *file, const femem_settings *settings) {
+  if (!client) return FEMEM_BAD_CALL;
+  *client = NULL;
+  if (!file || (settings && settings->resume)) return FEMEM_BAD_CALL;
+  femem *made = NULL;
+  femem_error error = make(&made, path, 0, settings);
+  if (error == FEMEM_OK) error = session_file_open(&made->file, file);
+  if (error == FEMEM_OK && made->file->leaving) error = end_left(made->file, path, settings);
+  if (error == FEMEM_OK) error = restore(made);
+  if (error == FEMEM_OK) error = reach_first(made);
+  if (error == FEMEM_OK) {
+    made->returns = 0;
+    *client = made;
+    return FEMEM_OK;
+  }
+  int why = error == FEMEM_FILE_FAULT && made->system ? made->system : errno;
+  femem_close(made);
+  errno = why;
+  return error;
+}
+
+void femem_close(femem *client) {
+  if (!client) return;
+  /* What was taken since the last request. Where it fails the next life gets it once more. */
+  if (client->file && client->opened && !fe_is_copy(client))
+    session_file_sync(client->file, client->floor_told, client->next);
+  fe_close_line(client, FEMEM_DISCONNECTED);
+  session_file_close(client->file);
+  free(client->recovered);
+  free(client->text);
+  free(client);
+}
+
+femem_error femem_reconnect(femem *client, int64_t within) {
+  if (fe_is_copy(client)) return FEMEM_FORKED;
+  if (client->ended) return FEMEM_ENDED;
+  fe_close_line(client, FEMEM_DISCONNECTED);
+  return fe_reach(client, fe_moment(within), true);
+}

@@ -1,0 +1,66 @@
+/* What is to be written to the server. */
+#define _POSIX_C_SOURCE 200809L
+#include "client.h"
+
+#include <string.h>
+
+uint8_t *fe_room(femem *client, size_t size) {
+  if (client->output_begin == client->output_end) client->output_begin = client->output_end = 0;
+  if (client->output_end + size > OUTPUT) {
+    memmove(client->output, client->output + client->output_begin, client->output_end - client->output_begin);
+    client->output_end -= client->output_begin;
+    client->output_begin = 0;
+  }
+  if (client->output_end + size > OUTPUT) return NULL;
+  uint8_t *at = client->output + client->output_end;
+  client->output_end += size;
+  return at;
+}
+
+bool fe_has_room(const femem *client, size_t size) {
+  return client->output_end - client->output_begin + size <= OUTPUT;
+}
+
+void fe_put_short(femem *client, uint8_t kind, uint64_t number) {
+  uint8_t *at = fe_room(client, 13);
+  if (!at) return;
+  fe_put4(at, 9);
+  at[4] = kind;
+  fe_put8(at + 5, number);
+}
+
+void fe_put_bare(femem *client, uint8_t kind) {
+  uint8_t *at = fe_room(client, 5);
+  if (!at) return;
+  fe_put4(at, 1);
+  at[4] = kind;
+}
+
+void fe_put_settle(femem *client, uint64_t floor) {
+  client->floor_asked = floor;
+  client->settles++;
+  fe_put_short(client, SETTLE, floor);
+}
+
+void fe_put_cancel(femem *client, uint64_t number) {
+  client->cancels++;
+  fe_put_short(client, CANCEL, number);
+}
+
+void fe_put_slot(femem *client, uint64_t number) {
+  uint8_t spelled[LONGEST_REQUEST];
+  size_t size = fe_put_request(spelled, number, &fe_slot_of(client, number)->request);
+  uint8_t *at = fe_room(client, size);
+  if (at) memcpy(at, spelled, size);
+}
+
+void fe_put_again(femem *client) {
+  if (client->floor_asked > client->floor_told) fe_put_settle(client, client->floor_asked);
+  for (uint64_t number = client->low; number < client->next; number++) {
+    if (fe_slot_of(client, number)->state != OUT) continue;
+    fe_put_slot(client, number);
+    if (fe_slot_of(client, number)->cancelled == TO_END) fe_put_cancel(client, number);
+  }
+  if (client->report == ASKED) fe_put_bare(client, REPORT);
+  if (client->bye) fe_put_bare(client, BYE);
+}

@@ -1,0 +1,232 @@
+/* What a reply does to a client. Nothing is believed that no server sends. */
+#define _POSIX_C_SOURCE 200809L
+#include "client.h"
+
+#include <string.h>
+
+/* Whether a request may be answered so. */
+static bool fits(const femem_request *request, const reply *told) {
+  femem_operation operation = request->operation;
+  if (operation == FEMEM_CREATE) {
+    if (told->code == ANSWER_ARRAY) return told->value > 0 && told->length == request->length;
+    return told->code >= FEMEM_NAME_TAKEN && told->code <= FEMEM_BAD_LENGTH;
+  }
+  if (operation == FEMEM_FIND) {
+    if (told->code == ANSWER_ARRAY) return told->value > 0 && told->length > 0;
+    return told->code == FEMEM_NO_ARRAY || told->code == FEMEM_BAD_NAME;
+  }
+  if (told->code == FEMEM_NO_ARRAY) return true;
+  if (operation == FEMEM_REMOVE) return told->code == ANSWER_DONE;
+  if (told->code == FEMEM_BAD_INDEX) return true;
+  if (told->code == FEMEM_NOT_NOW) return request->no_wait;
+  bool tells = operation <= FEMEM_READXX || operation == FEMEM_INT_FETCH_ADD;
+  return told->code == (tells ? ANSWER_VALUE : ANSWER_DONE);
+}
+
+static bool is_same(const femem_answer *one, const femem_answer *other) {
+  return one->error == other->error && one->value == other->value && one->array == other->array &&
+         one->length == other->length;
+}
+
+static femem_error take_answer(femem *client, const reply *told) {
+  if (client->phase == OPENING) return FEMEM_OK; /* to a request of an earlier program with this session */
+  /* A program that resumed a session may be told of any number that its window then had. */
+  uint64_t end = client->next > client->resumed_end ? client->next : client->resumed_end;
+  if (told->number < client->floor_told || told->number >= end) return FEMEM_WRONG_NUMBER;
+  if (!fe_is_known(client, told->number)) return FEMEM_OK;
+  slot *place = fe_slot_of(client, told->number);
+  femem_answer answer = {.length = told->length};
+  if (told->code > ANSWER_ARRAY) answer.error = (femem_error)told->code;
+  if (told->code == ANSWER_VALUE) answer.value = told->value;
+  if (told->code == ANSWER_ARRAY) answer.array = told->value;
+  if (place->state != OUT) return is_same(&place->answer, &answer) ? FEMEM_OK : FEMEM_CHANGED_ANSWER;
+  if (!fits(&place->request, told)) return FEMEM_STRANGE_REPLY;
+  FEMEM_POINT("answered");
+  fe_answered(client, place, answer);
+  return FEMEM_OK;
+}
+
+static femem_error take_withdrawn(femem *client, const reply *told) {
+  if (client->phase == OPENING) return FEMEM_OK;
+  if (!fe_is_known(client, told->number)) return FEMEM_WRONG_NUMBER;
+  slot *place = fe_slot_of(client, told->number);
+  if (place->state != OUT || place->cancelled == NOT || client->cancels == 0) return FEMEM_WRONG_NUMBER;
+  client->cancels--;
+  if (place->cancelled == TO_END) {
+    fe_answered(client, place, (femem_answer){.error = FEMEM_WITHDRAWN});
+    return FEMEM_OK;
+  }
+  place->state = PARKED;
+  place->cancelled = NOT;
+  fe_end_move(client);
+  return FEMEM_OK;
+}
+
+/* A welcome and as many settles as were sent may still be answered: it may have been another connection's settle that
+   was. Of a session file more lives may have been stopped just before. */
+static void serve(femem *client, uint64_t floor) {
+  client->floor_told = client->floor_asked = client->low = client->next = floor;
+  client->cancels = 0;
+  if (client->file) client->settles = client->attaches = WINDOW;
+  client->phase = SERVED;
+  client->opened = true;
+}
+
+/* The first welcome of a session may be that of another connection which had it until now; the own one follows, and the
+   settle that goes out for each is answered in the same order. */
+static femem_error take_first_welcome(femem *client, uint64_t floor) {
+  if (floor < client->floor_told) return FEMEM_STRANGE_REPLY;
+  client->floor_told = floor;
+  if (client->settings.resume) {
+    serve(client, floor);
+    client->resumed_end = floor + WINDOW;
+    return FEMEM_OK;
+  }
+  if (floor > GREATEST_FLOOR - WINDOW) return FEMEM_REFUSED_SPENT;
+  fe_put_settle(client, floor + WINDOW);
+  return FEMEM_OK;
+}
+
+static femem_error take_welcome(femem *client, const reply *told) {
+  if (told->number != client->session || told->value < 1 || told->value > GREATEST_FLOOR) return FEMEM_STRANGE_REPLY;
+  client->welcomed = true;
+  if (client->phase == OPENING) return take_first_welcome(client, told->value);
+  if (client->attaches == 0) return FEMEM_STRANGE_REPLY;
+  client->attaches--;
+  bool same = told->value >= client->floor_told && told->value <= client->floor_asked &&
+              client->floor_asked - told->value <= WINDOW;
+  if (!same && !client->bye) return FEMEM_SESSION_LOST;
+  if (same) client->floor_told = told->value;
+  if (client->phase != RETURNING) return FEMEM_OK;
+  client->phase = SERVED;
+  client->returns++;
+  fe_put_again(client);
+  return FEMEM_OK;
+}
+
+static femem_error take_settled(femem *client, const reply *told) {
+  uint64_t floor = told->number;
+  if (client->phase == OPENING) {
+    if (client->welcomed && floor == client->floor_asked) serve(client, floor);
+    return FEMEM_OK;
+  }
+  if (client->settles == 0 || floor < client->floor_told || floor > client->floor_asked) return FEMEM_STRANGE_REPLY;
+  client->settles--;
+  client->floor_told = floor;
+  return FEMEM_OK;
+}
+
+/* While a session is opened: requests of a program that had it before may still wait, since the server has not seen yet
+   that its connection is gone. They are taken back, and then the settle is asked for again. */
+static femem_error take_opening_refusal(femem *client, const reply *told, femem_error refusal) {
+  if (!client->welcomed) return told->number == client->session ? refusal : FEMEM_STRANGE_REPLY;
+  if (refusal == FEMEM_REFUSED_NOT_WAITING || refusal == FEMEM_REFUSED_BELOW_FLOOR) return FEMEM_OK;
+  if (refusal != FEMEM_REFUSED_STILL_WAITING || client->opening_tries++ > 3) return refusal;
+  for (uint64_t back = WINDOW; back > 0; back--) fe_put_cancel(client, client->floor_asked - back);
+  fe_put_settle(client, client->floor_asked);
+  return FEMEM_OK;
+}
+
+static femem_error take_refused_report(femem *client, femem_error refusal) {
+  if (client->report != ASKED) return client->bye ? refusal : FEMEM_STRANGE_REPLY;
+  client->report = HERE;
+  client->report_error = refusal;
+  return FEMEM_OK;
+}
+
+/* It has happened: its answer comes, is here, or was taken long ago. */
+static femem_error take_not_waiting(femem *client, const reply *told) {
+  if (client->cancels == 0 || told->number >= client->next) return FEMEM_WRONG_NUMBER;
+  client->cancels--;
+  if (!fe_is_known(client, told->number)) return FEMEM_OK;
+  slot *place = fe_slot_of(client, told->number);
+  bool moving = place->cancelled == TO_MOVE;
+  place->cancelled = NOT;
+  if (moving) fe_end_move(client);
+  return FEMEM_OK;
+}
+
+static femem_error take_refused(femem *client, const reply *told) {
+  femem_error refusal = (femem_error)(100 + told->code);
+  /* A session file's session is nobody else's: what has it now is what is left of an earlier life, whose attach was
+     read later than this one's. */
+  bool own = client->file && client->retaken < WINDOW;
+  if (refusal == FEMEM_REFUSED_NOT_ATTACHED && own) return client->retaken++, FEMEM_DISCONNECTED;
+  if (client->phase == OPENING) return take_opening_refusal(client, told, refusal);
+  if (client->phase == RETURNING) return told->number == client->session ? refusal : FEMEM_STRANGE_REPLY;
+  if (refusal == FEMEM_REFUSED_NOT_ATTACHED) return refusal;
+  if (told->number == PROBE && client->probes > 0) return client->probes--, FEMEM_OK;
+  if (refusal == FEMEM_REFUSED_NOT_WAITING) return take_not_waiting(client, told);
+  if (told->number == 0) return take_refused_report(client, refusal);
+  if (fe_is_known(client, told->number) && fe_slot_of(client, told->number)->state == OUT) {
+    fe_answered(client, fe_slot_of(client, told->number), (femem_answer){.error = refusal});
+    return FEMEM_OK;
+  }
+  bool settle = client->settles > 0 && told->number <= client->floor_asked && told->number >= client->floor_told;
+  return settle ? refusal : FEMEM_WRONG_NUMBER;
+}
+
+static femem_error take_goodbye(femem *client, const reply *told) {
+  if (!client->bye || told->number != client->session) return FEMEM_STRANGE_REPLY;
+  client->ended = true;
+  return FEMEM_OK;
+}
+
+static femem_error take_report(femem *client, const reply *told) {
+  if (client->report != ASKED) return FEMEM_STRANGE_REPLY;
+  client->report = COMING;
+  client->report_error = FEMEM_OK;
+  client->text_at = 0;
+  client->text_length = told->length;
+  return FEMEM_OK;
+}
+
+static femem_error take(femem *client, const reply *told) {
+  switch (told->kind) {
+    case WELCOME: return take_welcome(client, told);
+    case ANSWER: return take_answer(client, told);
+    case WITHDRAWN: return take_withdrawn(client, told);
+    case SETTLED: return take_settled(client, told);
+    case GOODBYE: return take_goodbye(client, told);
+    case REFUSED: return take_refused(client, told);
+    default: return take_report(client, told);
+  }
+}
+
+/* Moves what is there of a report's text, and answers how many bytes it took. */
+static size_t take_text(femem *client, const uint8_t *bytes, size_t count) {
+  size_t left = client->text_length - client->text_at;
+  size_t size = count < left ? count : left;
+  memcpy(client->text + client->text_at, bytes, size);
+  client->text_at += size;
+  if (size == left) {
+    client->text[client->text_length] = 0;
+    client->report = HERE;
+  }
+  return size;
+}
+
+femem_error fe_digest(femem *client) {
+  size_t at = 0;
+  femem_error error = FEMEM_OK;
+  while (error == FEMEM_OK && at < client->input_end) {
+    const uint8_t *bytes = client->input + at;
+    size_t count = client->input_end - at;
+    if (client->report == COMING) {
+      at += take_text(client, bytes, count);
+      if (client->report != HERE || fe_is_text((uint8_t *)client->text, client->text_length)) continue;
+      client->report = ASKED;
+      error = FEMEM_BAD_FRAME;
+      break;
+    }
+    reply told;
+    int size = fe_read_reply(bytes, count, &told);
+    if (size == 0) break;
+    error = size < 0 ? FEMEM_BAD_FRAME : take(client, &told);
+    at += size < 0 ? 0 : (size_t)size;
+  }
+  memmove(client->input, client->input + at, client->input_end - at);
+  client->input_end -= at;
+  if (error) fe_close_line(client, error);
+  return error;
+}

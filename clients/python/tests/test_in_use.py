@@ -1,0 +1,264 @@
+"""What whoever uses the clients met, each as one test: it names no part of the library that is not needed for it."""
+
+import asyncio
+import pathlib
+import random
+import re
+import signal
+import subprocess
+import sys
+import threading
+import time
+
+import paths
+import test_unspoilt
+from serving import WithFolder
+from test_unspoilt import interrupted
+
+import femem
+from femem import Client, requests
+from femem.aio import AsyncClient
+from femem.patterns import Counter, Lock
+
+ROOT = pathlib.Path(paths.__file__).resolve().parents[1]
+
+
+def until(condition, seconds=60):
+    """Waits until the condition holds. Whether it did."""
+    end = time.monotonic() + seconds
+    while not condition():
+        if time.monotonic() > end:
+            return False
+        time.sleep(0.002)
+    return True
+
+
+def quiet(work):
+    """The work, whose error nobody wants to see."""
+    try:
+        work()
+    except femem.FememError:
+        pass
+
+
+class Spoilt(WithFolder):
+    def test_a_fraction_ends_no_client(self):
+        """A counter is given a fraction, which is refused; the client counts on."""
+        self.server()
+        with Client(self.path, 7, reconnect_timeout=5.0) as client:
+            counter = Counter(client, "counter")
+            with self.assertRaises(Exception):
+                counter.add(0.5)
+            self.assertEqual([counter.add() for _ in range(100)], list(range(100)))
+
+        async def main():
+            async with AsyncClient(self.path, 8, reconnect_timeout=5.0) as client:
+                word = await client.create("word", 1, full=True)
+                with self.assertRaises(Exception):
+                    await client.writexf(word, 0, 1.5)
+                got = [await client.int_fetch_add(word, 0, 1, timeout=30) for _ in range(100)]
+                self.assertEqual(got, list(range(100)))
+
+        asyncio.run(main())
+
+    def test_ctrl_c_ends_no_client(self):
+        """`submit` is broken off before each of its bytecodes, and the client answers each time."""
+        self.server()
+        with Client(self.path, 7, reconnect_timeout=5.0) as client:
+            word = client.create("word", 1, full=True)
+            request = requests.readxx(word, 0)
+            broken = 0
+            while interrupted(lambda: client.submit(request), broken + 1):
+                broken += 1
+                self.assertEqual(client.submit(request).result(30), 0)
+            self.assertGreater(broken, 30)
+            self.assertEqual([client.int_fetch_add(word, 0, 1, timeout=30) for _ in range(40)], list(range(40)))
+
+    def test_a_child_that_says_bye_leaves_its_parent_alone(self):
+        """A child of `fork` uses the client that it inherited; its parent's waits on, and answers."""
+        self.server()
+        uses = {
+            "report": lambda client, waiting: client.report(),
+            "withdraw": lambda client, waiting: client.withdraw(waiting),
+            "bye": lambda client, waiting: client.bye(),
+            "close": lambda client, waiting: client.close(),
+        }
+        for name, use in uses.items():
+            with Client(self.path, 7, reconnect_timeout=5.0) as client:
+                word = client.create(name, 1)
+                waiting = client.submit(requests.readfe(word, 0))
+                self.assertTrue(until(lambda: client.report().waiters))
+
+                def in_child():
+                    # It may never come back where the client is not the child's to use.
+                    thread = threading.Thread(target=quiet, args=(lambda: use(client, waiting),), daemon=True)
+                    thread.start()
+                    thread.join(0.5)
+
+                test_unspoilt.Forks.in_child(self, in_child)
+                self.assertFalse(waiting.done(), name)
+                client.writexf(word, 0, 3, timeout=10)
+                self.assertEqual(waiting.result(10), 3, name)
+
+    def test_wait_for_loses_nothing(self):
+        """300 values are written, each about when the time of whoever waits for it is over: each is got by somebody."""
+        self.server()
+
+        async def main():
+            lost = late = 0
+            async with AsyncClient(self.path, 7) as one, AsyncClient(self.path, 8) as other:
+                word = await one.create("word", 1)
+
+                async def write(turn):
+                    await asyncio.sleep(0.002 * (turn % 5))
+                    await other.writeef(word, 0, turn)
+
+                for turn in range(300):
+                    writer = asyncio.ensure_future(write(turn))
+                    got = None
+                    try:
+                        got = await asyncio.wait_for(one.readfe(word, 0), 0.006)
+                    except asyncio.TimeoutError:
+                        late += 1
+                    await writer
+                    try:
+                        left = await other.readfe(word, 0, nowait=True)
+                    except femem.NotNow:
+                        left = None
+                    lost += [got, left].count(turn) != 1
+            self.assertEqual(lost, 0)
+            self.assertGreater(late, 0)
+
+        asyncio.run(main())
+
+    def test_a_thousand_that_wait_do_not_hold_up_the_next(self):
+        """While 1,000 tasks wait, an operation that never waits moves none of them out of its way."""
+        server = self.server()
+        heard = []
+        take = server.model.take
+        server.model.take = lambda conn, message: (heard.append(message[0:1] + message[2:]), take(conn, message))
+
+        async def main():
+            async with AsyncClient(self.path, 7, sessions=34) as client:
+                words = await client.create("words", 1000)
+                tasks = [asyncio.ensure_future(client.readff(words, index)) for index in range(1000)]
+                while len((await client.report()).waiters) < 1000:
+                    await asyncio.sleep(0.05)
+                heard.clear()
+                for index in range(20):
+                    await client.readxx(words, index)
+                looks = [message for message in heard if message[0] == "call"]
+                self.assertEqual(len(looks), 20)
+                self.assertEqual([message for message in heard if message == ("cancel",)], [])
+                await client.remove(words)
+                ended = await asyncio.gather(*tasks, return_exceptions=True)
+                self.assertEqual({type(each) for each in ended}, {femem.NoArray})
+
+        asyncio.run(main())
+
+    def test_a_batch_costs_one_wake_of_the_thread(self):
+        """32 requests of one batch are answered by one round of the client's thread."""
+        self.server()
+        with Client(self.path, 7) as client:
+            hits = client.create("hits", 1, full=True)
+            with client.pipeline() as pipe:
+                for _ in range(32):
+                    pipe.int_fetch_add(hits, 0, 1)
+            self.assertEqual(pipe.results, list(range(32)))
+
+
+class Killed(WithFolder):
+    WORKER = """
+import os, sys
+sys.path.insert(0, sys.argv[1])
+from femem import Client, requests
+path, file, progress = sys.argv[2:5]
+done = int(open(progress).read()) if os.path.exists(progress) else 0
+with Client(path, session_file=file, reconnect_timeout=100.0) as client:
+    word = client.find("word")
+    print("ready", flush=True)
+    while done < 600:
+        client.once(done, requests.int_fetch_add(word, 0, 1))
+        done += 1
+        with open(progress + ".new", "w") as new:
+            new.write(str(done))
+        os.rename(progress + ".new", progress)
+        client.forget(done - 1)
+"""
+
+    def test_a_worker_that_is_killed_counts_exactly(self):
+        """A worker that a supervisor starts again counts to 600, however often it is killed on the way."""
+        self.server()
+        chance = random.Random(3)
+        kills = 0
+        with Client(self.path, 7) as client:
+            word = client.create("word", 1, full=True)
+            words = [str(ROOT), self.path, self.path + ".session", self.path + ".progress"]
+            while True:
+                worker = subprocess.Popen([sys.executable, "-c", self.WORKER, *words], stdout=subprocess.PIPE, text=True)
+                with worker.stdout:
+                    if worker.stdout.readline() == "ready\n" and kills < 12:
+                        time.sleep(chance.random() * 0.05)
+                        worker.kill()
+                        kills += 1
+                if worker.wait(100) != -signal.SIGKILL:
+                    break
+            self.assertEqual(worker.returncode, 0)
+            self.assertEqual(kills, 12)
+            self.assertEqual(client.readff(word, 0), 600)
+
+    def test_a_shell_that_is_ended_leaves_no_session(self):
+        server = self.server()
+        for number in (signal.SIGTERM, signal.SIGHUP):
+            shell = subprocess.Popen(
+                [sys.executable, "-m", "femem", self.path],
+                cwd=ROOT,
+                stdin=subprocess.PIPE,
+                stdout=subprocess.PIPE,
+                stderr=subprocess.DEVNULL,
+            )
+            with shell:
+                shell.stdin.write(b"readfe 99 0\n")
+                shell.stdin.flush()
+                self.assertIn(b"no-array", shell.stdout.readline())
+                shell.send_signal(number)
+                shell.wait(60)
+            self.assertEqual(server.model.stored.sessions, {})
+
+
+class Seen(WithFolder):
+    def test_a_deadlock_is_one(self):
+        """Two clients wait for each other's lock, and the shell's report says that all wait."""
+        self.server()
+        with Client(self.path, 7) as one, Client(self.path, 8) as two:
+            Lock(one, "first").acquire()
+            Lock(two, "second").acquire()
+            blocked = [(one, "second"), (two, "first")]
+            threads = [threading.Thread(target=self.acquire, args=each, daemon=True) for each in blocked]
+            for thread in threads:
+                thread.start()
+            locks = {one.find(name).id: session for session, name in ((8, "first"), (7, "second"))}
+
+            def both_wait():
+                return locks.items() <= {each.array: each.session for each in one.report().waiters}.items()
+
+            self.assertTrue(until(both_wait))
+            shell = subprocess.run(
+                [sys.executable, "-m", "femem", self.path], cwd=ROOT, input=b"report\n", stdout=subprocess.PIPE, timeout=60
+            )
+            self.assertIn("all-wait yes", shell.stdout.decode())
+        for thread in threads:
+            thread.join(60)
+
+    @staticmethod
+    def acquire(client, name):
+        try:
+            Lock(client, name).acquire(timeout=60)
+        except femem.FememError:
+            pass  # its client was closed
+
+    def test_what_a_client_can_not_tell_is_said(self):
+        """The README says that a session which another client ended and began anew is not noticed."""
+        promise = re.search(r"\*\*At most once\.\*\*.*?\n\n(.*?)\n\n", (ROOT / "README.md").read_text(), re.DOTALL)[1]
+        self.assertIn("a second time without a word", promise)
+        self.assertIn("a session belongs to one client", promise)
