@@ -1,0 +1,386 @@
+"""A store on two hosts: a mirror of two network block devices. Either host can go with its device at any moment.
+
+Each host is a namespace of processes, mounts and network on this machine, with a disk that its own `nbd-server` lends out. The
+active host has QEMU's `quorum` over both disks, which confirms a write and a sync once both disks did; a file system on it, and
+the server. Killing a host's first process kills all of it at once, and what its kernel has not written reaches no disk.
+
+Outside the gate: it needs root, /dev/fuse, loop devices and the Debian packages below. `make check-hosts` runs it.
+"""
+
+import os
+import random
+import shutil
+import subprocess
+import time
+
+from . import wire
+from .harness import Wrong, holds, same, until, within
+from .history import History
+from .kills import Adder, Consumer, Load, Producer, Storm, asked_for, counted, finish, make_arrays
+
+PACKAGES = {
+    "nbd-server": "nbd-server", "qemu-nbd": "qemu-utils", "nbdfuse": "libnbd-bin", "mkfs.ext4": "e2fsprogs", "ip": "iproute2",
+    "ss": "iproute2", "pgrep": "procps", "mount": "mount", "nsenter": "util-linux",
+}
+DISK_BYTES = 48 << 20
+TAKE_OVERS = 8
+PORT = 10809
+
+
+class Host:
+    """A host with an address and a disk. What it started ends with it."""
+
+    def __init__(self, place, name, address):
+        self.place = place
+        self.name = name
+        self.address = address
+        self.disk = place.path(f"disk.{name}")
+        self.folder = place.path(f"host.{name}")
+        self.mounted = place.path(f"mounted.{name}")
+        self.lives = 0
+        self.first = None
+        for folder in (self.folder, self.mounted):
+            os.mkdir(folder)
+
+    def begin(self):
+        self.lives += 1
+        shutil.rmtree(self.folder)
+        os.mkdir(self.folder)
+        words = ["unshare", "--mount", "--net", "--pid", "--fork", "--kill-child", "--mount-proc", "sh", "-c", "while :; do sleep 1000; done"]
+        self.holder = self.place.start(words, f"host.{self.name}", group=True)
+        self.first = until(self.child, 60, "the host begins")
+        self.do("ip", "link", "set", "lo", "up")
+
+    def child(self):
+        with open(f"/proc/{self.holder.pid}/task/{self.holder.pid}/children", encoding="ascii") as file:
+            found = file.read().split()
+        return int(found[0]) if found else None
+
+    def inside(self, *words):
+        return ["nsenter", f"--target={self.first}", "--mount", "--net", "--pid", "--", *words]
+
+    def do(self, *words):
+        ran = subprocess.run(self.inside(*words), stdin=subprocess.DEVNULL, capture_output=True, timeout=60, text=True)
+        same(ran.returncode, 0, f"host {self.name}: {' '.join(words)}: {ran.stderr or ran.stdout}")
+        return ran.stdout
+
+    def start(self, name, *words):
+        return self.place.start(self.inside(*words), f"{name}.{self.name}")
+
+    def lends(self):
+        """Lends its disk out to whoever comes, and confirms a sync once the disk did."""
+        settings = self.place.write(f"nbd.{self.name}", (
+            f"[generic]\nuser = root\ngroup = root\nport = {PORT}\n"
+            f"[disk]\nexportname = {self.disk}\nflush = true\nfua = true\n"
+        ).encode())
+        self.lender = self.start("nbd-server", "nbd-server", "-d", "-C", settings)
+        until(self.is_lending, 60, f"host {self.name} lends its disk")
+
+    def ends(self, name):
+        """Kills what runs on this host under that name: its own processes are all that it sees."""
+        self.do("sh", "-c", f"for it in $(pgrep -x {name}); do kill -9 $it; done")
+
+    def is_lending(self):
+        return f":{PORT} " in self.do("ss", "--listening", "--tcp", "--numeric")
+
+    def keeps(self):
+        """Lends its disk out no more."""
+        self.ends("nbd-server")
+        until(lambda: not self.is_lending(), 60, f"host {self.name} keeps its disk")
+
+    def mirror(self, hosts, confirmed):
+        """A file that is the disks of both hosts: it confirms a write and a sync once that number of them did."""
+        words = ["driver=raw", "file.driver=quorum", f"file.vote-threshold={confirmed}", "file.read-pattern=fifo"]
+        for number, host in enumerate(hosts):
+            of = f"file.children.{number}"
+            words += [f"{of}.driver=nbd", f"{of}.export=disk", f"{of}.server.type=inet"]
+            words += [f"{of}.server.host={host.address}", f"{of}.server.port={PORT}"]
+        socket = os.path.join(self.folder, "mirror.socket")
+        self.start("mirror", "qemu-nbd", f"--socket={socket}", "--persistent", "--cache=none", "--image-opts", ",".join(words))
+        until(lambda: os.path.exists(socket), 60, f"the mirror of host {self.name} begins")
+        file = os.path.join(self.folder, "mirror")
+        with open(file, "wb"):
+            pass
+        self.fuse = None
+
+        def is_file():
+            # (the socket's name is there before anybody listens)
+            if self.fuse is None or self.fuse.poll() is not None:
+                self.fuse = self.start("fuse", "nbdfuse", file, "--unix", socket)
+            return self.do("stat", "--format=%s", file).strip() == str(DISK_BYTES)
+
+        try:
+            until(is_file, 120, "it is a file")
+        except Wrong as why:
+            said = [self.place.read(f"{name}.{self.name}.err").decode() for name in ("mirror", "fuse", "nbd-server")]
+            runs = self.do("ps", "-eo", "pid,stat,wchan:24,etimes,args")
+            raise Wrong(f"the mirror of host {self.name}: {why}: {said}, and there run {runs}") from None
+        return file
+
+    def mounts(self, file):
+        self.do("mount", "-o", "loop", file, self.mounted)
+        return Server(self)
+
+    def unmounts(self):
+        self.do("umount", self.mounted)
+
+    def takes_over(self):
+        """Goes on with its own disk alone. What the other host may still have under way does not come here."""
+        self.keeps()
+        return self.mounts(self.disk)
+
+    def dies(self):
+        """All of the host ends at once, and its disk is out of reach."""
+        self.holder.kill()
+        self.holder.wait()
+        until(lambda: not os.path.exists(f"/proc/{self.first}"), 60, "the host has ended")
+        os.rename(self.disk, f"{self.disk}.gone")
+
+
+class Server:
+    """The server of a host, for the clients of the other checks."""
+
+    def __init__(self, host):
+        self.host = host
+        self.socket = host.place.path("femem.socket")
+        # (as this process names what only the host has mounted)
+        self.store = f"/proc/{host.first}/root{host.mounted}/femem.store"
+
+    def start(self, is_new=False):
+        if os.path.exists(self.socket):
+            os.unlink(self.socket)
+        lines = (f'socket = "{self.socket}"', f'store = "{self.host.mounted}/femem.store"', f"format = {str(is_new).lower()}")
+        settings = self.host.place.write("femem.toml", "\n".join(lines).encode())
+        self.process = self.host.start("femem", self.host.place.program, "serve", "--settings", settings)
+        until(self.is_there, 60, "the server is there")
+        return self
+
+    def stop(self):
+        """Ends the server, and not its host."""
+        self.host.ends(os.path.basename(self.host.place.program)[:15])
+        self.process.wait(60)
+
+    def ends(self):
+        """Waits until the server has ended by itself."""
+        deadline = time.monotonic() + 60
+        while self.process.poll() is None and time.monotonic() < deadline:
+            try:
+                self.connect().close()
+            except OSError:
+                pass
+            time.sleep(0.1)
+        holds(self.process.poll() is not None, "the server has not ended")
+
+    def is_there(self):
+        if self.process.poll() is not None:
+            raise Wrong(f"the server ended with status {self.process.returncode}: {self.errors()}")
+        return os.path.exists(self.socket)
+
+    def errors(self):
+        return self.host.place.read(f"femem.{self.host.name}.err").decode()
+
+    def connect(self, **how):
+        return wire.Connection(self.socket, **how)
+
+    def attached(self, session, **how):
+        conn = self.connect(**how)
+        same(conn.ask(wire.attach(session))[:2], ("welcome", session))
+        return conn
+
+    def reads(self, history):
+        with open(self.store, "rb") as file:
+            history.read(file.read())
+
+
+class Pair:
+    """Two hosts with a link between them."""
+
+    def __init__(self, place):
+        missing = sorted({package for word, package in PACKAGES.items() if not shutil.which(word)})
+        holds(not missing, f"Debian's packages {' '.join(missing)} are missing")
+        holds(os.geteuid() == 0 and os.path.exists("/dev/fuse"), "this check needs root and /dev/fuse")
+        self.hosts = [Host(place, "a", "10.77.0.1"), Host(place, "b", "10.77.0.2")]
+        for host in self.hosts:
+            with open(host.disk, "wb") as file:
+                file.truncate(DISK_BYTES)
+            host.begin()
+        self.link()
+
+    def __enter__(self):
+        return self
+
+    def __exit__(self, *_):
+        for host in self.hosts:
+            host.holder.kill()
+            host.holder.wait()
+
+    def link(self):
+        """Links the hosts, and has each of them lend its disk."""
+        words = ["ip", "link", "add", "wire", "type", "veth", "peer", "name", "wire", "netns", str(self.hosts[1].first)]
+        # (whose number of the other host's process is the machine's)
+        subprocess.run(["nsenter", f"--target={self.hosts[0].first}", "--net", "--", *words], check=True, timeout=30)
+        for host in self.hosts:
+            host.do("ip", "address", "add", f"{host.address}/24", "dev", "wire")
+            host.do("ip", "link", "set", "wire", "up")
+            host.lends()
+        return self.hosts
+
+    def returns(self, dead, other):
+        """A dead host comes back with a new disk, and gets a copy of the other's while nobody writes there."""
+        shutil.copyfile(other.disk, dead.disk)
+        dead.begin()
+        self.link()
+
+
+class Crew:
+    """Clients that go on over all hosts."""
+
+    def __init__(self, server):
+        make_arrays(server)
+        self.adders = [Adder(session, session % 3) for session in range(1, 5)]
+        self.pair = Producer(10, 0, 1), Consumer(20, 0, 1)
+        self.history = History()
+        self.load = Load(server, [*self.adders, *self.pair, Storm(40)])
+
+    def over(self, server):
+        self.load.server = server
+        self.load.begin()
+
+    def compare(self, server):
+        """What clients were told against what a host's disk has."""
+        server.reads(self.history)
+        self.load.compare(self.history)
+
+    def finish(self, server):
+        producer, consumer = self.pair
+        producer.most = consumer.most = max(producer.count, consumer.count)
+        self.load.server = server
+        finish(self.load)
+        self.compare(server)
+        asked_for(self.history, self.load)
+        for index in range(3):
+            counted(self.history.state, index, [it for it in self.adders if it.index == index])
+        same(consumer.values, list(range(1, producer.count + 1)), "what was handed over")
+
+
+def begun(pair, confirmed=2):
+    """The first host serves a new store from both disks."""
+    active = pair.hosts[0]
+    file = active.mirror(pair.hosts, confirmed)
+    active.do("mkfs.ext4", "-q", "-F", file)
+    server = active.mounts(file)
+    return server.start(is_new=True)
+
+
+@within(400)
+def taken_over(place):
+    """the active host is killed with its disk under load, the other takes over with its own: all that was answered is there, in turns"""
+    with Pair(place) as pair:
+        active, other = pair.hosts
+        server = begun(pair)
+        crew = Crew(server)
+        answers = 0
+        for turn in range(TAKE_OVERS):
+            crew.over(server)
+            random.choice((crew.load.wait_for_some, crew.load.wait_for_checkpoint))(1.5)
+            active.dies()
+            crew.load.join()
+            answers += crew.load.answered
+            server = other.takes_over()
+            crew.compare(server)
+            server.start()
+            crew.over(server)
+            crew.load.wait_for(lambda: crew.load.answered >= 100, 30)
+            holds(crew.load.answered >= 100, "the other host answers")
+            server.stop()
+            crew.load.join()
+            crew.compare(server)
+            other.unmounts()
+            pair.returns(active, other)
+            active, other = other, active
+            server = active.mounts(active.mirror(pair.hosts, 2)).start()
+        crew.finish(server)
+        holds(answers > 100 * TAKE_OVERS, f"only {answers} answers")
+    return f"{TAKE_OVERS} hosts killed, {answers} answers before, {crew.history.checkpoints} checkpoints, {crew.history.state.place} entries"
+
+
+@within(120)
+def peer_is_lost(place):
+    """the other host is killed under load: the server ends with `femem: store device`, and either disk has all that was answered"""
+    with Pair(place) as pair:
+        active, other = pair.hosts
+        server = begun(pair)
+        crew = Crew(server)
+        crew.over(server)
+        crew.load.wait_for(lambda: crew.load.answered >= 300, 30)
+        other.dies()
+        server.ends()
+        same((server.process.returncode, server.errors()), (3, "femem: store device\n"))
+        crew.load.join()
+        answered = crew.load.answered
+        holds(answered >= 300, f"only {answered} answers")
+        active.dies()
+        # Each disk alone, on a host that begins anew. (One may have a group that the other has not: nobody was answered for it.)
+        told = {client: list(client.told) for client in crew.load.clients}
+        for host in (active, other):
+            os.rename(f"{host.disk}.gone", host.disk)
+            host.begin()
+            crew.history = History()
+            crew.compare(host.mounts(host.disk))
+            host.unmounts()
+            for client, before in told.items():
+                client.told.extend(before)
+    return f"{answered} answers"
+
+
+def is_still(load):
+    """Whether nobody was answered for a second."""
+    before = load.answered
+    time.sleep(1)
+    return load.answered == before
+
+
+@within(120)
+def wire_is_cut(place):
+    """the wire is cut under load and no word comes of it: nobody is answered from then on, and the other host has what was answered"""
+    with Pair(place) as pair:
+        active, other = pair.hosts
+        crew = Crew(begun(pair))
+        crew.over(crew.load.server)
+        crew.load.wait_for(lambda: crew.load.answered >= 300, 30)
+        other.do("ip", "link", "set", "wire", "down")
+        # (what was confirmed before is still on its way to the clients for a moment)
+        until(lambda: is_still(crew.load), 30, "nobody is answered")
+        answered = crew.load.answered
+        time.sleep(1.5)
+        same(crew.load.answered, answered, "answers while the wire is cut")
+        holds(answered >= 300, f"only {answered} answers")
+        active.dies()
+        crew.load.join()
+        crew.compare(other.takes_over())
+    return f"{answered} answers"
+
+
+@within(120)
+def one_side_is_not_enough(place):
+    """where a mirror confirms what one disk has, the same check finds answers that the other host lost"""
+    with Pair(place) as pair:
+        active, other = pair.hosts
+        server = begun(pair, confirmed=1)
+        crew = Crew(server)
+        other.keeps()
+        crew.over(server)
+        crew.load.wait_for(lambda: crew.load.answered >= 500, 30)
+        answered = crew.load.answered
+        holds(answered >= 500, "the server goes on with one disk")
+        active.dies()
+        crew.load.join()
+        server = other.takes_over()
+        try:
+            crew.compare(server)
+        except Wrong as why:
+            return f"{answered} answers: {why}"
+    raise Wrong("nothing is missing")
+
+
+CHECKS = (taken_over, peer_is_lost, wire_is_cut, one_side_is_not_enough)

@@ -1,0 +1,103 @@
+"""The man pages: `man` has nothing against them, and they have all that their documents have."""
+
+import collections
+import os
+import re
+import shutil
+import subprocess
+import sys
+
+from .harness import holds, same
+
+sys.path.insert(0, os.path.normpath(os.path.join(os.path.dirname(os.path.realpath(__file__)), "..")))
+
+from release import pages  # noqa: E402
+
+# What a user meets, by the program's own words and not by the documents.
+COMMANDS = ("femem run", "femem serve --settings FILE", "femem call --socket PATH", "femem look --store PATH", "femem help")
+LINES = (
+    "femem: settings: unreadable", "femem: settings: not toml", "femem: settings: KEY", "femem: settings: unknown key",
+    "femem: store device", "femem: store size N", "femem: store unformatted", "femem: store damaged at N", "femem: memory",
+    "femem: strange", "femem: socket", "femem: input", "femem: line N",
+)
+KEYS = ("socket", "store", "connections", "format", "accepts", "turns")
+# (the program's texts stand one behind another, with nothing between them)
+FAULTS = re.compile(rb"femem: (?:(?!femem: )[a-z ])+")
+
+
+def needs_man():
+    """`man`, which Debian's package man-db has."""
+    if not shutil.which("man"):
+        words = "apt-get -q update && apt-get -q install -y --no-install-recommends man-db"
+        subprocess.run(["sh", "-c", words], capture_output=True, timeout=300)
+    holds(shutil.which("man"), "there is no man on this machine, and Debian's package man-db can't be installed")
+
+
+def made(place):
+    """Makes the pages: their paths."""
+    process = place.start([os.path.join(pages.TOP, "scripts", "man_pages"), place.path("man")], "man_pages")
+    process.wait()
+    same(process.returncode, 0, place.read("man_pages.err").decode())
+    return [place.path(f"man/{name}.{number}") for name, number, *_ in pages.PAGES]
+
+
+def shown(path):
+    """What `man` shows of a page, in one line without the marks of its terminal, and what it has to say of it."""
+    env = {**os.environ, "LC_ALL": "C.UTF-8", "MANWIDTH": "500", "MANPAGER": "cat", "GROFF_NO_SGR": "1", "MANROFFSEQ": ""}
+    ran = subprocess.run(["man", "--warnings", "-E", "UTF-8", "-l", path], env=env, capture_output=True, timeout=60)
+    same(ran.returncode, 0, ran.stderr.decode())
+    return " ".join(re.sub(".\b", "", ran.stdout.decode()).split()), ran.stderr.decode()
+
+
+def is_well_formed(path):
+    """`man --warnings` has nothing against a page, and shows more than its title."""
+    needs_man()
+    env = {**os.environ, "LC_ALL": "C.UTF-8", "MANWIDTH": "80", "MANROFFSEQ": ""}
+    ran = subprocess.run(["man", "--warnings", "-E", "UTF-8", "-l", "-Tutf8", path], env=env, capture_output=True, timeout=60)
+    same((ran.returncode, ran.stderr.decode()), (0, ""), os.path.basename(path))
+    holds(len(ran.stdout) > 1000, f"{path} shows next to nothing")
+
+
+def warnings(place):
+    """`man --warnings` says nothing against any page, at the width of a terminal"""
+    for path in made(place):
+        is_well_formed(path)
+    return f"{len(pages.PAGES)} pages"
+
+
+def words(text):
+    return collections.Counter(re.findall(r"[A-Za-z0-9]+", text))
+
+
+def told(place):
+    """each word of the documents is in their page, each command, fault and setting in femem(1) and femem.toml(5)"""
+    needs_man()
+    found = {}
+    for path, (name, number, _, parts, _) in zip(made(place), pages.PAGES):
+        found[name], said = shown(path)
+        same(said, "", name)
+        for document, wanted in parts:
+            lines = pages.sections_of(pages.document(document), wanted)
+            # (a heading is in capitals there, a link's target is not shown, and the rule below a table's head neither)
+            text = re.sub(r"\]\([^)]*\)", "]", "\n".join(it for it in lines if not it.startswith("## ")))
+            text = re.sub(r"\[`?(settings|formats)\.md`?\]", "", text)
+            lost = words(text) - words(found[name])
+            # (the head of a table's first two columns is not repeated where a row becomes a paragraph)
+            heads = words(" ".join(line for line, below in zip(lines, lines[1:]) if re.fullmatch(r"[|\- ]+", below) and "|" in below))
+            same(dict(lost - heads), {}, f"{name}({number}) of {document}: what it lacks")
+    for it in (*COMMANDS, *LINES):
+        holds(it in found["femem"], f"femem(1) does not have: {it}")
+    for it in KEYS:
+        holds(re.search(rf"\b{it}\b", found["femem.toml"]), f"femem.toml(5) does not have: {it}")
+    # Every fault that the program has among its texts begins as one of the lines does, and most lines are found so.
+    with open(place.program, "rb") as file:
+        texts = {it.decode().strip() for it in FAULTS.findall(file.read())}
+    stems = {re.sub(" (N|KEY)$", "", it).rstrip(":") for it in LINES}
+    for it in texts:
+        holds(any(it.startswith(stem) or stem.startswith(it) for stem in stems), f"the program says what the page does not: {it}")
+    known = [stem for stem in stems if any(it.startswith(stem) for it in texts)]
+    holds(len(known) >= 9, f"the program has few of the faults: {known}")
+    return f"{len(texts)} texts of faults"
+
+
+CHECKS = (warnings, told)

@@ -1,0 +1,131 @@
+"""Puts what is released into one folder: the Debian package, the Python client's wheel and source archive, the C library's archive,
+the proof's record, and the SHA-256 sums of all of them.
+
+Usage: scripts/dist PROGRAM RECORD FOLDER
+
+It refuses a program whose record is not of the sources that are here. The same sources give the same files. Needs dpkg-deb, make
+and a C compiler, and no network.
+"""
+
+import gzip
+import io
+import os
+import re
+import shutil
+import subprocess
+import sys
+import tarfile
+import tempfile
+import time
+import zipfile
+
+from . import package, pages, record as records
+
+TOP = pages.TOP
+
+# The hooks of PEP 517, by which `pip` would build the package too.
+BUILD = """
+import importlib, os, sys
+sys.path.insert(0, os.getcwd())
+backend = importlib.import_module(sys.argv[1])
+backend.build_wheel(sys.argv[2])
+backend.build_sdist(sys.argv[2])
+"""
+
+
+def python(folder, env):
+    """The Python client's wheel and source archive."""
+    client = os.path.join(TOP, "clients", "python")
+    with open(os.path.join(client, "pyproject.toml"), encoding="utf-8") as file:
+        backend = re.search(r'^build-backend = "(.*)"$', file.read(), re.M)[1]
+    words = [sys.executable, "-c", BUILD, backend, os.path.abspath(folder)]
+    subprocess.run(words, cwd=client, check=True, stdout=subprocess.DEVNULL, env=env)
+
+
+def dated_wheel(path, epoch):
+    """The same wheel with one time for all of its files."""
+    with zipfile.ZipFile(path) as archive:
+        files = [(it.filename, archive.read(it)) for it in archive.infolist()]
+    with zipfile.ZipFile(path, "w", zipfile.ZIP_DEFLATED) as archive:
+        for name, content in files:
+            info = zipfile.ZipInfo(name, time.gmtime(epoch)[:6])
+            info.compress_type = zipfile.ZIP_DEFLATED
+            info.external_attr = 0o100644 << 16
+            archive.writestr(info, content)
+
+
+def packed(path, files, epoch):
+    """An archive of these files, (name, info, content), which belong to root and have one time."""
+    made = io.BytesIO()
+    with tarfile.open(fileobj=made, mode="w") as archive:
+        for name, info, content in files:
+            info.name = name
+            info.uid = info.gid = 0
+            info.uname = info.gname = "root"
+            info.mtime = epoch
+            info.pax_headers = {}
+            archive.addfile(info, io.BytesIO(content) if info.isreg() else None)
+    with open(path, "wb") as file:
+        file.write(gzip.compress(made.getvalue(), 9, mtime=0))
+
+
+def dated_source(path, epoch):
+    """The same source archive with one time for all of its files."""
+    with tarfile.open(path) as archive:
+        files = [(it.name, it, archive.extractfile(it).read() if it.isreg() else b"") for it in archive]
+    packed(path, files, epoch)
+
+
+def c(folder, version, epoch):
+    """What `make install` of the C client puts into a prefix, as an archive that is unpacked there."""
+    name = f"femem-c-{version}-linux-amd64"
+    with tempfile.TemporaryDirectory() as room:
+        words = ["make", "-s", "-C", os.path.join(TOP, "clients", "c"), "install", "PREFIX=/usr/local", f"DESTDIR={room}"]
+        subprocess.run(words, check=True, stdout=subprocess.DEVNULL)
+        top = os.path.join(room, "usr", "local")
+        found = []
+        for at, folders, names in os.walk(top):
+            found += [os.path.join(at, it) for it in (*names, *(it for it in folders if os.path.islink(os.path.join(at, it))))]
+        files = []
+        with tarfile.open(fileobj=io.BytesIO(), mode="w") as archive:
+            for path in sorted(found):
+                info = archive.gettarinfo(path)
+                content = b""
+                if info.isreg():
+                    with open(path, "rb") as file:
+                        content = file.read()
+                files.append((f"{name}/{os.path.relpath(path, top)}", info, content))
+        packed(os.path.join(folder, f"{name}.tar.gz"), files, epoch)
+
+
+def dist(program, record, folder):
+    fault = records.fault_of(program, record)
+    if fault:
+        sys.exit(f"femem: {fault}: 'make prove' proves these sources")
+    version, epoch = pages.version(), pages.epoch()
+    shutil.rmtree(folder, ignore_errors=True)
+    os.makedirs(folder)
+    with open(program, "rb") as first, open(record, "rb") as second:
+        package.build(first.read(), folder, second.read())
+    python(folder, {**os.environ, "SOURCE_DATE_EPOCH": str(epoch), "PYTHONDONTWRITEBYTECODE": "1"})
+    for name in os.listdir(folder):
+        if name.endswith(".whl"):
+            dated_wheel(os.path.join(folder, name), epoch)
+        elif name.endswith(".tar.gz"):
+            dated_source(os.path.join(folder, name), epoch)
+    c(folder, version, epoch)
+    shutil.copyfile(record, os.path.join(folder, "proof"))
+    names = sorted(os.listdir(folder))
+    for name in names:
+        if name != "proof" and version not in name:
+            sys.exit(f"femem: {name} is not of version {version}")
+    with open(os.path.join(folder, "SHA256SUMS"), "w", encoding="ascii") as file:
+        file.write("".join(f"{records.sum_of(os.path.join(folder, name))}  {name}\n" for name in names))
+    return [*names, "SHA256SUMS"]
+
+
+def main():
+    if len(sys.argv) != 4:
+        sys.exit("usage: scripts/dist PROGRAM RECORD FOLDER")
+    for name in dist(*sys.argv[1:]):
+        print(os.path.join(sys.argv[3], name))

@@ -1,0 +1,141 @@
+"""Builds the Debian package femem_VERSION_amd64.deb of a program, and prints its path.
+
+Usage: scripts/make_deb PROGRAM FOLDER [RECORD]
+
+The same sources and the same program give the same bytes: files have the time of SOURCE_DATE_EPOCH, or of the last commit, and
+belong to root. RECORD, what the proof said, goes along. Needs dpkg-deb, and no network.
+"""
+
+import gzip
+import hashlib
+import os
+import re
+import shutil
+import subprocess
+import sys
+import tempfile
+import textwrap
+import time
+
+from . import pages
+
+TOP = pages.TOP
+
+DOCUMENTS = ("operating.md", "settings.md", "formats.md", "patterns.md", "replication.md", "proved.md")
+
+
+class Tree:
+    """The package's files, below a folder."""
+
+    def __init__(self, folder):
+        self.folder = folder
+
+    def put(self, path, content, mode=0o644):
+        where = os.path.join(self.folder, path)
+        self.folders(os.path.dirname(path))
+        with open(where, "wb") as file:
+            file.write(content)
+        os.chmod(where, mode)
+
+    def folders(self, path):
+        at = self.folder
+        for name in path.split("/"):
+            at = os.path.join(at, name)
+            if not os.path.isdir(at):
+                os.mkdir(at)
+                os.chmod(at, 0o755)
+
+    def zipped(self, path, content):
+        self.put(path + ".gz", gzip.compress(content, 9, mtime=0))
+
+    def files(self):
+        found = []
+        for at, _, names in os.walk(self.folder):
+            found += [os.path.relpath(os.path.join(at, name), self.folder) for name in names]
+        return sorted(it for it in found if not it.startswith("DEBIAN/"))
+
+    def kibibytes(self):
+        """What the installed files take, in whole pages."""
+        return sum((os.path.getsize(os.path.join(self.folder, it)) + 1023) // 1024 for it in self.files()) + 4 * len(self.files())
+
+
+def read(*path):
+    with open(os.path.join(TOP, *path), "rb") as file:
+        return file.read()
+
+
+def needed_c_library(program):
+    """The least version of the C library that has all that the program names."""
+    found = {tuple(map(int, it.split(b"."))) for it in re.findall(rb"GLIBC_(2\.[0-9]+)", program)}
+    return ".".join(map(str, max(found)))
+
+
+def changelog(version, epoch, maintainer):
+    """CHANGELOG.md's entries of this version, as Debian writes them."""
+    text = read("CHANGELOG.md").decode()
+    entries = re.search(rf"^## {re.escape(version)}\n\n(.*?)(?=\n## |\Z)", text, re.M | re.S)[1].strip()
+    lines = "\n".join(
+        textwrap.fill(it[2:], 78, initial_indent="  * ", subsequent_indent="    ") for it in entries.replace("`", "").splitlines()
+    )
+    date = time.strftime("%a, %d %b %Y %H:%M:%S +0000", time.gmtime(epoch))
+    return f"femem ({version}) unstable; urgency=medium\n\n{lines}\n\n -- {maintainer}  {date}\n".encode()
+
+
+def licence():
+    """The licence as a field of Debian's copyright file has it."""
+    text = read("LICENSE").decode().split("\n\n", 2)[2].strip()
+    return "\n".join(" " + (line or ".") for line in text.splitlines())
+
+
+def fill(tree, program, record):
+    version, epoch = pages.version(), pages.epoch()
+    control = read("packaging", "debian", "control").decode()
+    maintainer = re.search(r"^Maintainer: (.*)$", control, re.M)[1]
+    tree.put("usr/bin/femem", program, 0o755)
+    tree.put("usr/lib/femem/make-store", read("packaging", "make-store"), 0o755)
+    tree.put("lib/systemd/system/femem.service", read("examples", "femem.service"))
+    tree.put("etc/femem.toml", read("packaging", "femem.toml"))
+    tree.folders("var/lib/femem")
+    for name, number, *rest in pages.PAGES:
+        tree.zipped(f"usr/share/man/man{number}/{name}.{number}", pages.page(name, number, *rest).encode())
+    for name in DOCUMENTS:
+        tree.zipped(f"usr/share/doc/femem/{name}", read("docs", name))
+    tree.zipped("usr/share/doc/femem/changelog", changelog(version, epoch, maintainer))
+    tree.put("usr/share/doc/femem/copyright", read("packaging", "debian", "copyright").replace(b"@LICENSE@", licence().encode()))
+    tree.put("usr/share/lintian/overrides/femem", read("packaging", "debian", "lintian-overrides"))
+    if record:
+        tree.put("usr/share/doc/femem/proof", record)
+    sums = "".join(f"{hashlib.md5(read(tree.folder, it)).hexdigest()}  {it}\n" for it in tree.files())
+    tree.put("DEBIAN/md5sums", sums.encode())
+    for value, name in ((version, "VERSION"), (str(tree.kibibytes()), "SIZE"), (needed_c_library(program), "LIBC")):
+        control = control.replace(f"@{name}@", value)
+    tree.put("DEBIAN/control", control.encode())
+    for name, mode in (("conffiles", 0o644), ("templates", 0o644), ("postinst", 0o755), ("prerm", 0o755), ("postrm", 0o755)):
+        tree.put(f"DEBIAN/{name}", read("packaging", "debian", name), mode)
+    return version, epoch
+
+
+def build(program, folder, record=None):
+    """Builds the package into the folder, and gives its path."""
+    if not shutil.which("dpkg-deb"):
+        sys.exit("femem: dpkg-deb, of Debian's package dpkg, is not on the PATH")
+    os.makedirs(folder, exist_ok=True)
+    with tempfile.TemporaryDirectory() as room:
+        os.chmod(room, 0o755)
+        version, epoch = fill(Tree(room), program, record)
+        made = os.path.join(folder, f"femem_{version}_amd64.deb")
+        words = ["dpkg-deb", "--root-owner-group", "-Zxz", "-z9", "--threads-max=1", "--build", room, made]
+        subprocess.run(words, check=True, stdout=subprocess.DEVNULL, env={**os.environ, "SOURCE_DATE_EPOCH": str(epoch)})
+    return made
+
+
+def main():
+    if len(sys.argv) not in (3, 4):
+        sys.exit("usage: scripts/make_deb PROGRAM FOLDER [RECORD]")
+    with open(sys.argv[1], "rb") as file:
+        program = file.read()
+    record = None
+    if len(sys.argv) == 4:
+        with open(sys.argv[3], "rb") as file:
+            record = file.read()
+    print(build(program, sys.argv[2], record))
