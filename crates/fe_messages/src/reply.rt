@@ -1,4 +1,4 @@
-ghost use Rattle.std.specs.Prelude.{◌≡◌, ◌++◌, OnOk, OnErr};
+ghost use Rattle.std.specs.Prelude.{◌≡◌, ◌+◌, ◌<◌, ◌++◌, length, OnOk, OnErr, vec_len, vec_capacity};
 ghost use Rattle.fe_wire.specs.Spelling.{reply_spelling, ReplyFits};
 ghost use Rattle.fe_messages.specs.Mails.{reply_of};
 
@@ -44,10 +44,12 @@ impl Reply {
         Reply { message }
     }
 
-    /// Appends its frame. Where there is no memory for it, nothing is appended.
+    /// Appends its frame. `AllocError` where the spare room doesn't hold it and there is no memory for more; then nothing
+    /// is appended.
     pub fn put(&self, out: &mut Vec<u8>) -> Result<(), AllocError>
         ensures ok { OnOk result (out.new.items ≡ out.old.items ++ reply_spelling self.now) }
         ensures err { OnErr result (out.new.items ≡ out.old.items) }
+        ensures full { OnErr result (vec_capacity out.old < vec_len out.old + length (reply_spelling self.now)) }
         ensures fits { ReplyFits self.now }
     {
         put_reply(out, &self.message)

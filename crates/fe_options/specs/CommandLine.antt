@@ -1,5 +1,6 @@
 -- The command line: its commands, and what they ask for.
-use Rattle.std.specs.Prelude.{◌≡◌, List, codes, true, Option, Some, None}
+use Rattle.std.specs.Prelude.{◌≡◌, List, codes, Bool, true, false, Option, Some, None, is_some, if◌then◌else◌}
+use Rattle.std.specs.Str.{bytes_eq}
 use Rattle.clap.specs.Words.{App, Row, Rule, Text, first_of, new_app, new_rule, with_rule, with_subcommand}
 use Rattle.clap.specs.Simple.{on_top}
 use Rattle.fe_options.specs.declared.command_line.Invocation.{Invocation}
@@ -43,5 +44,16 @@ abbrev pub IsAsked : Invocation → Option (Text × List Row) → Type 0
 IsAsked asked None = ⊥
 IsAsked asked (Some met) = IsCommand asked met.0 met.1
 
-abbrev pub AsksNone : Option (Text × List Row) → Type 0
-AsksNone met = (asked : Invocation) → IsAsked asked met → ⊥
+-- a command of this name, where this was found of its options, asks for something
+abbrev pub is_complete : Text → List Row → Bool
+is_complete name found =
+    if bytes_eq name (codes "run") then true
+    else if bytes_eq name (codes "serve") then is_some (first_of (codes "settings") found)
+    else if bytes_eq name (codes "call") then is_some (first_of (codes "socket") found)
+    else if bytes_eq name (codes "look") then is_some (first_of (codes "store") found)
+    else false
+
+-- the command that was met asks for something
+abbrev pub is_asked : Option (Text × List Row) → Bool
+is_asked None = false
+is_asked (Some met) = is_complete met.0 met.1

@@ -1,11 +1,10 @@
 //! The words of the command line.
 
-ghost use Rattle.std.specs.Prelude.{◌≡◌, ◌⊎◌, false, map, IfNone, IfSome, IfOk, IfErr, Ok, option_map};
+ghost use Rattle.std.specs.Prelude.{◌≡◌, ◌⊎◌, false, map, is_some, IfSome, IfOk, IfErr, Ok, option_map};
 ghost use Rattle.clap.specs.Words.{AddsSubcommand, HasKind, app_of, fault_of, first_of, found_of, kind_of, rows_of, subcommand_of, subcommand_rows_of};
 ghost use Rattle.clap.specs.declared.builder.command.Command.{Command};
 ghost use Rattle.clap.specs.declared.builder.command.Command.TheViews.{out-Command as fields_of};
-ghost use Rattle.fe_options.specs.CommandLine.{femem, program_with_run, with_option, IsCommand, IsAsked, AsksNone};
-ghost use Rattle.fe_options.specs.declared.command_line.Invocation.{Invocation};
+ghost use Rattle.fe_options.specs.CommandLine.{femem, program_with_run, with_option, IsCommand, IsAsked, is_complete, is_asked};
 
 use clap::error::ErrorKind;
 use clap::{Arg, ArgMatches, Command, Error};
@@ -13,7 +12,7 @@ use std::alloc::{AllocError, Global};
 use std::convert::AsStr;
 
 /// The version that `femem --version` prints.
-const VERSION: &str = "0.1.0";
+const VERSION: &str = "1.0.0";
 
 /// What help says of each command.
 const RUN: &str = "Runs a schedule from standard input";
@@ -62,7 +61,8 @@ fn with<'a>(
     program: Command<'a>,
     command: Result<Command<'a>, AllocError>,
 ) -> Result<Command<'a>, AllocError>
-    ensures { IfOk result (λ more. (added : Command) × (command.entry ≡ Ok added) × AddsSubcommand program.entry added more) }
+    ensures { IfOk result (λ more. (added : Command) × (command.entry ≡ Ok added)
+        × AddsSubcommand program.entry added more) }
 {
     match command {
         Ok(command) => program.subcommand(command),
@@ -131,7 +131,7 @@ fn value_of<'a>(found: &ArgMatches<'a>, option: &str) -> Option<&'a str>
 /// What a command of this name asks for with what was found of its option.
 fn asked<'a>(name: &str, found: &ArgMatches<'a>) -> Option<Invocation<'a>>
     ensures some { IfSome result (λ asked. IsCommand asked name.now (rows_of (found_of found.now))) }
-    ensures none { IfNone result ((asked : Invocation) → IsCommand asked name.now (rows_of (found_of found.now)) → ⊥) }
+    ensures complete { is_some result ≡ is_complete name.now (rows_of (found_of found.now)) }
 {
     if name == "run" {
         Some(Invocation::Run)
@@ -152,7 +152,7 @@ fn asked<'a>(name: &str, found: &ArgMatches<'a>) -> Option<Invocation<'a>>
 /// What the matches ask for.
 fn asked_by<'a>(matches: &ArgMatches<'a>) -> Option<Invocation<'a>>
     ensures some { IfSome result (λ asked. IsAsked asked (subcommand_rows_of matches.now)) }
-    ensures none { IfNone result (AsksNone (subcommand_rows_of matches.now)) }
+    ensures complete { is_some result ≡ is_asked (subcommand_rows_of matches.now) }
 {
     let (name, found) = matches.subcommand()?;
     asked(name, found)
@@ -163,8 +163,8 @@ fn asked_by<'a>(matches: &ArgMatches<'a>) -> Option<Invocation<'a>>
 pub fn arguments<'a, S: AsStr>(alloc: Global, words: &'a [S]) -> Result<Invocation<'a>, Error>
     // It is the command that `clap` finds in the words, with the value that it finds for its option.
     ensures asked { IfOk result (λ asked. IsAsked asked (subcommand_of femem (map S.text words.entry.now))) }
-    // The words are refused only as `clap` refuses them, or where it finds none of the commands.
-    ensures refused { IfErr result (λ error. HasKind (fault_of femem (map S.text words.entry.now)) error ⊎ AsksNone (subcommand_of femem (map S.text words.entry.now))) }
+    // The words are refused only as `clap` refuses them: what it accepts asks for one command.
+    ensures refused { IfErr result (HasKind (fault_of femem (map S.text words.entry.now))) }
 {
     let program = commands(alloc)?;
     let matches = program.try_get_matches_from(words)?;
@@ -172,7 +172,7 @@ pub fn arguments<'a, S: AsStr>(alloc: Global, words: &'a [S]) -> Result<Invocati
     drop(matches);
     match asked {
         Some(asked) => Ok(asked),
-        None => Err(error_of(alloc, ErrorKind::MissingSubcommand, "a command is wanted")?),
+        None => unreachable!(),
     }
 }
 

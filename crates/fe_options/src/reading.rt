@@ -144,7 +144,8 @@ fn settings_in(alloc: Global, table: &Table) -> Result<Settings, SettingsFault>
 /// key, in the order of the fields, that has to be there and isn't or has a value that it may not have; else
 /// `UnknownKey` where there is a key beside them.
 pub fn read_settings(alloc: Global, text: &str) -> Result<Settings, SettingsFault>
-    ensures settings { IfOk result (λ settings. (document : Members) × (parse_document text.now ≡ Some document) × IsSettingsOf document settings) }
+    ensures settings { IfOk result (λ settings. (document : Members) × (parse_document text.now ≡ Some document)
+        × IsSettingsOf document settings) }
     ensures refused { IfErr result (RefusesText text.now) }
 {
     match toml::table_from_str(alloc, text) {

@@ -1,12 +1,13 @@
 -- The requests that a call tells, and how many they are, by session against by slot.
 use Rattle.std.proofs.Common.{◌≡◌, ℕ, ◌≤◌, inl, inr, not, List, [], ◌∷◌, Option, Some, None, IsSome, is_some, refl, sym, ap, subst, ◌∙◌, arith, zero, suc}
-use Rattle.std.specs.Prelude.{IfSome}
+use Rattle.std.specs.Prelude.{IfSome, Contains, ◌<◌}
+use Rattle.fe_words.specs.declared.op.Op.{Op}
 use Rattle.std.specs.Option.{option_map}
 use Rattle.std.specs.Ordering.{nat_cmp}
 use Rattle.std.specs.FinMap.{FinMap, empty, get, len, len-empty}
 use Rattle.fe_waits.specs.declared.row.Row.{Row}
 use Rattle.fe_waits.specs.Pair.{pair_cmp}
-use Rattle.fe_waits.specs.Waiting.{Waiter, Waiting, IsWord, IsOn, NoneOnWord, NoneOnArray, row_at, row_of, of_slot, without_slot}
+use Rattle.fe_waits.specs.Waiting.{Waiter, Waiting, IsWord, IsOn, NoneOnWord, NoneOnArray, row_at, row_of, of_slot, without_slot, told_of, AreTold}
 use Rattle.fe_waits.specs.Waiting as waits
 use Rattle.fe_waits.proofs.MemberLemmas.{none_some, some_same, of_slot-none, without-none}
 use Rattle.fe_seats.specs.declared.place.Place.{Place}
@@ -40,6 +41,20 @@ module _ (places : FinMap nat_cmp Place) (owners : List (Option ℕ)) (agree : A
 
     pub turn-some : (row : Row) → row_at members slot number ≡ Some row → turn_at (by_session owners members) session number ≡ Some (turn_for session row)
     turn-some row some = turn-in_slot ∙ ap (option_map (turn_for session)) some
+
+  -- what is told of the requests of a session
+  pub told-in_slot : (session slot : ℕ) (told : List (ℕ × (ℕ × ℕ × Op))) → slot_in places session ≡ Some slot → AreTold members slot told → AreTold (by_session owners members) session told
+  told-in_slot session slot told in_slot all = λ number what.
+      let same = get-in_slot places owners agree members owned session slot number in_slot in
+      (λ c. ap (option_map told_of) same ∙ (all number what).0 c, λ e. (all number what).1 (sym (ap (option_map told_of) same) ∙ e))
+
+  pub told-unseated : (session : ℕ) (told : List (ℕ × (ℕ × ℕ × Op))) → slot_in places session ≡ None → told ≡ [] → AreTold (by_session owners members) session told
+  told-unseated session told none nothing = λ number what.
+      let same = get-unseated places owners agree members owned session number none in
+      (λ c. none_told number what (subst (λ l. Contains {X = ℕ × (ℕ × ℕ × Op)} l (number, what)) nothing c), λ e. none_some (sym (ap (option_map told_of) same) ∙ e))
+    where
+      none_told : {A : Type 0} (number : ℕ) (what : ℕ × ℕ × Op) → Contains {X = ℕ × (ℕ × ℕ × Op)} [] (number, what) → A
+      none_told number what c = let below : c.0 < 0 = c.1 in absurd (omega (arith, below))
 
   -- how many wait of a session
   pub count-in_slot : (session slot : ℕ) → slot_in places session ≡ Some slot → count_of (by_session owners members) session ≡ waits.count_of members slot

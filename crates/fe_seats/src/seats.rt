@@ -1,6 +1,6 @@
 ghost use Rattle.std.specs.Prelude.{◌≡◌, ◌↔◌, ◌<◌, ◌≤◌, Some, None, IfOk, OnErr, IfSome, IsSome, IsNone};
 ghost use Rattle.std.specs.FinMap as map;
-ghost use Rattle.fe_waits.specs.Waiting.{IsWord, NoneOnWord, NoneOnArray};
+ghost use Rattle.fe_waits.specs.Waiting.{IsWord, NoneOnWord, NoneOnArray, AreTold};
 ghost use Rattle.fe_seats.specs.Seating.{free_seat, with_holder, with_closing, key_of, waiter_of, turn_of, turn_at, count_of, without_session, IsNodeOn, NoneOfSession, IsWithinLimits};
 
 use crate::place::{Place, Places, SEATS, slot_of};
@@ -219,6 +219,21 @@ impl Seats {
         let slot = slot_of(&self.places, session)?;
         let row = self.waits.find(slot, number)?;
         Some(Turn::of(session, row))
+    }
+
+    /// The requests of a session that wait, at most 32, in no order that is promised: the number of each, the array and
+    /// the index of its word, and its operation. The one error is that memory is short.
+    pub fn told(
+        &self,
+        alloc: Global,
+        session: u64,
+    ) -> Result<Vec<(u64, (u64, u32, Op))>, AllocError>
+        ensures told { IfOk result (λ told. AreTold self.now.waiting session told.items) }
+    {
+        match slot_of(&self.places, session) {
+            Some(slot) => self.waits.told(alloc, slot),
+            None => Ok(Vec::new(alloc)),
+        }
     }
 
     /// Takes out the request of a session and a number, if it waits.

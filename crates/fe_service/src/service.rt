@@ -1,6 +1,6 @@
 ghost use Rattle.std.specs.Prelude.{◌≡◌, ◌≢◌, ◌+◌, ◌<◌, ◌≤◌, ◌↔◌, ℕ, List, [], length, Some, None, IsSome, IsTrue, IfOk, OnOk, OnErr, is_some, true, false};
 ghost use Rattle.std.specs.FinMap.{get, len, empty};
-ghost use Rattle.fe_waits.specs.Waiting.{Waiter};
+ghost use Rattle.fe_waits.specs.Waiting.{Waiter, AreTold};
 ghost use Rattle.fe_state.specs.State as states;
 ghost use Rattle.fe_state.specs.State.{reply, MakesArray};
 ghost use Rattle.fe_state.specs.declared.entry.Entry.{Entry};
@@ -109,6 +109,18 @@ impl Service {
         ensures { result ≡ turn_at self.now.waiting session number }
     {
         self.parts.seats.find(session, number)
+    }
+
+    /// The requests of a session that wait, at most 32, in no order that is promised: the number of each, the array and
+    /// the index of its word, and its operation. The one error is that memory is short.
+    pub fn told(
+        &self,
+        alloc: Global,
+        session: u64,
+    ) -> Result<Vec<(u64, (u64, u32, Op))>, AllocError>
+        ensures told { IfOk result (λ told. AreTold self.now.waiting session told.items) }
+    {
+        self.parts.seats.told(alloc, session)
     }
 
     /// How many entries were made and not yet taken.

@@ -1,6 +1,6 @@
 //! The end of the history, a batch that is not the one that is out, and a box that is full.
 
-use fe_front::Front;
+use fe_front::{Front, StrangeBatch};
 use fe_mail::Refusal;
 use fe_state::{Batch, Entry, State};
 use std::alloc::{AllocError, Global};
@@ -39,28 +39,42 @@ fn ends(rt: HostRuntime) -> Result<(), Fail> {
     Ok(())
 }
 
-/// The batch of a session's beginning and its end.
-fn long_batch(alloc: Global) -> Result<Batch, AllocError> {
-    let mut long = Batch::new(alloc, 0)?;
-    long.push(Entry::Attached {
+/// A session's beginning and its end.
+const LONG: [Entry; 2] = [
+    Entry::Attached {
         session: 7,
         floor: 1,
-    });
-    long.push(Entry::Closed { session: 7 });
+    },
+    Entry::Closed { session: 7 },
+];
+
+fn long_batch(alloc: Global) -> Result<Batch, AllocError> {
+    let mut long = Batch::new(alloc, 0)?;
+    long.push(LONG[0]);
+    long.push(LONG[1]);
     Ok(long)
 }
 
-fn is_strange(front: &mut Front, batch: Batch) -> bool {
-    front.post(batch).is_err()
+/// Whether the batch, which begins at place 0 and has these entries, is refused and comes back as it was.
+fn is_strange(front: &mut Front, batch: Batch, entries: &[Entry]) -> bool {
+    match front.post(batch) {
+        Ok(()) => false,
+        Err(StrangeBatch(back)) => {
+            let is_same = back.first == 0 && back.entries.as_slice() == entries;
+            drop(back);
+            is_same
+        }
+    }
 }
 
 /// While no batch is out each one is refused; then the one that is longer than the one that is out.
 fn check_batches(rt: &impl Abort, alloc: Global, front: &mut Front) -> Result<(), Fail> {
-    assert!(rt; is_strange(front, Batch::new(alloc, 0)?));
+    assert!(rt; is_strange(front, Batch::new(alloc, 0)?, &[]));
     come(rt, front);
     let long = long_batch(alloc)?;
     let right = front.cut().expect(rt, "the attach is cut");
-    assert!(rt; is_strange(front, long) && !is_strange(front, right) && front.durable() == 1);
+    assert!(rt; is_strange(front, long, &LONG) && front.durable() == 0);
+    assert!(rt; front.post(right).is_ok() && front.durable() == 1);
     Ok(())
 }
 

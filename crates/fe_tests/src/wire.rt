@@ -1,7 +1,9 @@
 //! A stream of frames, with the bytes of `docs/formats.md`.
 
 use fe_state::{Name, Request};
-use fe_wire::{BadFrame, ClientMessage, Decoder};
+use fe_wire::{
+    BadFrame, ClientMessage, Decoder, ServerMessage, put_message, put_reply, read_reply,
+};
 use fe_words::{Op, Tag};
 use std::alloc::{AllocError, Global};
 use std::process::Abort;
@@ -105,4 +107,59 @@ fn frames_in_pieces(rt: HostRuntime) -> Result<(), Fail> {
 fn offset_stands_still(rt: HostRuntime) -> Result<(), Fail> {
     let mut decoder = Decoder::starting_at(18446744073709551614);
     check_fault(&rt, rt.alloc(), &mut decoder, 18446744073709551615)
+}
+
+/// A report of one line.
+const REPORT: &[u8] = b"\0\0\0\x0b\x47waiting 0\n";
+
+/// The attach is put at the second try if not at the first, and nothing of it at the first.
+fn check_putting(rt: &impl Abort, alloc: Global) -> Result<(), AllocError> {
+    let mut out = Vec::new(alloc);
+    if put_message(&mut out, &ATTACH).is_err() {
+        assert!(rt; out.is_empty());
+        put_message(&mut out, &ATTACH)?;
+    }
+    assert!(rt; out.as_slice() == FRAMES[0]);
+    Ok(())
+}
+
+/// A piece with an attach in it is read at the second try if not at the first, and nothing of it at the first.
+fn check_feeding(rt: &impl Abort, alloc: Global) -> Result<(), AllocError> {
+    let mut decoder = Decoder::new();
+    let fed = match decoder.feed(alloc, FRAMES[0]) {
+        Ok(fed) => fed,
+        Err(AllocError) => decoder.feed(alloc, FRAMES[0])?,
+    };
+    assert!(rt; fed.messages.as_slice() == [ATTACH].as_slice() && fed.fault.is_none());
+    Ok(())
+}
+
+fn report_at_last(alloc: Global) -> Result<Option<ServerMessage>, AllocError> {
+    match read_reply(alloc, REPORT) {
+        Ok(reply) => Ok(reply),
+        Err(AllocError) => read_reply(alloc, REPORT),
+    }
+}
+
+/// A report is read, and put, at the second try if not at the first.
+fn check_report(rt: &impl Abort, alloc: Global) -> Result<(), AllocError> {
+    let Some(ServerMessage::Report(report)) = report_at_last(alloc)? else {
+        assert!(rt; false, "the bytes are a report");
+        return Ok(());
+    };
+    let reply = ServerMessage::Report(report);
+    let mut out = Vec::new(alloc);
+    if put_reply(&mut out, &reply).is_err() {
+        assert!(rt; out.is_empty());
+        put_reply(&mut out, &reply)?;
+    }
+    assert!(rt; out.as_slice() == REPORT);
+    Ok(())
+}
+
+#[test]
+fn frames_where_memory_ends(rt: HostRuntime) -> Result<(), Fail> {
+    check_putting(&rt, rt.alloc())?;
+    check_feeding(&rt, rt.alloc())?;
+    Ok(check_report(&rt, rt.alloc())?)
 }

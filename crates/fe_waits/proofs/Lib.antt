@@ -6,3 +6,4 @@ pub mod MemberLemmas
 pub mod RoomLemmas
 pub mod SearchLemmas
 pub mod WordLemmas
+pub mod ToldLemmas

@@ -26,11 +26,11 @@ pub record IsSearched (pool : Contents Row) (sessions : List Chain) (slot number
   pub counted : length before ≡ steps
   pub missed : (node : ℕ) (row : Row) → IsAmong node before → row_in pool.items node ≡ Some row → row.number ≢ number
 
-first-of : (rest : List ℕ) (node : ℕ) → first_or None rest ≡ Some node → (after : List ℕ) × (rest ≡ node ∷ after)
+pub first-of : (rest : List ℕ) (node : ℕ) → first_or None rest ≡ Some node → (after : List ℕ) × (rest ≡ node ∷ after)
 first-of [] node e = none_some e
 first-of (x ∷ after) node e = (after, ap (λ y. y ∷ after) (some_same e))
 
-none-left : (rest : List ℕ) → first_or None rest ≡ None → rest ≡ []
+pub none-left : (rest : List ℕ) → first_or None rest ≡ None → rest ≡ []
 none-left [] e = refl
 none-left (x ∷ after) e = none_some (sym e)
 

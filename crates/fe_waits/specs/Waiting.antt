@@ -1,5 +1,5 @@
 -- What a contract sees of the waiting lists: the requests that wait, by slot and number.
-use Rattle.std.specs.Prelude.{◌≡◌, ◌≢◌, ◌==◌, ℕ, ◌<◌, ◌≤◌, List, not, Option, Some, None, refl, slice_index_or}
+use Rattle.std.specs.Prelude.{◌≡◌, ◌≢◌, ◌↔◌, ◌==◌, ℕ, ◌<◌, ◌≤◌, Contains, List, not, Option, Some, None, refl, slice_index_or}
 use Rattle.std.specs.Option.{option_map}
 use Rattle.std.specs.Ordering.{nat_cmp}
 use Rattle.std.specs.Coded.{Coded, code_by, coded×, coded_ℕ, coded_list, coded_option}
@@ -63,6 +63,15 @@ row_at members slot number =
     option_map
     (λ waiter. record { slot = slot; number = number; array = waiter.array; index = waiter.index; op = waiter.op })
     (get members (slot, number))
+
+-- what is told of a waiter: the array and the index of its word, and its operation
+abbrev pub told_of : Waiter → ℕ × ℕ × Op
+told_of waiter = (waiter.array, waiter.index, waiter.op)
+
+-- a list tells the requests of a slot, by number: each that waits is told, and nothing else is
+abbrev pub AreTold : FinMap pair_cmp Waiter → ℕ → List (ℕ × (ℕ × ℕ × Op)) → Type 0
+AreTold members slot told =
+    (number : ℕ) (what : ℕ × ℕ × Op) → Contains told (number, what) ↔ (option_map told_of (get members (slot, number)) ≡ Some what)
 
 -- the array is added, and the index is one of its
 abbrev pub IsWord : FinMap nat_cmp ℕ → ℕ → ℕ → Type 0

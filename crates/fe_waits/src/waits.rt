@@ -1,6 +1,6 @@
 ghost use Rattle.std.specs.Prelude.{◌≡◌, ◌≢◌, ◌↔◌, ◌<◌, Some, None, IfOk, OnErr, IfSome, IsSome, IsNone, IfNone};
 ghost use Rattle.std.specs.FinMap as map;
-ghost use Rattle.fe_waits.specs.Waiting.{key_of, waiter_of, row_of, row_at, of_slot, count_of, without_slot, IsWord, IsNodeOn, NoneOnWord, NoneOnArray, IsWithinLimits};
+ghost use Rattle.fe_waits.specs.Waiting.{key_of, waiter_of, row_of, row_at, of_slot, count_of, without_slot, IsWord, IsNodeOn, NoneOnWord, NoneOnArray, AreTold, IsWithinLimits};
 ghost use Rattle.fe_waits.specs.within.Inner.{IsNodeOfSlot};
 
 use crate::chains::Chains;
@@ -171,6 +171,24 @@ impl Waits {
     {
         let node = self.node_of(slot, number)?;
         Some(self.row(node))
+    }
+
+    /// The requests of a slot, at most 32, in no order that is promised: the number of each, the array and the index of
+    /// its word, and its operation. It walks along the list of the slot once. The one error is that memory is short.
+    pub fn told(&self, alloc: Global, slot: u8) -> Result<Vec<(u64, (u64, u32, Op))>, AllocError>
+        requires slot { slot < 64 }
+        ensures told { IfOk result (λ told. AreTold self.now.members slot told.items) }
+    {
+        let chain = self.sessions.at(slot as usize);
+        let mut told = Vec::with_capacity(alloc, chain.length as usize)?;
+        let mut at = chain.first;
+        for _ in 0..chain.length {
+            let node = at.unwrap();
+            let row = *self.pool.get(node);
+            told.push((row.number, (row.array, row.index, row.op)))?;
+            at = self.pool.next(Family::OfSession, node);
+        }
+        Ok(told)
     }
 
     /// Takes out the request of a slot and a number, if it waits.

@@ -1,5 +1,5 @@
 -- The frame at the front of some bytes: what it spells, and that no other message is spelled there.
-use Rattle.std.proofs.Common.{◌≡◌, ℕ, suc, ◌+◌, ◌-◌, ◌<◌, ◌≤◌, List, ◌∷◌, ◌++◌, length, get_or, take, drop, Some, None, refl, sym, ap, ◌∙◌, arith, inl, inr, lit≤}
+use Rattle.std.proofs.Common.{◌≡◌, ℕ, suc, ◌+◌, ◌-◌, ◌^◌, ◌<◌, ◌≤◌, List, ◌∷◌, ◌++◌, length, get_or, take, drop, Option, Some, None, refl, sym, ap, ◌∙◌, arith, inl, inr, lit≤}
 use Rattle.std.specs.Prelude.{IfSome}
 use Rattle.std.specs.Int.{w32, to_be_bytes, from_be_bytes}
 use Rattle.std.proofs.lemmas.Option.{none-some, same_Some}
@@ -57,6 +57,25 @@ reads_none v bytes fits whole low e = (
       none-some m (sym e ∙ ap (λ (k : ℕ). message_of k (body_field bytes)) kinds ∙ ap (message_of r.kind) bodies ∙ r.read),
 )
 
+-- ---- a frame, and what comes behind
+
+frame_front : (kind : ℕ) (body behind : List ℕ) → length body + 1 < 2 ^ 32 → front_frame (frame kind body ++ behind) ≡ frame kind body
+frame_front kind body behind short =
+    let n : length_field (frame kind body ++ behind) ≡ length body + 1 = wide32.again (length body + 1) short in
+    let long : length (frame kind body) ≡ 4 + length_field (frame kind body ++ behind) = omega (arith, n) in
+    ap (λ (k : ℕ). take k (frame kind body ++ behind)) (sym long) ∙ take_at (frame kind body) behind (length (frame kind body)) refl
+
+-- what frames spell is one where one of them begins the other
+pub one_frame : {M : Type 0} (read : ℕ → List ℕ → Option M) (j k : ℕ) (b c x y : List ℕ) (m n : M)
+    → length b + 1 < 2 ^ 32 → length c + 1 < 2 ^ 32 → read j b ≡ Some m → read k c ≡ Some n
+    → frame j b ++ x ≡ frame k c ++ y → (m ≡ n) × (x ≡ y)
+one_frame read j k b c x y m n b_short c_short is_m is_n same =
+    let frames : frame j b ≡ frame k c = sym (frame_front j b x b_short) ∙ ap front_frame same ∙ frame_front k c y c_short in
+    let kinds : j ≡ k = ap (λ (t : List ℕ). get_or t 4 0) frames in
+    let bodies : b ≡ c = ap (drop 5) frames in
+    let one : Some m ≡ Some n = sym is_m ∙ ap (λ (kind : ℕ). read kind b) kinds ∙ ap (read k) bodies ∙ is_n in
+    (same_Some m n one, append_cancel_left (frame j b) x y (same ∙ ap (λ (t : List ℕ). t ++ y) (sym frames)))
+
 -- ---- a message's frame, and what comes behind
 
 pub record IsFront (m : ClientMessage) (bytes : List ℕ) : Type 0 where
@@ -69,30 +88,24 @@ pub record IsFront (m : ClientMessage) (bytes : List ℕ) : Type 0 where
 pub spelled_front : (m : ClientMessage) (behind : List ℕ) → Fits m → IsFront m (spelling m ++ behind)
 spelled_front m behind fits =
     let r = message_again m fits in
-    let text : List ℕ = frame r.kind r.body ++ behind in
-    let same : text ≡ spelling m ++ behind = ap (λ (t : List ℕ). t ++ behind) (sym r.spelled) in
-    let n : length_field text ≡ length r.body + 1 = wide32.again (length r.body + 1) (omega (arith, r.high)) in
-    let n' : length_field (spelling m ++ behind) ≡ length r.body + 1 = ap length_field (sym same) ∙ n in
-    let long : length (spelling m) ≡ 4 + length_field (spelling m ++ behind) = ap length r.spelled ∙ omega (arith, n') in
+    let short : length r.body + 1 < 2 ^ 32 = omega (arith, r.high) in
+    let same : frame r.kind r.body ++ behind ≡ spelling m ++ behind = ap (λ (t : List ℕ). t ++ behind) (sym r.spelled) in
+    let n : length_field (spelling m ++ behind) ≡ length r.body + 1 = ap length_field (sym same) ∙ wide32.again (length r.body + 1) short in
     record {
       read = r;
-      long = n';
+      long = n;
       kind = ap kind_field (sym same);
-      front = ap (λ (k : ℕ). take k (spelling m ++ behind)) (sym long) ∙ take_at (spelling m) behind (length (spelling m)) refl;
-      whole = omega (arith, long, length-append (spelling m) behind);
+      front = ap front_frame (sym same) ∙ frame_front r.kind r.body behind short ∙ sym r.spelled;
+      whole = omega (arith, n, ap length r.spelled, length-append (spelling m) behind);
     }
 
 -- no message's frame begins another's
 pub one_front : (a b : ClientMessage) (x y : List ℕ) → Fits a → Fits b → spelling a ++ x ≡ spelling b ++ y → (a ≡ b) × (x ≡ y)
 one_front a b x y a_fits b_fits same =
-    let f = spelled_front a x a_fits in
-    let g = spelled_front b y b_fits in
-    let spelled : spelling a ≡ spelling b = sym f.front ∙ ap front_frame same ∙ g.front in
-    let frames : frame f.read.kind f.read.body ≡ frame g.read.kind g.read.body = sym f.read.spelled ∙ spelled ∙ g.read.spelled in
-    let kinds : f.read.kind ≡ g.read.kind = ap (λ (t : List ℕ). get_or t 4 0) frames in
-    let bodies : f.read.body ≡ g.read.body = ap (drop 5) frames in
-    let read : Some a ≡ Some b = sym f.read.read ∙ ap (λ (k : ℕ). message_of k f.read.body) kinds ∙ ap (message_of g.read.kind) bodies ∙ g.read.read in
-    (same_Some a b read, append_cancel_left (spelling a) x y (same ∙ ap (λ (t : List ℕ). t ++ y) (sym spelled)))
+    let f = message_again a a_fits in
+    let g = message_again b b_fits in
+    let frames : frame f.kind f.body ++ x ≡ frame g.kind g.body ++ y = ap (λ (t : List ℕ). t ++ x) (sym f.spelled) ∙ same ∙ ap (λ (t : List ℕ). t ++ y) g.spelled in
+    one_frame message_of f.kind g.kind f.body g.body x y a b (omega (arith, f.high)) (omega (arith, g.high)) f.read g.read frames
 
 -- a kind's frames are no longer than the greatest length
 first_row : (limit kind : ℕ) → 31 ≤ limit → IfSome (first_lengths kind) (λ n. n ≤ limit)

@@ -1,6 +1,8 @@
--- The two laws of replies: what is read is spelled so, and what is spelled so is read.
+-- The laws of replies: what is read is spelled so, what is spelled so is read, and replies are read in one way.
 use Rattle.std.proofs.Common.{◌≡◌, ◌≢◌, ℕ, ◌+◌, ◌^◌, ◌<◌, Bool, true, false, cond, ltb, leb, eqb, ◌&&◌, List, [], ◌∷◌, ◌++◌, length, Option, Some, None, refl, sym, ap, subst, ◌∙◌, arith, lit<}
 use Rattle.std.specs.Prelude.{IfSome}
+use Rattle.std.proofs.lemmas.List.{length-append}
+use Rattle.std.specs.List.{flat_map, AllByRecursion}
 use Rattle.std.specs.Int.{w32, w64, to_be_bytes}
 use Rattle.std.proofs.lemmas.Bool.{ltb-false, ltb-true, lt-ltb, le-ltb, leb-true, le-leb, eqb-true, eq-eqb, ne_eqb, and_parts}
 use Rattle.std.proofs.lemmas.Option.{cond_some}
@@ -18,6 +20,7 @@ use Rattle.fe_codes.proofs.BindingLaws.{bind_some, bind_at}
 use Rattle.fe_codes.specs.Bytes.{IsBytes}
 use Rattle.fe_wire.proofs.FieldLaws.{ended_takes, wide32, wide64, number_takes, number_again, byte_takes, number_of_takes, number_of_again, two_numbers, two_numbers_of_takes, two_numbers_of_again}
 use Rattle.fe_codes.proofs.CodeLaws.{answer_takes, answer_again, row, some_at}
+use Rattle.fe_wire.proofs.FrameLaws.{one_frame}
 
 abbrev pub IsReplyOf : ℕ → List ℕ → ServerMessage → Type 0
 IsReplyOf kind body m = ReplyFits m × (reply_spelling m ≡ frame kind body)
@@ -255,3 +258,27 @@ pub report_at : (bytes : List ℕ) (kind : ℕ) (body : List ℕ) → IsBytes by
 report_at bytes kind body fits e is fitting =
     let t = parts_takes bytes kind body fits e in
     record { text = body; fits = fitting; spelled = t.0 ∙ ap (λ (k : ℕ). frame k body) is }
+
+-- ---- replies one behind another
+
+-- no reply's frame begins another's
+pub one_reply : (a b : ServerMessage) (x y : List ℕ) → ReplyFits a → ReplyFits b → reply_spelling a ++ x ≡ reply_spelling b ++ y → (a ≡ b) × (x ≡ y)
+one_reply a b x y a_fits b_fits same =
+    let f = reply_again a a_fits in
+    let g = reply_again b b_fits in
+    let frames : frame f.kind f.body ++ x ≡ frame g.kind g.body ++ y = ap (λ (t : List ℕ). t ++ x) (sym f.spelled) ∙ same ∙ ap (λ (t : List ℕ). t ++ y) g.spelled in
+    one_frame any_reply_of f.kind g.kind f.body g.body x y a b f.short g.short f.read g.read frames
+
+-- a reply has bytes
+not_empty : (m : ServerMessage) (behind : List ℕ) → ReplyFits m → reply_spelling m ++ behind ≡ [] → ⊥
+not_empty m behind fits e =
+    let r = reply_again m fits in
+    omega (arith, ap length e, length-append (reply_spelling m) behind, ap length r.spelled)
+
+pub one_reading_of_replies : (a b : List ServerMessage) → AllByRecursion ReplyFits a → AllByRecursion ReplyFits b → flat_map reply_spelling a ≡ flat_map reply_spelling b → a ≡ b
+one_reading_of_replies [] [] a_fits b_fits same = refl
+one_reading_of_replies [] (n ∷ ns) a_fits b_fits same = absurd (not_empty n (flat_map reply_spelling ns) b_fits.0 (sym same))
+one_reading_of_replies (m ∷ ms) [] a_fits b_fits same = absurd (not_empty m (flat_map reply_spelling ms) a_fits.0 same)
+one_reading_of_replies (m ∷ ms) (n ∷ ns) a_fits b_fits same =
+    let one = one_reply m n (flat_map reply_spelling ms) (flat_map reply_spelling ns) a_fits.0 b_fits.0 same in
+    ap (λ (k : ServerMessage). k ∷ ms) one.0 ∙ ap (λ (t : List ServerMessage). n ∷ t) (one_reading_of_replies ms ns a_fits.1 b_fits.1 one.1)

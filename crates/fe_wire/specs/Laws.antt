@@ -1,8 +1,10 @@
--- Laws of streams, which public functions name.
+-- Laws of streams and replies, which public functions name.
 use Rattle.std.specs.Prelude.{◌≡◌, ℕ, List, ◌++◌}
 use Rattle.fe_codes.specs.Bytes.{IsBytes}
 use Rattle.fe_wire.specs.declared.client_message.ClientMessage.{ClientMessage}
-use Rattle.fe_wire.specs.Spelling.{spelling, Fits}
+use Rattle.std.specs.List.{flat_map, AllByRecursion}
+use Rattle.fe_wire.specs.declared.server_message.ServerMessage.{ServerMessage}
+use Rattle.fe_wire.specs.Spelling.{spelling, Fits, reply_spelling, ReplyFits}
 use Rattle.fe_wire.specs.declared.version.Version.{Version}
 use Rattle.fe_wire.specs.Stream.{IsStream, Decoding, HasReadFrom}
 
@@ -29,3 +31,13 @@ pub record HasReading (version : Version) (stream : List ℕ) : Type 0 where
 -- Each list of bytes has a reading in each version.
 abbrev pub EachHasReading : Type 0
 EachHasReading = (v : Version) (stream : List ℕ) → IsBytes stream → HasReading v stream
+
+-- No reply's frame begins another's, and no two replies have one frame.
+abbrev pub HasOneReplySpelling : Type 0
+HasOneReplySpelling = (a b : ServerMessage) (x y : List ℕ) → ReplyFits a → ReplyFits b
+    → reply_spelling a ++ x ≡ reply_spelling b ++ y → (a ≡ b) × (x ≡ y)
+
+-- Bytes are the frames of one list of replies at most.
+abbrev pub HasOneReplyReading : Type 0
+HasOneReplyReading = (a b : List ServerMessage) → AllByRecursion ReplyFits a → AllByRecursion ReplyFits b
+    → flat_map reply_spelling a ≡ flat_map reply_spelling b → a ≡ b

@@ -73,8 +73,9 @@ impl Decoder {
     /// in it; then nothing of the piece was taken.
     pub fn feed(&mut self, alloc: Global, piece: &[u8]) -> Result<Fed, AllocError>
         // With this piece the stream is read as far, and has these messages more.
-        ensures reads { IfOk result (λ fed. (start : ℕ) (before : List ℕ) (earlier : List Message) → HasReadFrom start self.old before earlier →
-            HasReadFrom start self.new (before ++ piece.now) (earlier ++ fed.messages.items)) }
+        ensures reads { IfOk result (λ fed. (start : ℕ) (before : List ℕ) (earlier : List Message)
+            → HasReadFrom start self.old before earlier
+            → HasReadFrom start self.new (before ++ piece.now) (earlier ++ fed.messages.items)) }
         ensures version { self.new.version ≡ self.old.version }
         ensures fault { IfOk result (λ fed. fed.fault ≡ fault_of self.new) }
         // After a bad frame each call tells the same fault, and no message.

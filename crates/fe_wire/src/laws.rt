@@ -1,6 +1,6 @@
 //! Laws of the grammar, which hold of streams and messages apart from any decoder.
 
-ghost use Rattle.fe_wire.specs.Laws.{EachHasReading, HasOneReading, HasOneOutcome, HasOneSpelling};
+ghost use Rattle.fe_wire.specs.Laws.{EachHasReading, HasOneReading, HasOneOutcome, HasOneSpelling, HasOneReplySpelling, HasOneReplyReading};
 
 /// Two readings of one stream in one version are one: its messages, and the rest behind them.
 pub fn one_reading()
@@ -21,4 +21,14 @@ pub fn one_outcome()
 /// No message's frame begins another's, and no two messages have one frame, of whichever versions.
 pub fn one_spelling()
     ensures { HasOneSpelling }
+{}
+
+/// No reply's frame begins another's, and no two replies have one frame.
+pub fn one_reply_spelling()
+    ensures { HasOneReplySpelling }
+{}
+
+/// Bytes are the frames of one list of replies at most, so that what was written to a client is read in one way.
+pub fn one_reply_reading()
+    ensures { HasOneReplyReading }
 {}

@@ -82,7 +82,8 @@ fn refused_frame(number: u64, code: u8) -> Frame
 fn put_report(out: &mut Vec<u8>, report: &ReportText) -> Result<(), AllocError>
     ensures ok { OnOk result (out.new.items ≡ out.old.items ++ reply_spelling (ServerMessage.Report report.now)) }
     ensures err { OnErr result (out.new.items ≡ out.old.items) }
-    ensures full { OnErr result (vec_capacity out.old < vec_len out.old + length (reply_spelling (ServerMessage.Report report.now))) }
+    ensures full { OnErr result (vec_capacity out.old
+        < vec_len out.old + length (reply_spelling (ServerMessage.Report report.now))) }
     ensures fits { ReplyFits (ServerMessage.Report report.now) }
 {
     let text = report.as_str().as_bytes();

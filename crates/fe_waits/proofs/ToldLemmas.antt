@@ -1,0 +1,150 @@
+-- The walk along a session's list that tells all its requests.
+use Rattle.std.proofs.Common.{◌≡◌, ◌⊎◌, ℕ, ◌<◌, ◌≤◌, ◌+◌, inl, inr, List, [], ◌∷◌, ◌++◌, length, slice_get, slice_index_or, zero, suc, Option, Some, None, IsSome, is_some, refl, sym, ap, subst, ◌∙◌, arith, append_assoc, append-nil, length-append}
+use Rattle.std.specs.Prelude.{Contains, ◌↔◌}
+use Rattle.std.proofs.lemmas.List.Elements.{Contains-append_left, Contains-append_right, Contains-append_cases}
+use Rattle.std.specs.Option.{option_map}
+use Rattle.std.specs.Ordering.{nat_cmp}
+use Rattle.std.specs.FinMap.{FinMap, get}
+use Rattle.fe_words.specs.declared.op.Op.{Op}
+use Rattle.fe_pool.specs.declared.chain.Chain.{Chain}
+use Rattle.fe_pool.specs.declared.family.Family.TheVariants.{OfSession}
+use Rattle.fe_pool.specs.Pool.{Contents, first_or, list_of, IsOn, IsNext}
+use Rattle.fe_pool.specs.within.Runs.{IsAmong}
+use Rattle.fe_pool.proofs.AmongLemmas.{among-append_right, among-append_cases, Contains-among, among-Contains}
+use Rattle.fe_waits.specs.declared.row.Row.{Row}
+use Rattle.fe_waits.specs.Waiting.{Waiter, key_of, waiter_of, told_of, AreTold}
+use Rattle.fe_waits.specs.within.Inner.{members_of, row_in, IsKept}
+use Rattle.fe_waits.proofs.MemberLemmas.{none_some, some_same, members-node, members-row}
+use Rattle.fe_waits.proofs.SearchLemmas.{first-of, none-left}
+
+-- what is told of a request, under its number
+abbrev pub told_row : Row → ℕ × (ℕ × ℕ × Op)
+told_row row = (row.number, (row.array, row.index, row.op))
+
+-- so many nodes of the slot's list are seen, just what they stand for is told, and this is the next
+pub record IsTelling (pool : Contents Row) (sessions : List Chain) (slot : ℕ) (at : Option ℕ) (steps end : ℕ) (told : List (ℕ × (ℕ × ℕ × Op))) : Type 0 where
+  pub chain : Chain
+  pub is_chain : slice_get sessions slot ≡ Some chain
+  pub whole : end ≡ length (list_of pool OfSession chain)
+  pub before : List ℕ
+  pub rest : List ℕ
+  pub split : list_of pool OfSession chain ≡ before ++ rest
+  pub next : at ≡ first_or None rest
+  pub counted : length before ≡ steps
+  pub seen : (node : ℕ) (row : Row) → IsAmong node before → row_in pool.items node ≡ Some row → Contains told (told_row row)
+  pub sound : (x : ℕ × (ℕ × ℕ × Op)) → Contains told x → (node : ℕ) × (row : Row) × (row_in pool.items node ≡ Some row) × (row.slot ≡ slot) × (told_row row ≡ x)
+
+nothing : {X P : Type 0} (x : X) → Contains [] x → P
+nothing x c = let below : c.0 < 0 = c.1 in absurd (omega (arith, below))
+
+first-is : {X : Type 0} (y x : X) (k : ℕ) → k < 1 → slice_index_or (y ∷ []) k x ≡ x → y ≡ x
+first-is y x zero below is = is
+first-is y x (suc k) below is = absurd (omega (arith, below))
+
+only : {X : Type 0} (y x : X) → Contains (y ∷ []) x → y ≡ x
+only y x c = first-is y x c.0 c.1 c.2
+
+alone : {X : Type 0} (y x : X) → y ≡ x → Contains (y ∷ []) x
+alone y x same = (0, omega arith, same)
+
+module _ (pool : Contents Row) (sessions : List Chain) (words : FinMap nat_cmp (List Chain)) (waiting : ℕ) (kept : IsKept pool sessions words waiting) (slot : ℕ) where
+  pub telling-none_yet : (chain : Chain) → slice_get sessions slot ≡ Some chain → IsTelling pool sessions slot chain.first 0 chain.length []
+  telling-none_yet chain at = record {
+    chain = chain;
+    is_chain = at;
+    whole = (kept.by_session.chains slot chain at).counted;
+    before = [];
+    rest = list_of pool OfSession chain;
+    split = refl;
+    next = (kept.by_session.chains slot chain at).first;
+    counted = refl;
+    seen = λ node row i. absurd i;
+    sound = λ x c. nothing x c;
+  }
+
+  module _ (at : Option ℕ) (steps end : ℕ) (told : List (ℕ × (ℕ × ℕ × Op))) (walk : IsTelling pool sessions slot at steps end told) where
+    -- where some are left, there is a node
+    pub telling-more : steps < end → IsSome at
+    telling-more less = by_rest walk.rest walk.next (ap length walk.split ∙ length-append walk.before walk.rest)
+      where
+        by_rest : (rest : List ℕ) → at ≡ first_or None rest → length (list_of pool OfSession walk.chain) ≡ length walk.before + length rest → IsSome at
+        by_rest [] n e = absurd (omega (arith, walk.whole, walk.counted, e, less))
+        by_rest (x ∷ rest) n e = ap is_some n
+
+    done : end ≤ steps → list_of pool OfSession walk.chain ≡ walk.before
+    done past = walk.split ∙ ap (λ l. walk.before ++ l) (by_rest walk.rest (ap length walk.split ∙ length-append walk.before walk.rest)) ∙ append-nil walk.before
+      where
+        by_rest : (rest : List ℕ) → length (list_of pool OfSession walk.chain) ≡ length walk.before + length rest → rest ≡ []
+        by_rest [] e = refl
+        by_rest (x ∷ rest) e = absurd (omega (arith, walk.whole, walk.counted))
+
+    -- all are told at the end
+    pub telling-all : end ≤ steps → AreTold (members_of pool.items) slot told
+    telling-all past = λ number what. (told_waits number what, λ e. waits_told number what (get (members_of pool.items) (slot, number)) refl e)
+      where
+        told_waits : (number : ℕ) (what : ℕ × ℕ × Op) → Contains told (number, what) → option_map told_of (get (members_of pool.items) (slot, number)) ≡ Some what
+        told_waits number what c =
+            let found = walk.sound (number, what) c in
+            let row = found.1 in
+            let key : key_of row ≡ (slot, number) = λ i. (found.3 i, (found.4 i).0) in
+            ap (λ k. option_map told_of (get (members_of pool.items) k)) (sym key)
+            ∙ ap (option_map told_of) (members-row pool.items kept.different found.0 row found.2)
+            ∙ ap (λ x. Some x.1) found.4
+
+        waits_told : (number : ℕ) (what : ℕ × ℕ × Op) (o : Option Waiter) → get (members_of pool.items) (slot, number) ≡ o → option_map told_of (get (members_of pool.items) (slot, number)) ≡ Some what → Contains told (number, what)
+        waits_told number what None e is = none_some (sym (ap (option_map told_of) e) ∙ is)
+        waits_told number what (Some waiter) e is =
+            let found = members-node pool.items (slot, number) waiter e in
+            let row = found.1 in
+            let on = kept.by_session.listed found.0 row found.2 in
+            let same : on.0 ≡ walk.chain = some_same (sym on.1 ∙ ap (slice_get sessions) (ap (λ p. p.0) found.3) ∙ walk.is_chain) in
+            let among = among-Contains found.0 _ (subst (λ c. Contains (list_of pool OfSession c) found.0) same on.2) in
+            let what_is : told_of waiter ≡ what = some_same (sym (ap (option_map told_of) e) ∙ is) in
+            let told_is : told_row row ≡ (number, what) = λ i. ((found.3 i).1, (ap told_of found.4 ∙ what_is) i) in
+            subst (Contains told) told_is (walk.seen found.0 row (subst (IsAmong found.0) (done past) among) found.2)
+
+    -- the node at hand
+    module _ (node : ℕ) (here : at ≡ Some node) where
+      after : (after : List ℕ) × (walk.rest ≡ node ∷ after)
+      after = first-of walk.rest node (sym walk.next ∙ here)
+
+      split : list_of pool OfSession walk.chain ≡ walk.before ++ node ∷ after.0
+      split = walk.split ∙ ap (λ l. walk.before ++ l) after.1
+
+      contains : Contains (list_of pool OfSession walk.chain) node
+      contains = Contains-among node _ (subst (IsAmong node) (sym split) (among-append_right node walk.before (node ∷ after.0) (inl refl)))
+
+      pub telling-on : IsOn pool OfSession node
+      telling-on = (walk.chain.first, contains)
+
+      pub telling-row : (row : Row) × (row_in pool.items node ≡ Some row) × (row.slot ≡ slot)
+      telling-row = kept.by_session.belongs slot walk.chain node walk.is_chain contains
+
+      -- it is told
+      pub telling-next : (row : Row) (next : Option ℕ) → row_in pool.items node ≡ Some row → IsNext pool OfSession node next → IsTelling pool sessions slot next (steps + 1) end (told ++ told_row row ∷ [])
+      telling-next row next is goes = record {
+        chain = walk.chain;
+        is_chain = walk.is_chain;
+        whole = walk.whole;
+        before = walk.before ++ node ∷ [];
+        rest = after.0;
+        split = split ∙ sym (append_assoc walk.before (node ∷ []) after.0);
+        next = goes walk.chain.first walk.before after.0 split;
+        counted = length-append walk.before (node ∷ []) ∙ ap (λ n. n + 1) walk.counted;
+        seen = λ n r i e. elim (among-append_cases n walk.before (node ∷ []) i) as (λ _. Contains (told ++ told_row row ∷ []) (told_row r)) [
+          | inl old ↦ Contains-append_left told (told_row row ∷ []) (told_row r) (walk.seen n r old e)
+          | inr last ↦ elim last as (λ _. Contains (told ++ told_row row ∷ []) (told_row r)) [
+            | inl same ↦
+                let rows : row ≡ r = some_same (sym is ∙ ap (row_in pool.items) (sym same) ∙ e) in
+                Contains-append_right told (told_row row ∷ []) (told_row r) (alone _ _ (ap told_row rows))
+            | inr none ↦ absurd none
+          ]
+        ];
+        sound = λ x c. elim (Contains-append_cases told (told_row row ∷ []) x c) as (λ _. (node : ℕ) × (row : Row) × (row_in pool.items node ≡ Some row) × (row.slot ≡ slot) × (told_row row ≡ x)) [
+          | inl old ↦ walk.sound x old
+          | inr last ↦
+              let found = telling-row in
+              let rows : found.0 ≡ row = some_same (sym found.1 ∙ is) in
+              (node, row, is, ap (λ (r : Row). r.slot) (sym rows) ∙ found.2, only _ _ last)
+        ];
+      }

@@ -1,0 +1,29 @@
+use Rattle.std.proofs.Common.{◌+◌, is_some, ap, sym, subst}
+use Rattle.fe_waits.proofs.ToldLemmas.{IsTelling, telling-none_yet, telling-more, telling-all, telling-on, telling-row, telling-next}
+use Rattle.fe_waits.proofs.waits.Waits.told.Goals as goal
+
+pub loop-init : goal.loop-init
+loop-init c =
+    subst
+    (IsTelling c.self.inside.pool c.self.inside.sessions c.args.slot c.at-chain.result.first 0 c.at-chain.result.length)
+    (sym c.in_ok-told.ensures.items)
+    (telling-none_yet _ _ _ _ c.self.invariant _ c.at-chain.result c.at-chain.ensures)
+
+pub unwrap-node-requires : goal.unwrap-node-requires
+unwrap-node-requires c = telling-more _ _ _ _ c.self.invariant _ _ _ _ _ c.loop.invariant c.loop-test.true
+
+pub get-row-requires : goal.get-row-requires
+get-row-requires c = ap is_some (telling-row _ _ _ _ c.self.invariant _ _ _ _ _ c.loop.invariant _ c.unwrap-node.ensures).1
+
+pub next-at-requires : goal.next-at-requires
+next-at-requires c = telling-on _ _ _ _ c.self.invariant _ _ _ _ _ c.loop.invariant _ c.unwrap-node.ensures
+
+pub loop-preserved : goal.loop-preserved
+loop-preserved c =
+    subst
+    (IsTelling c.self.inside.pool c.self.inside.sessions c.args.slot c.next-at.result (c.loop.counter + 1) c.at-chain.result.length)
+    (sym c.in_ok-push.ensures.items)
+    (telling-next _ _ _ _ c.self.invariant _ _ _ _ _ c.loop.invariant _ c.unwrap-node.ensures c.get-row.result.now c.next-at.result c.get-row.ensures c.next-at.ensures)
+
+pub returns : goal.returns
+returns c = record { told = rw (← c.self.view_is) (telling-all _ _ _ _ c.self.invariant _ _ _ _ _ c.loop.invariant c.loop-test.false) }
