@@ -127,14 +127,14 @@ class Other:
     def __exit__(self, *_):
         self.listener.close()
 
-    def talk(self, place, lines, answers, ends=False, env=None):
+    def talk(self, place, lines, answers, ends=False, env=None, closed=""):
         """Runs `call` with these lines, answered so: its status, output and errors, and what it sent."""
         came = []
         is_over = threading.Event()
         thread = threading.Thread(target=self.serve, args=(answers, ends, came, is_over), daemon=True)
         thread.start()
         try:
-            ran = place.run("call", "--socket", self.path, given=lines, env=env)
+            ran = place.run("call", "--socket", self.path, given=lines, env=env, closed=closed)
         finally:
             is_over.set()
             thread.join(20)
@@ -357,6 +357,26 @@ def connects(place):
     same(ask(b""), told, "a socket that was left")
 
 
+def closed_streams(place):
+    """a standard stream that is closed fails where it is used, and the connection never takes its place"""
+    told = b"femem: input\n"
+    with Other(place) as other:
+        for closed, sent, errors in (
+            ("<&-", b"", told),
+            (">&-", MESSAGES[0], told),
+            ("<&- >&-", b"", told),
+            (">&- 2>&-", MESSAGES[0], b""),
+            ("<&- >&- 2>&-", b"", b""),
+        ):
+            # (what the server gives is also a line, which a client that reads from its connection would send back)
+            found = other.talk(place, FIRST_PATH, REPLIES[0] + b"\nattach 8\n", closed=closed)
+            same(found, ((2, b"", errors), sent), closed)
+        found = other.talk(place, b"jump\n", b"", closed="2>&-")
+        same(found, ((2, b"", b""), b""), "a stray line, 2>&-")
+    for words, closed in ((("run",), "<&-"), (("run",), ">&-"), (("--help",), ">&-")):
+        same(place.run(*words, given=b"c1 attach 7\n", closed=closed), (2, b"", told), f"{words[0]} {closed}")
+
+
 CHECKS = (
     first_path,
     other_frames,
@@ -369,4 +389,5 @@ CHECKS = (
     streams_fail,
     memory_refused,
     connects,
+    closed_streams,
 )

@@ -191,6 +191,16 @@ def stops_in_journals():
             for torn in TORN:
                 say(f"stop {passed + 3} {passed + 3} {torn} {behind if torn in ('kept', '01') else before}")
             say(f"stop {passed + 4} {passed + 4} any {behind}")
+    case("stop_in_append_of_format_1")
+    one, two = record(attached(), ONE), record(CELLS, ONE)
+    say("store 1")
+    calls("journal", "group $attached1", "group $created1")
+    for passed, before, behind in ((5, [], [one]), (9, [one], [one, two])):
+        before, behind = held(1, EMPTY, *before), held(1, EMPTY, *behind)
+        say(f"stop {passed} {passed + 2} any {before}")
+        for torn in TORN:
+            say(f"stop {passed + 3} {passed + 3} {torn} {behind if torn in ('kept', '01') else before}")
+        say(f"stop {passed + 4} {passed + 4} any {behind}")
 
 
 def torn_gates():
@@ -223,11 +233,24 @@ def full():
     say("run ok")
 
 
+MOST = created(b"cells", 2, 1, 65536)
+
+
+def most():
+    """A store whose image is the largest of one array: ten slices."""
+    say("store 2")
+    calls("keeper", f"append $attached {record(MOST)}")
+    say("run ok")
+
+
 def old():
     """A store of format 1 whose image has the answer."""
     image = image_of(after(*SMALL), ONE)
     say("store 1", f"write 16 4:{len(image)}", f"write 4096 {image.hex()}")
 
+
+# Nine slices, with a group behind each third of them, and the tenth.
+SLICES = [call for slice in range(1, 10) for call in ["step"] + (["append $attached"] if slice % 3 == 0 else [])] + ["step"]
 
 # A store, calls over it, and how many device calls they make: an opening five; a batch four; the beginning of a checkpoint
 # two, or four where the other slot is valid; a slice one, and the rest of a checkpoint four (docs/store.md).
@@ -238,6 +261,7 @@ SWEEPS = [
     (small, 5 + 2 + 4 * 3 + 5 + 4 + 5 + 4, ["begin"] + ["append $attached*4000"] * 4),
     (old, 5 + 2 + 5 + 4, ["append $long"]),
     (old, 5 + 2 + 5 + 4, ["begin", "append $long"]),
+    (most, 5 + 2 + 10 + 3 * 4 + 4, ["begin", *SLICES, "finish"]),
     (old, 5 + 4 + 2 + 4 + 1 + 4 + 4 + 4, ["append $attached", "begin", "append $attached*2", "step", "append $attached", "finish", "append $long"]),
 ]
 
@@ -247,7 +271,8 @@ def sweeps():
         case(name)
         for store, count, made in SWEEPS:
             store()
-            say("calls keeper", f"image {spell(after(*SMALL, *([attached()] * 12000 if store is full else [])))}")
+            start = (attached(), MOST) if store is most else (*SMALL, *([attached()] * 12000 if store is full else []))
+            say("calls keeper", f"image {spell(after(*start))}")
             calls("keeper", *made)
             say(f"{word} {count}")
     case("fuse_twice")
@@ -303,16 +328,10 @@ def batches():
 
 def checkpoints():
     case("largest_checkpoint")
-    say("store 2")
-    most = created(b"cells", 2, 1, 65536)
-    calls("keeper", f"append $attached {record(most)}")
-    say("run ok")
-    slices = []
-    for slice in range(1, 10):
-        slices += ["step"] + (["append $attached"] if slice % 3 == 0 else [])
-    calls("keeper", "begin", "begin", *slices, "step", "finish", "finish")
+    most()
+    calls("keeper", "begin", "begin", *SLICES, "finish", "finish")
     say("run ok", "told yn" + "yyyy" * 3 + "nyn", "holds place 5 used 245 format Two")
-    say("reads 2101256 8:2", "reads 2101264 000900b1", "reads 3153920 01 4:240", "reads 3154165 00", f"image {spell(after(attached(), most, *[attached()] * 3))}")
+    say("reads 2101256 8:2", "reads 2101264 000900b1", "reads 3153920 01 4:240", "reads 3154165 00", f"image {spell(after(attached(), MOST, *[attached()] * 3))}")
     case("whole_checkpoint_for_a_batch")
     say("store 2")
     many = "append $attached*4000"
@@ -363,6 +382,15 @@ def migration():
     calls("keeper", "begin", *many, "append $attached*1108")
     say("run ok", "holds place 13109 used 88645 format Two")
     say("reads 8 8:3", "reads 2101256 8:2", f"reads 3153920 01 4:{12000 * 80}")
+    case("room_in_migration")
+    say("store 1", f"write 16 4:{len(image)}", f"write 4096 {image.hex()}")
+    # Behind the 12,000 records there is room for 88,565 bytes: 1,107 records fit, and 1,108 do not.
+    calls("keeper", "begin", *many, "finish")
+    say("run ok", "told yyyyyy", "holds place 12001 used 960005 format Two")
+    calls("keeper", "append $attached*1108")
+    say("try ok", "counts 5 7 6")
+    calls("keeper", "append $attached*1107")
+    say("run ok", "counts 4 2 3", "holds place 13108 used 1048570 format Two", "reads 8 8:1", "reads 2101256 8:2")
 
 
 def told_of(device, start):
@@ -373,7 +401,18 @@ def told_of(device, start):
         return "Unformatted"
     except Damaged as damage:
         return f"Damaged {{ offset: {damage.offset} }}"
-    return "same" if state_of_store(state) == start else f"other {JOURNAL + 170}"
+    return "same" if state_of_store(state) == start else f"other {from_start(image_of(state_of_store(state), TWO), image_of(start, TWO))}"
+
+
+def from_start(image, start):
+    """An image as the script spells it: where it is as long as that of the start, only what differs."""
+    if len(image) != len(start):
+        return image.hex()
+    pieces, k = [], 0
+    for at in (at for at in range(len(start)) if image[at] != start[at]):
+        pieces += ([f"$start:{k}:{at}"] if at > k else []) + [f"{image[at]:02x}"]
+        k = at + 1
+    return " ".join(pieces + ([f"$start:{k}:{len(start)}"] if k < len(start) else []))
 
 
 def state_of_store(read):
@@ -391,7 +430,7 @@ def lies():
     area = device[JOURNAL : JOURNAL + 170].hex()
     say("store 2", f"write 16 4:{len(image)}", f"write 4096 {image.hex()}")
     calls("keeper", "append $attached", "append $long")
-    say("run ok", "calls keeper", f"image {spell(start)}", f"reads 1052672 {area}")
+    say("run ok", "calls keeper", f"let start {spell(start)}", "image $start", f"reads 1052672 {area}")
     calls("keeper", "append $attached", "begin", "step", "append $attached", "finish")
     for change in (0x01, 0x80, 0xFF):
         rows = []
@@ -561,8 +600,11 @@ PATHS = (("first_path", FIRST), ("broadcast", BROADCAST), ("removal", REMOVAL))
 
 
 def check_written(told, groups):
-    for conn, frames in told.items():
-        say(f"written {conn} {' '.join(frames)}")
+    """What is told to each connection, and to no other, and how many entries each group has."""
+    if not groups or not told or not all(told.values()):
+        raise ValueError("a run that tells nothing shows nothing")
+    for conn in range(6):
+        say(f"written {conn} {' '.join(told.get(conn, ()))}".strip())
     say("groups " + " ".join(str(count) for count in groups))
 
 

@@ -1,14 +1,21 @@
 """Devices that fail, and memory that is refused, under a running server."""
 
+import errno
 import os
+import random
 import resource
 import subprocess
+import sys
 
 from . import store, wire
 from .crowds import adding
 from .crowds import served as served_one
 from .harness import Server, Wrong, holds, preload, same, until, within
 from .model import State
+from .records import calls_of
+
+
+CHANGES = ("write", "pwrite", "fdatasync", "fsync", "ftruncate", "fchmod", "fadvise", "link", "rename", "unlink")
 
 
 class Client:
@@ -61,36 +68,76 @@ def answered(work, state=None):
     return found
 
 
-def device_faults(place, base, state, work, steps, library):
-    """Fails each device call in turn: what is told then, and what the store has afterwards."""
-    wanted = answered(work, state)
-    places = {}
-    for how in steps:
-        number = 0
-        while True:
-            number += 1
-            name = f"{how['name']}{number}"
-            path = place.path("store")
-            if os.path.exists(path):
-                os.unlink(path)
-            if base is not None:
-                place.write("store", base)
-            mark = place.path(f"{name}.failed")
-            server = Server(place, store=path, format=base is None)
-            env = {"LD_PRELOAD": library, "FAILED": mark, how["name"]: str(number), **how["more"]}
-            server.start(env, waits=False)
-            until(lambda: os.path.exists(server.socket) or not server.is_running(), 30, "the server serves or ends")
-            client = Client(server, work)
-            has_ended = not server.is_running() or client.until_end()
-            if not os.path.exists(mark):
-                holds(not has_ended, f"the server ended without a fault: {server.errors()}")
-                same(client.answers, wanted)
-                server.stop()
-                break
-            same(server.ended(), (3, "", "femem: store device\n"), f"{name}, {len(client.answers)} answers")
-            places[how["name"]] = number
-            goes_on(place, server, client, wanted, name)
-    return places
+def is_change(call):
+    """Whether the call changes a file: the preload counts these."""
+    return call.kind in CHANGES or (call.kind == "open" and bool(int(call.numbers[0]) & os.O_CREAT))
+
+
+def fills_and_others(calls, tried=lambda call: True):
+    """The number and the kind of each call that changes a file and is tried. Of those that fill a new one with zeros there are three."""
+    found = [(number, call.kind) for number, call in enumerate(filter(is_change, calls), 1) if tried(call)]
+    fills = [turn for turn in found if turn[1] == "write"]
+    chosen = {*fills[:1], *fills[-1:], *random.sample(fills, min(1, len(fills)))}
+    return [turn for turn in found if turn[1] != "write" or turn in chosen]
+
+
+class Trial:
+    """A store, made anew where there is no base, and one client's work over it, whose calls one after the other do not go well."""
+
+    def __init__(self, place, base, state, work):
+        self.place = place
+        self.base = base
+        self.work = work
+        self.wanted = answered(work, state)
+        self.library = preload(place, "record.c")
+        self.count = 0
+
+    def run(self, **how):
+        """A server up to the end of the work, or its own: the server, its client, and the calls that it made."""
+        self.count += 1
+        name = f"r{self.count}"
+        for file in os.listdir(self.place.folder):
+            if file.startswith("store"):
+                os.unlink(self.place.path(file))
+        path = self.place.path("store")
+        if self.base is not None:
+            self.place.write("store", self.base)
+        server = Server(self.place, name, store=path, format=self.base is None)
+        record = self.place.path(f"{name}.record")
+        server.start({"LD_PRELOAD": self.library, "RECORD": record, **{key: str(value) for key, value in how.items()}}, waits=False)
+        until(lambda: os.path.exists(server.socket) or not server.is_running(), 30, "the server serves or ends")
+        client = Client(server, self.work)
+        if not server.is_running() or client.until_end():
+            server.process.wait(30)
+        found = calls_of(record) if os.path.exists(record) else []
+        for file in (record, f"{record}.bytes"):
+            os.unlink(file)
+        return server, client, found
+
+    def right(self):
+        """The calls of a run in which all goes well."""
+        server, client, found = self.run()
+        holds(server.is_running(), f"the server ended without a fault: {server.errors()}")
+        same(client.answers, self.wanted)
+        server.stop()
+        return found
+
+    def faults(self, ways):
+        """Has each call fail in turn: what is told then, and what the store has afterwards. How many calls of each kind failed."""
+        found = {}
+        # (where its socket's file gets no name beside its own, the server listens all the same)
+        for number, kind in fills_and_others(self.right(), lambda call: "socket" not in call.file):
+            for how in ways:
+                if how == "short" and "write" not in kind:
+                    continue
+                name = f"{kind}, call {number}, {how}"
+                server, client, calls = self.run(TURN=number, HOW=how)
+                same([call.kind for call in calls if call.error == errno.EIO], [kind], name)
+                same(server.ended(), (3, "", "femem: store device\n"), f"{name}, {len(client.answers)} answers")
+                goes_on(self.place, server, client, self.wanted, name)
+                same([file for file in os.listdir(self.place.folder) if file.startswith("store")], ["store"], name)
+                found[kind] = found.get(kind, 0) + (how == "fails")
+        return found
 
 
 def goes_on(place, server, client, wanted, name):
@@ -107,35 +154,111 @@ def goes_on(place, server, client, wanted, name):
     server.stop()
 
 
+def in_words(found):
+    return ", ".join(f"{number} {kind}" for kind, number in sorted(found.items()))
+
+
 WORK = [("create", b"counter", 2, 1)] + [adding(1, 0, 1)] * 6
 
-FAULTS = (
-    {"name": "FAIL_SYNC", "more": {}},
-    {"name": "FAIL_WRITE", "more": {}},
-    {"name": "FAIL_WRITE", "more": {"FAIL_SHORT": "1"}},
-)
 
-
-@within(120)
+@within(240)
 def new_stores(place):
     """each device call from the making of a store on fails in turn: `femem: store device`, status 3, no answer lost or invented"""
-    found = device_faults(place, None, None, WORK, FAULTS, preload(place, "fail_sync.c"))
-    return ", ".join(f"{key} 1 to {number}" for key, number in found.items())
+    found = Trial(place, None, None, WORK).faults(("fails", "short"))
+    # A file that is made, opened and formatted, gets another name and loses its first; then the store's opening and eight groups
+    # (docs/store.md). Of what fills the file three writes fail.
+    once = {"open": 1, "write": 3, "fsync": 1 + 1 + 1 + 1, "link": 1, "unlink": 1, "fadvise": 1 + 1}
+    same(found, {**once, "pwrite": 6 + 8 * 2, "fdatasync": 1 + 3 + 1 + 8 * 2})
+    return in_words(found)
 
 
-@within(120)
-def in_checkpoints(place):
-    """each device call of a checkpoint between groups fails in turn, with the same"""
+def near_a_checkpoint():
+    """A store in which a checkpoint of three slices is due behind the first group, and the state that it stands for."""
     state = State()
     entries = [("attached", 7, 1), ("finished", 7, 32, ("create", b"big", 20000, 1), ("array", 1, 20000))]
     for entry in entries + [("settled", 7, 1)]:
         state.apply(entry)
-    groups = [[("attached", 9, 1)] * 3300] * 2
-    base = bytes(store.device_of(store.TWO, state, groups, 3, 1))
-    after = store.read_store(base)[2]
-    work = [adding(1, 19999, 1)] * 9
-    found = device_faults(place, base, after, work, FAULTS, preload(place, "fail_sync.c"))
-    return ", ".join(f"{key} 1 to {number}" for key, number in found.items())
+    base = bytes(store.device_of(store.TWO, state, [[("attached", 9, 1)] * 3300] * 2, 3, 1))
+    return base, store.read_store(base)[2]
+
+
+@within(240)
+def in_checkpoints(place):
+    """each device call of a checkpoint between groups fails in turn, with the same"""
+    base, state = near_a_checkpoint()
+    found = Trial(place, base, state, [adding(1, 19999, 1)] * 9).faults(("fails", "short"))
+    # an opening; ten groups; a header, three slices and the end of a checkpoint
+    same(found, {"fadvise": 1, "pwrite": 10 * 2 + 1 + 3 + 2, "fdatasync": 1 + 10 * 2 + 2})
+    return in_words(found)
+
+
+def remounted(place, path):
+    """The store once its pages come from the device: those that a failed sync lost have the bytes that they had before."""
+    device = bytearray(place.read(path))
+    lost = place.read("lost")
+    for at in range(0, len(lost), 8 + 4096):
+        page = 4096 * int.from_bytes(lost[at : at + 8], "big" if sys.byteorder == "big" else "little")
+        device[page : page + 4096] = lost[at + 8 : at + 8 + 4096]
+    return bytes(device), len(lost) // (8 + 4096)
+
+
+def sync_lost(place, library, base, work, wanted, number):
+    """Has the sync of that number fail, which loses what was written before it, starts the server again, which does all the work, and reads what
+    the device has then: nothing that was answered is lost. Whether it came to that sync, and how many pages were lost at the end."""
+    place.write("lost", b"")
+    path = place.write("store", base)
+    env = {"LD_PRELOAD": library, "STORE": path, "LOST": place.path("lost")}
+    server = Server(place, f"l{number}", store=path, format=False).start({**env, "FAIL_SYNC": str(number)}, waits=False)
+    until(lambda: os.path.exists(server.socket) or not server.is_running(), 30, "the server serves or ends")
+    client = Client(server, work)
+    if server.is_running() and not client.until_end():
+        same(client.answers, wanted)
+        server.stop()
+        return False, 0
+    same(server.ended(), (3, "", "femem: store device\n"), f"sync {number}")
+    told = client.answers
+    holds(told == wanted[: len(told)], f"sync {number}: {told}")
+    # (the first is that of the opening, before which nothing is written)
+    holds(bool(place.read("lost")) == (number > 1), f"sync {number}: what it lost")
+    if os.path.exists(server.socket):
+        os.unlink(server.socket)
+    again = Client(server.start(env), work)
+    holds(again.attempt(), f"sync {number}: the server that was started again ended a connection")
+    same(again.answers, wanted, f"sync {number}")
+    server.stop()
+    device, pages = remounted(place, "store")
+    kept = store.read_store(device)[2].sessions.get(7)
+    found = [kept.kept.get(at, (None, "lost"))[1] if kept else "lost" for at in range(1, len(wanted) + 1)]
+    same(found, wanted, f"sync {number}: what the device has of what was answered")
+    return True, pages
+
+
+def lost_syncs(place, base, work):
+    """Has each sync of the work fail in turn in that way: how many there were."""
+    library = preload(place, "lose.c")
+    wanted = answered(work, store.read_store(base)[2])
+    number = 1
+    while sync_lost(place, library, base, work, wanted, number)[0]:
+        number += 1
+    return number - 1
+
+
+def at_an_end_of_a_page():
+    """A store whose next group has its gate at the end of a page, and all else in the next: three groups of 17 entries have 4,095 bytes."""
+    state = State()
+    for entry in (("attached", 9, 1), ("finished", 9, 1, ("create", b"cells", 3, 1), ("array", 1, 3))):
+        state.apply(entry)
+    return bytes(store.device_of(store.TWO, state, [[("attached", 9, 1)] * 17] * 3))
+
+
+@within(240)
+def syncs_that_lose(place):
+    """a sync fails, and the system takes pages for written that are not on the device: the server that is started again loses nothing that it answers"""
+    work = [adding(1, 0, 1)] * 4
+    # an opening; five groups
+    same(lost_syncs(place, at_an_end_of_a_page(), work), 1 + 5 * 2)
+    # an opening; ten groups; the end of a checkpoint
+    same(lost_syncs(place, near_a_checkpoint()[0], [adding(1, 19999, 1)] * 9), 1 + 10 * 2 + 2)
 
 
 @within(120)
@@ -171,6 +294,7 @@ def memory_refused(place):
             for at, answer in enumerate(client.answers, 1):
                 same(left.sessions[7].kept[at][1], answer, f"allocation {number} refused: number {at}")
     server.stop()
+    holds(ended > 0 and without > 0, f"{number - 1} allocations, {ended} ended the server")
     return f"{number - 1} allocations, {ended} ended the server"
 
 
@@ -264,4 +388,4 @@ def open_or_none(server, number):
         return None
 
 
-CHECKS = (new_stores, in_checkpoints, memory_refused, commands_where_memory_ends, few_files, little_memory)
+CHECKS = (new_stores, in_checkpoints, syncs_that_lose, memory_refused, commands_where_memory_ends, few_files, little_memory)

@@ -84,9 +84,10 @@ class Place:
             self.groups.append(process.pid)
         return process
 
-    def run(self, *words, given=b"", seconds=30, env=None, stdout=None):
-        """Runs the program to its end: its status, output and errors."""
-        process = self.start([self.program, *words], "run", env, subprocess.PIPE, stdout)
+    def run(self, *words, given=b"", seconds=30, env=None, stdout=None, closed=""):
+        """Runs the program to its end: its status, output and errors. `closed` are a shell's words that close streams."""
+        shell = ["sh", "-c", f'exec "$0" "$@" {closed}'] if closed else []
+        process = self.start([*shell, self.program, *words], "run", env, subprocess.PIPE, stdout)
         try:
             process.communicate(given, seconds)
         except subprocess.TimeoutExpired:

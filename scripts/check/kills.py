@@ -450,27 +450,21 @@ def read(server, history, load):
 
 @within(90)
 def killed_in_its_beginning(place):
-    """a server that is killed while it makes its store: the next one makes it again, or tells the size of what was begun"""
-    begun = whole = 0
+    """a server that is killed while it makes its store, at some moment: the next one serves, and nothing is left beside the store"""
+    began = time.monotonic()
+    Server(place, "whole").start().stop()
+    seconds, begun = time.monotonic() - began, 0
     for turn in range(25):
         server = Server(place, f"{turn}").start(waits=False)
-        time.sleep(random.uniform(0, 0.04))
+        time.sleep(random.uniform(0, seconds))
         server.stop()
-        again = Server(place, f"{turn}").start(waits=False)
-        until(lambda: os.path.exists(again.socket) or not again.is_running(), 30, "the server serves or ends")
-        if again.is_running():
-            again.attached(7).close()
-            again.stop()
-            same(again.looks(), "place 1\nsession 7 floor 1 kept 0\n")
-            whole += 1
-            continue
-        size = os.path.getsize(again.store)
-        same(again.ended(), (3, "", f"femem: store size {size}\n"))
-        begun += 1
-        os.unlink(again.store)
-        again.start()
+        begun += not os.path.exists(server.store)
+        again = Server(place, f"{turn}").start()
+        again.attached(7).close()
         again.stop()
-    return f"{whole} went on, {begun} were begun"
+        same(again.looks(), "place 1\nsession 7 floor 1 kept 0\n")
+        same([file for file in os.listdir(place.folder) if file.startswith(f"{turn}.store")], [f"{turn}.store"])
+    return f"{begun} had no store yet"
 
 
 CHECKS = (killed_in_its_beginning, killed_in_migrations, killed)

@@ -58,7 +58,7 @@ def help_and_version(place):
     shown = f"Shows what is in a store\n\nUsage: {os.path.basename(place.program)} look --store <PATH>\n\n"
     shown += "Options:\n      --store <PATH>  The file of the store\n  -h, --help          Print help\n"
     same(place.run("look", "--help"), (0, shown.encode(), b""))
-    same(place.run("--version"), (0, b"femem 0.1.0\n", b""))
+    same(place.run("--version"), (0, b"femem 1.0.0\n", b""))
     with open("/dev/full", "wb") as full:
         same(place.run("--help", stdout=full)[::2], (2, b"femem: input\n"))
 
@@ -197,13 +197,13 @@ def sockets(place):
 
 
 def two_servers(place):
-    """a second server on the same store or socket is refused, and the first goes on"""
+    """a second server on the same store or socket is refused, a look is not, and the first goes on"""
     first = Server(place).start()
     text = f'store = "{first.store}"\n'
     refused(place, f'socket = "{place.path("x.socket")}"\n' + text, "store device", 3)
     refused(place, f'socket = "{first.socket}"\n' + text, "store device", 3)
     refused(place, f'socket = "{first.socket}"\nstore = "{place.path("t.store")}"\nformat = true\n', "socket", 4)
-    same(place.run("look", "--store", first.store), (3, b"", b"femem: store device\n"))
+    same(first.looks(), "place 0\n")
     with first.attached(7) as conn:
         same(conn.ask(wire.call(1, ("find", b"a"))), ("answer", 1, ("no-array",)))
     first.stop()

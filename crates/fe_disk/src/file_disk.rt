@@ -3,12 +3,12 @@ ghost use Rattle.std.specs.Prelude.{◌≡◌, ◌≢◌, ℕ, [], IfOk, IfErr, 
 ghost use Rattle.fe_disk.specs.declared.file_fault.FileFault.TheVariants.{WrongSize, Device};
 
 use crate::faults::{count, fault};
+use crate::names::sync_folder;
 use crate::{Calls, DeviceFault, Disk, FileFault};
 use std::fs::{File, OpenOptions};
 use std::io::{ErrorKind, Write};
 use std::os::fd::AsRawFd;
-use std::os::unix::fs::FileExt;
-use std::path::Path;
+use std::os::unix::fs::{FileExt, MetadataExt, OpenOptionsExt};
 use std::rt::Files;
 use std::{fs, io};
 
@@ -18,25 +18,37 @@ const PIECE: usize = 4096;
 /// The descriptors below this are the standard streams.
 const STREAMS: i32 = 3;
 
+/// The mode of a file that is made: its owner alone may read and write it.
+const MODE: u32 = 0o600;
+
 /// A disk over a file of a fixed size. Each read and write is made at its offset, with no buffer
 /// between, and a sync puts the file's bytes on its device.
 ///
-/// Nothing is claimed of what a file gives or keeps, so it is not honest. It has an advisory lock of
-/// its file for as long as it lives: a disk that writes is the only one over its file meanwhile.
+/// The first sync that succeeds also makes the system forget what it holds of the file in memory, so that later reads come
+/// from the device: after a sync that failed, in this process or an earlier one, Linux takes pages for written that are not on
+/// the device, and would give their bytes to whoever reads the file until it needs the memory.
+///
+/// A disk that writes has an advisory lock of its file for as long as it lives, and is the only one that writes it meanwhile. Its
+/// syncs succeed only where, behind them, the file still has its size and a name: what is written into a file that was cut,
+/// replaced or removed is lost.
+///
+/// Nothing is claimed of what a file gives or keeps, so it is not honest.
 #[derive(Drop)]
 pub struct FileDisk {
     file: File,
     size: usize,
     calls: Calls,
     failures: u64,
+    is_settled: bool,
+    // Whether the file has to keep its size and a name, as that of a disk that writes.
+    is_watched: bool,
 }
 
 impl FileDisk {
     ghost use Rattle.fe_disk.specs.FileDisk.{file_size, fault_count};
 
-    /// Makes a file of so many zero bytes, and syncs it and its folder. Where a file has the path
-    /// already it refuses and leaves that as it is. Where a later step is refused the file stays,
-    /// maybe of another size.
+    /// Makes a file of so many zero bytes that its owner alone may read and write, and syncs it and its folder. Where a file has
+    /// the path already it refuses and leaves that as it is. Where a later step is refused the file stays, maybe of another size.
     pub fn create<R: Files<File = File>>(
         rt: &R,
         path: &str,
@@ -46,15 +58,8 @@ impl FileDisk {
         ensures failures { IfOk result (λ disk. fault_count disk ≡ 0) }
         ensures refused { IfErr result (λ fault. fault ≡ Device) }
     {
-        match made(rt, path, size as u64) {
-            Ok(file) => {
-                Ok(FileDisk {
-                    file,
-                    size,
-                    calls: Calls::NONE,
-                    failures: 0,
-                })
-            }
+        match FileDisk::over(made(rt, path, size as u64), size, true) {
+            Ok(disk) => Ok(disk),
             Err(_) => Err(FileFault::Device),
         }
     }
@@ -66,14 +71,13 @@ impl FileDisk {
         ensures wrong { (found : ℕ) → IsErrOf result (WrongSize found) → found ≢ size }
     {
         match OpenOptions::new().read(true).write(true).open(rt, path) {
-            Ok(file) => FileDisk::over(locked(file), size),
+            Ok(file) => FileDisk::over(locked(file), size, true),
             Err(error) => Err(unopened(&error)),
         }
     }
 
     /// The disk over the file at the path, which has so many bytes, to be read alone: the file need
-    /// not be writable, and each write is a fault. Several such disks may be made over it, but none
-    /// beside one that writes.
+    /// not be writable, and each write is a fault. It has no lock: others may read and write the file meanwhile.
     pub fn read_only<R: Files<File = File>>(
         rt: &R,
         path: &str,
@@ -90,13 +94,13 @@ impl FileDisk {
             Err(error) => return Err(unopened(&error)),
         }
         match File::open(rt, path) {
-            Ok(file) => FileDisk::over(shared(file), size),
+            Ok(file) => FileDisk::over(above_streams(file), size, false),
             Err(error) => Err(unopened(&error)),
         }
     }
 
-    // The disk over a file that has its lock.
-    fn over(file: io::Result<File>, size: usize) -> Result<FileDisk, FileFault>
+    // The disk over a file that was opened.
+    fn over(file: io::Result<File>, size: usize, is_watched: bool) -> Result<FileDisk, FileFault>
         ensures size { IfOk result (λ disk. file_size disk ≡ size) }
         ensures failures { IfOk result (λ disk. fault_count disk ≡ 0) }
         ensures wrong { (found : ℕ) → IsErrOf result (WrongSize found) → found ≢ size }
@@ -116,7 +120,20 @@ impl FileDisk {
             size,
             calls: Calls::NONE,
             failures: 0,
+            is_settled: false,
+            is_watched,
         })
+    }
+
+    // The file has its size and a name; or it is not watched.
+    fn is_there(&self) -> bool {
+        if !self.is_watched {
+            return true;
+        }
+        match self.file.metadata() {
+            Ok(found) => found.nlink() > 0 && found.len() == self.size as u64,
+            Err(_) => false,
+        }
     }
 }
 
@@ -131,10 +148,12 @@ fn unopened(error: &io::Error) -> FileFault
 }
 
 fn made<R: Files<File = File>>(rt: &R, path: &str, size: u64) -> io::Result<File> {
-    let file = locked(File::create_new(rt, path)?)?;
+    let mut options = OpenOptions::new();
+    options.read(true).write(true).create_new(true).mode(MODE);
+    let file = locked(options.open(rt, path)?)?;
     fill(&file, size)?;
     file.sync_all()?;
-    File::open(rt, folder_of(path))?.sync_all()?;
+    sync_folder(rt, path)?;
     Ok(file)
 }
 
@@ -155,13 +174,6 @@ fn locked(file: File) -> io::Result<File> {
     Ok(file)
 }
 
-// The file with a lock that only disks which read alone have beside it.
-fn shared(file: File) -> io::Result<File> {
-    let file = above_streams(file)?;
-    file.try_lock_shared()?;
-    Ok(file)
-}
-
 // The file above the standard streams: where one of those is closed, what is meant for it must not
 // be written into the file.
 fn above_streams(file: File) -> io::Result<File> {
@@ -172,10 +184,15 @@ fn above_streams(file: File) -> io::Result<File> {
     }
 }
 
-fn folder_of(path: &str) -> Path<'_> {
-    match Path::new(path).parent() {
-        Some(folder) if !folder.as_str().is_empty() => folder,
-        _ => Path::new("."),
+// Syncs the file. Where it is the first time, what the system holds of it in memory is forgotten: all of it is on the device.
+fn settled(file: &File, is_settled: bool) -> io::Result<()> {
+    file.sync_data()?;
+    if is_settled {
+        return Ok(());
+    }
+    match libc::posix_fadvise(file.as_raw_fd(), 0, 0, libc::POSIX_FADV_DONTNEED) {
+        0 => Ok(()),
+        error => Err(io::Error::from_raw_os_error(error)),
     }
 }
 
@@ -239,7 +256,11 @@ impl Disk for FileDisk {
             return Err(fault(&mut self.failures));
         }
         self.calls.syncs += 1;
-        let outcome = self.file.sync_data();
-        count(&mut self.failures, outcome)
+        let outcome = settled(&self.file, self.is_settled);
+        if outcome.is_err() || !self.is_there() {
+            return Err(fault(&mut self.failures));
+        }
+        self.is_settled = true;
+        Ok(())
     }
 }

@@ -13,6 +13,7 @@ mod held;
 mod hold;
 mod liar;
 mod memory_disk;
+mod names;
 mod record;
 
 pub use calls::Calls;
@@ -25,3 +26,4 @@ pub use held::Held;
 pub use hold::Hold;
 pub use liar::Liar;
 pub use memory_disk::{MemoryDisk, Torn};
+pub use names::{add_name, remove_name};

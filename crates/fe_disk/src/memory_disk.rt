@@ -61,6 +61,24 @@ impl MemoryDisk {
         })
     }
 
+    /// A disk of these bytes, with no calls and no faults. It has room for the record of a call, which takes no memory then.
+    pub fn over(alloc: Global, bytes: Vec<u8>) -> Result<MemoryDisk, AllocError>
+        ensures image { IfOk result (λ disk. disk.image ≡ bytes.items) }
+        ensures events { IfOk result (λ disk. disk.events ≡ []) }
+        ensures calls { IfOk result (λ disk. disk.calls ≡ none) }
+        ensures failures { IfOk result (λ disk. disk.failures ≡ 0) }
+        ensures honest { IfOk result IsHonest }
+        ensures durable { IfOk result (λ disk. LeavesJust disk.image (LeavesNow disk)) }
+    {
+        Ok(MemoryDisk {
+            alloc,
+            bytes,
+            record: Vec::with_capacity(alloc, 1)?,
+            calls: Calls::NONE,
+            failures: 0,
+        })
+    }
+
     /// The disk that a stop at this moment leaves, with this done to the ranges that were written
     /// since the last sync that succeeded. It is a disk of its own, with no calls and no faults.
     pub fn stopped(&self, torn: Torn) -> Result<MemoryDisk, AllocError>

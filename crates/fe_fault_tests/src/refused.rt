@@ -169,9 +169,11 @@ fn frames_for(rt: &impl Abort, alloc: Global, path: &Path, conn: u64) -> Vec<u8>
     frames
 }
 
-// How long what was written to the connection is, without what was refused it, for want of memory.
+// How long what was written to the connection is, without what was refused it where there was no memory. Where it is told
+// nothing, nothing was.
 fn check_written(rt: &impl Abort, desk: &Desk<Liar>, conn: u64, frames: &[u8]) {
     let written = written_to(desk, conn);
+    assert!(rt; !frames.is_empty() || written.is_empty());
     let refused = refusals_in(rt, written, frames).min(1);
     assert!(rt; written.len() == frames.len().saturating_add(14 * refused));
 }
@@ -192,11 +194,10 @@ fn take_path(rt: &impl Abort, alloc: Global, desk: &mut Desk<Liar>, path: &Path)
 fn check_end(rt: &impl Abort, alloc: Global, desk: &Desk<Liar>, path: &Path) {
     for conn in 1..5 {
         let frames = frames_for(rt, alloc, path, conn);
-        if !frames.is_empty() {
-            check_written(rt, desk, conn, frames.as_slice());
-        }
+        check_written(rt, desk, conn, frames.as_slice());
     }
     let trace = desk.trace();
+    assert!(rt; trace.ports.iter().all(|port| (1..5).contains(&port.conn)));
     assert!(rt; trace.synced == path.groups && trace.groups.len() as u64 == path.groups);
     assert!(rt; desk.keeper().used() == 0);
 }

@@ -158,6 +158,14 @@ impl Bench {
         }
     }
 
+    // The image of `other BYTES`; of other words nothing.
+    fn other(&self, wanted: &str) -> Result<Vec<u8>, Trouble> {
+        match first_word(wanted) {
+            ("other", spelled) => self.names.bytes_of(spelled),
+            _ => Ok(Vec::new(self.alloc)),
+        }
+    }
+
     // `lie PLACE COUNT CHANGE WANTED`, of each of so many bytes.
     fn lie(&self, rest: &str) -> Result<Verdict, Trouble> {
         let (at, rest) = first_number(rest)?;
@@ -167,12 +175,14 @@ impl Bench {
         let acts = self.acts()?;
         let start = self.start()?;
         let bytes = self.device_bytes()?;
+        let other = self.other(wanted)?;
         let lie = Lie {
             alloc: self.alloc,
             level: self.level,
             bytes: bytes.as_slice(),
             acts: acts.as_slice(),
             start: start.as_slice(),
+            other: other.as_slice(),
         };
         for k in 0..count {
             let place = at.saturating_add(k);

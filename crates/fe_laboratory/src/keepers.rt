@@ -48,21 +48,27 @@ fn make<D: Disk>(alloc: Global, keeper: &mut Keeper<D>, act: &Act) -> Result<boo
     }
 }
 
-// Appends the entries at the keeper's place. They come back, whether they are taken or not.
+// Whether a batch came back as it was.
+fn is_same(back: &Batch, first: u64, entries: &[Entry]) -> bool {
+    back.first == first && back.entries.as_slice() == entries
+}
+
+// Appends the entries at the keeper's place. The batch comes back, whether it is taken or not.
 fn append<D: Disk>(
     alloc: Global,
     keeper: &mut Keeper<D>,
     entries: &[Entry],
 ) -> Result<bool, Fault> {
-    let batch = batch_of(alloc, keeper.state().place(), entries)?;
+    let first = keeper.state().place();
+    let batch = batch_of(alloc, first, entries)?;
     match keeper.append(batch) {
         Ok(back) => {
-            let is_back = back.entries.as_slice() == entries;
+            let is_back = is_same(&back, first, entries);
             drop(back);
             Ok(is_back)
         }
         Err((fault, back)) => {
-            let is_back = back.entries.as_slice() == entries;
+            let is_back = is_same(&back, first, entries);
             drop(back);
             if is_back { Err(fault) } else { Ok(false) }
         }

@@ -6,7 +6,7 @@ use crate::keepers::make_all;
 use crate::level::Level;
 use crate::made::image_of;
 use crate::trouble::Trouble;
-use crate::words::{first_word, number};
+use crate::words::first_word;
 use fe_desk::Desk;
 use fe_disk::Liar;
 use fe_keeper::{Fault, Keeper};
@@ -22,8 +22,9 @@ pub struct Lie<'a> {
     pub level: Level,
     pub bytes: &'a [u8],
     pub acts: &'a [Act],
-    /// The image of the state that the bytes stand for.
+    /// The image of the state that the bytes stand for, and that of another which a changed byte may make of it.
     pub start: &'a [u8],
+    pub other: &'a [u8],
 }
 
 // The image of what a store was opened with, or why it was not, and whether the calls behind that were told what they may be.
@@ -89,18 +90,17 @@ impl<'a> Lie<'a> {
         Ok((Ok(image), is_sound))
     }
 
-    /// Whether a store is opened as is wanted whose byte at the place is changed: with a fault, in the `same` state, in another
-    /// or with damage near the byte and before an end (`other END`), or, by a desk, as by a keeper (`kept`).
+    /// Whether a store is opened as is wanted whose byte at the place is changed: with a fault, in the `same` state, in the
+    /// `other`, or, by a desk, as by a keeper (`kept`).
     pub fn is_as(&self, at: usize, change: u8, wanted: &str) -> Result<bool, Trouble> {
         let liar = self.changed(at, change)?;
         let (found, is_sound) = match self.level {
             Level::Desk => self.desked(liar)?,
             _ => self.kept(liar)?,
         };
-        let (word, rest) = first_word(wanted);
-        let is_wanted = match word {
+        let is_wanted = match first_word(wanted).0 {
             "same" => is_image(&found, self.start),
-            "other" => is_other(&found, self.start, at, number(rest)? as usize),
+            "other" => is_image(&found, self.other),
             "kept" => self.is_kept(at, change, &found)?,
             _ => is_fault(self.alloc, &found, wanted)?,
         };
@@ -129,15 +129,6 @@ impl<'a> Lie<'a> {
 fn is_image(found: &Result<Vec<u8>, Fault>, image: &[u8]) -> bool {
     match found {
         Ok(found) => found.as_slice() == image,
-        Err(_) => false,
-    }
-}
-
-// Another state, or damage from 80 bytes before the byte on, which is the length of a record.
-fn is_other(found: &Result<Vec<u8>, Fault>, image: &[u8], at: usize, end: usize) -> bool {
-    match found {
-        Ok(found) => found.as_slice() != image,
-        Err(Fault::Damaged { offset }) => *offset <= end && at < offset.saturating_add(80),
         Err(_) => false,
     }
 }

@@ -3,6 +3,7 @@
 
 mod fault;
 mod looking;
+mod reading;
 mod state_text;
 
 pub use fault::LookFault;

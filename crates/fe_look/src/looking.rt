@@ -14,10 +14,11 @@ ghost use Rattle.fe_look.specs.Look.{Shows, ShowsSome, ShowsFront, state_text};
 ghost use Rattle.fe_look.specs.declared.fault.LookFault.TheVariants as fault;
 
 use crate::fault::LookFault;
+use crate::reading::copy_of;
 use crate::state_text::state_text;
-use fe_disk::Disk;
+use fe_disk::{Disk, MemoryDisk};
 use fe_state::State;
-use fe_store::{disk_to_read, open_existing};
+use fe_store::{OpenFault, disk_to_read, open_existing};
 use fe_text::{StreamFault, write_text};
 use std::alloc::Global;
 use std::fs::File;
@@ -72,9 +73,10 @@ pub fn look_at<D: Disk, W: Write>(
     }
 }
 
-/// Opens the store in a file, and writes what is in it: its place, and a line for each array and each session. The file
-/// is synced and read alone. Of a store it tells `Device` where there is no such file, another program has it or it can't be
-/// read, `Size` where it has another size, and `Unformatted` and `Damaged` where it holds no state.
+/// Copies the store in a file into memory, and writes what is in it: its place, and a line for each array and each session. The file
+/// is synced and read alone, and a server may have it meanwhile. Of a store it tells `Device` where there is no such file, it
+/// can't be read or a checkpoint begins in each of many readings, `Size` where it has another size, and `Unformatted` and `Damaged`
+/// where it holds no state.
 pub fn look<R: Files<File = File>, W: Write>(
     rt: &R,
     alloc: Global,
@@ -87,6 +89,14 @@ pub fn look<R: Files<File = File>, W: Write>(
     ensures silent { (why : OpenFault) → IsErrOf result (fault.Store why) → Keeps (W.contents writer.old) (W.contents writer.new) }
     ensures wrong_size { (found : ℕ) → IsErrOf result (fault.Store (store.Size found)) → found ≢ device_bytes }
 {
-    let disk = disk_to_read(rt, path)?;
-    look_at(alloc, disk, writer).0
+    let copy = copied(rt, alloc, path)?;
+    look_at(alloc, copy, writer).0
+}
+
+/// The store in a file, as a disk in memory.
+fn copied<R: Files<File = File>>(rt: &R, alloc: Global, path: &str) -> Result<MemoryDisk, OpenFault>
+    ensures wrong_size { (found : ℕ) → IsErrOf result (store.Size found) → found ≢ device_bytes }
+{
+    let mut disk = disk_to_read(rt, path)?;
+    copy_of(alloc, &mut disk)
 }

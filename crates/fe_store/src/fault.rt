@@ -2,8 +2,9 @@ ghost use Rattle.std.specs.Prelude.{◌≡◌};
 ghost use Rattle.fe_keeper.specs.Opened.{IsOpenFault};
 ghost use Rattle.fe_store.specs.within.Faults.{IsToldAs};
 
-use fe_disk::FileFault;
+use fe_disk::{DeviceFault, FileFault};
 use fe_keeper::Fault;
+use std::alloc::AllocError;
 
 /// Why a store is not opened.
 #[derive(Clone, Copy, Debug, PartialEq, Eq)]
@@ -32,6 +33,28 @@ impl From<FileFault> for OpenFault {
             FileFault::WrongSize { found } => OpenFault::Size(found),
             FileFault::Device => OpenFault::Device,
         }
+    }
+}
+
+impl From<AllocError> for OpenFault {
+    ghost use Rattle.std.specs.Prelude.{◌≡◌};
+    ghost use Rattle.fe_store.specs.declared.fault.OpenFault.TheVariants.{Memory};
+
+    ghost from_gives = { λ _ fault. fault ≡ Memory };
+
+    fn from(_: AllocError) -> OpenFault {
+        OpenFault::Memory
+    }
+}
+
+impl From<DeviceFault> for OpenFault {
+    ghost use Rattle.std.specs.Prelude.{◌≡◌};
+    ghost use Rattle.fe_store.specs.declared.fault.OpenFault.TheVariants.{Device};
+
+    ghost from_gives = { λ _ fault. fault ≡ Device };
+
+    fn from(_: DeviceFault) -> OpenFault {
+        OpenFault::Device
     }
 }
 

@@ -6,6 +6,7 @@ ghost use Rattle.fe_disk.specs.declared.file_fault.FileFault.TheVariants.{WrongS
 ghost use Rattle.fe_journal.specs.Layout.{device_bytes};
 ghost use Rattle.fe_store.specs.declared.fault.OpenFault.TheVariants as fault;
 
+use crate::beside::{keep, make, tidy};
 use crate::fault::OpenFault;
 use crate::opening::open_on;
 use fe_disk::{FileDisk, FileFault};
@@ -15,11 +16,11 @@ use std::fs::File;
 use std::rt::Files;
 
 /// How many bytes a store has (`docs/formats.md`, "Device").
-const STORE: usize = 4_202_496;
+pub(crate) const STORE: usize = 4_202_496;
 
-/// Opens the store in a file. Where `format` is set, a file that is missing is made, and a store that is unformatted is formatted.
-/// `Device` where there is no such file, another program has it or it can't be read or made, `Size` where it has another
-/// size, `Unformatted` and `Damaged` where it holds no state.
+/// Opens the store in a file. Where `format` is set, a file that is missing is made, and a store that is unformatted is formatted,
+/// once its bytes are kept in `PATH.before-format`. `Device` where there is no such file, another program has it or it can't be
+/// read, made or kept, `Size` where it has another size, `Unformatted` and `Damaged` where it holds no state.
 pub fn open_store<R: Files<File = File>>(
     rt: &R,
     alloc: Global,
@@ -31,26 +32,58 @@ pub fn open_store<R: Files<File = File>>(
     ensures wrong_size { (found : ℕ) → IsErrOf result (fault.Size found) → found ≢ device_bytes }
     ensures unformatted { IsErrOf result fault.Unformatted → format ≡ false }
 {
-    let disk = disk_at(rt, path, format)?;
-    match open_on(alloc, disk, format) {
+    let disk = disk_at(rt, alloc, path, format)?;
+    tidy(rt, alloc, path);
+    match open_on(alloc, disk, false) {
+        Ok(keeper) => Ok(keeper),
+        Err((OpenFault::Unformatted, disk)) if format => formatted(rt, alloc, path, disk),
+        Err((fault, _)) => Err(fault),
+    }
+}
+
+/// Formats the store on a disk, once its bytes are kept.
+fn formatted<R: Files<File = File>>(
+    rt: &R,
+    alloc: Global,
+    path: &str,
+    disk: FileDisk,
+) -> Result<Keeper<FileDisk>, OpenFault>
+    requires size { file_size disk ≡ device_bytes }
+    ensures works { IfOk result (λ keeper. keeper.store.has_failed ≡ false) }
+    ensures none_under_way { IfOk result (λ keeper. keeper.store.checkpoint ≡ None) }
+    ensures sized { (found : ℕ) → IsErrOf result (fault.Size found) → ⊥ }
+    ensures unformatted { IsErrOf result fault.Unformatted → ⊥ }
+{
+    let mut disk = disk;
+    keep(rt, alloc, path, &mut disk)?;
+    match open_on(alloc, disk, true) {
         Ok(keeper) => Ok(keeper),
         Err((fault, _)) => Err(fault),
     }
 }
 
 /// The disk over the file of a store, which is made where it is missing and that is asked for.
-fn disk_at<R: Files<File = File>>(rt: &R, path: &str, format: bool) -> Result<FileDisk, FileFault>
+fn disk_at<R: Files<File = File>>(
+    rt: &R,
+    alloc: Global,
+    path: &str,
+    format: bool,
+) -> Result<FileDisk, OpenFault>
     ensures size { IfOk result (λ disk. file_size disk ≡ device_bytes) }
-    ensures wrong { (found : ℕ) → IsErrOf result (WrongSize found) → found ≢ device_bytes }
+    ensures wrong { (found : ℕ) → IsErrOf result (fault.Size found) → found ≢ device_bytes }
+    ensures formatted { IsErrOf result fault.Unformatted → ⊥ }
 {
     match FileDisk::at(rt, path, STORE) {
-        Err(FileFault::Missing) if format => FileDisk::create(rt, path, STORE),
-        found => found,
+        Err(FileFault::Missing) if format => {
+            make(rt, alloc, path)?;
+            Ok(FileDisk::at(rt, path, STORE)?)
+        }
+        found => Ok(found?),
     }
 }
 
-/// The disk over the file of a store, to be read alone: the file need not be writable, and each write is a fault. `Device` where
-/// there is no such file, a disk that writes has it or it can't be read, and `Size` where it has another size.
+/// The disk over the file of a store, to be read alone: the file need not be writable, each write is a fault, and others may write
+/// the file meanwhile. `Device` where there is no such file or it can't be read, and `Size` where it has another size.
 pub fn disk_to_read<R: Files<File = File>>(rt: &R, path: &str) -> Result<FileDisk, OpenFault>
     ensures size { IfOk result (λ disk. file_size disk ≡ device_bytes) }
     ensures wrong_size { (found : ℕ) → IsErrOf result (fault.Size found) → found ≢ device_bytes }

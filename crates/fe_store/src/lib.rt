@@ -1,8 +1,10 @@
 //! The store in a file, opened or made.
 #![tactic(auto)]
 
+mod beside;
 mod fault;
 mod file;
+mod fresh;
 mod opening;
 
 pub use fault::OpenFault;

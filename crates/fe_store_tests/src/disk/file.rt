@@ -1,6 +1,7 @@
 use super::{read, write};
-use fe_disk::{Disk, FileDisk, FileFault};
+use fe_disk::{Disk, FileDisk, FileFault, add_name, remove_name};
 use std::fs::{File, OpenOptions};
+use std::os::unix::fs::MetadataExt;
 use std::process::Abort;
 use std::rt::{Env, Files};
 use std::test::Fail;
@@ -14,26 +15,26 @@ fn path_of<R: Env + AllocGlobal>(rt: &R, id: u32, name: &str) -> Result<String, 
     Ok(format!(in rt.alloc(); "{}/fe_disk_{id}_{name}", folder.as_str())?)
 }
 
-fn check_bytes(rt: &impl Abort, disk: &mut FileDisk, want: [u8; 5]) -> Result<(), Fail> {
+fn check_bytes<D: Disk>(rt: &impl Abort, disk: &mut D, want: [u8; 5]) -> Result<(), Fail> {
     let mut found = [7; 5];
     read(rt, disk, 10, &mut found)?;
     assert!(rt; found == want);
     Ok(())
 }
 
-// A new file is of zeros, and no second disk is made over it meanwhile, also none to read alone.
-fn check_new<R: Files<File = File> + Abort>(
+// A new file is of zeros, its owner alone may read it, and no second disk that writes is made over it meanwhile.
+fn check_new<R: Files<File = File> + Abort, D: Disk>(
     rt: &R,
-    disk: &mut FileDisk,
+    disk: &mut D,
     path: &str,
 ) -> Result<(), Fail> {
     assert!(rt; disk.size() == SIZE);
+    assert!(rt; fs::metadata(rt, path)?.mode() & 0o777 == 0o600);
     check_bytes(rt, disk, [0; 5])?;
     write(rt, disk, 11, &[1, 2, 3])?;
     disk.sync()?;
     assert!(rt; disk.failures() == 0);
     assert!(rt; FileDisk::at(rt, path, SIZE).err() == Some(FileFault::Device));
-    assert!(rt; FileDisk::read_only(rt, path, SIZE).err() == Some(FileFault::Device));
     assert!(rt; FileDisk::create(rt, path, SIZE).err() == Some(FileFault::Device));
     Ok(())
 }
@@ -49,11 +50,11 @@ fn check_again<R: Files<File = File> + Abort>(rt: &R, path: &str) -> Result<(), 
     Ok(())
 }
 
-// A disk that reads alone has what was written, and each write is a fault, which is counted. Others that read alone are made
-// beside it, and none that writes.
-fn check_reading<R: Files<File = File> + Abort>(
+// A disk that reads alone has what was written, and each write is a fault, which is counted. Others are made beside it, also one
+// that writes.
+fn check_reading<R: Files<File = File> + Abort, D: Disk>(
     rt: &R,
-    disk: &mut FileDisk,
+    disk: &mut D,
     path: &str,
 ) -> Result<(), Fail> {
     check_bytes(rt, disk, [0, 1, 2, 3, 0])?;
@@ -63,7 +64,9 @@ fn check_reading<R: Files<File = File> + Abort>(
     check_bytes(rt, disk, [0, 1, 2, 3, 0])?;
     assert!(rt; disk.failures() == 1);
     drop(FileDisk::read_only(rt, path, SIZE)?);
-    assert!(rt; FileDisk::at(rt, path, SIZE).err() == Some(FileFault::Device));
+    let other = FileDisk::at(rt, path, SIZE)?;
+    drop(FileDisk::read_only(rt, path, SIZE)?);
+    drop(other);
     Ok(())
 }
 
@@ -78,9 +81,9 @@ fn check_read_only<R: Files<File = File> + Abort>(rt: &R, path: &str) -> Result<
 }
 
 // A file that was cut under its disk: a read behind the end is a fault, which is counted, and the disk goes on.
-fn check_cut<R: Files<File = File> + Abort>(
+fn check_cut<R: Files<File = File> + Abort, D: Disk>(
     rt: &R,
-    disk: &mut FileDisk,
+    disk: &mut D,
     path: &str,
 ) -> Result<(), Fail> {
     let other = OpenOptions::new().write(true).open(rt, path)?;
@@ -118,5 +121,58 @@ fn counts_faults_of_a_file(rt: HostRuntime) -> Result<(), Fail> {
     drop(disk);
     checked?;
     fs::remove_file(&rt, path.as_str())?;
+    Ok(())
+}
+
+// A sync is a fault while the path does not lead to the file, or to another one, and where the file has another size.
+fn check_watched<R: Files<File = File> + Abort, D: Disk>(
+    rt: &R,
+    disk: &mut D,
+    path: &str,
+    other: &str,
+) -> Result<(), Fail> {
+    disk.sync()?;
+    fs::rename(rt, path, other)?;
+    assert!(rt; disk.sync().is_err());
+    fs::copy(rt, other, path)?;
+    assert!(rt; disk.sync().is_err());
+    fs::rename(rt, other, path)?;
+    disk.sync()?;
+    assert!(rt; disk.failures() == 2);
+    let file = OpenOptions::new().write(true).open(rt, path)?;
+    file.set_len(SIZE as u64 + 1)?;
+    assert!(rt; disk.sync().is_err());
+    file.set_len(SIZE as u64)?;
+    disk.sync()?;
+    fs::remove_file(rt, path)?;
+    assert!(rt; disk.sync().is_err());
+    assert!(rt; disk.failures() == 4);
+    Ok(())
+}
+
+#[test]
+fn watches_a_file(rt: HostRuntime) -> Result<(), Fail> {
+    let path = path_of(&rt, process::id(rt.process()), "watched")?;
+    let other = path_of(&rt, process::id(rt.process()), "other")?;
+    let mut disk = FileDisk::create(&rt, path.as_str(), SIZE)?;
+    let checked = check_watched(&rt, &mut disk, path.as_str(), other.as_str());
+    drop(disk);
+    checked
+}
+
+// A second name is given where no file has it, and leads to the same file until it is taken away.
+#[test]
+fn gives_names(rt: HostRuntime) -> Result<(), Fail> {
+    let path = path_of(&rt, process::id(rt.process()), "named")?;
+    let name = path_of(&rt, process::id(rt.process()), "name")?;
+    drop(FileDisk::create(&rt, path.as_str(), SIZE)?);
+    assert!(rt; add_name(&rt, path.as_str(), name.as_str())?);
+    assert!(rt; !add_name(&rt, path.as_str(), name.as_str())?);
+    assert!(rt; fs::metadata(&rt, name.as_str())?.ino() == fs::metadata(&rt, path.as_str())?.ino());
+    remove_name(&rt, path.as_str())?;
+    assert!(rt; FileDisk::at(&rt, path.as_str(), SIZE).err() == Some(FileFault::Missing));
+    drop(FileDisk::at(&rt, name.as_str(), SIZE)?);
+    remove_name(&rt, name.as_str())?;
+    assert!(rt; remove_name(&rt, name.as_str()).is_err());
     Ok(())
 }

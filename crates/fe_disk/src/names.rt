@@ -1,0 +1,38 @@
+//! Names of files, which are given and taken so that a stop leaves each name or does not.
+
+use std::fs::File;
+use std::io::ErrorKind;
+use std::path::Path;
+use std::rt::Files;
+use std::{fs, io};
+
+/// Gives the file at a path a second name, and syncs the folder of that. `false` where a file has that name already, which stays
+/// as it is.
+pub fn add_name<R: Files<File = File>>(rt: &R, path: &str, name: &str) -> io::Result<bool> {
+    match fs::hard_link(rt, path, name) {
+        Ok(()) => {
+            sync_folder(rt, name)?;
+            Ok(true)
+        }
+        Err(error) if error.kind() == ErrorKind::AlreadyExists => Ok(false),
+        Err(error) => Err(error),
+    }
+}
+
+/// Takes a name from its file, and syncs its folder.
+pub fn remove_name<R: Files<File = File>>(rt: &R, name: &str) -> io::Result<()> {
+    fs::remove_file(rt, name)?;
+    sync_folder(rt, name)
+}
+
+/// Puts on the device which names the folder of this path has.
+pub(crate) fn sync_folder<R: Files<File = File>>(rt: &R, path: &str) -> io::Result<()> {
+    File::open(rt, folder_of(path))?.sync_all()
+}
+
+fn folder_of(path: &str) -> Path<'_> {
+    match Path::new(path).parent() {
+        Some(folder) if !folder.as_str().is_empty() => folder,
+        _ => Path::new("."),
+    }
+}

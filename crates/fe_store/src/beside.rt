@@ -1,0 +1,203 @@
+//! Files beside that of a store: `PATH.new`, which is being made, and `PATH.before-format`, the bytes that a formatting replaced.
+//!
+//! Whoever makes `PATH.new` or removes it has the lock of the file, and has seen that the name leads to it. So two that start at
+//! once never remove or name what the other makes.
+
+ghost use Rattle.std.specs.Prelude.{◌≡◌, ◌⊎◌, length, IfOk, IfErr};
+ghost use Rattle.fe_disk.specs.FileDisk.{file_size};
+ghost use Rattle.fe_journal.specs.Layout.{device_bytes};
+ghost use Rattle.fe_store.specs.declared.fault.OpenFault.TheVariants as fault;
+
+use crate::fault::OpenFault;
+use crate::file::STORE;
+use crate::fresh::is_spare;
+use crate::opening::open_on;
+use fe_disk::{Disk, FileDisk, add_name, remove_name};
+use std::alloc::{AllocError, Global};
+use std::fs::{File, Metadata};
+use std::io::ErrorKind;
+use std::os::unix::fs::MetadataExt;
+use std::rt::Files;
+use std::{fs, io};
+
+const NEW: &str = ".new";
+
+const KEPT: &str = ".before-format";
+
+/// Makes a new store that appears under the path whole or not at all: it is formatted under a name beside it, and then given the
+/// path. Where a file has the path by then, that stays as it is.
+pub(crate) fn make<R: Files<File = File>>(
+    rt: &R,
+    alloc: Global,
+    path: &str,
+) -> Result<(), OpenFault>
+    ensures faults { IfErr result (λ e. (e ≡ fault.Device) ⊎ (e ≡ fault.Memory)) }
+{
+    let new = beside(alloc, path, NEW)?;
+    clear(rt, alloc, path, new.as_str(), &[])?;
+    let disk = made(rt, new.as_str())?;
+    match open_on(alloc, disk, true) {
+        Ok(keeper) => {
+            let named = renamed(rt, new.as_str(), path);
+            drop(keeper);
+            match named {
+                Ok(_) => Ok(()),
+                Err(_) => Err(OpenFault::Device),
+            }
+        }
+        Err((OpenFault::Memory, _)) => Err(OpenFault::Memory),
+        Err(_) => Err(OpenFault::Device),
+    }
+}
+
+/// Sees to it that nothing is lost where an unformatted store is formatted: its bytes are kept in a file beside it, unless they are
+/// zeros and what formatting writes, or kept there already. A file that is there and has others stays, and is a fault.
+pub(crate) fn keep<R: Files<File = File>>(
+    rt: &R,
+    alloc: Global,
+    path: &str,
+    disk: &mut FileDisk,
+) -> Result<(), OpenFault>
+    requires size { file_size disk.old ≡ device_bytes }
+    ensures size { file_size disk.new ≡ device_bytes }
+    ensures faults { IfErr result (λ e. (e ≡ fault.Device) ⊎ (e ≡ fault.Memory)) }
+{
+    let mut bytes = vec![in alloc; 0; STORE]?;
+    disk.read_at(0, &mut bytes)?;
+    if is_spare(&bytes, &[]) {
+        return Ok(());
+    }
+    let kept = beside(alloc, path, KEPT)?;
+    match fs::symlink_metadata(rt, kept.as_str()) {
+        Ok(_) => compare(rt, alloc, kept.as_str(), &bytes),
+        Err(error) if error.kind() == ErrorKind::NotFound => {
+            copy(rt, alloc, path, kept.as_str(), &bytes)
+        }
+        Err(_) => Err(OpenFault::Device),
+    }
+}
+
+/// Removes `PATH.new` where it is what a start that was broken off left: a second name of the store or of the bytes that were kept,
+/// or a file of its own, which nobody has locked and nobody misses a byte of. One that is none of these stays.
+pub(crate) fn tidy<R: Files<File = File>>(rt: &R, alloc: Global, path: &str) {
+    if let Ok(new) = beside(alloc, path, NEW) {
+        let _ = clear(rt, alloc, path, new.as_str(), &[]);
+    }
+}
+
+/// The same; where one is there that stays, it is a fault. `others` are bytes that are kept elsewhere.
+fn clear<R: Files<File = File>>(
+    rt: &R,
+    alloc: Global,
+    path: &str,
+    new: &str,
+    others: &[u8],
+) -> Result<(), OpenFault>
+    ensures faults { IfErr result (λ e. (e ≡ fault.Device) ⊎ (e ≡ fault.Memory)) }
+{
+    let found = match fs::symlink_metadata(rt, new) {
+        Ok(found) if found.is_file() && found.len() <= STORE as u64 => found,
+        Err(error) if error.kind() == ErrorKind::NotFound => return Ok(()),
+        _ => return Err(OpenFault::Device),
+    };
+    let kept = beside(alloc, path, KEPT)?;
+    if is_at(rt, path, &found) || is_at(rt, kept.as_str(), &found) {
+        return removed(rt, new);
+    }
+    let Ok(mut disk) = FileDisk::at(rt, new, found.len() as usize) else {
+        return Err(OpenFault::Device);
+    };
+    disk.sync()?;
+    let mut bytes = vec![in alloc; 0; disk.size()]?;
+    disk.read_at(0, &mut bytes)?;
+    if !is_spare(&bytes, others) {
+        return Err(OpenFault::Device);
+    }
+    let removed = removed(rt, new);
+    drop(disk);
+    removed
+}
+
+/// Whether the path leads to this file.
+fn is_at<R: Files<File = File>>(rt: &R, path: &str, file: &Metadata) -> bool {
+    match fs::metadata(rt, path) {
+        Ok(found) => found.dev() == file.dev() && found.ino() == file.ino(),
+        Err(_) => false,
+    }
+}
+
+fn removed<R: Files<File = File>>(rt: &R, name: &str) -> Result<(), OpenFault>
+    ensures faults { IfErr result (λ e. e ≡ fault.Device) }
+{
+    match remove_name(rt, name) {
+        Ok(()) => Ok(()),
+        Err(_) => Err(OpenFault::Device),
+    }
+}
+
+/// Keeps these bytes in a new file, which appears whole or not at all.
+fn copy<R: Files<File = File>>(
+    rt: &R,
+    alloc: Global,
+    path: &str,
+    kept: &str,
+    bytes: &[u8],
+) -> Result<(), OpenFault>
+    requires { length bytes.now ≡ device_bytes }
+    ensures faults { IfErr result (λ e. (e ≡ fault.Device) ⊎ (e ≡ fault.Memory)) }
+{
+    let new = beside(alloc, path, NEW)?;
+    clear(rt, alloc, path, new.as_str(), bytes)?;
+    let mut disk = made(rt, new.as_str())?;
+    disk.write_at(0, bytes)?;
+    disk.sync()?;
+    let named = renamed(rt, new.as_str(), kept);
+    drop(disk);
+    match named {
+        Ok(true) => Ok(()),
+        _ => Err(OpenFault::Device),
+    }
+}
+
+/// Whether a file keeps these bytes, but for those that nobody misses.
+fn compare<R: Files<File = File>>(
+    rt: &R,
+    alloc: Global,
+    kept: &str,
+    bytes: &[u8],
+) -> Result<(), OpenFault>
+    ensures faults { IfErr result (λ e. (e ≡ fault.Device) ⊎ (e ≡ fault.Memory)) }
+{
+    let Ok(mut disk) = FileDisk::read_only(rt, kept, STORE) else {
+        return Err(OpenFault::Device);
+    };
+    let mut others = vec![in alloc; 0; STORE]?;
+    disk.read_at(0, &mut others)?;
+    if is_spare(bytes, &others) {
+        Ok(())
+    } else {
+        Err(OpenFault::Device)
+    }
+}
+
+/// A disk over a new file of zeros, of a store's size.
+fn made<R: Files<File = File>>(rt: &R, new: &str) -> Result<FileDisk, OpenFault>
+    ensures size { IfOk result (λ disk. file_size disk ≡ device_bytes) }
+    ensures faults { IfErr result (λ e. e ≡ fault.Device) }
+{
+    match FileDisk::create(rt, new, STORE) {
+        Ok(disk) => Ok(disk),
+        Err(_) => Err(OpenFault::Device),
+    }
+}
+
+/// Gives the file the name in place of the new one. `false` where a file has that name already; then this one has none.
+fn renamed<R: Files<File = File>>(rt: &R, new: &str, name: &str) -> io::Result<bool> {
+    let given = add_name(rt, new, name);
+    remove_name(rt, new)?;
+    given
+}
+
+fn beside(alloc: Global, path: &str, end: &str) -> Result<String, AllocError> {
+    format!(in alloc; "{path}{end}")
+}

@@ -1,0 +1,309 @@
+"""How connections and servers begin and end: half-closed clients, places that become free, sockets, device faults."""
+
+import fcntl
+import os
+import socket
+import struct
+import termios
+import time
+
+from . import wire
+from .crowds import adding, made, threads_of
+from .harness import Server, holds, preload, same, until, within
+
+READFE = 16
+
+
+def number(value):
+    return struct.pack(">Q", value)
+
+
+def welcome(session):
+    return b"\0\0\0\x11\x41" + number(session) + number(1)
+
+
+def value(call, found):
+    return b"\0\0\0\x16\x42" + number(call) + b"\x01" + number(found) + bytes(4)
+
+
+def settled(floor):
+    return b"\0\0\0\x09\x44" + number(floor)
+
+
+def goodbye(session):
+    return b"\0\0\0\x09\x45" + number(session)
+
+
+def rest_of(conn):
+    """All bytes that come until the stream ends."""
+    while True:
+        try:
+            conn.more()
+        except wire.Ended as why:
+            holds("timed out" not in str(why), str(why))
+            return conn.got
+
+
+def descriptors_of(server):
+    return len(os.listdir(f"/proc/{server.process.pid}/fd"))
+
+
+@within(60)
+def half_closed_replies(place):
+    """clients that send and shut their sending side at once get each reply, byte by byte, and then the end"""
+    turns = place.options.turns or 100
+    server = Server(place).start()
+    made(server, (b"counter", 1, 1), (b"empty", 1, 0))
+    for turn in range(turns):
+        session = turn % 60
+        says = wire.attach(session) + wire.call(1, adding(1, 0, 1))
+        # (a request that waits has no reply, and is withdrawn)
+        says += wire.call(2, ("access", READFE, 2, 0, 0, False)) if turn % 2 else b""
+        with server.connect() as conn:
+            conn.send(says + wire.settle(2) + (b"" if turn % 2 else wire.bye()))
+            conn.finish()
+            wanted = welcome(session) + value(1, turn) + settled(2) + (b"" if turn % 2 else goodbye(session))
+            same(rest_of(conn), wanted, f"turn {turn}")
+        if turn % 2:
+            with server.attached(session) as conn:
+                same(conn.ask(wire.report())[1].splitlines()[0], "waiting 0")
+                same(conn.ask(wire.bye()), ("goodbye", session))
+    server.stop()
+    return f"{turns} clients"
+
+
+@within(60)
+def half_closed_long(place):
+    """a client that shuts its sending side behind more than a socket holds, and reads late, gets all of it"""
+    server = Server(place).start()
+    for turn in range(5):
+        with server.connect() as conn:
+            calls = 100
+            conn.send(wire.attach(turn))
+            conn.reply()
+            for call in range(1, 33):
+                conn.send(wire.call(call, ("access", READFE, 9, 0, 0, False)))
+            conn.send(wire.report() * calls)
+            conn.finish()
+            time.sleep(0.05)
+            replies = []
+            try:
+                while True:
+                    replies.append(conn.reply())
+            except wire.Ended as why:
+                same(str(why), "the stream ended")
+            same(sum(reply[0] == "answer" for reply in replies), 32)
+            same(sum(reply[0] == "report" for reply in replies), calls)
+    server.stop()
+
+
+@within(60)
+def closed_at_once(place):
+    """clients that send and close wholly at once leave no thread and no open file behind"""
+    turns = place.options.turns or 100
+    server = Server(place, connections=256).start()
+    made(server, (b"counter", 1, 1))
+    until(lambda: threads_of(server) <= 2, 10, "no connection is left")
+    before = descriptors_of(server)
+    for turn in range(turns):
+        with server.connect() as conn:
+            conn.send(wire.attach(turn % 60) + wire.call(turn // 60 + 1, adding(1, 0, 1)) + wire.report() * 20)
+    until(lambda: threads_of(server) <= 2, 20, "the threads of connections that ended are gone")
+    until(lambda: descriptors_of(server) == before, 20, "the open files of connections that ended are gone")
+    server.stop()
+    return f"{turns} clients"
+
+
+def last_turn(place):
+    """a connection whose reads are used up gets the replies to what it sent in the last one, byte by byte"""
+    turns = place.options.turns or 20
+    server = Server(place, turns=1).start()
+    for turn in range(turns):
+        with server.connect() as conn:
+            conn.send(wire.attach(turn % 60) + wire.settle(1) + wire.bye())
+            same(rest_of(conn), welcome(turn % 60) + settled(1) + goodbye(turn % 60), f"turn {turn}")
+    server.stop()
+    return f"{turns} connections"
+
+
+@within(60)
+def at_the_limit(place):
+    """`connections = 1`: a client that closes and connects again at once is served"""
+    turns = place.options.turns or 200
+    server = Server(place, connections=1).start()
+    for turn in range(turns):
+        with server.connect() as conn:
+            try:
+                same(conn.ask(wire.report()), ("report", "waiting 0\n"))
+            except wire.Ended as why:
+                holds(False, f"turn {turn} was turned away: {why}")
+    with server.connect() as conn:
+        same(conn.ask(wire.report())[0], "report")
+        began = time.monotonic()
+        with server.connect() as second:
+            holds(second.has_ended(), "one connection too many was served")
+        holds(time.monotonic() - began < 1, "one connection too many was not turned away at once")
+    server.stop()
+    return f"{turns} turns"
+
+
+@within(60)
+def ready_socket(place):
+    """once the socket's file is there a client can connect, and no other file is left beside it"""
+    turns = place.options.turns or 20
+    for turn in range(turns):
+        server = Server(place)
+        if turn % 4 == 1:
+            # (what a start that was killed left)
+            left = socket.socket(socket.AF_UNIX)
+            left.bind(server.socket + ".new")
+            left.close()
+        server.start(waits=False)
+        until_there(server)
+        client = socket.socket(socket.AF_UNIX)
+        try:
+            client.connect(server.socket)
+        except OSError as error:
+            holds(False, f"turn {turn}: {error}")
+        client.close()
+        until(lambda: not os.path.exists(server.socket + ".new"), 10, "the name beside is gone")
+        server.stop()
+    return f"{turns} starts"
+
+
+def until_there(server):
+    """Waits for the socket's file, and looks all the time."""
+    end = time.monotonic() + 30
+    while not os.path.exists(server.socket):
+        holds(time.monotonic() < end, "there is no socket")
+
+
+def long_paths(place):
+    """a socket's path of 103 to 107 bytes is served, and one of 108 is not; a path that is taken, and what is beside it, stays"""
+    for length in (103, 104, 107):
+        server = Server(place)
+        server.socket = place.path("s" * (length - len(place.folder) - 1))
+        same(len(server.socket), length)
+        server.start()
+        server.attached(7).close()
+        server.stop()
+    server = Server(place)
+    server.socket = place.path("s" * (108 - len(place.folder) - 1))
+    server.start(waits=False)
+    same(server.ended(), (4, "", "femem: socket\n"))
+    server = Server(place)
+    for path in (server.socket, server.socket + ".new"):
+        place.write(os.path.basename(path), b"another's")
+    server.start(waits=False)
+    same(server.ended(), (4, "", "femem: socket\n"))
+    os.unlink(server.socket)
+    server.start()
+    server.attached(7).close()
+    server.stop()
+    same(place.read(os.path.basename(server.socket) + ".new"), b"another's")
+
+
+@within(90)
+def fault_with_silent_clients(place):
+    """a device fault ends the server within a second, with clients that say nothing, or read nothing, one of which shut its sending side"""
+    turns = place.options.turns or 5
+    library = preload(place, "record.c")
+    slowest = 0
+    for turn in range(turns):
+        server = Server(place, f"f{turn}", connections=64)
+        server.start().stop()
+        # (each group takes four calls of the device)
+        server.start({"LD_PRELOAD": library, "RECORD": place.path(f"record{turn}"), "TURN": "60", "HOW": "fails"})
+        silent = [server.connect() for _ in range(10)] + [server.attached(session) for session in range(5)]
+        # (the server's write sides sleep in their writes to these; the second one's read side has ended)
+        deaf = [server.connect() for _ in range(3)]
+        for it in deaf[:2]:
+            fill(it)
+        deaf[1].finish()
+        deaf[2].send(wire.report() * 20000)
+        with server.attached(50) as conn:
+            for _ in range(100):
+                asked = time.monotonic()
+                try:
+                    conn.ask(wire.attach(50))
+                except wire.Ended:
+                    break
+            same(server.ended(10), (3, "", "femem: store device\n"))
+            took = time.monotonic() - asked
+        holds(took < place.options.patience, f"the server ended {took:.2f} seconds after the call that met the fault")
+        slowest = max(slowest, took)
+        for it in silent:
+            holds(it.has_ended(), "a connection stayed open")
+        for it in deaf + silent:
+            it.close()
+    return f"{turns} faults, at most {slowest:.2f} s"
+
+
+def fill(conn):
+    """Asks for reports and reads none, until one comes no more since the socket is full."""
+    unread = 0
+    for _ in range(100_000):
+        conn.send(wire.report())
+        end = time.monotonic() + 0.3
+        while unread_of(conn) == unread:
+            if time.monotonic() > end:
+                holds(unread > 1000, f"after {unread} bytes no report comes")
+                return
+            time.sleep(0.0002)
+        unread = unread_of(conn)
+    holds(False, "the socket does not fill")
+
+
+def unread_of(conn):
+    return struct.unpack("i", fcntl.ioctl(conn.socket, termios.FIONREAD, bytes(4)))[0]
+
+
+def memory_of(server):
+    """The server's memory, in KiB."""
+    with open(f"/proc/{server.process.pid}/status") as file:
+        return next(int(line.split()[1]) for line in file if line.startswith("VmRSS"))
+
+
+@within(60)
+def unread_reports(place):
+    """forty connections that ask for 200 long reports each and read nothing cost less than 20 MB"""
+    server = Server(place, connections=256).start()
+    made(server, (b"empty", 65536, 0))
+    waiting = []
+    for session in range(2**64 - 63, 2**64):
+        conn = server.attached(session)
+        conn.send(b"".join(wire.call(call, ("access", READFE, 1, 65535, 0, False)) for call in range(1, 33)))
+        waiting.append(conn)
+    with server.connect() as conn:
+        until(lambda: conn.ask(wire.report())[1].startswith("waiting 2016\n"), 20, "all wait")
+        length = len(conn.ask(wire.report())[1])
+    before = memory_of(server)
+    deaf = [server.connect() for _ in range(40)]
+    for conn in deaf:
+        conn.send(wire.report() * 200)
+    highest = 0
+    for _ in range(200):
+        highest = max(highest, memory_of(server) - before)
+        time.sleep(0.01)
+    holds(highest * 1024 < 20_000_000, f"{highest} KiB")
+    for conn in deaf:
+        # (they still come, one after the other)
+        same({conn.reply()[0] for _ in range(10)}, {"report"})
+        conn.close()
+    for conn in waiting:
+        conn.close()
+    server.stop()
+    return f"{highest * 1024 / 1e6:.1f} MB, reports of {length} bytes"
+
+
+CHECKS = (
+    half_closed_replies,
+    half_closed_long,
+    closed_at_once,
+    last_turn,
+    at_the_limit,
+    ready_socket,
+    long_paths,
+    fault_with_silent_clients,
+    unread_reports,
+)

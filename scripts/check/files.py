@@ -1,0 +1,168 @@
+"""The file of a store: how it is made, what is kept of one that is formatted, and what happens where somebody else changes it."""
+
+import os
+import shutil
+import stat
+import struct
+
+from . import store, wire
+from .crowds import adding
+from .faults import Client, answered
+from .harness import Server, holds, same, until, within
+from .model import State
+from .store import GATE, SIZE, TWO
+from .stores import full_state
+
+WORK = [("create", b"cells", 2, 1)] + [adding(1, 0, 1)] * 5
+
+
+def cut_to(size):
+    return lambda path: os.truncate(path, size)
+
+
+def replace(path):
+    """Another store takes the path, as a backup that is put in place."""
+    shutil.copy(path, f"{path}.other")
+    os.rename(f"{path}.other", path)
+
+
+def link_to_another(path):
+    shutil.copy(path, f"{path}.other")
+    os.unlink(path)
+    os.symlink(f"{path}.other", path)
+
+
+CHANGES = {
+    "cut to nothing": cut_to(0),
+    "cut by a byte": cut_to(SIZE - 1),
+    "longer by a byte": cut_to(SIZE + 1),
+    "removed": os.unlink,
+    "replaced": replace,
+    "a link to another": link_to_another,
+}
+
+
+def changed_meanwhile(place):
+    """the file of a server is cut, made longer, removed or replaced: what comes next is not answered, and the server ends with `femem: store device`"""
+    for name, change in CHANGES.items():
+        server = Server(place, name.replace(" ", "_")).start()
+        client = Client(server, WORK[:3])
+        holds(client.attempt(), f"{name}: a connection ended")
+        same(client.answers, answered(WORK)[:3], name)
+        change(server.store)
+        left = {file: place.read(file) for file in os.listdir(place.folder) if file.startswith(f"{server.name}.store")}
+        client.work = WORK
+        holds(client.until_end(), f"{name}: the server goes on, {client.answers}")
+        same(len(client.answers), 3, f"{name}: answers")
+        same(server.ended(), (3, "", "femem: store device\n"), name)
+        if name in ("replaced", "a link to another"):
+            # (nothing is written into what took the path)
+            same({file: place.read(file) == content for file, content in left.items()}, dict.fromkeys(left, True), name)
+    return f"{len(CHANGES)} changes"
+
+
+def spoiled():
+    """Right stores of which one byte is changed, or that a newer server wrote: no slot of them is valid."""
+    base = bytes(store.device_of(TWO, full_state(), [[("attached", 7, 1)]], 3))
+    for name, at, byte in (("magic", 0, 0x47), ("gate", GATE, 0x03), ("newer format", 7, 0x33)):
+        device = bytearray(base)
+        device[at] = byte
+        yield name, bytes(device)
+
+
+def mode_of(path):
+    return stat.S_IMODE(os.stat(path).st_mode)
+
+
+def files_of(place, server):
+    """The files of a store, by what their names have behind its path."""
+    name = os.path.basename(server.store)
+    return {file[len(name) :]: place.read(file) for file in os.listdir(place.folder) if file.startswith(name)}
+
+
+def kept_bytes(place):
+    """a store of which one byte is wrong is formatted only where that is asked for, and only once all of its bytes are in PATH.before-format"""
+    earlier = None
+    for name, device in spoiled():
+        server = Server(place, name.replace(" ", "_"), format=False)
+        place.write(os.path.basename(server.store), device)
+        same(server.start(waits=False).ended(), (3, "", "femem: store unformatted\n"), name)
+        same(files_of(place, server) == {"": device}, True, f"{name}: the file is as it was")
+        server.settings["format"] = True
+        if earlier is not None:
+            # a copy of other bytes is there: it stays, and so does the store
+            place.write(os.path.basename(server.store) + ".before-format", earlier)
+            same(server.start(waits=False).ended(), (3, "", "femem: store device\n"), name)
+            same(files_of(place, server) == {"": device, ".before-format": earlier}, True, f"{name}: both files are as they were")
+            os.unlink(f"{server.store}.before-format")
+        server.start()
+        server.attached(7).close()
+        server.stop()
+        found = files_of(place, server)
+        same(sorted(found), ["", ".before-format"], name)
+        holds(found[".before-format"] == device, f"{name}: the copy has all bytes")
+        same(mode_of(f"{server.store}.before-format"), 0o600, name)
+        same(server.looks(), "place 1\nsession 7 floor 1 kept 0\n", name)
+        earlier = device
+    return "magic, gate, newer format"
+
+
+def nothing_to_keep(place):
+    """a file of zeros, and one that a format left that was broken off, are formatted, and no copy is made"""
+    whole = bytes(store.device_of(TWO))
+    begun = bytearray(whole)
+    begun[GATE] = 0
+    for name, device in (("zeros", bytes(SIZE)), ("broken off", bytes(begun)), ("torn", bytes(SIZE // 2) + bytes(SIZE - SIZE // 2)[:-1] + b"\0")):
+        server = Server(place, name.replace(" ", "_"))
+        place.write(os.path.basename(server.store), device)
+        server.start().stop()
+        same(files_of(place, server) == {"": whole}, True, f"{name}: a new store, and nothing beside it")
+
+
+def modes(place):
+    """a store that is made may be read and written by its owner alone, whatever the umask"""
+    for mask in (0, 0o022, 0o077):
+        before = os.umask(mask)
+        try:
+            server = Server(place, f"m{mask:o}").start()
+        finally:
+            os.umask(before)
+        server.stop()
+        same(mode_of(server.store), 0o600, f"umask {mask:o}")
+
+
+def left_over(place):
+    """what a start that was broken off left under PATH.new is removed by the next; a file of another stays, and keeps a store from being made"""
+    whole = bytes(store.device_of(TWO))
+    for name, device in (("nothing", b""), ("some zeros", bytes(70000)), ("all zeros", bytes(SIZE)), ("formatted", whole)):
+        server = Server(place, name.replace(" ", "_"))
+        place.write(os.path.basename(server.store) + ".new", device)
+        server.start().stop()
+        same(files_of(place, server) == {"": whole}, True, f"{name}: a new store, and nothing beside it")
+    # a second name of the store
+    os.link(server.store, f"{server.store}.new")
+    server.start().stop()
+    same(files_of(place, server) == {"": whole}, True, "a second name is removed")
+    other = Server(place, "other")
+    place.write("other.store.new", b"somebody's words")
+    same(other.start(waits=False).ended(), (3, "", "femem: store device\n"))
+    same(files_of(place, other), {".new": b"somebody's words"})
+
+
+def begun_at_once(place):
+    """of several servers that are started at once on a store that is not there, one makes it and serves, and the others end"""
+    for turn in range(6):
+        servers = [Server(place, f"t{turn}_{k}", store=place.path(f"store{turn}")).start(waits=False) for k in range(4)]
+        until(lambda: sum(server.is_running() for server in servers) == 1, 30, "all but one end")
+        serving = next(server for server in servers if server.is_running())
+        until(serving.is_there, 30, "the socket is there")
+        for server in servers:
+            if server is not serving:
+                same(server.ended(), (3, "", "femem: store device\n"))
+        serving.attached(7).close()
+        serving.stop()
+        same(serving.looks(), "place 1\nsession 7 floor 1 kept 0\n")
+        same([file for file in os.listdir(place.folder) if file.startswith(f"store{turn}")], [f"store{turn}"])
+
+
+CHECKS = (changed_meanwhile, kept_bytes, nothing_to_keep, modes, left_over, begun_at_once)

@@ -1,0 +1,127 @@
+"""Looks at a store while a server writes it."""
+
+import collections
+import os
+import threading
+
+from . import store, wire
+from .crowds import adding
+from .harness import Server, holds, same, until, within
+from .model import State
+
+LOOKS = 1000
+LEAST_CHECKPOINTS = 5
+CALLS = 15  # between two settles
+BIG = 60000  # words, so that a checkpoint has nine slices
+
+
+class Load:
+    """A client with one connection, whose messages make an entry each, in their order, until it is stopped."""
+
+    def __init__(self, server):
+        self.server = server
+        self.state = State()  # after all that was asked
+        self.entries = collections.deque()  # all that were asked, until they are taken
+        self.asked = 0
+        self.answered = 0
+        self.is_ending = False
+        self.raised = None
+        self.thread = threading.Thread(target=self.work, daemon=True)
+        self.thread.start()
+
+    def add(self, entry):
+        self.state.apply(entry)
+        self.entries.append(entry)
+        self.asked += 1
+
+    def call(self, number, request):
+        """What is sent, and the reply to it."""
+        answer = self.state.answer_to(request)
+        self.add(("finished", 7, number, request, answer))
+        return wire.call(number, request), ("answer", number, answer)
+
+    def settle(self, floor):
+        self.add(("settled", 7, floor))
+        return wire.settle(floor), ("settled", floor)
+
+    def round(self, number):
+        """Adds to a word, and makes an array, finds it and removes it."""
+        name, id = b"r%d" % number, self.state.next_id
+        requests = [adding(1, 0, 1)] * (CALLS - 3) + [("create", name, 3, 1), ("find", name), ("remove", id)]
+        said = [self.call(number + k, request) for k, request in enumerate(requests)]
+        return said + [self.settle(number + CALLS)]
+
+    def exchange(self, conn, said):
+        conn.send(b"".join(message for message, _ in said))
+        for _, reply in said:
+            same(conn.reply(), reply)
+            self.answered += 1
+
+    def work(self):
+        try:
+            self.add(("attached", 7, 1))
+            with self.server.connect() as conn:
+                same(conn.ask(wire.attach(7)), ("welcome", 7, 1))
+                self.answered += 1
+                self.exchange(conn, [self.call(1, ("create", b"big", BIG, 1)), self.settle(2)])
+                number = 2
+                while not self.is_ending:
+                    self.exchange(conn, self.round(number))
+                    number += CALLS
+        except Exception as error:
+            self.raised = error
+
+    def end(self):
+        self.is_ending = True
+        self.thread.join(60)
+        if self.raised:
+            raise self.raised
+
+
+def generation(path):
+    """That of the slot that counts, in a store that nobody writes."""
+    with open(path, "rb") as file:
+        return store.slots_of(file.read())[0].generation
+
+
+@within(400)
+def while_served(place):
+    """a thousand looks at a store that a server writes, with checkpoints: each succeeds, shows the state of the history at its place, and that never falls"""
+    server = Server(place).start()
+    load = Load(server)
+    until(lambda: load.answered > 100 or load.raised, 30, "the load begins")
+    history = State()
+    last = first = load.answered
+    for number in range(LOOKS):
+        answered = load.answered
+        text = server.looks()
+        # (what a look shows was stored before it ended, so it was asked before)
+        asked = load.asked
+        at = int(text.split("\n", 1)[0].removeprefix("place "))
+        holds(max(answered, last) <= at <= asked, f"look {number}: place {at}, after {last}; {answered} were answered, {asked} asked")
+        while history.place < at:
+            history.apply(load.entries.popleft())
+        same(text, history.looks(), f"look {number}")
+        holds(load.raised is None, f"the load ended: {load.raised}")
+        last = at
+    load.end()
+    text = server.looks()
+    server.stop()
+    same(server.looks(), text, "a look at the store that the server left")
+    checkpoints = generation(server.store) - 1
+    holds(checkpoints >= LEAST_CHECKPOINTS, f"only {checkpoints} checkpoints")
+    return f"{LOOKS} looks, {last - first} entries, {checkpoints} checkpoints"
+
+
+def beside_one_that_starts(place):
+    """a look that goes on keeps no server from its store, and a server that runs keeps no look from it"""
+    server = Server(place).start()
+    same(server.looks(), "place 0\n")
+    server.attached(7).close()
+    same(server.looks(), "place 1\nsession 7 floor 1 kept 0\n")
+    other = Server(place, "t", store=server.store).start(waits=False)
+    same(other.ended(), (3, "", "femem: store device\n"), "a second server")
+    holds(not os.path.exists(other.socket), "the second server made its socket")
+
+
+CHECKS = (beside_one_that_starts, while_served)

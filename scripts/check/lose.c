@@ -1,0 +1,137 @@
+/* A preload that is the system's memory over a device of which one sync fails, as Linux has it: the fdatasync of number
+   FAIL_SYNC, counted from 1, fails with EIO; the pages that were written since the sync before are not on the device, yet count
+   as written. Whoever reads the file is shown them, until the system forgets its pages (POSIX_FADV_DONTNEED): then the old
+   bytes come back. A page that is written again is whole on the device behind the next sync.
+
+   The file is that of the path STORE. What the device has of the pages that were lost stands in the file LOST, for the next
+   process: the number of each page in 8 bytes, and its bytes. */
+#define _GNU_SOURCE
+#include <dlfcn.h>
+#include <errno.h>
+#include <fcntl.h>
+#include <pthread.h>
+#include <stdarg.h>
+#include <stdint.h>
+#include <stdlib.h>
+#include <string.h>
+#include <sys/types.h>
+#include <unistd.h>
+
+#define PAGE 4096
+#define PAGES 1026
+
+/* Of a page that is not known to be on the device: what the device has in its place. */
+enum state { ON_DEVICE, DIRTY, LOST };
+
+static pthread_mutex_t lock = PTHREAD_MUTEX_INITIALIZER;
+static enum state states[PAGES];
+static unsigned char olds[PAGES][PAGE];
+static const char *store, *kept;
+static int store_file = -1;
+static long syncs;
+
+typedef int (*opener)(const char *, int, ...);
+typedef int (*of_file)(int);
+typedef int (*adviser)(int, off_t, off_t, int);
+typedef ssize_t (*writer)(int, const void *, size_t, off_t);
+
+#define REAL(type, name) \
+  static type real; \
+  if (!real) real = (type)dlsym(RTLD_NEXT, name)
+
+static void fail(void) {
+  static const char text[] = "lose.c: no file of pages\n";
+  if (write(2, text, sizeof text - 1)) abort();
+  abort();
+}
+
+__attribute__((constructor)) static void begin(void) {
+  const char *number = getenv("FAIL_SYNC");
+  store = getenv("STORE");
+  kept = getenv("LOST");
+  syncs = number ? atol(number) : 0;
+  if (!store || !kept) return;
+  int file = open(kept, O_RDONLY | O_CLOEXEC | O_CREAT, 0644);
+  uint64_t page;
+  while (read(file, &page, 8) == 8) {
+    if (page >= PAGES || read(file, olds[page], PAGE) != PAGE) fail();
+    states[page] = LOST;
+  }
+  close(file);
+}
+
+static void keep(void) {
+  int file = open(kept, O_WRONLY | O_CREAT | O_TRUNC | O_CLOEXEC, 0644);
+  for (uint64_t page = 0; page < PAGES; page++) {
+    if (states[page] == LOST && (write(file, &page, 8) != 8 || write(file, olds[page], PAGE) != PAGE)) fail();
+  }
+  close(file);
+}
+
+int open(const char *path, int flags, ...) {
+  REAL(opener, "open");
+  va_list more;
+  va_start(more, flags);
+  mode_t mode = flags & O_CREAT ? va_arg(more, mode_t) : 0;
+  va_end(more);
+  int file = real(path, flags, mode);
+  if (file >= 0 && store && strcmp(path, store) == 0) store_file = file;
+  return file;
+}
+
+static ssize_t written(writer real, int file, const void *bytes, size_t size, off_t at) {
+  if (file != store_file || !size) return real(file, bytes, size, at);
+  pthread_mutex_lock(&lock);
+  int had_lost = 0;
+  for (off_t page = at / PAGE; page <= (at + (off_t)size - 1) / PAGE && page < PAGES; page++) {
+    if (states[page] == ON_DEVICE && pread(file, olds[page], PAGE, page * PAGE) != PAGE) fail();
+    had_lost |= states[page] == LOST;
+    states[page] = DIRTY;
+  }
+  if (had_lost) keep();
+  ssize_t wrote = real(file, bytes, size, at);
+  pthread_mutex_unlock(&lock);
+  return wrote;
+}
+
+ssize_t pwrite(int file, const void *bytes, size_t size, off_t at) {
+  REAL(writer, "pwrite");
+  return written(real, file, bytes, size, at);
+}
+
+ssize_t pwrite64(int file, const void *bytes, size_t size, off_t at) {
+  REAL(writer, "pwrite64");
+  return written(real, file, bytes, size, at);
+}
+
+int fdatasync(int file) {
+  REAL(of_file, "fdatasync");
+  if (file != store_file) return real(file);
+  pthread_mutex_lock(&lock);
+  int fails = syncs && --syncs == 0;
+  int result = fails ? -1 : real(file);
+  for (int page = 0; page < PAGES; page++) {
+    if (states[page] == DIRTY && (fails || result == 0)) states[page] = fails ? LOST : ON_DEVICE;
+  }
+  if (fails) keep();
+  pthread_mutex_unlock(&lock);
+  if (fails) errno = EIO;
+  return result;
+}
+
+int posix_fadvise(int file, off_t at, off_t size, int advice) {
+  REAL(adviser, "posix_fadvise");
+  static writer put;
+  if (!put) put = (writer)dlsym(RTLD_NEXT, "pwrite");
+  if (file == store_file && advice == POSIX_FADV_DONTNEED) {
+    pthread_mutex_lock(&lock);
+    for (off_t page = at / PAGE; page < PAGES && (!size || (page + 1) * PAGE <= at + size); page++) {
+      if (states[page] != LOST) continue;
+      if (put(file, olds[page], PAGE, page * PAGE) != PAGE) fail();
+      states[page] = ON_DEVICE;
+    }
+    keep();
+    pthread_mutex_unlock(&lock);
+  }
+  return real(file, at, size, advice);
+}

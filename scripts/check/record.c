@@ -1,0 +1,400 @@
+/* A preload that writes down what a program does to the files of one folder, and to the connections that it accepts.
+
+   The file that RECORD names gets a line for each call, `CALL FILE NUMBER..`, with `= ERROR` where it failed, and the file
+   RECORD.bytes what was written, received and sent, one behind another. The folder is that of RECORD; its files are named
+   by their paths within it, the folder itself is `.`, and connections are `1`, `2` and so on. A line is written once its call
+   has returned, and that of a send before it begins, since whoever receives it may go on at once.
+
+   With TURN the call of that number, counted from 1 over those that change a file, goes as HOW says: the process is killed
+   `before` it, at `half` of its bytes or `after` it; or the call `fails` with EIO, at once or, where HOW is `short`, behind
+   half of its bytes. */
+#define _GNU_SOURCE
+#include <dlfcn.h>
+#include <errno.h>
+#include <fcntl.h>
+#include <pthread.h>
+#include <signal.h>
+#include <stdarg.h>
+#include <stdio.h>
+#include <stdlib.h>
+#include <string.h>
+#include <sys/socket.h>
+#include <sys/stat.h>
+#include <sys/syscall.h>
+#include <sys/types.h>
+#include <unistd.h>
+
+#define FILES 1024
+
+static pthread_mutex_t lock = PTHREAD_MUTEX_INITIALIZER;
+static char names[FILES][256];
+static char folder[256];
+static size_t folder_length;
+static int lines = -1, bytes = -1, accepted;
+static long turn, changes;
+static char how;
+
+#define REAL(type, name) \
+  static type real; \
+  if (!real) real = (type)dlsym(RTLD_NEXT, name)
+
+typedef long (*caller)(long, ...);
+static caller raw;
+
+__attribute__((constructor)) static void begin(void) {
+  const char *path = getenv("RECORD");
+  raw = (caller)dlsym(RTLD_NEXT, "syscall");
+  if (!path) return;
+  char more[512];
+  snprintf(folder, sizeof folder, "%s", path);
+  *strrchr(folder, '/') = 0;
+  folder_length = strlen(folder);
+  snprintf(more, sizeof more, "%s.bytes", path);
+  /* (far above the numbers that the program gets) */
+  int line_file = open(path, O_CREAT | O_WRONLY | O_APPEND | O_CLOEXEC, 0644);
+  int byte_file = open(more, O_CREAT | O_WRONLY | O_APPEND | O_CLOEXEC, 0644);
+  lines = fcntl(line_file, F_DUPFD_CLOEXEC, FILES - 2);
+  bytes = fcntl(byte_file, F_DUPFD_CLOEXEC, FILES - 1);
+  raw(SYS_close, line_file);
+  raw(SYS_close, byte_file);
+  if (getenv("TURN")) turn = atol(getenv("TURN"));
+  if (getenv("HOW")) how = *getenv("HOW");
+}
+
+/* The name of a path within the folder, or nothing. */
+static const char *within(const char *path) {
+  if (lines < 0 || strncmp(path, folder, folder_length) != 0) return NULL;
+  if (path[folder_length] == 0) return ".";
+  return path[folder_length] == '/' ? path + folder_length + 1 : NULL;
+}
+
+static const char *named(int file) { return file >= 0 && file < FILES && names[file][0] ? names[file] : NULL; }
+
+static void name(int file, const char *given) {
+  if (file >= 0 && file < FILES) strncpy(names[file], given, sizeof names[file] - 1);
+}
+
+static void put(int file, const void *from, size_t size) {
+  for (const char *at = from; size;) {
+    long wrote = raw(SYS_write, file, at, size);
+    if (wrote <= 0) abort();
+    at += wrote;
+    size -= (size_t)wrote;
+  }
+}
+
+/* Writes down a call, with these bytes, if any, and how it ended. What the program sees of the error stays. */
+static void note(const void *from, size_t size, long result, const char *form, ...) {
+  int error = errno;
+  char line[512];
+  va_list more;
+  va_start(more, form);
+  int length = vsnprintf(line, sizeof line - 32, form, more);
+  va_end(more);
+  length += snprintf(line + length, 32, result < 0 ? " = %d\n" : "\n", error);
+  pthread_mutex_lock(&lock);
+  if (size) put(bytes, from, size);
+  put(lines, line, (size_t)length);
+  pthread_mutex_unlock(&lock);
+  errno = error;
+}
+
+static void end(void) {
+  kill(getpid(), SIGKILL);
+  for (;;) pause();
+}
+
+/* Counts a call that changes a file: how it goes, by the first letter of HOW, or 0 as always. */
+static char next(void) {
+  pthread_mutex_lock(&lock);
+  int found = ++changes == turn;
+  pthread_mutex_unlock(&lock);
+  if (found && how == 'b') end();
+  return found ? how : 0;
+}
+
+/* Behind a call that went so. */
+static void over(char way) {
+  if (way == 'a' || way == 'h') end();
+}
+
+static int refused(void) {
+  errno = EIO;
+  return -1;
+}
+
+/* What a call came to that goes so, where it is no write. */
+#define CAME(way, call) (way == 'f' || way == 's' ? refused() : (call))
+
+typedef int (*opener)(const char *, int, ...);
+typedef int (*of_path)(const char *);
+typedef int (*of_paths)(const char *, const char *);
+typedef int (*of_file)(int);
+typedef ssize_t (*writer)(int, const void *, size_t);
+typedef ssize_t (*placed_writer)(int, const void *, size_t, off_t);
+typedef ssize_t (*placed_reader)(int, void *, size_t, off_t);
+typedef ssize_t (*sender)(int, const void *, size_t, int);
+typedef ssize_t (*receiver)(int, void *, size_t, int);
+
+static int opened(opener real, const char *path, int flags, mode_t mode) {
+  const char *found = within(path);
+  if (!found) return real(path, flags, mode);
+  char way = flags & O_CREAT ? next() : 0;
+  int file = CAME(way, real(path, flags, mode));
+  name(file, found);
+  note(NULL, 0, file, "open %s %d %o", found, flags & (O_ACCMODE | O_CREAT | O_EXCL | O_TRUNC | O_APPEND), flags & O_CREAT ? mode : 0);
+  over(way);
+  return file;
+}
+
+int open(const char *path, int flags, ...) {
+  REAL(opener, "open");
+  va_list more;
+  va_start(more, flags);
+  mode_t mode = flags & O_CREAT ? va_arg(more, mode_t) : 0;
+  va_end(more);
+  return opened(real, path, flags, mode);
+}
+
+int open64(const char *path, int flags, ...) {
+  REAL(opener, "open64");
+  va_list more;
+  va_start(more, flags);
+  mode_t mode = flags & O_CREAT ? va_arg(more, mode_t) : 0;
+  va_end(more);
+  return opened(real, path, flags, mode);
+}
+
+int close(int file) {
+  REAL(of_file, "close");
+  if (file >= 0 && file < FILES) {
+    if (lines >= 0 && file >= FILES - 2) return 0;
+    names[file][0] = 0;
+  }
+  return real(file);
+}
+
+/* Calls of a file that is named. */
+#define OF_FILE(call) \
+  int call(int file) { \
+    REAL(of_file, #call); \
+    const char *found = named(file); \
+    if (!found) return real(file); \
+    char way = next(); \
+    int result = CAME(way, real(file)); \
+    note(NULL, 0, result, #call " %s", found); \
+    over(way); \
+    return result; \
+  }
+
+OF_FILE(fsync)
+OF_FILE(fdatasync)
+
+/* How much a write that goes so writes. */
+static size_t of(char way, size_t size) { return way == 'h' || way == 's' ? size / 2 : size; }
+
+ssize_t write(int file, const void *from, size_t size) {
+  REAL(writer, "write");
+  const char *found = named(file);
+  if (!found) return real(file, from, size);
+  char way = next();
+  ssize_t wrote = way == 'f' ? 0 : real(file, from, of(way, size));
+  ssize_t result = way == 'f' || way == 's' ? refused() : wrote;
+  note(from, wrote > 0 ? (size_t)wrote : 0, result, "write %s %zd", found, wrote > 0 ? wrote : 0);
+  over(way);
+  return result;
+}
+
+static ssize_t placed(placed_writer real, int file, const void *from, size_t size, off_t at) {
+  const char *found = named(file);
+  if (!found) return real(file, from, size, at);
+  char way = next();
+  ssize_t wrote = way == 'f' ? 0 : real(file, from, of(way, size), at);
+  ssize_t result = way == 'f' || way == 's' ? refused() : wrote;
+  note(from, wrote > 0 ? (size_t)wrote : 0, result, "pwrite %s %ld %zd", found, (long)at, wrote > 0 ? wrote : 0);
+  over(way);
+  return result;
+}
+
+ssize_t pwrite(int file, const void *from, size_t size, off_t at) {
+  REAL(placed_writer, "pwrite");
+  return placed(real, file, from, size, at);
+}
+
+ssize_t pwrite64(int file, const void *from, size_t size, off_t at) {
+  REAL(placed_writer, "pwrite64");
+  return placed(real, file, from, size, at);
+}
+
+static ssize_t placed_read(placed_reader real, int file, void *to, size_t size, off_t at) {
+  const char *found = named(file);
+  ssize_t got = real(file, to, size, at);
+  if (found) note(NULL, 0, got, "pread %s %ld %zu", found, (long)at, size);
+  return got;
+}
+
+ssize_t pread(int file, void *to, size_t size, off_t at) {
+  REAL(placed_reader, "pread");
+  return placed_read(real, file, to, size, at);
+}
+
+ssize_t pread64(int file, void *to, size_t size, off_t at) {
+  REAL(placed_reader, "pread64");
+  return placed_read(real, file, to, size, at);
+}
+
+int ftruncate(int file, off_t size) {
+  typedef int (*cutter)(int, off_t);
+  REAL(cutter, "ftruncate");
+  const char *found = named(file);
+  if (!found) return real(file, size);
+  char way = next();
+  int result = CAME(way, real(file, size));
+  note(NULL, 0, result, "ftruncate %s %ld", found, (long)size);
+  over(way);
+  return result;
+}
+
+int fchmod(int file, mode_t mode) {
+  typedef int (*changer)(int, mode_t);
+  REAL(changer, "fchmod");
+  const char *found = named(file);
+  if (!found) return real(file, mode);
+  char way = next();
+  int result = CAME(way, real(file, mode));
+  note(NULL, 0, result, "fchmod %s %o", found, mode);
+  over(way);
+  return result;
+}
+
+int posix_fadvise(int file, off_t at, off_t size, int advice) {
+  typedef int (*adviser)(int, off_t, off_t, int);
+  REAL(adviser, "posix_fadvise");
+  const char *found = named(file);
+  if (!found) return real(file, at, size, advice);
+  char way = next();
+  int result = way == 'f' || way == 's' ? EIO : real(file, at, size, advice);
+  int before = errno;
+  errno = result;
+  note(NULL, 0, result ? -1 : 0, "fadvise %s %ld %ld %d", found, (long)at, (long)size, advice);
+  errno = before;
+  over(way);
+  return result;
+}
+
+int flock(int file, int kind) {
+  typedef int (*locker)(int, int);
+  REAL(locker, "flock");
+  const char *found = named(file);
+  int result = real(file, kind);
+  if (found) note(NULL, 0, result, "flock %s %d", found, kind);
+  return result;
+}
+
+int fcntl(int file, int what, ...) {
+  typedef int (*asker)(int, int, ...);
+  REAL(asker, "fcntl");
+  va_list more;
+  va_start(more, what);
+  void *given = va_arg(more, void *);
+  va_end(more);
+  const char *found = named(file);
+  int result = real(file, what, given);
+  if (found && result > file && (what == F_DUPFD || what == F_DUPFD_CLOEXEC)) name(result, found);
+  return result;
+}
+
+int link(const char *old, const char *made) {
+  REAL(of_paths, "link");
+  const char *from = within(old), *to = within(made);
+  if (!from || !to) return real(old, made);
+  char way = next();
+  int result = CAME(way, real(old, made));
+  note(NULL, 0, result, "link %s %s", from, to);
+  over(way);
+  return result;
+}
+
+int linkat(int at, const char *old, int to_at, const char *made, int flags) {
+  typedef int (*linker)(int, const char *, int, const char *, int);
+  REAL(linker, "linkat");
+  const char *from = within(old), *to = within(made);
+  if (!from || !to) return real(at, old, to_at, made, flags);
+  char way = next();
+  int result = CAME(way, real(at, old, to_at, made, flags));
+  note(NULL, 0, result, "link %s %s", from, to);
+  over(way);
+  return result;
+}
+
+int rename(const char *old, const char *made) {
+  REAL(of_paths, "rename");
+  const char *from = within(old), *to = within(made);
+  if (!from || !to) return real(old, made);
+  char way = next();
+  int result = CAME(way, real(old, made));
+  note(NULL, 0, result, "rename %s %s", from, to);
+  over(way);
+  return result;
+}
+
+int unlink(const char *path) {
+  REAL(of_path, "unlink");
+  const char *found = within(path);
+  if (!found) return real(path);
+  char way = next();
+  int result = CAME(way, real(path));
+  note(NULL, 0, result, "unlink %s", found);
+  over(way);
+  return result;
+}
+
+int statx(int at, const char *path, int flags, unsigned mask, struct statx *to) {
+  typedef int (*asker)(int, const char *, int, unsigned, struct statx *);
+  REAL(asker, "statx");
+  const char *found = *path ? within(path) : named(at);
+  int result = real(at, path, flags, mask, to);
+  if (found) note(NULL, 0, result, "%s %s", *path ? "stat" : "fstat", found);
+  return result;
+}
+
+int accept4(int file, struct sockaddr *from, socklen_t *size, int flags) {
+  typedef int (*accepter)(int, struct sockaddr *, socklen_t *, int);
+  REAL(accepter, "accept4");
+  int made = real(file, from, size, flags);
+  if (made >= 0 && lines >= 0) {
+    char number[16];
+    snprintf(number, sizeof number, "%d", __atomic_add_fetch(&accepted, 1, __ATOMIC_SEQ_CST));
+    name(made, number);
+  }
+  return made;
+}
+
+ssize_t send(int file, const void *from, size_t size, int flags) {
+  REAL(sender, "send");
+  const char *found = named(file);
+  if (found) note(from, size, 0, "send %s %zu", found, size);
+  return real(file, from, size, flags);
+}
+
+ssize_t recv(int file, void *to, size_t size, int flags) {
+  REAL(receiver, "recv");
+  char found[128] = "";
+  if (named(file)) snprintf(found, sizeof found, "%s", named(file));
+  ssize_t got = real(file, to, size, flags);
+  if (*found) note(to, got > 0 ? (size_t)got : 0, 0, "recv %s %zd", found, got > 0 ? got : 0);
+  return got;
+}
+
+/* A call that is made by its number: all but the waiting of threads is written down. */
+long syscall(long number, ...) {
+  if (!raw) raw = (caller)dlsym(RTLD_NEXT, "syscall");
+  long given[6];
+  va_list more;
+  va_start(more, number);
+  for (int at = 0; at < 6; at++) given[at] = va_arg(more, long);
+  va_end(more);
+  long result = raw(number, given[0], given[1], given[2], given[3], given[4], given[5]);
+  if (lines >= 0 && number != SYS_futex) note(NULL, 0, result, "syscall - %ld", number);
+  return result;
+}

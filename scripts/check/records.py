@@ -1,0 +1,532 @@
+"""What a server does to its file and to its connections, call by call, against the tables of docs/store.md."""
+
+import errno
+import fcntl
+import os
+import random
+import shutil
+import struct
+import subprocess
+import threading
+
+from . import store, wire
+from .crowds import adding
+from .harness import Server, Skipped, Wrong, holds, preload, same, within
+from .model import State
+from .store import AREA, GATE, IMAGE, JOURNAL, ONE, SLOT, TWO, image_of, record_of
+
+
+class Call:
+    """One line of a record: the call, its file, its numbers, the number of its error, and the bytes that went over."""
+
+    def __init__(self, kind, file, numbers, error, data):
+        self.kind = kind
+        self.file = file
+        self.numbers = numbers
+        self.error = error
+        self.data = data
+
+    def __repr__(self):
+        return " ".join(str(it) for it in (self.kind, self.file, *self.numbers)) + (f" = {self.error}" if self.error else "")
+
+
+def calls_of(path):
+    """The calls of a record, in their order."""
+    with open(path, encoding="utf-8") as file, open(f"{path}.bytes", "rb") as data:
+        found = []
+        for line in file:
+            said, _, error = line.partition(" = ")
+            kind, name, *numbers = said.split()
+            size = int(numbers[-1]) if kind in ("write", "pwrite", "send", "recv") else 0
+            found.append(Call(kind, name, numbers, int(error or 0), data.read(size)))
+        holds(not data.read(1), "the record has bytes of no call")
+        return found
+
+
+# What the tables say, as the lines of a record with the bytes of each write
+
+
+def wrote(at, data):
+    return [("pwrite", at, data)]
+
+
+# Behind each sync the file has to have its size and a name. The first one has the system forget its pages.
+WATCH = [("fstat",)]
+SYNC = [("fdatasync",)] + WATCH
+FIRST_SYNC = [("fdatasync",), ("fadvise", 0, 0, os.POSIX_FADV_DONTNEED)] + WATCH
+
+
+def opening(slot, length):
+    """What an opening does where the slot counts: a sync, both headers, its journal area and its image."""
+    at = slot * SLOT
+    return FIRST_SYNC + HEADERS + [("pread", at + JOURNAL, AREA), ("pread", at + IMAGE, length)]
+
+
+HEADERS = [("pread", 0, IMAGE), ("pread", SLOT, IMAGE)]
+
+
+def reformatting():
+    """What it does where no slot is valid: all bytes are read, and then the store is looked at once more before it is formatted."""
+    return FIRST_SYNC + HEADERS + [("pread", 0, store.SIZE)] + SYNC + HEADERS + formatting()
+
+
+def formatting():
+    image = image_of(State(), TWO)
+    return (
+        wrote(GATE, b"\0") + wrote(SLOT + GATE, b"\0") + SYNC
+        + wrote(0, TWO.magic + struct.pack(">QI", 1, len(image))) + wrote(IMAGE, image) + wrote(JOURNAL, b"\0") + SYNC
+        + wrote(GATE, b"\1") + SYNC
+    )
+
+
+class Journal:
+    """The groups of a slot's journal, from its front on."""
+
+    def __init__(self, form, slot, used=0):
+        self.form = form
+        self.at = slot * SLOT + JOURNAL + used
+
+    def records(self, entries):
+        payload = b"".join(record_of(entry, self.form) for entry in entries)
+        return struct.pack(">I", len(payload)) + payload + b"\0"
+
+    def group(self, *entries):
+        data = self.records(entries)
+        at, self.at = self.at, self.at + len(data)
+        return wrote(at + 1, data) + SYNC + wrote(at, b"\1") + SYNC
+
+    def caught_up(self, entries):
+        """What a checkpoint's end writes here."""
+        data = b"\1" + self.records(entries) if entries else b"\0"
+        at, self.at = self.at, self.at + len(data) - 1
+        return wrote(at, data) + SYNC
+
+
+def beginning(slot, generation, image, is_open):
+    """The other slot is closed where its gate is open, and has its header's fields."""
+    at = slot * SLOT
+    closed = wrote(at + GATE, b"\0") + SYNC if is_open else []
+    return [("pread", at + GATE, 1)] + closed + wrote(at, TWO.magic + struct.pack(">QI", generation, len(image)))
+
+
+def slices(slot, image):
+    return [wrote(slot * SLOT + IMAGE + at, image[at : at + 65536]) for at in range(0, len(image), 65536)]
+
+
+def finishing(slot, journal, entries):
+    return journal.caught_up(entries) + wrote(slot * SLOT + GATE, b"\1") + SYNC
+
+
+def of_file(calls, name):
+    """The calls of a file from its first sync on, as the tables have them. A read has no bytes: they are the disk's."""
+    found = []
+    for call in calls:
+        if call.file == name and (found or call.kind == "fdatasync"):
+            same(call.error, 0, repr(call))
+            numbers = [int(number) for number in call.numbers]
+            found.append((call.kind, numbers[0], call.data) if call.kind == "pwrite" else (call.kind, *numbers))
+    return found
+
+
+def as_said(found, wanted):
+    """The calls are those that are wanted: the first that is not is told, with those before it."""
+    for at in range(max(len(found), len(wanted))):
+        got, due = (row[at] if at < len(row) else "nothing more" for row in (found, wanted))
+        if got != due:
+            before = " ".join(str(it) for it in found[max(0, at - 3) : at])
+            holds(False, f"call {at + 1} is {shown(got)}, not {shown(due)}; before it {shown(before)}")
+
+
+def shown(call):
+    text = repr(call)
+    return text if len(text) < 200 else text[:120] + " .. " + text[-40:]
+
+
+# Replies
+
+
+class Sent:
+    """The replies that a record has, each with the connection's session, where in the record it left."""
+
+    def __init__(self):
+        self.rest = {}
+        self.session = {}
+
+    def replies(self, call):
+        """The replies whose last byte leaves with this call."""
+        data = self.rest.get(call.file, b"") + call.data
+        while len(data) >= 4 and len(data) >= 4 + int.from_bytes(data[:4], "big"):
+            size = 4 + int.from_bytes(data[:4], "big")
+            reply = wire.reply_of(data[4:size])
+            data = data[size:]
+            if reply[0] == "welcome":
+                self.session[call.file] = reply[1]
+            yield self.session.get(call.file), reply
+        self.rest[call.file] = data
+
+
+class Durable:
+    """The entries that a store got since its beginning, and keeps whatever a stop does to the writes since the last sync."""
+
+    def __init__(self, device):
+        self.device = bytearray(device)
+        self.written = []
+        self.entries = {}  # how often each is there
+        self.slot = None
+        self.find()
+        self.entries.clear()
+
+    def find(self):
+        """Goes to the slot that counts. What its first group has came before where it was begun meanwhile."""
+        slot = store.slots_of(self.device)[0]
+        if slot.at == self.slot:
+            return self.more()
+        self.slot, self.form, self.end = slot.at, slot.format, slot.at + JOURNAL
+        known = dict(self.entries)
+        self.more()
+        self.entries = known
+
+    def more(self):
+        while self.device[self.end] == 1:
+            size = int.from_bytes(self.device[self.end + 1 : self.end + 5], "big")
+            for at in range(self.end + 5, self.end + 5 + size, self.form.record):
+                entry = store.entry_of(bytes(self.device[at : at + self.form.record]), self.form)
+                self.entries[entry] = self.entries.get(entry, 0) + 1
+            self.end += 5 + size
+
+    def write(self, at, data):
+        self.written.append((at, data))
+
+    def sync(self):
+        is_header = any(at % SLOT < IMAGE for at, _ in self.written)
+        for at, data in self.written:
+            self.device[at : at + len(data)] = data
+        self.written.clear()
+        self.find() if is_header else self.more()
+
+    def has(self, entry, count=1):
+        return self.entries.get(entry, 0) >= count
+
+
+def left_in_time(calls, name, device, asked):
+    """Each reply that says that something is stored leaves once its entry is in the store, synced: how many there were.
+    `asked` has the request of each session and number."""
+    durable, sent, welcomes, count = Durable(device), Sent(), {}, 0
+    for call in calls:
+        if call.file == name and call.kind == "pwrite":
+            durable.write(int(call.numbers[0]), call.data)
+        elif call.file == name and call.kind == "fdatasync" and not call.error:
+            durable.sync()
+        for session, reply in sent.replies(call) if call.kind == "send" else ():
+            kind, *rest = reply
+            entry, times = (kind, session, *rest), 1
+            if kind == "welcome":
+                entry = ("attached", *rest)
+                times = welcomes[entry] = welcomes.get(entry, 0) + 1
+            elif kind == "goodbye":
+                entry = ("closed", *rest)
+            elif kind == "answer":
+                entry = ("finished", session, rest[0], asked[session, rest[0]], rest[1])
+            holds(durable.has(entry, times), f"{reply} of session {session} leaves before it is stored")
+            count += 1
+    same(not any(sent.rest.values()), True, "the last reply is whole")
+    return count
+
+
+# The checks
+
+
+# What writes, syncs or names files, or sends, and is not in a record.
+UNRECORDED = set(
+    "aio_fsync aio_write copy_file_range creat dprintf fallocate fdopen fopen fputs fwrite io_submit lio_listio mmap msync openat"
+    " posix_fallocate preadv pwritev pwritev2 renameat renameat2 sendfile sendmmsg sendmsg sendto splice symlink sync syncfs"
+    " sync_file_range tee truncate unlinkat vmsplice writev".split()
+)
+
+
+def sees_all(place):
+    """the program calls nothing that changes a file, or sends, but what a record has"""
+    if not shutil.which("nm"):
+        raise Skipped("there is no nm")
+    words = ["nm", "-D", "--undefined-only", place.program]
+    names = {line.split()[-1].split("@")[0] for line in subprocess.run(words, capture_output=True, check=True, text=True).stdout.splitlines()}
+    holds({"pwrite", "fdatasync", "send"} <= names, f"these are among what it calls: {sorted(names)}")
+    found = {name.removesuffix("64") for name in names} & UNRECORDED
+    same(found, set())
+    return f"{len(names)} names"
+
+
+def recorded(place, device, work, **settings):
+    """Serves the store to one client, which asks for all of that in turn: the calls that were made, and the answers."""
+    server = Server(place, store=place.write("s.store", bytes(device)), **settings)
+    server.start({"LD_PRELOAD": preload(place, "record.c"), "RECORD": place.path("record")})
+    answers = []
+    if work:
+        with server.attached(7) as conn:
+            for number, request in enumerate(work, 1):
+                reply = conn.ask(wire.call(number, request))
+                same(reply[:2], ("answer", number))
+                answers.append(reply[2])
+    server.stop()
+    return calls_of(place.path("record")), answers
+
+
+def finished(work, answers):
+    return [("finished", 7, number, *row) for number, row in enumerate(zip(work, answers), 1)]
+
+
+ATTACHED = ("attached", 7, 1)
+
+
+def state_with(words):
+    """A state with an array of so many words, which session 9 made."""
+    state = State()
+    for entry in (("attached", 9, 1), ("finished", 9, 1, ("create", b"big", words, 1), ("array", 1, words))):
+        state.apply(entry)
+    return state
+
+
+def opened(place):
+    """a store that is opened is synced and read, and nothing is written; a new one is formatted as the table says"""
+    for form in (ONE, TWO):
+        state = state_with(3)
+        device = store.device_of(form, state, [[ATTACHED]], 2, 1)
+        calls, _ = recorded(place, device, (), format=False)
+        as_said(of_file(calls, "s.store"), opening(1, len(image_of(state, form))))
+        os.unlink(place.path("record"))
+        os.unlink(place.path("record.bytes"))
+    calls, _ = recorded(place, bytes(store.SIZE), ())
+    as_said(of_file(calls, "s.store"), reformatting())
+    holds(place.read("s.store") == bytes(store.device_of(TWO)), "a store that is formatted has the bytes of a new one")
+
+
+MISSING = f" = {errno.ENOENT}"
+EXCLUSIVE = os.O_RDWR | os.O_CREAT | os.O_EXCL
+LOCK = fcntl.LOCK_EX | fcntl.LOCK_NB
+FOLDER_SYNC = ["open . 0 0", "fsync ."]
+
+
+def in_lines(name, calls):
+    """The calls of a file, as a record spells them."""
+    return [" ".join(str(it) for it in (kind, name, *(len(it) if isinstance(it, bytes) else it for it in rest))) for kind, *rest in calls]
+
+
+def with_zeros(calls):
+    """The lines of a record, with the writes that fill a file as one: how many zeros they are."""
+    found = []
+    for call in calls:
+        if call.kind == "write":
+            holds(not any(call.data), f"{call}: only zeros fill a file")
+            size = len(call.data) + (int(found.pop().split()[2]) if found[-1].startswith(f"write {call.file} ") else 0)
+            found.append(f"write {call.file} {size}")
+        else:
+            found.append(repr(call))
+    return found
+
+
+def new_file(name):
+    """A file that is not there before is made of zeros, which only its owner may read, and is on the device with its name."""
+    return [f"open {name} {EXCLUSIVE} 600", f"flock {name} {LOCK}", f"write {name} {store.SIZE}", f"fsync {name}", *FOLDER_SYNC, f"fstat {name}"]
+
+
+def renamed(old, new):
+    return [f"link {old} {new}", *FOLDER_SYNC, f"unlink {old}", *FOLDER_SYNC]
+
+
+def listening():
+    """Once the store is open the server's socket is made under a name beside its own, and gets its own when it listens."""
+    return [f"stat s.socket{MISSING}", f"stat s.socket.new{MISSING}", "link s.socket.new s.socket", "unlink s.socket.new"]
+
+
+def opened_at(name):
+    return [f"open {name} {os.O_RDWR} 0", f"flock {name} {LOCK}", f"fstat {name}"]
+
+
+def made(place):
+    """a store that is not there is made under another name, and gets its own once it is formatted and on the device; each call is as the table says"""
+    server = Server(place)
+    server.start({"LD_PRELOAD": preload(place, "record.c"), "RECORD": place.path("record")})
+    server.stop()
+    calls = [call for call in calls_of(place.path("record")) if call.file != "s.toml"]
+    wanted = [f"open s.store {os.O_RDWR} 0{MISSING}", f"stat s.store.new{MISSING}", *new_file("s.store.new")]
+    wanted += in_lines("s.store.new", FIRST_SYNC + HEADERS + formatting()) + renamed("s.store.new", "s.store")
+    wanted += opened_at("s.store") + [f"stat s.store.new{MISSING}"] + in_lines("s.store", opening(0, 24)) + listening()
+    as_said(with_zeros(calls), wanted)
+    holds(place.read("s.store") == bytes(store.device_of(TWO)), "a store that is made has the bytes of a new one")
+
+
+def kept(place):
+    """an unformatted store with bytes is copied beside it, and formatted once the copy is on the device under its name"""
+    device = store.device_of(TWO, state_with(3), [[ATTACHED]])
+    device[0] += 1
+    calls, _ = recorded(place, device, ())
+    calls = [call for call in calls if call.file != "s.toml"]
+    wanted = opened_at("s.store") + [f"stat s.store.new{MISSING}"]
+    wanted += in_lines("s.store", FIRST_SYNC + HEADERS + [("pread", 0, store.SIZE)])
+    wanted += [f"stat s.store.before-format{MISSING}", f"stat s.store.new{MISSING}", *new_file("s.store.new")]
+    wanted += in_lines("s.store.new", wrote(0, bytes(device)) + FIRST_SYNC) + renamed("s.store.new", "s.store.before-format")
+    wanted += in_lines("s.store", SYNC + HEADERS + formatting()) + listening()
+    as_said(with_zeros(calls), wanted)
+    holds(place.read("s.store.before-format") == bytes(device), "the copy has all bytes")
+    same(store.read_store(place.read("s.store"))[2].looks(), "place 0\n")
+
+
+def looked(place):
+    """a look takes no lock and writes nothing; it reads each gate before what it guards, and the header once more at its end"""
+    groups = [[ATTACHED], [ATTACHED, ATTACHED]]
+    place.write("s.store", bytes(store.device_of(TWO, state_with(3), groups, 2, 1)))
+    env = {"LD_PRELOAD": preload(place, "record.c"), "RECORD": place.path("record")}
+    status, output, errors = place.run("look", "--store", place.path("s.store"), env=env)
+    same((status, output, errors), (0, store.read_store(place.read("s.store"))[2].looks().encode(), b""))
+    header = lambda at: [("pread", at, 20), ("pread", at + GATE, 1)]
+    area = SLOT + JOURNAL
+    first, second = area + 5 + 80, area + 5 + 80 + 5 + 160
+    found = [("pread", area, 1), ("pread", area + 1, 4), ("pread", first, 1), ("pread", first + 1, 4), ("pread", second, 1)]
+    wanted = FIRST_SYNC[:2] + header(0) + header(SLOT) + [("pread", SLOT + IMAGE, AREA)] + found + [("pread", area, AREA)]
+    wanted += header(SLOT) + SYNC[:1]
+    lines = ["stat s.store", f"open s.store {os.O_RDONLY} 0", "fstat s.store", *in_lines("s.store", wanted)]
+    as_said([repr(call) for call in calls_of(place.path("record"))], lines)
+
+
+def too_early(calls, at, record):
+    """The record with the reply at that place before the second sync of the group that has the entry's record."""
+    first = next(place for place, call in enumerate(calls) if call.kind == "pwrite" and record in call.data)
+    second = [place for place, call in enumerate(calls) if place > first and call.kind == "fdatasync"][1]
+    holds(second < at, "a reply leaves behind the second sync of its group")
+    return [*calls[:second], calls[at], *calls[second:at], *calls[at + 1 :]]
+
+
+def is_in_time(calls, device, asked):
+    try:
+        left_in_time(calls, "s.store", device, asked)
+    except Wrong:
+        return False
+    return True
+
+
+def appended(place):
+    """each group is four calls; a checkpoint closes the other slot, writes a slice behind each group, and is finished as the table says"""
+    state = state_with(20000)
+    # with two groups more the journal has 524,288 bytes, and a checkpoint is due
+    groups = [[("attached", 9, 1)] * 3276] * 2
+    base = store.device_of(TWO, state, groups, 3, 1)
+    store.put_slot(base, TWO, State(), [], 2, 0)
+    work = [adding(1, 0, 1)] * 8
+    calls, answers = recorded(place, base, work, format=False)
+    entries = [ATTACHED, *finished(work, answers)]
+    same(answers, [("value", number) for number in range(8)])
+    now = store.read_store(base)[2]
+    for entry in entries[:2]:
+        now.apply(entry)
+    image = image_of(now, TWO)
+    old, new = Journal(TWO, 1, 2 * (5 + 3276 * 80)), Journal(TWO, 0)
+    wanted = opening(1, len(image_of(state, TWO))) + old.group(entries[0]) + old.group(entries[1])
+    wanted += beginning(0, 4, image, True)
+    pieces = slices(0, image)
+    same(len(pieces), 3)
+    for entry, piece in zip(entries[2:5], pieces):
+        wanted += old.group(entry) + piece
+    wanted += old.group(entries[5]) + finishing(0, new, entries[2:6])
+    for entry in entries[6:]:
+        wanted += new.group(entry)
+    as_said(of_file(calls, "s.store"), wanted)
+    asked = {(7, number): request for number, request in enumerate(work, 1)}
+    same(left_in_time(calls, "s.store", base, asked), 9, "replies")
+    replies = [at for at, call in enumerate(calls) if call.kind == "send"]
+    same(len(replies), len(entries))
+    for at, entry in random.sample(list(zip(replies, entries)), 3):
+        same(is_in_time(too_early(calls, at, record_of(entry, TWO)), base, asked), False, "a reply that leaves too early is noticed")
+
+
+def migrated(place):
+    """a store of format 1 goes on in it until a checkpoint, which writes format 2, also where a name is too long for it"""
+    state = state_with(20000)
+    # with two groups more the journal has 524,288 bytes, and a checkpoint is due
+    base = store.device_of(ONE, state, [[("attached", 9, 1)] * 4095] * 2, 2, 1)
+    work = [adding(1, 0, 1)] * 6
+    calls, answers = recorded(place, base, work, format=False)
+    entries = [ATTACHED, *finished(work, answers)]
+    now = store.read_store(base)[2]
+    for entry in entries[:2]:
+        now.apply(entry)
+    image = image_of(now, TWO)
+    old, new = Journal(ONE, 1, 2 * (5 + 4095 * 64)), Journal(TWO, 0)
+    wanted = opening(1, len(image_of(state, ONE))) + old.group(entries[0]) + old.group(entries[1]) + beginning(0, 3, image, False)
+    for entry, piece in zip(entries[2:5], slices(0, image)):
+        wanted += old.group(entry) + piece
+    wanted += old.group(entries[5]) + finishing(0, new, entries[2:6]) + new.group(entries[6])
+    as_said(of_file(calls, "s.store"), wanted)
+
+
+def migrated_by_a_name(place):
+    """an entry that format 1 has no record for has the whole checkpoint made before its own group"""
+    state = state_with(8000)
+    base = store.device_of(ONE, state, [[ATTACHED]], 1, 0)
+    work = [("find", b"seventeen_letters"), ("find", b"sixteen_letters_")]
+    calls, answers = recorded(place, base, work, format=False)
+    same(answers, [("no-array",)] * 2)
+    entries = [ATTACHED, *finished(work, answers)]
+    now = store.read_store(base)[2]
+    now.apply(entries[0])
+    image = image_of(now, TWO)
+    old, new = Journal(ONE, 0, 5 + 64), Journal(TWO, 1)
+    wanted = opening(0, len(image_of(state, ONE))) + old.group(entries[0]) + beginning(1, 2, image, False)
+    wanted += sum(slices(1, image), []) + finishing(1, new, [])
+    wanted += new.group(entries[1]) + new.group(entries[2])
+    same(len(slices(1, image)), 2)
+    as_said(of_file(calls, "s.store"), wanted)
+
+
+class Asker(threading.Thread):
+    """A client with windows of requests, which notes what it asked under each number."""
+
+    def __init__(self, server, session, asked):
+        super().__init__(daemon=True)
+        self.server = server
+        self.session = session
+        self.asked = asked
+        self.raised = None
+        self.start()
+
+    def run(self):
+        try:
+            with self.server.attached(self.session) as conn:
+                for first in range(1, 32 * 12, 32):
+                    self.window(conn, first)
+                same(conn.ask(wire.bye()), ("goodbye", self.session))
+        except Exception as error:
+            self.raised = error
+
+    def window(self, conn, first):
+        for number in range(first, first + 32):
+            self.asked[self.session, number] = adding(1, number % 3, 1)
+        conn.send(b"".join(wire.call(number, self.asked[self.session, number]) for number in range(first, first + 32)))
+        for number in range(first, first + 32):
+            same(conn.reply()[:2], ("answer", number))
+        same(conn.ask(wire.settle(first + 32)), ("settled", first + 32))
+
+
+@within(120)
+def replies_wait(place):
+    """each reply to eight clients leaves behind the second sync of its group, through a checkpoint"""
+    base = store.device_of(TWO, state_with(30000), [[("attached", 9, 1)] * 3200] * 2)
+    server = Server(place, store=place.write("s.store", bytes(base)), format=False)
+    server.start({"LD_PRELOAD": preload(place, "record.c"), "RECORD": place.path("record")})
+    asked = {}
+    clients = [Asker(server, session, asked) for session in range(1, 9)]
+    for client in clients:
+        client.join(200)
+        holds(not client.is_alive(), "a client does not come to an end")
+        if client.raised:
+            raise client.raised
+    server.stop()
+    calls = calls_of(place.path("record"))
+    count = left_in_time(calls, "s.store", base, asked)
+    same(count, 8 * (1 + 12 * 33 + 1), "replies")
+    device = place.read("s.store")
+    same(store.slots_of(device)[0].generation, 2, "a checkpoint was made")
+    syncs = sum(call.kind == "fdatasync" for call in calls)
+    return f"{count} replies, {syncs} syncs"
+
+
+CHECKS = (sees_all, made, kept, opened, looked, appended, migrated, migrated_by_a_name, replies_wait)

@@ -1,0 +1,169 @@
+"""A server that is killed at its calls, one after the other, while a store is made, formatted, checkpointed or moved to format 2.
+
+`--stops N` says how often each check kills it: at each call in turn where N is enough for that, and at random moments beyond."""
+
+import os
+import random
+import threading
+import time
+
+from . import store, wire
+from .crowds import adding
+from .faults import Client, answered, fills_and_others, is_change, near_a_checkpoint
+from .harness import Server, holds, preload, same, until, within
+from .model import State
+from .records import calls_of
+
+
+class Trial:
+    """A store, or none, and the work of one client over it. `others` has the files that stand beside the store at the end."""
+
+    def __init__(self, place, base, work, formats, others=()):
+        self.place = place
+        self.base = base
+        self.work = work
+        self.formats = formats
+        self.others = dict(others)
+        state = store.read_store(base)[2] if base is not None and not formats else State()
+        self.wanted = answered(work, state)
+        self.library = preload(place, "record.c")
+        self.count = 0
+
+    def started(self, **env):
+        """A server over the store as it was at the beginning."""
+        self.count += 1
+        for file in os.listdir(self.place.folder):
+            if file.startswith("store") or file.startswith("calls"):
+                os.unlink(self.place.path(file))
+        path = self.place.path("store")
+        if self.base is not None:
+            self.place.write("store", self.base)
+        return Server(self.place, "s", store=path, format=self.formats).start({key: str(value) for key, value in env.items()}, waits=False)
+
+    def recorded(self, **env):
+        return self.started(LD_PRELOAD=self.library, RECORD=self.place.path("calls"), **env)
+
+    def begins(self, server):
+        until(lambda: os.path.exists(server.socket) or not server.is_running(), 30, "the server serves or is killed")
+
+    def calls(self):
+        """The calls of a run that is not killed, and how long it takes."""
+        server, began = self.recorded(), time.monotonic()
+        self.begins(server)
+        client = Client(server, self.work)
+        holds(client.attempt(), "a connection ended")
+        same(client.answers, self.wanted)
+        seconds = time.monotonic() - began
+        server.stop()
+        return calls_of(self.place.path("calls")), seconds
+
+    def points(self, calls):
+        """Before and behind each call that changes a file, and within each write. Of those that fill a file with zeros there are three."""
+        found = []
+        for number, kind in fills_and_others(calls):
+            found += [(number, how) for how in ("before", "half", "after") if how != "half" or "write" in kind]
+        return found
+
+    def killed_at(self, number, how):
+        server = self.recorded(TURN=number, HOW=how)
+        self.begins(server)
+        client = Client(server, self.work)
+        if server.is_running():
+            holds(not client.attempt(), f"the server lives on behind call {number}")
+        server.process.wait(30)
+        same(server.process.returncode, -9, f"killed {how} call {number}")
+        self.goes_on(server, client, f"killed {how} call {number}")
+
+    def killed_behind(self, seconds):
+        """Killed at a moment that no call decides."""
+        server = self.started()
+        # (where nobody listens any more it does not try for long)
+        client = Client(server, self.work, seconds=1)
+        worker = threading.Thread(target=client.attempt, daemon=True)
+        worker.start()
+        time.sleep(seconds)
+        server.process.kill()
+        server.process.wait(30)
+        worker.join(60)
+        holds(not worker.is_alive(), "a client does not come to an end")
+        client.seconds = 10
+        self.goes_on(server, client, f"killed behind {seconds:.4f} seconds")
+
+    def goes_on(self, server, client, name):
+        """The next start opens the store, with each answer, and does what was not answered once. Nothing is left over."""
+        if os.path.exists(server.socket):
+            os.unlink(server.socket)
+        told, client.answers = client.answers, []
+        server.start()
+        holds(client.attempt(), f"{name}: the server that was started again ended a connection")
+        same(client.answers[: len(told)], told, f"{name}: what was answered before")
+        same(client.answers, self.wanted, name)
+        server.stop()
+        found = store.read_store(self.place.read("store"))[2].sessions[7].kept
+        same([found[number][1] for number in range(1, len(self.wanted) + 1)], self.wanted, name)
+        left = {file: self.place.read(file) for file in os.listdir(self.place.folder) if file.startswith("store.")}
+        holds(left == self.others, f"{name}: files beside the store: {sorted(left)}")
+
+    def kills(self):
+        """Kills the server as often as is asked: how often at a call, of how many, and at another moment."""
+        calls, seconds = self.calls()
+        points, share = self.points(calls), self.place.options.stops
+        chosen = points if len(points) <= share else sorted(random.sample(points, share))
+        for number, how in chosen:
+            self.killed_at(number, how)
+        for _ in range(share - len(chosen)):
+            self.killed_behind(random.uniform(0, seconds))
+        kinds = sorted({call.kind for call in calls if is_change(call)})
+        return f"{len(chosen)} kills at {len(points)} points of {', '.join(kinds)}, {share - len(chosen)} at random moments"
+
+
+WORK = [("create", b"counter", 2, 1)] + [adding(1, 0, 1)] * 3
+
+
+@within(300)
+def making(place):
+    """a server is killed while it makes its store: the next start opens it, with every answer"""
+    return Trial(place, None, WORK, True).kills()
+
+
+@within(300)
+def formatting(place):
+    """the same while it formats a file of zeros, of which no copy is left"""
+    return Trial(place, bytes(store.SIZE), WORK, True).kills()
+
+
+@within(300)
+def keeping(place):
+    """the same while it formats what was a store, of which a whole copy is left beside it"""
+    device = bytearray(near_a_checkpoint()[0])
+    device[store.SLOT] += 1
+    return Trial(place, bytes(device), WORK, True, [("store.before-format", bytes(device))]).kills()
+
+
+@within(300)
+def checkpointing(place):
+    """the same while it makes a checkpoint between groups"""
+    return Trial(place, near_a_checkpoint()[0], [adding(1, 19999, 1)] * 9, False).kills()
+
+
+def of_format_1(entries):
+    """A store of format 1 with a large array and so many entries in two groups."""
+    state = State()
+    for entry in (("attached", 9, 1), ("finished", 9, 1, ("create", b"big", 20000, 1), ("array", 1, 20000))):
+        state.apply(entry)
+    return bytes(store.device_of(store.ONE, state, [[("attached", 9, 1)] * entries] * 2, 2, 1))
+
+
+@within(300)
+def migrating(place):
+    """the same while a checkpoint between groups moves the store from format 1 to format 2"""
+    return Trial(place, of_format_1(4095), [adding(1, 19999, 1)] * 9, False).kills()
+
+
+@within(300)
+def migrating_by_a_name(place):
+    """the same while it is moved for a name that format 1 has no record for"""
+    return Trial(place, of_format_1(10), [adding(1, 0, 1), ("find", b"seventeen_letters"), adding(1, 0, 1)], False).kills()
+
+
+CHECKS = (making, formatting, keeping, checkpointing, migrating, migrating_by_a_name)
