@@ -1,13 +1,10 @@
 //! The connection to a server.
 
-ghost use Rattle.std.specs.Prelude.{ℕ, ◌<◌, ◌≤◌, List, length, Option, IfOk, OnErr};
+ghost use Rattle.std.specs.Prelude.{ℕ, ◌≡◌, ◌<◌, ◌≤◌, List, length, Option, Ok, IfOk, OnErr};
 ghost use Rattle.std.specs.Io.KnownBytes.{Keeps, WriteAppends};
 
-use std::io::{ErrorKind, Read, Write};
+use fe_streams::{Failed, read_some, write_some};
 use std::os::unix::net::UnixStream;
-
-/// How often a call that was interrupted is tried.
-const TRIES: u64 = 1 << 40;
 
 /// A call of a connection failed, or the other end has closed it.
 #[derive(Clone, Copy, Debug, PartialEq, Eq)]
@@ -53,32 +50,23 @@ impl Connection for UnixStream {
     ghost is_over = { λ _. ⊤ };
 
     fn send(&mut self, bytes: &[u8]) -> Result<usize, Broken> {
-        for _ in 0..TRIES {
-            match self.write(bytes) {
-                Ok(0) => return Err(Broken),
-                Ok(count) => return Ok(count),
-                Err(error) => {
-                    if error.kind() != ErrorKind::Interrupted {
-                        return Err(Broken);
-                    }
-                }
-            }
-        }
-        Err(Broken)
+        some(write_some(self, bytes))
     }
 
     fn receive(&mut self, buffer: &mut [u8]) -> Result<usize, Broken> {
-        for _ in 0..TRIES {
-            match self.read(buffer) {
-                Ok(0) => return Err(Broken),
-                Ok(count) => return Ok(count),
-                Err(error) => {
-                    if error.kind() != ErrorKind::Interrupted {
-                        return Err(Broken);
-                    }
-                }
-            }
-        }
-        Err(Broken)
+        some(read_some(self, buffer))
+    }
+}
+
+/// What came of a call of a stream. A stream that gave or took no byte has ended.
+fn some(outcome: Result<usize, Failed>) -> Result<usize, Broken>
+    ensures some { IfOk result (λ count. 0 < count) }
+    ensures same { IfOk result (λ count. outcome ≡ Ok count) }
+    // It is broken only where the call failed or took nothing.
+    ensures broken { OnErr result (IfOk outcome (λ count. count ≡ 0)) }
+{
+    match outcome {
+        Ok(0) | Err(_) => Err(Broken),
+        Ok(count) => Ok(count),
     }
 }

@@ -1,4 +1,4 @@
-/// Why a read side ended. Its connection is gone then, but where it was stopped.
+/// Why a read side ended. Its connection is gone then, unless the hall is stopped.
 #[derive(Clone, Copy, Debug, PartialEq, Eq)]
 pub enum ReadEnd {
     /// The stream ended.

@@ -43,6 +43,8 @@ pub(crate) struct Floor<C: Tally, M: Tally> {
     made: u64,
     /// The connections that were made and did not leave.
     present: Vec<u64>,
+    /// Those whose read side waits for their box.
+    watched: Vec<u64>,
     pub(crate) stopped: bool,
     ghost open: { IsOpen front.books },
     ghost calls_agree: { calls.total ≡ front.books.calls },
@@ -92,6 +94,7 @@ impl<C: Tally, M: Tally> Floor<C, M> {
             spare_mails,
             made: 0,
             present: Vec::new(alloc),
+            watched: Vec::new(alloc),
             stopped: false,
         }
     }
@@ -192,13 +195,58 @@ impl<C: Tally, M: Tally> Floor<C, M> {
         self.front.has_mail(conn) || !self.front.connected(conn)
     }
 
-    /// Marks the bells of the connections whose write sides have to look.
+    /// Marks the bells of the connections of which a side has to look.
     pub(crate) fn mark(&self, wakes: &mut [bool; BELLS as usize]) {
         for conn in &self.present {
             if self.calls_writer(*conn) {
                 wakes[(*conn % BELLS) as usize] = true;
             }
         }
+        for conn in &self.watched {
+            wakes[(*conn % BELLS) as usize] = true;
+        }
+    }
+
+    /// The read side of a connection waits for its box. Whether that is noted, for which there may be no memory.
+    pub(crate) fn watch(&mut self, conn: u64) -> bool
+        ensures front { self.new.front ≡ self.old.front }
+        ensures still { self.new.stopped ≡ self.old.stopped }
+    {
+        self.is_watched(conn) || self.watched.push(conn).is_ok()
+    }
+
+    /// It is noted no more. Whether it was.
+    pub(crate) fn unwatch(&mut self, conn: u64) -> bool
+        ensures front { self.new.front ≡ self.old.front }
+        ensures still { self.new.stopped ≡ self.old.stopped }
+    {
+        match self.watched.iter().position(|other| *other == conn) {
+            Some(at) => {
+                let _ = self.watched.swap_remove(at);
+                true
+            }
+            None => false,
+        }
+    }
+
+    /// Whether it is noted that the read side of a connection waits for its box.
+    pub(crate) fn is_watched(&self, conn: u64) -> bool {
+        self.watched.iter().any(|other| *other == conn)
+    }
+
+    /// Whether a connection is told nothing any more: it is gone, or the hall is stopped.
+    pub(crate) fn is_over(&self, conn: u64) -> bool {
+        self.stopped || !self.front.connected(conn)
+    }
+
+    /// The place behind all that was made so far.
+    pub(crate) fn place(&self) -> u64 {
+        self.front.state().place()
+    }
+
+    /// Whether nothing is left to take for a connection of what was made before this place: that is durable, and its box is empty.
+    pub(crate) fn is_drained(&self, conn: u64, place: u64) -> bool {
+        self.is_over(conn) || self.front.durable() >= place && !self.front.has_mail(conn)
     }
 
     /// How many mails were made, also those that met a full box.
@@ -312,9 +360,11 @@ impl<C: Tally, M: Tally> Floor<C, M> {
             spare_mails,
             made: _,
             present,
+            watched,
             stopped: _,
         } = self;
         drop(present);
+        drop(watched);
         let books = front.books();
         drop(front);
         calls.audit(&mut called, spare_calls);

@@ -30,7 +30,7 @@ pub struct Hall<C: Tally, M: Tally> {
     work: Condvar,
     /// Rung where room came for an event, and where the hall is stopped.
     room: Condvar,
-    /// Rung for the write side of a connection, by its number's remainder.
+    /// Rung for the sides of a connection, by its number's remainder.
     bells: Vec<Condvar>,
     ghost all_bells: { length bells.items ≡ 256 },
 }
@@ -91,7 +91,7 @@ impl<C: Tally, M: Tally> Hall<C, M> {
         self.floor.lock(rt)
     }
 
-    /// Rings for the write side of a connection.
+    /// Rings for the sides of a connection that wait for its box.
     fn ring(&self, conn: u64) {
         self.bells[(conn % BELLS) as usize].notify_all();
     }
@@ -125,6 +125,45 @@ impl<C: Tally, M: Tally> Hall<C, M> {
         unreachable!()
     }
 
+    /// Waits until the write side of a connection has written all that it took and the box is empty, or the connection is over. It does
+    /// not wait where there is no memory for that.
+    pub(crate) fn await_rest<R: Wait>(&self, rt: &R, conn: u64) {
+        let mut floor = self.enter(rt);
+        if !floor.watch(conn) {
+            return;
+        }
+        // A write side that rests already says so too.
+        self.ring(conn);
+        for _ in rt.forever() {
+            if floor.is_over(conn) || !floor.is_watched(conn) {
+                let _ = floor.unwatch(conn);
+                return;
+            }
+            floor = self.bells[(conn % BELLS) as usize].wait(rt, floor);
+        }
+        unreachable!()
+    }
+
+    /// Waits until all that comes of the messages of a connection was taken for it, but for what waits; it is gone then. No message of
+    /// it comes any more. Where the hall is stopped it is left to its write side, which takes what is in the box.
+    pub(crate) fn drain<R: Wait>(&self, rt: &R, conn: u64) {
+        let mut floor = self.enter(rt);
+        let place = floor.place();
+        for _ in rt.forever() {
+            if floor.is_drained(conn, place) || !floor.watch(conn) {
+                break;
+            }
+            floor = self.bells[(conn % BELLS) as usize].wait(rt, floor);
+        }
+        let _ = floor.unwatch(conn);
+        if floor.stopped {
+            return;
+        }
+        floor.leave(conn);
+        MutexGuard::unlock(floor);
+        self.ring(conn);
+    }
+
     /// A connection is gone, if it still is there.
     pub(crate) fn leave<R: Wait>(&self, rt: &R, conn: u64) {
         self.floor.lock(rt).leave(conn);
@@ -145,10 +184,19 @@ impl<C: Tally, M: Tally> Hall<C, M> {
         let mut floor = self.enter(rt);
         for _ in rt.forever() {
             if let Some(mail) = floor.take_mail(conn, seat) {
-                return Ok((mail, floor.front.has_mail(conn)));
+                let more = floor.front.has_mail(conn);
+                let is_awaited = !more && floor.is_watched(conn);
+                MutexGuard::unlock(floor);
+                if is_awaited {
+                    self.ring(conn);
+                }
+                return Ok((mail, more));
             }
             if let Some(end) = floor.end_of_writer(conn) {
                 return Err(end);
+            }
+            if floor.unwatch(conn) {
+                self.ring(conn);
             }
             floor = self.bells[(conn % BELLS) as usize].wait(rt, floor);
         }

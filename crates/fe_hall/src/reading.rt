@@ -24,8 +24,9 @@ const LISTED: usize = 1024;
 /// Serves the direction from the client of a connection, until it ends. Each message goes through the gate, outside the lock,
 /// and then to the hall, which may let it wait for room. `turns` bounds the reads; where it is absent nothing does.
 ///
-/// It gives the seat back, with the first 1,024 attaches and calls that were handled. Every end but `Stopped` makes the
-/// connection gone.
+/// It gives the seat back, with the first 1,024 attaches and calls that were handled. At `Closed` and `Turns` it waits until the
+/// write side has taken what comes of the messages that were handled, but for what waits. Every end makes the connection gone,
+/// unless the hall is stopped.
 pub fn read_side<C: Tally, M: Tally, H: ReadHalf, G: Gate, R: Wait>(
     rt: &R,
     alloc: Global,
@@ -51,9 +52,7 @@ pub fn read_side<C: Tally, M: Tally, H: ReadHalf, G: Gate, R: Wait>(
         listed,
     };
     let end = reading.read_all(rt, hall, half, gate, turns);
-    if end != ReadEnd::Stopped {
-        hall.leave(rt, conn);
-    }
+    depart(rt, hall, conn, end);
     let Reading { seat, listed, .. } = reading;
     (seat, listed, end)
 }
@@ -189,6 +188,10 @@ impl<C: Tally> Reading<C> {
             return Some(ReadEnd::NoMemory);
         }
         gate.pass(rt, self.conn);
+        // A report may be long, and a client may ask for many and read none.
+        if matches!(message, ClientMessage::Report) {
+            hall.await_rest(rt, self.conn);
+        }
         let handled = hall.handle(rt, self.alloc, self.conn, message, &mut self.seat);
         if let Some(end) = end_of(handled) {
             return Some(end);
@@ -197,6 +200,15 @@ impl<C: Tally> Reading<C> {
             unreachable!();
         }
         None
+    }
+}
+
+/// Makes the connection gone whose read side ended so; where its stream ended or its reads are used up, once it is drained.
+fn depart<C: Tally, M: Tally, R: Wait>(rt: &R, hall: &Hall<C, M>, conn: u64, end: ReadEnd) {
+    match end {
+        ReadEnd::Closed | ReadEnd::Turns => hall.drain(rt, conn),
+        ReadEnd::Stopped => {}
+        _ => hall.leave(rt, conn),
     }
 }
 

@@ -229,6 +229,15 @@ pub const FEW_TURNS: Play = Play {
     ..STAYING
 };
 
+/// Thirteen reads are just enough for it, and its reply still comes.
+pub const LAST_TURN: Play = Play {
+    script: Script::Steps(&[Step::Says(1, Say::Attach(7), &[(1, Hear::Welcome(7))])]),
+    reads: Some(13),
+    ends: (ReadEnd::Turns, WriteEnd::Gone),
+    mails: [1, 1, 0, 0],
+    ..STAYING
+};
+
 /// A client that takes nothing behind its first refusal: its box has 128 more, the next one drops the connection, and the last
 /// call finds none.
 pub const FULL_BOX: Play = Play {
@@ -261,6 +270,37 @@ pub const FAULT: Play = Play {
     commit_end: CommitEnd::Store(Fault::Device),
     calls: [1, 1, 0, 0, 0, 0],
     mails: [1, 1, 0, 0],
+    ..STAYING
+};
+
+/// Two mails are in a box when the disk fails: the write side takes them before it ends.
+pub const LEFT_MAIL: Play = Play {
+    script: Script::Steps(&[
+        Step::Says(
+            1,
+            Say::Find(1),
+            &[(1, Hear::Refused(1, Refusal::NotAttached))],
+        ),
+        Step::Repeats(1, Say::Find(2), 2),
+        Step::Says(2, Say::Attach(7), &[(2, Hear::Welcome(7))]),
+        Step::Says(2, Say::Create(1, 2, Tag::Empty), &[]),
+        Step::HasEnded,
+        Step::Says(2, Say::Find(2), &[]),
+        Step::Says(
+            1,
+            Say::Find(3),
+            &[
+                (1, Hear::Refused(2, Refusal::NotAttached)),
+                (1, Hear::Refused(2, Refusal::NotAttached)),
+            ],
+        ),
+    ]),
+    connections: 2,
+    is_deaf: true,
+    ends: (ReadEnd::Stopped, WriteEnd::Stopped),
+    commit_end: CommitEnd::Store(Fault::Device),
+    calls: [4, 1, 0, 0, 0, 3],
+    mails: [4, 4, 0, 0],
     ..STAYING
 };
 

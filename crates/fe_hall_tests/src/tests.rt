@@ -3,8 +3,8 @@
 use crate::board::Client;
 use crate::play::Play;
 use crate::rows::{
-    ARITHMETIC, BAD_FRAME, BROADCAST, FAULT, FEW_TURNS, FIRST_PATH, FULL_BOX, PURGE, RESENT,
-    TAKEN_OVER, TURNS_OF_WRITERS, TWO_LIVES, WINDOWS, WORDS,
+    ARITHMETIC, BAD_FRAME, BROADCAST, FAULT, FEW_TURNS, FIRST_PATH, FULL_BOX, LAST_TURN, LEFT_MAIL,
+    PURGE, RESENT, TAKEN_OVER, TURNS_OF_WRITERS, TWO_LIVES, WINDOWS, WORDS,
 };
 use crate::stage::{Played, perform};
 use crate::stores::{new_disk, new_store};
@@ -116,6 +116,11 @@ fn few_turns(rt: HostRuntime) {
 }
 
 #[test]
+fn last_turn(rt: HostRuntime) {
+    drop(store_after(&rt, rt.alloc(), &LAST_TURN));
+}
+
+#[test]
 fn full_box(rt: HostRuntime) {
     drop(store_after(&rt, rt.alloc(), &FULL_BOX));
 }
@@ -131,11 +136,21 @@ fn resend_between(rt: HostRuntime) -> Result<(), Fail> {
     Ok(())
 }
 
+/// Plays over a store whose disk fails with the second group.
+fn play_until_fault<R: Abort + Clock + Threads + Wait + Sync>(rt: &R, alloc: Global, play: &Play) {
+    let disk = Fuse::new(new_store(rt, alloc).into_disk(), CALLS);
+    let keeper = Keeper::open(alloc, disk).ok().expect(rt, "opened");
+    drop(keeper_after(rt, alloc, play, &Hold::new(), keeper));
+}
+
 #[test]
 fn store_fault(rt: HostRuntime) {
-    let disk = Fuse::new(new_store(&rt, rt.alloc()).into_disk(), CALLS);
-    let keeper = Keeper::open(rt.alloc(), disk).ok().expect(&rt, "opened");
-    drop(keeper_after(&rt, rt.alloc(), &FAULT, &Hold::new(), keeper));
+    play_until_fault(&rt, rt.alloc(), &FAULT);
+}
+
+#[test]
+fn left_mail(rt: HostRuntime) {
+    play_until_fault(&rt, rt.alloc(), &LEFT_MAIL);
 }
 
 #[test]

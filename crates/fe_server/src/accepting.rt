@@ -10,7 +10,7 @@ use fe_options::Settings;
 use std::alloc::Global;
 use std::io::ErrorKind;
 use std::os::unix::net::{UnixListener, UnixStream};
-use std::sync::Wait;
+use std::sync::{Arc, Wait};
 use std::thread::{Builder, Scope, Threads};
 use std::time::{Clock, Duration};
 use std::{io, thread};
@@ -18,8 +18,7 @@ use std::{io, thread};
 /// How long it waits where no connection can be taken, in milliseconds.
 const PAUSE: u64 = 10;
 
-/// Serves the connections that come, until as many came as the settings say and all of them ended, or until nothing is stored
-/// any more and one more came.
+/// Serves the connections that come, until as many came as the settings say or nothing is stored any more, and all of them ended.
 pub(crate) fn serve_clients<
     C: Tally + Send + Sync,
     M: Tally + Send + Sync,
@@ -35,12 +34,14 @@ pub(crate) fn serve_clients<
         move |scope|
             requires { (C.all ≡ C.parts) × (M.all ≡ M.parts) }
         {
-            accept_all(rt, alloc, scope, house, listener, settings, gate);
+            accept_all(rt, alloc, scope, house, &listener, settings, gate);
+            house.close_door(rt);
+            drop(listener);
         },
     );
 }
 
-/// Takes connections from the listener, which is closed at the end.
+/// Takes connections from the listener.
 fn accept_all<
     's,
     E,
@@ -53,7 +54,7 @@ fn accept_all<
     alloc: Global,
     scope: &Scope<'s, E>,
     house: &'s House<C, M>,
-    listener: UnixListener,
+    listener: &UnixListener,
     settings: &Settings,
     gate: &'s G,
 )
@@ -80,14 +81,15 @@ fn accept_all<
     }
 }
 
-/// Begins to serve a connection. Whether it was made: it is closed where too many are there or the hall refuses it.
+/// Begins to serve a connection. Whether it was made: it is closed where too many are there and none is about to end, or the hall
+/// refuses it.
 fn welcome<
     's,
     E,
     C: Tally + Send + Sync,
     M: Tally + Send + Sync,
     G: Gate + Sync,
-    R: Threads + Wait + Sync,
+    R: Clock + Threads + Wait + Sync,
 >(
     rt: &'s R,
     alloc: Global,
@@ -104,6 +106,9 @@ fn welcome<
     if !house.has_place(rt, settings.connections) {
         return false;
     }
+    let Ok(stream) = Arc::new(alloc, stream) else {
+        return false;
+    };
     let Ok((calls, mails)) = house.hall.connect(rt, conn) else {
         return false;
     };

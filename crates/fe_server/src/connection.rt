@@ -38,7 +38,7 @@ pub(crate) fn attend<
         mails,
     } = newcomer;
     let seat = Mutex::new(Some(mails));
-    let (line, desk) = (&stream, &seat);
+    let (line, desk): (&UnixStream, _) = (&stream, &seat);
     thread::scope(
         thread::scope_env(),
         rt,
@@ -58,7 +58,7 @@ pub(crate) fn attend<
     );
     // Where no writer could be started its seat is still here.
     write_once(rt, alloc, house, &seat, conn, &stream);
-    house.ended(rt);
+    house.ended(rt, conn);
 }
 
 /// Ends a connection that came and for which no thread can be started.
@@ -80,10 +80,11 @@ pub(crate) fn turn_away<C: Tally, M: Tally, G: Gate, R: Wait>(
     } = newcomer;
     read(rt, alloc, house, calls, conn, &stream, gate, 0);
     write(rt, alloc, house, mails, conn, &stream);
-    house.ended(rt);
+    house.ended(rt, conn);
 }
 
-/// The read side of a connection. Its end ends the write side's stream too.
+/// The read side of a connection. Where its stream ended, or its reads are used up, the write side still writes what it took;
+/// every other end ends the write side's stream too.
 fn read<C: Tally, M: Tally, G: Gate, R: Wait>(
     rt: &R,
     alloc: Global,
@@ -107,7 +108,9 @@ fn read<C: Tally, M: Tally, G: Gate, R: Wait>(
         gate,
         Some(turns),
     );
-    let _ = stream.shutdown(Shutdown::Both);
+    if !matches!(end, ReadEnd::Closed | ReadEnd::Turns) {
+        let _ = stream.shutdown(Shutdown::Both);
+    }
     if end == ReadEnd::Spent {
         house.spend(rt);
     }

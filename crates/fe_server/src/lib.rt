@@ -5,6 +5,7 @@
 #![tactic(auto)]
 
 mod accepting;
+mod binding;
 mod books;
 mod connection;
 mod house;

@@ -12,13 +12,16 @@ use fe_hall::{CallSeat, Closing, Hall, MailSeat, Receipt, Tally, close};
 use fe_keeper::Keeper;
 use fe_wire::ClientMessage;
 use std::alloc::Global;
+use std::io::Write;
+use std::net::Shutdown;
 use std::os::unix::net::UnixStream;
+use std::sync::Arc;
 
 /// A connection that came and whose threads have not begun.
 #[derive(Drop)]
 pub(crate) struct Newcomer<C: Tally, M: Tally> {
     pub(crate) conn: u64,
-    pub(crate) stream: UnixStream,
+    pub(crate) stream: Arc<UnixStream, Global>,
     pub(crate) calls: CallSeat<C>,
     pub(crate) mails: MailSeat<M>,
 }
@@ -30,6 +33,10 @@ pub(crate) struct Register<C: Tally, M: Tally> {
     newcomers: Vec<Newcomer<C, M>>,
     /// How many connections came and did not end.
     present: u64,
+    /// The sockets of those, each with its connection's number.
+    sockets: Vec<(u64, Arc<UnixStream, Global>)>,
+    /// Another handle of the listener, as a socket that can be shut, while connections are taken from it.
+    door: Option<UnixStream>,
     /// Nothing is stored any more.
     over: bool,
     /// Whether lists and receipts are kept.
@@ -48,10 +55,12 @@ pub(crate) struct Register<C: Tally, M: Tally> {
 
 impl<C: Tally, M: Tally> Register<C, M> {
     /// No connection came.
-    pub(crate) fn new(alloc: Global, keeps: bool) -> Register<C, M> {
+    pub(crate) fn new(alloc: Global, door: UnixStream, keeps: bool) -> Register<C, M> {
         Register {
             newcomers: Vec::new(alloc),
             present: 0,
+            sockets: Vec::new(alloc),
+            door: Some(door),
             over: false,
             keeps,
             short: false,
@@ -66,6 +75,12 @@ impl<C: Tally, M: Tally> Register<C, M> {
     /// A connection is here until its threads take it. It comes back where there is no memory for it.
     pub(crate) fn put(&mut self, newcomer: Newcomer<C, M>) -> Result<(), Newcomer<C, M>> {
         if self.newcomers.reserve(1).is_err() {
+            return Err(newcomer);
+        }
+        let Ok(socket) = Arc::try_clone(&newcomer.stream) else {
+            return Err(newcomer);
+        };
+        if self.sockets.push((newcomer.conn, socket)).is_err() {
             return Err(newcomer);
         }
         if self.newcomers.push(newcomer).is_err() {
@@ -86,16 +101,44 @@ impl<C: Tally, M: Tally> Register<C, M> {
         self.present < most
     }
 
+    /// Whether a connection is about to end, since its client has closed it or one of its sides has.
+    pub(crate) fn has_ending(&self) -> bool {
+        self.sockets.iter().any(|(_, socket)| has_ended(socket))
+    }
+
     pub(crate) fn came(&mut self) {
         self.present = self.present.saturating_add(1);
     }
 
-    pub(crate) fn ended(&mut self) {
+    pub(crate) fn ended(&mut self, conn: u64) {
         self.present = self.present.saturating_sub(1);
+        if let Some(at) = self.sockets.iter().position(|(other, _)| *other == conn) {
+            drop(self.sockets.swap_remove(at));
+        }
     }
 
+    /// Nothing is stored any more, and no connection comes any more.
     pub(crate) fn end(&mut self) {
         self.over = true;
+        if let Some(door) = self.door.take() {
+            let _ = door.shutdown(Shutdown::Both);
+        }
+    }
+
+    /// No connection is taken any more.
+    pub(crate) fn close_door(&mut self) {
+        drop(self.door.take());
+    }
+
+    pub(crate) fn is_empty(&self) -> bool {
+        self.present == 0
+    }
+
+    /// Ends the streams of all connections.
+    pub(crate) fn shut_all(&self) {
+        for (_, socket) in &self.sockets {
+            let _ = socket.shutdown(Shutdown::Both);
+        }
     }
 
     pub(crate) fn is_over(&self) -> bool {
@@ -178,6 +221,8 @@ impl<C: Tally, M: Tally> Register<C, M> {
         }
         let Register {
             newcomers,
+            sockets,
+            door,
             calls,
             mails,
             sent,
@@ -185,6 +230,8 @@ impl<C: Tally, M: Tally> Register<C, M> {
             ..
         } = self;
         drop(newcomers);
+        drop(sockets);
+        drop(door);
         let (Some(calls), Some(mails)) = (calls, mails) else {
             drop(sent);
             drop(receipts);
@@ -197,4 +244,10 @@ impl<C: Tally, M: Tally> Register<C, M> {
             Err(_) => Err((StopFault::Strange, None)),
         }
     }
+}
+
+/// Whether nothing more can be written to a socket. It writes no byte.
+fn has_ended(socket: &UnixStream) -> bool {
+    let mut stream = socket;
+    stream.write(&[]).is_err()
 }

@@ -12,6 +12,7 @@ ghost use Rattle.fe_server.specs.declared.serve_fault.ServeFault.TheVariants as 
 ghost use Rattle.fe_server.specs.declared.stop_fault.StopFault.TheVariants as stop;
 
 use crate::accepting::serve_clients;
+use crate::binding::bind;
 use crate::house::House;
 use crate::serve_fault::ServeFault;
 use crate::stop_fault::StopFault;
@@ -26,7 +27,8 @@ use std::alloc::{AllocError, Global};
 use std::fs::File;
 use std::marker::Brand;
 use std::net::Net;
-use std::os::unix::net::UnixListener;
+use std::os::fd::OwnedFd;
+use std::os::unix::net::{UnixListener, UnixStream};
 use std::rt::Files;
 use std::snapshot::Snapshot;
 use std::sync::Wait;
@@ -53,7 +55,7 @@ pub fn serve<R: Files<File = File> + Net + Clock + Threads + Wait + Sync, G: Gat
     ensures unformatted { IsErrOf result (fault.Store store.Unformatted) → settings.now.format ≡ false }
 {
     let keeper = open_store(rt, alloc, settings.store.as_str(), settings.format)?;
-    let Some(listener) = bind(rt, settings.socket.as_str()) else {
+    let Some(listener) = bind(rt, alloc, settings.socket.as_str()) else {
         drop(keeper);
         return Err(ServeFault::Socket);
     };
@@ -66,18 +68,6 @@ pub fn serve<R: Files<File = File> + Net + Clock + Threads + Wait + Sync, G: Gat
             drop(keeper);
             Err(ServeFault::Stopped(fault))
         }
-    }
-}
-
-/// A listener at a path that nothing has.
-fn bind<R: Files + Net>(rt: &R, path: &str) -> Option<UnixListener> {
-    // The system would make a socket of its own choice.
-    if path.is_empty() {
-        return None;
-    }
-    match UnixListener::bind(rt, path) {
-        Ok(listener) => Some(listener),
-        Err(_) => None,
     }
 }
 
@@ -134,10 +124,15 @@ fn serve_as<
     ensures add_up { IfOk result (λ closing. AddUp closing.books) }
     ensures unspent { IfOk result (λ closing. closing.books.spent ≡ false) }
 {
+    let Ok(door) = listener.try_clone() else {
+        return Err((StopFault::Memory, Some(unserved(keeper))));
+    };
     let Ok(hall) = hall_over::<C, M>(alloc, keeper.state(), calls, mails) else {
         return Err((StopFault::Memory, Some(unserved(keeper))));
     };
-    let house = House::new(alloc, hall, settings.accepts > 0);
+    // The system ends an `accept` whose listener is shut, which only a stream can do here.
+    let door = UnixStream::from(OwnedFd::from(door));
+    let house = House::new(alloc, hall, door, settings.accepts > 0);
     let (keeper, end) = run(rt, alloc, &house, listener, settings, keeper, gate);
     match fault_of_end(end) {
         Some(fault) => {
@@ -266,8 +261,8 @@ fn run_in<
     }
 }
 
-/// The committing side of a house.
-fn commit<C: Tally, M: Tally, D: Disk, R: Wait>(
+/// The committing side of a house. At its end the house ends too.
+fn commit<C: Tally, M: Tally, D: Disk, R: Clock + Wait>(
     rt: &R,
     house: &House<C, M>,
     keeper: Keeper<D>,

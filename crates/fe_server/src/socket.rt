@@ -1,7 +1,7 @@
 //! The two directions of a connection over a socket.
 
 use fe_hall::{LineFault, ReadHalf, WriteHalf};
-use std::io::{ErrorKind, Read, Write};
+use fe_streams::{read_some, write_some};
 use std::os::unix::net::UnixStream;
 
 /// The direction from the client of a socket. Nothing is said of the bytes that it reads.
@@ -25,16 +25,10 @@ impl<'a> ReadHalf for SocketRead<'a> {
     ghost told = { λ _. [] };
 
     fn read(&mut self, buffer: &mut [u8]) -> Result<usize, LineFault> {
-        let mut stream = self.stream;
-        // A read that a signal interrupts read nothing.
-        for _ in 0..u64::MAX {
-            match stream.read(buffer) {
-                Ok(count) => return Ok(count),
-                Err(error) if error.kind() == ErrorKind::Interrupted => {}
-                Err(_) => return Err(LineFault),
-            }
+        match read_some(&mut self.stream, buffer) {
+            Ok(count) => Ok(count),
+            Err(_) => Err(LineFault),
         }
-        Err(LineFault)
     }
 }
 
@@ -59,14 +53,9 @@ impl<'a> WriteHalf for SocketWrite<'a> {
     ghost got = { λ _. [] };
 
     fn write(&mut self, bytes: &[u8]) -> Result<usize, LineFault> {
-        let mut stream = self.stream;
-        for _ in 0..u64::MAX {
-            match stream.write(bytes) {
-                Ok(count) => return Ok(count),
-                Err(error) if error.kind() == ErrorKind::Interrupted => {}
-                Err(_) => return Err(LineFault),
-            }
+        match write_some(&mut self.stream, bytes) {
+            Ok(count) => Ok(count),
+            Err(_) => Err(LineFault),
         }
-        Err(LineFault)
     }
 }

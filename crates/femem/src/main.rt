@@ -23,6 +23,7 @@ use fe_options::{Invocation, Settings, arguments, not_text, read_settings};
 use fe_schedules::run_schedule;
 use fe_server::{books_text, serve};
 use fe_text::{StreamFault, write_out};
+use libc::net as c;
 use std::alloc::Global;
 use std::fs::File;
 use std::io::Write;
@@ -39,6 +40,21 @@ const USAGE: u8 = 2;
 
 /// The status where memory is short.
 const SHORT: u8 = 3;
+
+/// The descriptor of standard error, the last of the three standard streams.
+const STANDARD_ERROR: i32 = 2;
+
+/// Puts an unconnected socket in the place of each standard stream that is closed: each read and write of it fails. Otherwise the
+/// next socket would get that descriptor, and a server would be sent what is meant for standard output.
+fn hold_closed_streams() {
+    for _stream in 0..=STANDARD_ERROR {
+        let fd = unsafe { c::socket(c::AF_UNIX, c::SOCK_STREAM | c::SOCK_CLOEXEC, 0) };
+        if fd > STANDARD_ERROR {
+            libc::close(fd);
+            return;
+        }
+    }
+}
 
 /// The words of the command line. The error says that they are no text, or that memory is short.
 fn words<R: Env + AllocGlobal>(rt: &R) -> Result<Vec<String>, Error> {
@@ -159,6 +175,7 @@ fn status_of_words(kind: ErrorKind) -> u8
 }
 
 fn main(rt: HostRuntime) -> ExitCode {
+    hold_closed_streams();
     let words = match words(&rt) {
         Ok(words) => words,
         Err(error) => return ExitCode::from(refuse(&rt, &error)),

@@ -1,0 +1,68 @@
+//! The socket is made, under a name beside its own, so that its file is there only once it listens.
+
+use std::alloc::Global;
+use std::fs;
+use std::net::Net;
+use std::os::unix::fs::FileTypeExt;
+use std::os::unix::net::{UnixListener, UnixStream};
+use std::rt::Files;
+
+/// What the name beside it has behind the path.
+const BESIDE: &str = ".new";
+
+/// The most bytes that the path of a socket has on Linux.
+const LONGEST: usize = 107;
+
+/// A listener at a path that nothing has. Its file comes there once clients can connect, but where the path has no room for the name
+/// beside it, that name is another's, or the file system has no hard links: then it is bound to the path itself.
+pub(crate) fn bind<R: Files + Net>(rt: &R, alloc: Global, path: &str) -> Option<UnixListener> {
+    // The system would make a socket of its own choice.
+    if path.is_empty() || is_taken(rt, path) {
+        return None;
+    }
+    match bind_ready(rt, alloc, path) {
+        Some(listener) => Some(listener),
+        None => UnixListener::bind(rt, path).ok(),
+    }
+}
+
+/// A listener that was bound to the name beside its path, and moved there.
+fn bind_ready<R: Files + Net>(rt: &R, alloc: Global, path: &str) -> Option<UnixListener> {
+    let beside = name_beside(alloc, path)?;
+    let listener = bind_beside(rt, beside.as_str())?;
+    let moved = fs::hard_link(rt, beside.as_str(), path);
+    let _ = fs::remove_file(rt, beside.as_str());
+    match moved {
+        Ok(()) => Some(listener),
+        Err(_) => None,
+    }
+}
+
+/// Whether something has a path.
+fn is_taken<R: Files>(rt: &R, path: &str) -> bool {
+    fs::symlink_metadata(rt, path).is_ok()
+}
+
+/// The name beside a path, where it is not too long and there is memory for it.
+fn name_beside(alloc: Global, path: &str) -> Option<String> {
+    if path.len() > LONGEST - BESIDE.len() {
+        return None;
+    }
+    format!(in alloc; "{path}{BESIDE}").ok()
+}
+
+/// A listener at the name beside. What a start that was killed left there is removed; the socket of one that is under way is not.
+fn bind_beside<R: Files + Net>(rt: &R, beside: &str) -> Option<UnixListener> {
+    if is_left(rt, beside) {
+        let _ = fs::remove_file(rt, beside);
+    }
+    UnixListener::bind(rt, beside).ok()
+}
+
+/// Whether a path has a socket at which nobody listens.
+fn is_left<R: Files + Net>(rt: &R, path: &str) -> bool {
+    match fs::symlink_metadata(rt, path) {
+        Ok(found) => found.file_type().is_socket() && UnixStream::connect(rt, path).is_err(),
+        Err(_) => false,
+    }
+}
