@@ -1,9 +1,11 @@
 # `make help` lists the targets, with what each takes on four processors.
-.PHONY: help run test prove install serve examples faults check-programs client bench bench-serve toolchain
+.PHONY: help run test prove install deb dist check-deb check-hosts lint-deb man serve examples faults check-programs client bench \
+  bench-serve toolchain
 
 SCHEDULE := examples/first_path.txt
 UNPROVED := out/unproved/femem-unproved
 PROVED := out/proved/femem
+RECORD := out/proved/record
 SOURCES := crates.txt $(shell find crates -name out -prune -o \( -name '*.rt' -o -name '*.antt' \) -print)
 # The proved program where it is up to date, else the unproved one.
 PROGRAM := $(shell [ -x $(PROVED) ] && [ -z "$$(find $(SOURCES) -newer $(PROVED))" ] && echo $(PROVED) || echo $(UNPROVED))
@@ -27,9 +29,22 @@ test: toolchain ## test it: the gate, with every proof, must-fail edit and test,
 prove: $(PROVED) ## prove it: proves the program's crates, and builds the proved program (30 minutes)
 	@echo "$(PROVED) is proved"
 
-install: $(PROVED) ## install it: puts the proved program into PREFIX/bin, /usr/local/bin where PREFIX is not given
+install: $(PROVED) ## install it: puts the proved program and its man pages below PREFIX, /usr/local where it is not given
 	@install -D -m 755 $(PROVED) $(DESTDIR)$(PREFIX)/bin/femem
+	@scripts/man_pages out/man
+	@for page in out/man/*; do install -D -m 644 $$page $(DESTDIR)$(PREFIX)/share/man/man$${page##*.}/$${page##*/}; done
 	@echo "$(DESTDIR)$(PREFIX)/bin/femem"
+
+deb: ## packages it: out/dist/femem_VERSION_amd64.deb, with the proved program
+	@scripts/record check $(PROVED) $(RECORD)
+	@scripts/make_deb $(PROVED) out/dist $(RECORD)
+
+dist: ## releases it: package, wheel, C library, checksums and the proof's record in out/dist; refuses what is not proved
+	@scripts/dist $(PROVED) $(RECORD) out/dist
+
+man: ## makes the man pages in out/man from the documents in docs/
+	@scripts/man_pages out/man
+	@ls out/man/*
 
 $(UNPROVED): $(SOURCES) scripts/quick | toolchain
 	@echo "builds femem without proving it, which takes about two minutes"
@@ -38,11 +53,12 @@ $(UNPROVED): $(SOURCES) scripts/quick | toolchain
 $(PROVED): $(SOURCES) | toolchain
 	@scripts/prove
 
-# The settings are those of the example, with its paths in a folder of their own. A socket at which nobody listens was left by a
-# server that was stopped.
+# The settings are those of the example, with its paths in a folder of their own and without `format`: the store is made before. A
+# socket at which nobody listens was left by a server that was stopped.
 serve: $(PROGRAM) ## starts a server by examples/femem.toml, whose socket and store are in femem-data/
 	@mkdir -p $(DATA)
-	@[ -e $(DATA)/femem.toml ] || sed 's|/tmp/femem|$(DATA)/femem|' examples/femem.toml > $(DATA)/femem.toml
+	@[ -e $(DATA)/femem.toml ] || sed 's|/tmp/femem|$(DATA)/femem|; /^format/d' examples/femem.toml > $(DATA)/femem.toml
+	@[ -e $(DATA)/femem.store ] || FEMEM=$(PROGRAM) packaging/make-store $(abspath $(DATA)/femem.store)
 	@$(PROGRAM) call --socket $(DATA)/femem.socket < /dev/null 2> /dev/null || rm -f $(DATA)/femem.socket
 	@echo "$(PROGRAM) serves at $(DATA)/femem.socket, until it is stopped"
 	@exec $(PROGRAM) serve --settings $(DATA)/femem.toml
@@ -54,8 +70,17 @@ faults: $(PROGRAM) ## the same, with each allocation refused in turn, and so eac
 	@scripts/refuse_each $(PROGRAM)
 	@scripts/refuse_test
 
-check-programs: $(PROGRAM) ## real processes: crowds, kills under load, damaged stores, faults, both clients (8 minutes)
+check-programs: $(PROGRAM) ## real processes: crowds, kills under load, damaged stores, faults, clients, what is installed (10 minutes)
 	@scripts/check_programs $(PROGRAM)
+
+check-deb: $(PROGRAM) ## the package, in a clean Debian with a systemd of its own: installed, killed, removed, purged; needs root (2 minutes)
+	@scripts/check_programs $(PROGRAM) deb
+
+check-hosts: $(PROGRAM) ## a store on two hosts that die in turns (docs/replication.md); needs root and some packages (2 minutes)
+	@scripts/check_programs $(PROGRAM) hosts
+
+lint-deb: deb ## lintian, of Debian, over the package
+	@lintian --fail-on error,warning out/dist/*.deb
 
 client: ## builds the C client, and runs the tests of both clients; needs no toolchain (1 minute)
 	@$(MAKE) -s -C clients/c all test
