@@ -15,6 +15,7 @@ mod liar;
 mod memory_disk;
 mod names;
 mod record;
+mod watch;
 
 pub use calls::Calls;
 pub use disk::{DeviceFault, Disk};
