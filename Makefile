@@ -70,7 +70,7 @@ faults: $(PROGRAM) ## the same, with each allocation refused in turn, and so eac
 	@scripts/refuse_each $(PROGRAM)
 	@scripts/refuse_test
 
-check-programs: $(PROGRAM) ## real processes: crowds, kills under load, damaged stores, faults, clients, what is installed (10 minutes)
+check-programs: $(PROGRAM) ## real processes: crowds, kills under load, damaged stores, faults, clients, what is installed (4 minutes)
 	@scripts/check_programs $(PROGRAM)
 
 check-deb: $(PROGRAM) ## the package, in a clean Debian with a systemd of its own: installed, killed, removed, purged; needs root (2 minutes)
