@@ -13,7 +13,7 @@ sys.path.insert(0, os.path.normpath(os.path.join(os.path.dirname(os.path.realpat
 
 from release import pages  # noqa: E402
 
-MOST_WORDS = {"README.md": 1500, "docs/proved.md": 5000, "docs/DECISIONS.md": 4000}
+MOST_WORDS = {"README.md": 1500, "docs/proved.md": 5000, "docs/DECISIONS.md": 4000, "docs/model.md": 4600}
 
 
 def listed(heading):
@@ -88,10 +88,10 @@ def versions(_place):
 
 
 def lengths(_place):
-    """the README, docs/proved.md and docs/DECISIONS.md have no more words than they may"""
+    """the README, docs/proved.md, docs/DECISIONS.md and docs/model.md have no more words than they may"""
     found = {name: len(text_of(name).split()) for name in MOST_WORDS}
     missing = [f"{name} has {found[name]} words, and may have {most}" for name, most in MOST_WORDS.items() if found[name] > most]
-    return told(missing, len(found), 3, "documents")
+    return told(missing, len(found), 4, "documents")
 
 
 LINK = re.compile(r"\[([^\]]*)\]\(([^)\s]+)\)")
