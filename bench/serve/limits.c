@@ -1,6 +1,8 @@
 /* What no server of this shape can be faster than, in one line of JSON:
      limits group FILE RECORDS SECONDS    a group of the journal: a write, fdatasync, its gate's write, fdatasync
      limits sync FILE RECORDS SECONDS     one write and one fdatasync
+     limits path FILE SECONDS             the processor time of one statx of a path, with which a sync ends
+     limits file FILE SECONDS             that of one statx of an open file
      limits relay SOCKET SECONDS          a frame from a client through a reading, a committing and a writing thread,
                                           and back, with nothing in between */
 #define _GNU_SOURCE
@@ -14,6 +16,7 @@
 #include <stdlib.h>
 #include <string.h>
 #include <sys/socket.h>
+#include <sys/stat.h>
 #include <sys/un.h>
 #include <sys/wait.h>
 #include <unistd.h>
@@ -67,6 +70,28 @@ static void disk(const char *path, long records, uint64_t end, bool two) {
   close(file);
   unlink(path);
   print(two ? "group" : "sync", records);
+}
+
+static uint64_t processor_ns(void) {
+  struct timespec time;
+  clock_gettime(CLOCK_THREAD_CPUTIME_ID, &time);
+  return (uint64_t)time.tv_sec * 1000000000u + (uint64_t)time.tv_nsec;
+}
+
+static void look(const char *path, uint64_t end, bool by_path) {
+  enum { ROUND = 1000 };
+  int file = make_file(path), folder = by_path ? AT_FDCWD : file, flags = by_path ? 0 : AT_EMPTY_PATH;
+  const char *name = by_path ? path : "";
+  struct statx found;
+  while (now_ns() < end) {
+    uint64_t began = processor_ns();
+    for (int k = 0; k < ROUND; k++)
+      if (statx(folder, name, flags, STATX_BASIC_STATS, &found)) give_up("statx");
+    note_latency(&noted, (processor_ns() - began) / ROUND);
+  }
+  close(file);
+  unlink(path);
+  print(by_path ? "path" : "file", 0);
 }
 
 /* ---- the threads ---- */
@@ -154,9 +179,11 @@ int main(int count, char **words) {
   signal(SIGPIPE, SIG_IGN);
   if (count == 5 && !strcmp(words[1], "group")) disk(words[2], atol(words[3]), end, true);
   else if (count == 5 && !strcmp(words[1], "sync")) disk(words[2], atol(words[3]), end, false);
+  else if (count == 4 && !strcmp(words[1], "path")) look(words[2], end, true);
+  else if (count == 4 && !strcmp(words[1], "file")) look(words[2], end, false);
   else if (count == 4 && !strcmp(words[1], "relay")) relay(words[2], end);
   else {
-    fprintf(stderr, "usage: limits group|sync FILE RECORDS SECONDS, or limits relay SOCKET SECONDS\n");
+    fprintf(stderr, "usage: limits group|sync FILE RECORDS SECONDS, limits path|file FILE SECONDS, or limits relay SOCKET SECONDS\n");
     return 2;
   }
   return 0;
