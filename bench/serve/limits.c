@@ -1,6 +1,7 @@
 /* What no server of this shape can be faster than, in one line of JSON:
      limits group FILE RECORDS SECONDS    a group of the journal: a write, fdatasync, its gate's write, fdatasync
      limits sync FILE RECORDS SECONDS     one write and one fdatasync
+     limits watch FILE SECONDS            the processor time of what ends each sync: the status and the path of an open file
      limits relay SOCKET SECONDS          a frame from a client through a reading, a committing and a writing thread,
                                           and back, with nothing in between */
 #define _GNU_SOURCE
@@ -14,6 +15,7 @@
 #include <stdlib.h>
 #include <string.h>
 #include <sys/socket.h>
+#include <sys/stat.h>
 #include <sys/un.h>
 #include <sys/wait.h>
 #include <unistd.h>
@@ -67,6 +69,31 @@ static void disk(const char *path, long records, uint64_t end, bool two) {
   close(file);
   unlink(path);
   print(two ? "group" : "sync", records);
+}
+
+static uint64_t processor_ns(void) {
+  struct timespec time;
+  clock_gettime(CLOCK_THREAD_CPUTIME_ID, &time);
+  return (uint64_t)time.tv_sec * 1000000000u + (uint64_t)time.tv_nsec;
+}
+
+static void watch(const char *path, uint64_t end) {
+  enum { ROUND = 1000 };
+  int file = make_file(path);
+  char link[32], found[4096];
+  struct statx status;
+  snprintf(link, sizeof link, "/proc/self/fd/%d", file);
+  while (now_ns() < end) {
+    uint64_t began = processor_ns();
+    for (int k = 0; k < ROUND; k++) {
+      if (statx(file, "", AT_EMPTY_PATH, STATX_BASIC_STATS, &status)) give_up("statx");
+      if (readlink(link, found, sizeof found) < 0) give_up("readlink");
+    }
+    note_latency(&noted, (processor_ns() - began) / ROUND);
+  }
+  close(file);
+  unlink(path);
+  print("watch", 0);
 }
 
 /* ---- the threads ---- */
@@ -154,9 +181,10 @@ int main(int count, char **words) {
   signal(SIGPIPE, SIG_IGN);
   if (count == 5 && !strcmp(words[1], "group")) disk(words[2], atol(words[3]), end, true);
   else if (count == 5 && !strcmp(words[1], "sync")) disk(words[2], atol(words[3]), end, false);
+  else if (count == 4 && !strcmp(words[1], "watch")) watch(words[2], end);
   else if (count == 4 && !strcmp(words[1], "relay")) relay(words[2], end);
   else {
-    fprintf(stderr, "usage: limits group|sync FILE RECORDS SECONDS, or limits relay SOCKET SECONDS\n");
+    fprintf(stderr, "usage: limits group|sync FILE RECORDS SECONDS, limits watch FILE SECONDS, or limits relay SOCKET SECONDS\n");
     return 2;
   }
   return 0;

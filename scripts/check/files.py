@@ -7,9 +7,10 @@ import struct
 
 from . import store, wire
 from .crowds import adding
-from .faults import Client, answered
+from .faults import Client, answered, goes_on
 from .harness import Server, holds, same, until, within
 from .model import State
+from .records import Journal
 from .store import GATE, SIZE, TWO
 from .stores import full_state
 
@@ -26,6 +27,14 @@ def replace(path):
     os.rename(f"{path}.other", path)
 
 
+def rename(path):
+    os.rename(path, f"{path}.other")
+
+
+def rename_folder(path):
+    rename(os.path.dirname(path))
+
+
 def link_to_another(path):
     shutil.copy(path, f"{path}.other")
     os.unlink(path)
@@ -37,28 +46,75 @@ CHANGES = {
     "cut by a byte": cut_to(SIZE - 1),
     "longer by a byte": cut_to(SIZE + 1),
     "removed": os.unlink,
+    "renamed": rename,
+    "folder renamed": rename_folder,
     "replaced": replace,
     "a link to another": link_to_another,
 }
 
 
+def files_in(folder):
+    """The files of a folder, by their names."""
+    found = {}
+    for name in os.listdir(folder):
+        with open(os.path.join(folder, name), "rb") as file:
+            found[name] = file.read()
+    return found
+
+
+def with_records(device, groups, entry):
+    """A device that has so many groups of one entry, once the next one's records are written and its gate is closed."""
+    found = bytearray(device)
+    _, at, data = Journal(TWO, 0, groups * (5 + TWO.record)).group(entry)[0]
+    found[at : at + len(data)] = data
+    return bytes(found)
+
+
+def what_is_left(name, before, after):
+    """Into a file that is renamed goes one group more, behind a gate that stays closed, and nothing into one that took a path."""
+    if name in ("renamed", "folder renamed"):
+        # (attached, three answers; then the next connection attaches)
+        before = {file: with_records(device, 4, ("attached", 7, 1)) for file, device in before.items()}
+    if name in ("renamed", "folder renamed", "replaced", "a link to another"):
+        same({file: after[file] == device for file, device in before.items()}, dict.fromkeys(after, True), name)
+
+
 def changed_meanwhile(place):
-    """the file of a server is cut, made longer, removed or replaced: what comes next is not answered, and the server ends with `femem: store device`"""
+    """the file of a server is cut, made longer, removed, renamed or replaced: what comes next is not answered, and the server ends with `femem: store device`"""
     for name, change in CHANGES.items():
-        server = Server(place, name.replace(" ", "_")).start()
+        folder = place.path(name.replace(" ", "_"))
+        os.mkdir(folder)
+        server = Server(place, os.path.basename(folder), store=os.path.join(folder, "store")).start()
         client = Client(server, WORK[:3])
         holds(client.attempt(), f"{name}: a connection ended")
         same(client.answers, answered(WORK)[:3], name)
         change(server.store)
-        left = {file: place.read(file) for file in os.listdir(place.folder) if file.startswith(f"{server.name}.store")}
+        there = folder if os.path.exists(folder) else f"{folder}.other"
+        left = files_in(there)
         client.work = WORK
         holds(client.until_end(), f"{name}: the server goes on, {client.answers}")
         same(len(client.answers), 3, f"{name}: answers")
         same(server.ended(), (3, "", "femem: store device\n"), name)
-        if name in ("replaced", "a link to another"):
-            # (nothing is written into what took the path)
-            same({file: place.read(file) == content for file, content in left.items()}, dict.fromkeys(left, True), name)
+        what_is_left(name, left, files_in(there))
+        if name == "renamed":
+            os.rename(f"{server.store}.other", server.store)
+            goes_on(place, server, client, answered(WORK), "back under its name")
     return f"{len(CHANGES)} changes"
+
+
+def by_other_paths(place):
+    """a store is served by a symbolic link, by a path from the server's folder, and by the longest that has room for PATH.new"""
+    whole = bytes(store.device_of(TWO))
+    os.symlink(place.write("file", whole), place.path("link"))
+    for name, path in (("link", place.path("link")), ("near", "near"), ("long", "./" * 2043 + "store")):
+        server = Server(place, name, store=path).start()
+        client = Client(server, WORK)
+        holds(client.attempt(), f"{name}: a connection ended")
+        same(client.answers, answered(WORK), name)
+        server.stop()
+        same(server.looks(), "place 7\narray 1 cells 2\nsession 7 floor 1 kept 6\n", name)
+    same(len(path), 4095 - len(".new"))
+    holds(os.path.islink(place.path("link")), "the link stays one")
 
 
 def spoiled():
@@ -165,4 +221,4 @@ def begun_at_once(place):
         same([file for file in os.listdir(place.folder) if file.startswith(f"store{turn}")], [f"store{turn}"])
 
 
-CHECKS = (changed_meanwhile, kept_bytes, nothing_to_keep, modes, left_over, begun_at_once)
+CHECKS = (changed_meanwhile, by_other_paths, kept_bytes, nothing_to_keep, modes, left_over, begun_at_once)

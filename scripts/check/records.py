@@ -50,8 +50,8 @@ def wrote(at, data):
     return [("pwrite", at, data)]
 
 
-# Behind each sync the file has to have its size and a name. The first one has the system forget its pages.
-WATCH = [("fstat",)]
+# After each sync the file has to have its size, a name and its path. The first one has the system forget its pages.
+WATCH = [("fstat",), ("readlink",)]
 SYNC = [("fdatasync",)] + WATCH
 FIRST_SYNC = [("fdatasync",), ("fadvise", 0, 0, os.POSIX_FADV_DONTNEED)] + WATCH
 
@@ -324,9 +324,14 @@ def with_zeros(calls):
     return found
 
 
+def known(name):
+    """The size of a file that was opened, and its path, are asked of the file itself."""
+    return [f"fstat {name}", f"readlink {name}"]
+
+
 def new_file(name):
     """A file that is not there before is made of zeros, which only its owner may read, and is on the device with its name."""
-    return [f"open {name} {EXCLUSIVE} 600", f"flock {name} {LOCK}", f"write {name} {store.SIZE}", f"fsync {name}", *FOLDER_SYNC, f"fstat {name}"]
+    return [f"open {name} {EXCLUSIVE} 600", f"flock {name} {LOCK}", f"write {name} {store.SIZE}", f"fsync {name}", *FOLDER_SYNC, *known(name)]
 
 
 def renamed(old, new):
@@ -339,7 +344,7 @@ def listening():
 
 
 def opened_at(name):
-    return [f"open {name} {os.O_RDWR} 0", f"flock {name} {LOCK}", f"fstat {name}"]
+    return [f"open {name} {os.O_RDWR} 0", f"flock {name} {LOCK}", *known(name)]
 
 
 def made(place):
