@@ -4,11 +4,13 @@ pub mod Below
 pub mod Coming
 pub mod Counts
 pub mod Events
+pub mod Few
 pub mod First
 pub mod Keeping
 pub mod Leading
 pub mod Posted
 pub mod Repeating
+pub mod Ringing
 pub mod Rising
 pub mod Sitting
 pub mod Ties

@@ -4,6 +4,7 @@ pub mod Front
 pub mod Mails
 pub mod Posting
 pub mod Refusals
+pub mod Ringing
 pub mod Rising
 pub mod Step
 pub mod Steps

@@ -1,5 +1,5 @@
 -- The steps of a front: what each event that is not refused does, and the entries that it makes.
-use Rattle.std.specs.Prelude.{◌≡◌, ℕ, List, [], ◌∷◌, None, Ok, slice_get}
+use Rattle.std.specs.Prelude.{◌≡◌, ◌≤◌, ℕ, List, [], ◌∷◌, length, None, Ok, slice_get}
 use Rattle.std.specs.FinMap.{get}
 use Rattle.fe_state.specs.History.{AreLegal}
 use Rattle.fe_state.specs.State.{IsWithinLimits, after_all}
@@ -49,3 +49,7 @@ pub record Leads (f : FrontState) (es : List Entry) (f' : FrontState) : Type 0 w
 
 abbrev pub StepsLead : Type 0
 StepsLead = (f f' : FrontState) (event : Event) (es : List Entry) → IsFront f → IsWithinLimits f.service.state → FrontStep f event es f' → Leads f es f'
+
+-- an event makes at most 2,049 entries: its own, and one for each request that waits
+abbrev pub StepsAreFew : Type 0
+StepsAreFew = (f f' : FrontState) (event : Event) (es : List Entry) → IsFront f → FrontStep f event es f' → length es ≤ 2049

@@ -1,6 +1,7 @@
 ghost use Rattle.std.specs.Prelude.{◌≡◌, ◌⊎◌, ◌+◌, ◌↔◌, ◌≤◌, ℕ, List, nat_lt, length, slice_get, Some, None, Ok, Err, IsTrue, IsOk, IsErr, IfOk, IfErr, OnOk, OnErr, MatchResult};
 ghost use Rattle.std.specs.Option.{option_map};
 ghost use Rattle.std.specs.FinMap.{get, len};
+ghost use Rattle.fe_waits.specs.Waiting.{AreTold, AreToldOnce};
 ghost use Rattle.fe_seats.specs.Seating.{count_of};
 ghost use Rattle.fe_state.specs.State as states;
 ghost use Rattle.fe_state.specs.declared.entry.Entry.{Entry};
@@ -15,9 +16,11 @@ ghost use Rattle.fe_front.specs.Steps.{connected, attached_to, settled_to, close
 ghost use Rattle.fe_front.specs.Refusals.{attaching, settling, leaving, cancelling};
 ghost use Rattle.fe_front.specs.Call.{IsCallRefused, WantsMemory, call_refused_by};
 ghost use Rattle.fe_front.specs.Posting.{IsOut, posted};
+ghost use Rattle.fe_front.specs.Ringing.{Rings};
 
 use crate::out::Out;
 use crate::outcome::{Outcome, StrangeBatch};
+use crate::posting::BELLS;
 use crate::tables::Tables;
 use fe_mail::{Books, Connections, Mail, Refusal, ReportText};
 use fe_service::Service;
@@ -169,10 +172,27 @@ impl Front {
         ensures posted { OnOk result (self.new ≡ posted self.old batch) }
         ensures err { OnErr result (self.new ≡ self.old) }
     {
+        self.post_ringing(batch, &mut [false; BELLS as usize])
+    }
+
+    /// As `post`, and rings the bell of each connection whose box the batch changed: it got a mail, or its box was full and
+    /// it is gone. A connection whose bell is not rung has the box that it had.
+    pub fn post_ringing(
+        &mut self,
+        batch: Batch,
+        bells: &mut [bool; BELLS as usize],
+    ) -> Result<(), StrangeBatch>
+        ensures refused { IsErr result ↔ (¬ IsOut self.old.out batch) }
+        ensures returned { IfErr result (λ strange. strange.0 ≡ batch) }
+        ensures posted { OnOk result (self.new ≡ posted self.old batch) }
+        ensures err { OnErr result (self.new ≡ self.old) }
+        ensures rings { Rings self.old self.new bells.old bells.new }
+        ensures silent { OnErr result (bells.new ≡ bells.old) }
+    {
         if !self.tables.is_out(&batch) {
             return Err(StrangeBatch(batch));
         }
-        self.tables.post(batch);
+        self.tables.post(batch, bells);
         Ok(())
     }
 
@@ -247,6 +267,19 @@ impl Front {
             Some(turn) => Some((turn.array, turn.index, turn.op)),
             None => None,
         }
+    }
+
+    /// The requests of a session that wait, at most 32, in no order that is promised: the number of each, the array and
+    /// the index of its word, and its operation. The one error is that memory is short.
+    pub fn told(
+        &self,
+        alloc: Global,
+        session: u64,
+    ) -> Result<Vec<(u64, (u64, u32, Op))>, AllocError>
+        ensures told { IfOk result (λ told. AreTold self.now.service.waiting session told.items) }
+        ensures once { IfOk result (λ told. AreToldOnce told.items) }
+    {
+        self.tables.service.told(alloc, session)
     }
 
     /// How many requests wait, 0 to 2,048.

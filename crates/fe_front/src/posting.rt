@@ -1,11 +1,23 @@
-ghost use Rattle.std.specs.Prelude.{◌≡◌, ◌+◌, ◌^◌, ◌<◌, ◌≤◌, ◌↔◌, length, Some, IsTrue};
+ghost use Rattle.std.specs.Prelude.{◌≡◌, ◌+◌, ◌^◌, ◌<◌, ◌≤◌, ◌↔◌, ℕ, length, Some, IsTrue};
 ghost use Rattle.fe_front.specs.Front.{IsTied};
 ghost use Rattle.fe_front.specs.Posting.{IsOut, delivered, vacated, ended, posted_entry, posted_all, posted};
+ghost use Rattle.fe_front.specs.Ringing.{IsRung, Rings};
 ghost use Rattle.fe_front.specs.within.Tables.{front_of, AreSound};
 
 use crate::tables::Tables;
 use fe_mail::{Mail, session_of};
 use fe_state::{Batch, Entry, Request};
+
+/// How many bells there are. A connection has the one at the remainder of its number.
+pub const BELLS: u64 = 256;
+
+/// Rings the bell of a connection.
+fn ring(bells: &mut [bool; BELLS as usize], conn: u64)
+    ensures rung { IsRung bells.new conn }
+    ensures still { (other : ℕ) → IsRung bells.old other → IsRung bells.new other }
+{
+    bells[(conn % BELLS) as usize] = true;
+}
 
 impl Tables {
     /// Whether a batch is as the one that is out.
@@ -18,13 +30,15 @@ impl Tables {
         }
     }
 
-    /// Mails an entry to whoever has its session.
-    fn deliver(&mut self, entry: &Entry, place: u64)
+    /// Mails an entry to whoever has its session, and rings the bell.
+    fn deliver(&mut self, entry: &Entry, place: u64, bells: &mut [bool; BELLS as usize])
         requires sound { AreSound self.old }
         ensures sound { AreSound self.new }
         ensures delivered { front_of self.new ≡ delivered (front_of self.old) entry.now place }
+        ensures rings { Rings (front_of self.old) (front_of self.new) bells.old bells.new }
     {
         if let Some(conn) = self.holder(session_of(entry)) {
+            ring(bells, conn);
             self.mail(conn, Mail::of(entry, place));
         }
     }
@@ -41,41 +55,49 @@ impl Tables {
         }
     }
 
-    fn post_entry(&mut self, entry: &Entry, place: u64)
+    fn post_entry(&mut self, entry: &Entry, place: u64, bells: &mut [bool; BELLS as usize])
         requires sound { AreSound self.old }
         ensures sound { AreSound self.new }
         ensures posted { front_of self.new ≡ posted_entry (front_of self.old) entry.now place }
+        ensures rings { Rings (front_of self.old) (front_of self.new) bells.old bells.new }
     {
-        self.deliver(entry, place);
+        self.deliver(entry, place, bells);
         if let Entry::Closed { session } = *entry {
             self.end(session);
         }
     }
 
     /// Posts entries in order, of which the first stands at the place.
-    pub(crate) fn post_all(&mut self, first: u64, entries: &[Entry])
+    pub(crate) fn post_all(
+        &mut self,
+        first: u64,
+        entries: &[Entry],
+        bells: &mut [bool; BELLS as usize],
+    )
         requires sound { AreSound self.old }
         requires places { first + length entries.now < 2 ^ 64 }
         ensures sound { AreSound self.new }
         ensures posted { front_of self.new ≡ posted_all (front_of self.old) entries.now first }
+        ensures rings { Rings (front_of self.old) (front_of self.new) bells.old bells.new }
     {
         let _named: Option<Request> = None;
         for k in 0..entries.len() {
             let entry = entries[k];
-            self.post_entry(&entry, first + k as u64);
+            self.post_entry(&entry, first + k as u64, bells);
         }
     }
 
-    /// Posts the batch that is out, and keeps its room for the next.
-    pub(crate) fn post(&mut self, batch: Batch)
+    /// Posts the batch that is out, rings for it, and keeps its room for the next.
+    pub(crate) fn post(&mut self, batch: Batch, bells: &mut [bool; BELLS as usize])
         requires sound { AreSound self.old }
         requires out { IsOut self.old.out batch }
         ensures sound { AreSound self.new }
         ensures posted { front_of self.new ≡ posted (front_of self.old) batch }
+        ensures rings { Rings (front_of self.old) (front_of self.new) bells.old bells.new }
     {
         let Batch { first, mut entries } = batch;
         self.limits();
-        self.post_all(first, entries.as_slice());
+        self.post_all(first, entries.as_slice(), bells);
         self.durable = first + entries.as_slice().len() as u64;
         self.out = None;
         entries.clear();

@@ -2,6 +2,8 @@ pub mod AllWait
 pub mod Lengths
 pub mod Listed
 pub mod Parts
+pub mod Rising
+pub mod Added
 pub mod Seen
 pub mod Spots
 pub mod Waiters

@@ -1,5 +1,5 @@
 -- A finite map that is made of the entries of another, each turned into an entry of its own: what it has at a key.
-use Rattle.std.proofs.Common.{◌≡◌, ℕ, zero, suc, slice_get, Bool, true, false, cond, List, [], ◌∷◌, map, Some, None, IsSome, is_some, true≢false, refl, sym, ap, subst, ◌∙◌, T, ◌&&◌}
+use Rattle.std.proofs.Common.{◌≡◌, ℕ, zero, suc, slice_get, true, false, cond, List, [], ◌∷◌, map, Some, None, IsSome, is_some, true≢false, refl, sym, ap, subst, ◌∙◌, T}
 use Rattle.std.specs.Option.{unwrap_or}
 use Rattle.std.specs.Ordering.{eq_by_cmp, is_eq}
 use Rattle.std.specs.declared.cmp.Ordering.{Ordering}
@@ -29,7 +29,7 @@ later {R = R} same e d es below found =
       | false ↦ λ t. found
     ] refl
 
-found_at : {K X : Type 0} {R : K → K → Ordering} → IsTotalOrder R → IsAntisymmetric R → (es : List (K × X)) (i : ℕ) (e : K × X) → T (is_sorted R es) → slice_get es i ≡ Some e → find R e.0 es ≡ Some e.1
+pub found_at : {K X : Type 0} {R : K → K → Ordering} → IsTotalOrder R → IsAntisymmetric R → (es : List (K × X)) (i : ℕ) (e : K × X) → T (is_sorted R es) → slice_get es i ≡ Some e → find R e.0 es ≡ Some e.1
 found_at o same [] i e sorted h = not_none e h
 found_at {R = R} o same (x ∷ es) zero e sorted h =
     subst (λ e. find R e.0 (x ∷ es) ≡ Some e.1) (same_value _ _ h) (ap (λ b. cond b (Some x.1) (find R x.0 es)) (hit o x.0 x.0 refl))

@@ -1,17 +1,14 @@
 -- The sessions that a loop over them has seen, and what waits of each.
 use Rattle.std.proofs.Common.{◌≡◌, ◌≢◌, ◌⊎◌, ℕ, ◌+◌, inl, inr, Option, Some, None, IsSome, is_some, IsSomeAnd, slice_get, true≢false, refl, sym, ap, subst, ◌∙◌}
-use Rattle.std.specs.Option.{option_map}
 use Rattle.std.specs.Ordering.{nat_cmp}
 use Rattle.std.specs.FinMap.{FinMap, get, entries, get-empty}
 use Rattle.fe_words.specs.declared.op.Op.{Op}
 use Rattle.fe_waits.specs.Waiting.{Waiter}
-use Rattle.fe_state.specs.Sessions.{Session, IsInWindow}
 use Rattle.fe_state.specs.SessionEffect.{IsUsable}
 use Rattle.fe_state.proofs.Maps.{get_beside, same_or_other}
 use Rattle.fe_table.proofs.TableCopyLemmas.{made, made-next}
 use Rattle.fe_service.specs.ServiceState.{ServiceState, IsService}
 use Rattle.fe_report.specs.Report.{Spot, by_word, by_session}
-use Rattle.fe_report.proofs.Listed.{same_value}
 use Rattle.fe_report.proofs.Waiters.{waits-by_word, counts-by_session}
 
 module _ {X : Type 0} (m : FinMap nat_cmp X) where
@@ -26,15 +23,11 @@ module _ {X : Type 0} (m : FinMap nat_cmp X) where
       by_key (inl same) = inl same
       by_key (inr other) = inr (ap is_some (sym (get_beside (made m k) e.0 e.1 s other) ∙ ap (λ n. get n s) (made-next m k e here)) ∙ h)
 
--- ---- what waits, waits of a session that is there, under a number of its window
+-- ---- what waits, waits of a session that is there
 
 is_there : {X : Type 0} (o : Option X) (P : X → Type 0) → IsSomeAnd o P → IsSome o
 is_there (Some x) P h = refl
 is_there None P h = absurd h
-
-window : (o : Option Session) (number floor : ℕ) → IsSomeAnd o (λ x. IsUsable x number) → option_map (λ x. x.floor) o ≡ Some floor → IsInWindow floor number
-window (Some x) number floor usable e = subst (λ f. IsInWindow f number) (same_value _ _ e) usable.in_window
-window None number floor usable e = absurd usable
 
 module _ (s : ServiceState) (service : IsService s) where
   waits_there : (key : ℕ × ℕ) (o : Option Waiter) → get s.waiting key ≡ o → IsSome o → IsSome (get s.state.sessions key.0)
@@ -56,12 +49,3 @@ module _ (s : ServiceState) (service : IsService s) where
       by_row (Some count) is =
           let row = counts-by_session s.waiting session count is in
           subst (λ n. IsSome (get s.state.sessions n)) row.of_it (waits_there row.key (get s.waiting row.key) refl row.waits)
-
-  pub word_in_window : (q : Spot) (floor : ℕ) → IsSome (get (by_word s.waiting) q) → option_map (λ x. x.floor) (get s.state.sessions q.1.0) ≡ Some floor → IsInWindow floor q.1.1
-  word_in_window q floor h e = by_row (get (by_word s.waiting) q) refl
-    where
-      by_row : (o : Option Op) → get (by_word s.waiting) q ≡ o → IsInWindow floor q.1.1
-      by_row None none = absurd (true≢false (sym h ∙ ap is_some none))
-      by_row (Some op) is =
-          let row = waits-by_word s.waiting q op is in
-          window (get s.state.sessions q.1.0) q.1.1 floor (service.usable q.1 row.waiter row.waits) e

@@ -134,13 +134,10 @@ count-counted waiting session h = by_row (get (by_session waiting) session) refl
     by_row None none = absurd (true≢false (sym h ∙ ap is_some none))
     by_row (Some count) is = (counts-by_session waiting session count is).some
 
--- and of one of which a word has a row
-pub count-told : (waiting : Waiters) (q : Spot) → IsSome (get (by_word waiting) q) → 0 < count_of waiting q.1.0
-count-told waiting q h = by_row (get (by_word waiting) q) refl
-  where
-    by_row : (o : Option Op) → get (by_word waiting) q ≡ o → 0 < count_of waiting q.1.0
-    by_row None none = absurd (true≢false (sym h ∙ ap is_some none))
-    by_row (Some op) is = count-some waiting q.1 (ap is_some (waits-by_word waiting q op is).waits)
+-- the row that is there
+pub row_there : {A : Type 0} (o : Option A) → IsSome o → (x : A) × (o ≡ Some x)
+row_there (Some x) h = (x, refl)
+row_there None h = absurd (true≢false (sym h))
 
 -- what a front tells of one that waits
 abbrev pub told : Waiter → ℕ × ℕ × Op
@@ -153,24 +150,3 @@ row_of_told waiting key t is = by_waiter (get waiting key) refl is
     by_waiter : (o : Option Waiter) → get waiting key ≡ o → option_map told o ≡ Some t → get (by_word waiting) ((t.0, t.1), key) ≡ Some t.2
     by_waiter None g e = not_none t e
     by_waiter (Some w) g e = subst (λ t. get (by_word waiting) ((t.0, t.1), key) ≡ Some t.2) (same_value _ _ e) (get-by_word waiting key w g)
-
--- and it is the one row under its session and number
-pub one_row : (waiting : Waiters) (key : ℕ × ℕ) (t : ℕ × ℕ × Op) → option_map told (get waiting key) ≡ Some t → (q : Spot) → q.1 ≡ key → IsSome (get (by_word waiting) q) → q ≡ ((t.0, t.1), key)
-one_row waiting key t is q same h = by_row (get (by_word waiting) q) refl
-  where
-    by_row : (o : Option Op) → get (by_word waiting) q ≡ o → q ≡ ((t.0, t.1), key)
-    by_row None none = absurd (true≢false (sym h ∙ ap is_some none))
-    by_row (Some op) found =
-        let row = waits-by_word waiting q op found in
-        let here : told row.waiter ≡ t = same_value _ _ (ap (option_map told) (sym row.waits ∙ ap (get waiting) same) ∙ is) in
-        sym row.spot ∙ ap (λ x. ((x.0, x.1), q.1)) here ∙ ap (λ k. ((t.0, t.1), k)) same
-
--- where none waits, there is no row
-pub no_row : {A : Type 0} (waiting : Waiters) (key : ℕ × ℕ) → option_map told (get waiting key) ≡ None → (q : Spot) → q.1 ≡ key → IsSome (get (by_word waiting) q) → A
-no_row {A} waiting key none q same h = by_row (get (by_word waiting) q) refl
-  where
-    by_row : (o : Option Op) → get (by_word waiting) q ≡ o → A
-    by_row None gone = absurd (true≢false (sym h ∙ ap is_some gone))
-    by_row (Some op) found =
-        let row = waits-by_word waiting q op found in
-        not_none (told row.waiter) (sym none ∙ ap (option_map told) (ap (get waiting) (sym same) ∙ row.waits))

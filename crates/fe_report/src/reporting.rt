@@ -14,8 +14,8 @@ const OTHER_LINES: usize = 2976;
 
 /// The report of what waits in a front, 1 to 262,144 bytes. The one error is that memory is short.
 ///
-/// It goes over the sessions, looks for the 32 numbers of each of which something waits, and looks at no word. The memory
-/// of the text is taken at once.
+/// It goes over the sessions and along the list of each, and looks at no word. The memory of the text is taken at once, and
+/// what it has to spare is given back.
 pub fn report(alloc: Global, front: &Front) -> Result<String, AllocError>
     ensures text { IfOk result (λ text. string_bytes text ≡ report_text front.now.service.waiting (attached_seats front.now)) }
     ensures some { IfOk result (λ text. 1 ≤ string_len text) }
@@ -26,10 +26,12 @@ pub fn report(alloc: Global, front: &Front) -> Result<String, AllocError>
     let mut text = String::with_capacity(alloc, OTHER_LINES + WORD_LINE * count as usize)?;
     put_count(&mut text, count)?;
     if count == 0 {
+        text.shrink_to_fit();
         return Ok(text);
     }
-    put_words(&mut text, &rows_by_word(alloc, front)?)?;
+    put_words(&mut text, rows_by_word(alloc, front)?.as_slice())?;
     put_sessions(&mut text, &rows_by_session(alloc, front)?)?;
     put_all_wait(&mut text, do_all_wait(front))?;
+    text.shrink_to_fit();
     Ok(text)
 }

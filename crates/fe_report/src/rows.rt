@@ -1,57 +1,46 @@
-ghost use Rattle.std.specs.Prelude.{◌≡◌, ◌-◌, ◌^◌, ◌≤◌, Some, IfOk, OnOk};
-ghost use Rattle.std.specs.Option.{option_map};
+ghost use Rattle.std.specs.Prelude.{◌≡◌, ◌≤◌, IfOk, OnOk, vec_len};
 ghost use Rattle.std.specs.BTreeMap.{btree_map_len};
-ghost use Rattle.std.specs.FinMap.{get, entries};
+ghost use Rattle.std.specs.FinMap.{entries};
 ghost use Rattle.fe_report.specs.Report.{by_word, by_session, do_all_wait, attached_seats};
-ghost use Rattle.fe_report.specs.within.Rows.{ArePart, HasSession, KeepsKeys};
+ghost use Rattle.fe_report.specs.within.Rows.{IsAdded};
 
 use fe_front::Front;
 use fe_words::Op;
 use std::alloc::{AllocError, Global};
 use std::collections::BTreeMap;
 
-/// How many numbers a session may use from its floor on.
-const WINDOW: u64 = 32;
-
 /// Where a request waits: the array and the index of its word, then its session and its number.
 pub(crate) type Spot = ((u64, u32), (u64, u64));
 
-/// Adds the rows of a session, whose numbers begin at this floor.
+/// Adds a row for each request of a session that waits.
 fn add_session(
+    alloc: Global,
     front: &Front,
-    rows: &mut BTreeMap<Spot, Op>,
+    rows: &mut Vec<(Spot, Op)>,
     session: u64,
-    floor: u64,
 ) -> Result<(), AllocError>
-    requires floor { option_map (λ x. x.floor) (get front.now.service.state.sessions session) ≡ Some floor }
-    requires fits { floor ≤ 2 ^ 63 - 32 }
-    requires part { ArePart (by_word front.now.service.waiting) rows.old.entries }
-    ensures part { OnOk result (ArePart (by_word front.now.service.waiting) rows.new.entries) }
-    ensures keeps { OnOk result (KeepsKeys rows.old.entries rows.new.entries) }
-    ensures has { OnOk result (HasSession (by_word front.now.service.waiting) rows.new.entries session) }
+    ensures added { OnOk result (IsAdded front.now.service.waiting session rows.old.items rows.new.items) }
 {
-    let _ = front.state();
-    for number in floor..floor + WINDOW {
-        if let Some((array, index, op)) = front.waiting(session, number) {
-            rows.insert(((array, index), (session, number)), op)?;
-        }
+    let told = front.told(alloc, session)?;
+    for row in &told {
+        let (number, (array, index, op)) = *row;
+        rows.push((((array, index), (session, number)), op))?;
     }
     Ok(())
 }
 
-/// The operation of each request that waits.
-pub(crate) fn rows_by_word(alloc: Global, front: &Front) -> Result<BTreeMap<Spot, Op>, AllocError>
-    ensures rows { IfOk result (λ rows. rows.entries ≡ entries (by_word front.now.service.waiting)) }
-    ensures few { IfOk result (λ rows. btree_map_len rows ≤ 2048) }
+/// Where each request waits, and its operation, in the order of the lines.
+pub(crate) fn rows_by_word(alloc: Global, front: &Front) -> Result<Vec<(Spot, Op)>, AllocError>
+    ensures rows { IfOk result (λ rows. rows.items ≡ entries (by_word front.now.service.waiting)) }
+    ensures few { IfOk result (λ rows. vec_len rows ≤ 2048) }
 {
     let state = front.state();
-    let mut rows = BTreeMap::new(alloc);
+    let mut rows = Vec::with_capacity(alloc, front.waiting_count() as usize)?;
     for k in 0..state.session_count() {
-        let (session, held) = state.session_entry(k).unwrap();
-        if front.count_of(session) > 0 {
-            add_session(front, &mut rows, session, held.floor())?;
-        }
+        let (session, _) = state.session_entry(k).unwrap();
+        add_session(alloc, front, &mut rows, session)?;
     }
+    rows.sort_unstable_by_key(|row| row.0);
     Ok(rows)
 }
 

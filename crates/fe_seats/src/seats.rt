@@ -1,6 +1,6 @@
 ghost use Rattle.std.specs.Prelude.{◌≡◌, ◌↔◌, ◌<◌, ◌≤◌, Some, None, IfOk, OnErr, IfSome, IsSome, IsNone};
 ghost use Rattle.std.specs.FinMap as map;
-ghost use Rattle.fe_waits.specs.Waiting.{IsWord, NoneOnWord, NoneOnArray, AreTold};
+ghost use Rattle.fe_waits.specs.Waiting.{IsWord, NoneOnWord, NoneOnArray, AreTold, AreToldOnce};
 ghost use Rattle.fe_seats.specs.Seating.{free_seat, with_holder, with_closing, key_of, waiter_of, turn_of, turn_at, count_of, without_session, IsNodeOn, NoneOfSession, IsWithinLimits};
 
 use crate::place::{Place, Places, SEATS, slot_of};
@@ -229,6 +229,7 @@ impl Seats {
         session: u64,
     ) -> Result<Vec<(u64, (u64, u32, Op))>, AllocError>
         ensures told { IfOk result (λ told. AreTold self.now.waiting session told.items) }
+        ensures once { IfOk result (λ told. AreToldOnce told.items) }
     {
         match slot_of(&self.places, session) {
             Some(slot) => self.waits.told(alloc, slot),

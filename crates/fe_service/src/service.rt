@@ -1,6 +1,6 @@
 ghost use Rattle.std.specs.Prelude.{◌≡◌, ◌≢◌, ◌+◌, ◌<◌, ◌≤◌, ◌↔◌, ℕ, List, [], length, Some, None, IsSome, IsTrue, IfOk, OnOk, OnErr, is_some, true, false};
 ghost use Rattle.std.specs.FinMap.{get, len, empty};
-ghost use Rattle.fe_waits.specs.Waiting.{Waiter, AreTold};
+ghost use Rattle.fe_waits.specs.Waiting.{Waiter, AreTold, AreToldOnce};
 ghost use Rattle.fe_state.specs.State as states;
 ghost use Rattle.fe_state.specs.State.{reply, MakesArray};
 ghost use Rattle.fe_state.specs.declared.entry.Entry.{Entry};
@@ -119,6 +119,7 @@ impl Service {
         session: u64,
     ) -> Result<Vec<(u64, (u64, u32, Op))>, AllocError>
         ensures told { IfOk result (λ told. AreTold self.now.waiting session told.items) }
+        ensures once { IfOk result (λ told. AreToldOnce told.items) }
     {
         self.parts.seats.told(alloc, session)
     }

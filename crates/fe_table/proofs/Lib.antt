@@ -1,3 +1,4 @@
+pub mod Pairs
 pub mod TableCopyLemmas
 pub mod TableLemmas
 pub mod TablePlaces

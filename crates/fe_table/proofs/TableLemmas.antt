@@ -6,7 +6,8 @@ use Rattle.std.proofs.lemmas.List.Sorted.{searchable_from_sorted}
 use Rattle.std.specs.Cmp.{nat_cmp_total, nat_cmp_is, eq_by_cmp_equiv, unsigned_tied}
 use Rattle.std.specs.FinMap.{FinMap, is_sorted, put, find, empty, get-empty, get, insert as map_insert, remove as map_remove, get-entries, get-remove, entries-insert, same_map, nat_cmp-IsAntisymmetric, entries, entries_sorted, same_entries_map, len, len-entries, from_sorted, entries-from_sorted, get-from_sorted}
 use Rattle.std.specs.FinMap.Entries.{below_all, where_key, find-where_key, is_sorted-where_key}
-use Rattle.std.specs.List.{insert, remove}
+use Rattle.std.proofs.lemmas.Slice.Zip.{get_or-zip}
+use Rattle.std.specs.List.{insert, remove, zip}
 use Rattle.std.specs.List.Sorted.{IsSearchInRange, IsBinarySearchResult, IsNonDecreasingBy}
 use Rattle.std.specs.Ordering.{nat_cmp, eq_by_cmp, is_lt, is_eq, ordering_index}
 use Rattle.std.specs.declared.cmp.Ordering.{Ordering}
@@ -49,6 +50,11 @@ abbrev pub but : ℕ → ℕ → Bool
 but k q = not (eq_by_cmp nat_cmp k q)
 
 module _ {X : Type 0} where
+  pub length-pairs : (ks : List ℕ) (vs : List X) → length vs ≡ length ks → length (zip ks vs) ≡ length ks
+  length-pairs [] vs same = refl
+  length-pairs (k ∷ ks) [] same = absurd (omega (arith, same))
+  length-pairs (k ∷ ks) (v ∷ vs) same = ap suc (length-pairs ks vs (omega (arith, same)))
+
   -- ---- rising keys, by place
 
   below_at : (x : ℕ) (es : List (ℕ × X)) (i : ℕ) (d : ℕ × X) → T (below_all nat_cmp x es) → i < length es → x < (get_or es i d).0
@@ -61,21 +67,53 @@ module _ {X : Type 0} where
   rises_at (e ∷ es) zero d h lt = below_at e.0 es 0 d (first _ _ h) (omega arith)
   rises_at (e ∷ es) (suc i) d h lt = rises_at es i d (second _ _ h) (omega arith)
 
-  -- what a binary search asks of the list
-  comparisons_rise : (es : List (ℕ × X)) (k : ℕ) → T (is_sorted nat_cmp es) → IsNonDecreasingBy (λ e. ordering_index (nat_cmp e.0 k)) es
-  comparisons_rise es k h = searchable_from_sorted nat_cmp_total (λ e. e.0) es k (λ i d low high. rw (add-one) (ap is_lt (above _ _ (rises_at es i d h (omega arith)))))
+  -- the keys as they stand in the entries
+  key_at : (ks : List ℕ) (vs : List X) → length vs ≡ length ks → (i : ℕ) (d : ℕ × X) → i < length ks → (get_or (zip ks vs) i d).0 ≡ get_or ks i d.0
+  key_at ks vs paired i d lt = ap (λ e. e.0) (get_or-zip ks vs i d lt (omega (arith, paired)))
 
-  -- it ends at the key, or at the gap for it
-  pub searched : (es : List (ℕ × X)) (k : ℕ) → T (is_sorted nat_cmp es) → (r : Result ℕ ℕ) → IsSearchInRange r (length es) → IsBinarySearchResult (λ e. nat_cmp e.0 k) es r → record { found : IfOk r (IsAt es k); absent : IfErr r (IsGapFor es k) }
-  searched es k h (Ok i) in_range equal = record { found = record { in_range = in_range; has_key = λ e. ranked _ k Equal (sym (equal e)) }; absent = tt }
-  searched es k h (Err i) in_range parted = record {
-    found = tt;
-    absent = record {
-      in_range = in_range;
-      smaller_before = λ j e lt. ranked _ k Less (sym ((parted (comparisons_rise es k h)).0 j e (omega arith) lt));
-      greater_after = λ j e le lt. ranked _ k Greater (sym ((parted (comparisons_rise es k h)).1 j e le lt));
-    };
-  }
+  module _ (ks : List ℕ) (vs : List X) (paired : length vs ≡ length ks) (h : T (is_sorted nat_cmp (zip ks vs))) where
+    long : length (zip ks vs) ≡ length ks
+    long = length-pairs ks vs paired
+
+    -- a value, where there is one
+    keys_rise : (i d : ℕ) → suc i < length ks → get_or ks i d < get_or ks (suc i) d
+    keys_rise i d lt = by vs refl
+      where
+        by : (ws : List X) → vs ≡ ws → get_or ks i d < get_or ks (suc i) d
+        by [] none = let size = ap length none in absurd (omega (arith, size, paired, lt))
+        by (w ∷ ws) some =
+            let rise = rises_at (zip ks vs) i (d, w) h (omega (arith, long, lt)) in
+            let low = key_at ks vs paired i (d, w) (omega (arith, lt)) in
+            let high = key_at ks vs paired (suc i) (d, w) lt in
+            omega (arith, rise, low, high)
+
+    -- what a binary search asks of the keys
+    comparisons_rise : (k : ℕ) → IsNonDecreasingBy (λ x. ordering_index (nat_cmp x k)) ks
+    comparisons_rise k = searchable_from_sorted nat_cmp_total (λ x. x) ks k (λ i d low high. rw (add-one) (ap is_lt (above _ _ (keys_rise i d (omega arith)))))
+
+    -- it ends at the key, or at the gap for it
+    pub searched : (k : ℕ) (r : Result ℕ ℕ) → IsSearchInRange r (length ks) → IsBinarySearchResult (λ x. nat_cmp x k) ks r → record { found : IfOk r (IsAt (zip ks vs) k); absent : IfErr r (IsGapFor (zip ks vs) k) }
+    searched k (Ok i) in_range equal = record {
+      found = record {
+        in_range = omega (arith, long, in_range);
+        has_key = λ e. key_at ks vs paired i e in_range ∙ ranked _ k Equal (sym (equal e.0));
+      };
+      absent = tt;
+    }
+    searched k (Err i) in_range parted = record {
+      found = tt;
+      absent = record {
+        in_range = omega (arith, long, in_range);
+        smaller_before = λ j e lt.
+            let key = key_at ks vs paired j e (omega (arith, lt, in_range)) in
+            let less = ranked _ k Less (sym ((parted (comparisons_rise k)).0 j e.0 (omega arith) lt)) in
+            omega (arith, key, less);
+        greater_after = λ j e le lt.
+            let key = key_at ks vs paired j e (omega (arith, long, lt)) in
+            let greater = ranked _ k Greater (sym ((parted (comparisons_rise k)).1 j e.0 le (omega (arith, long, lt)))) in
+            omega (arith, key, greater);
+      };
+    }
 
   -- ---- what the search finds
 
@@ -182,7 +220,7 @@ module _ {X : Type 0} where
     get_seen k = get-entries m k ∙ ap (find nat_cmp k) entries_seen
 
     module _ (k i : ℕ) where
-      at_seen : IsAt (entries m) k i → IsAt es k i
+      pub at_seen : IsAt (entries m) k i → IsAt es k i
       at_seen = subst (λ l. IsAt l k i) entries_seen
 
       gap_seen : IsGapFor (entries m) k i → IsGapFor es k i

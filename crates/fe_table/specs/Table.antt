@@ -1,5 +1,6 @@
 -- A table: a finite map that is kept as the list of its entries in the order of their keys.
 use Rattle.std.specs.Prelude.{◌≡◌, ℕ, ◌<◌, ◌≤◌, List, length, slice_get, slice_index_or, T}
+use Rattle.std.specs.List.{zip}
 use Rattle.std.specs.Ordering.{nat_cmp}
 use Rattle.std.specs.FinMap.{FinMap, is_sorted, insert, entries}
 use Rattle.std.specs.Option.{option_map_or}
@@ -13,14 +14,17 @@ shown_entry e = (e.0, e.1.now)
 abbrev pub put_at : {X : Type 0} → FinMap nat_cmp X → ℕ → X → FinMap nat_cmp X
 put_at m place x = option_map_or (λ e. insert m e.0 x) (slice_get (entries m) place) m
 
--- what is always true of the entries of a table with this room, whose memory holds so many
-pub record IsTable {X : Type 0} (room : ℕ) (entries : List (ℕ × X)) (capacity : ℕ) : Type 0 where
+-- what is always true of the keys and the values of a table with this room, whose memory holds so many of each
+pub record IsTable {X : Type 0} (room : ℕ) (keys : List ℕ) (values : List X) (key_capacity value_capacity : ℕ) : Type 0 where
   -- the keys rise, so no two are equal
-  pub ascending : T (is_sorted nat_cmp entries)
-  -- there are no more entries than the room
-  pub few : length entries ≤ room
+  pub ascending : T (is_sorted nat_cmp (zip keys values))
+  -- each key has a value
+  pub paired : length values ≡ length keys
+  -- there are no more keys than the room
+  pub few : length keys ≤ room
   -- and the memory of the whole room is there
-  pub reserved : room ≤ capacity
+  pub keys_reserved : room ≤ key_capacity
+  pub values_reserved : room ≤ value_capacity
 
 -- the entry at this place has the key
 pub record IsAt {X : Type 0} (entries : List (ℕ × X)) (key place : ℕ) : Type 0 where

@@ -11,15 +11,17 @@ use std::marker::Model;
 
 /// A map from numbers to values, in ascending order of the numbers, with room for `ROOM` of them.
 ///
-/// `new` makes the room, and of the others `copied` alone takes memory. A key is found by halving, and one that comes
-/// or goes moves those after it.
+/// `new` makes the room, and of the others `copied` alone takes memory. A key is found by halving the keys, which stand
+/// apart from the values, and one that comes or goes moves those after it.
 #[derive(Drop)]
 pub struct Table<V, const ROOM: usize> {
-    entries: Vec<(u64, V)>,
+    keys: Vec<u64>,
+    values: Vec<V>,
 }
 
 impl<V, const ROOM: usize> Model for Table<V, ROOM> {
     ghost use Rattle.std.specs.Prelude.{vec_capacity};
+    ghost use Rattle.std.specs.List.{zip};
     ghost use Rattle.std.specs.FinMap as map;
     ghost use Rattle.std.specs.Ordering.{nat_cmp};
     ghost use Rattle.std.specs.Coded.{coded_ℕ};
@@ -29,9 +31,9 @@ impl<V, const ROOM: usize> Model for Table<V, ROOM> {
 
     ghost coded = { map.code coded_ℕ V.code };
 
-    ghost view = { λ a. map.from_sorted a.entries.items };
+    ghost view = { λ a. map.from_sorted (zip a.keys.items a.values.items) };
 
-    ghost invariant = { λ a. IsTable ROOM a.entries.items (vec_capacity a.entries) };
+    ghost invariant = { λ a. IsTable ROOM a.keys.items a.values.items (vec_capacity a.keys) (vec_capacity a.values) };
 }
 
 impl<V, const ROOM: usize> Table<V, ROOM> {
@@ -39,8 +41,9 @@ impl<V, const ROOM: usize> Table<V, ROOM> {
     pub fn new(alloc: Global) -> Result<Self, AllocError>
         ensures empty { IfOk result (λ table. table ≡ map.empty) }
     {
-        let entries = Vec::with_capacity(alloc, ROOM)?;
-        Ok(Table { entries })
+        let keys = Vec::with_capacity(alloc, ROOM)?;
+        let values = Vec::with_capacity(alloc, ROOM)?;
+        Ok(Table { keys, values })
     }
 
     /// How many keys there are.
@@ -48,7 +51,7 @@ impl<V, const ROOM: usize> Table<V, ROOM> {
         ensures len { result ≡ map.len self.now }
         ensures fits { result ≤ ROOM }
     {
-        self.entries.len()
+        self.keys.len()
     }
 
     /// The value at a key.
@@ -56,7 +59,7 @@ impl<V, const ROOM: usize> Table<V, ROOM> {
         ensures value { option_copied result ≡ map.get self.now key }
     {
         match self.search(key) {
-            Ok(place) => Some(&self.entries[place].1),
+            Ok(place) => Some(&self.values[place]),
             Err(_) => None,
         }
     }
@@ -65,8 +68,8 @@ impl<V, const ROOM: usize> Table<V, ROOM> {
     pub fn at(&self, place: usize) -> Option<(u64, &V)>
         ensures entry { option_map shown_entry result ≡ slice_get (map.entries self.now) place }
     {
-        let (key, value) = self.entries.get(place)?;
-        Some((*key, value))
+        let value = self.values.get(place)?;
+        Some((self.keys[place], value))
     }
 
     /// The value at a key that is there, to write.
@@ -85,8 +88,7 @@ impl<V, const ROOM: usize> Table<V, ROOM> {
         ensures* writes_back { sem 𝓛 (lends_place V.row ROOM.row self.entry place result) }
         ensures value { option_map (λ e. e.1) (slice_get (map.entries self.old) place) ≡ Some result.now }
     {
-        let entry = &mut self.entries[place];
-        &mut entry.1
+        &mut self.values[place]
     }
 
     /// Takes a key out, and gives the value that it had.
@@ -96,8 +98,8 @@ impl<V, const ROOM: usize> Table<V, ROOM> {
     {
         match self.search(key) {
             Ok(place) => {
-                let (_, value) = self.entries.remove(place);
-                Some(value)
+                let _ = self.keys.remove(place);
+                Some(self.values.remove(place))
             }
             Err(_) => None,
         }
@@ -108,7 +110,7 @@ impl<V, const ROOM: usize> Table<V, ROOM> {
         ensures found { IfOk result (IsAt (map.entries self.now) key) }
         ensures absent { IfErr result (IsGapFor (map.entries self.now) key) }
     {
-        self.entries.binary_search_by_key(&key, |entry| entry.0)
+        self.keys.binary_search(&key)
     }
 }
 
@@ -120,7 +122,8 @@ impl<V: Drop, const ROOM: usize> Table<V, ROOM> {
         ensures inserted { self.new ≡ map.insert self.old key value }
     {
         let place = self.search(key).unwrap_err();
-        self.entries.insert(place, (key, value)).unwrap();
+        self.keys.insert(place, key).unwrap();
+        self.values.insert(place, value).unwrap();
     }
 }
 

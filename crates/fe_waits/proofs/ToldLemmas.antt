@@ -1,6 +1,9 @@
 -- The walk along a session's list that tells all its requests.
 use Rattle.std.proofs.Common.{◌≡◌, ◌⊎◌, ℕ, ◌<◌, ◌≤◌, ◌+◌, inl, inr, List, [], ◌∷◌, ◌++◌, length, slice_get, slice_index_or, zero, suc, Option, Some, None, IsSome, is_some, refl, sym, ap, subst, ◌∙◌, arith, append_assoc, append-nil, length-append}
-use Rattle.std.specs.Prelude.{Contains, ◌↔◌}
+use Rattle.std.specs.Prelude.{Contains, AllPairs, ◌↔◌, ◌≢◌}
+use Rattle.std.proofs.Common.{get_or}
+use Rattle.std.proofs.lemmas.Grind.{common_steps}
+use Rattle.std.proofs.lemmas.List.Quantifiers.{all_pairs_push}
 use Rattle.std.proofs.lemmas.List.Elements.{Contains-append_left, Contains-append_right, Contains-append_cases}
 use Rattle.std.specs.Option.{option_map}
 use Rattle.std.specs.Ordering.{nat_cmp}
@@ -10,9 +13,9 @@ use Rattle.fe_pool.specs.declared.chain.Chain.{Chain}
 use Rattle.fe_pool.specs.declared.family.Family.TheVariants.{OfSession}
 use Rattle.fe_pool.specs.Pool.{Contents, first_or, list_of, IsOn, IsNext}
 use Rattle.fe_pool.specs.within.Runs.{IsAmong}
-use Rattle.fe_pool.proofs.AmongLemmas.{among-append_right, among-append_cases, Contains-among, among-Contains}
+use Rattle.fe_pool.proofs.AmongLemmas.{among-append_left, among-append_right, among-append_cases, Contains-among, among-Contains}
 use Rattle.fe_waits.specs.declared.row.Row.{Row}
-use Rattle.fe_waits.specs.Waiting.{Waiter, key_of, waiter_of, told_of, AreTold}
+use Rattle.fe_waits.specs.Waiting.{Waiter, key_of, waiter_of, told_of, AreTold, AreToldOnce}
 use Rattle.fe_waits.specs.within.Inner.{members_of, row_in, IsKept}
 use Rattle.fe_waits.proofs.MemberLemmas.{none_some, some_same, members-node, members-row}
 use Rattle.fe_waits.proofs.SearchLemmas.{first-of, none-left}
@@ -20,6 +23,15 @@ use Rattle.fe_waits.proofs.SearchLemmas.{first-of, none-left}
 -- what is told of a request, under its number
 abbrev pub told_row : Row → ℕ × (ℕ × ℕ × Op)
 told_row row = (row.number, (row.array, row.index, row.op))
+
+-- the node that stands for what is told, one of those that are seen
+pub record Told (pool : Contents Row) (slot : ℕ) (before : List ℕ) (x : ℕ × (ℕ × ℕ × Op)) : Type 0 where
+  pub node : ℕ
+  pub row : Row
+  pub is : row_in pool.items node ≡ Some row
+  pub of_slot : row.slot ≡ slot
+  pub tells : told_row row ≡ x
+  pub among : IsAmong node before
 
 -- so many nodes of the slot's list are seen, just what they stand for is told, and this is the next
 pub record IsTelling (pool : Contents Row) (sessions : List Chain) (slot : ℕ) (at : Option ℕ) (steps end : ℕ) (told : List (ℕ × (ℕ × ℕ × Op))) : Type 0 where
@@ -32,7 +44,8 @@ pub record IsTelling (pool : Contents Row) (sessions : List Chain) (slot : ℕ) 
   pub next : at ≡ first_or None rest
   pub counted : length before ≡ steps
   pub seen : (node : ℕ) (row : Row) → IsAmong node before → row_in pool.items node ≡ Some row → Contains told (told_row row)
-  pub sound : (x : ℕ × (ℕ × ℕ × Op)) → Contains told x → (node : ℕ) × (row : Row) × (row_in pool.items node ≡ Some row) × (row.slot ≡ slot) × (told_row row ≡ x)
+  pub sound : (x : ℕ × (ℕ × ℕ × Op)) → Contains told x → Told pool slot before x
+  pub once : AreToldOnce told
 
 nothing : {X P : Type 0} (x : X) → Contains [] x → P
 nothing x c = let below : c.0 < 0 = c.1 in absurd (omega (arith, below))
@@ -47,6 +60,19 @@ only y x c = first-is y x c.0 c.1 c.2
 alone : {X : Type 0} (y x : X) → y ≡ x → Contains (y ∷ []) x
 alone y x same = (0, omega arith, same)
 
+element : {X : Type 0} (xs : List X) (k : ℕ) (d : X) → k < length xs → Contains xs (get_or xs k d)
+element xs k d below = (k, below, grind (arith, common_steps))
+
+-- no node stands twice where all differ
+twice : (node : ℕ) (before after : List ℕ) → AllPairs (λ a b. a ≢ b) (before ++ node ∷ after) → IsAmong node before → ⊥
+twice node before after different among =
+    let at = Contains-among node before among in
+    let less : at.0 < length before = at.1 in
+    let first : get_or (before ++ node ∷ after) at.0 node ≡ get_or before at.0 node = grind (arith, common_steps) in
+    let second : get_or (before ++ node ∷ after) (length before) node ≡ node = grind (arith, common_steps) in
+    let size = length-append before (node ∷ after) in
+    different at.0 (length before) node less (omega (arith, size)) (first ∙ at.2 ∙ sym second)
+
 module _ (pool : Contents Row) (sessions : List Chain) (words : FinMap nat_cmp (List Chain)) (waiting : ℕ) (kept : IsKept pool sessions words waiting) (slot : ℕ) where
   pub telling-none_yet : (chain : Chain) → slice_get sessions slot ≡ Some chain → IsTelling pool sessions slot chain.first 0 chain.length []
   telling-none_yet chain at = record {
@@ -60,6 +86,7 @@ module _ (pool : Contents Row) (sessions : List Chain) (words : FinMap nat_cmp (
     counted = refl;
     seen = λ node row i. absurd i;
     sound = λ x c. nothing x c;
+    once = λ i j d less below. absurd (omega (arith, below));
   }
 
   module _ (at : Option ℕ) (steps end : ℕ) (told : List (ℕ × (ℕ × ℕ × Op))) (walk : IsTelling pool sessions slot at steps end told) where
@@ -85,11 +112,11 @@ module _ (pool : Contents Row) (sessions : List Chain) (words : FinMap nat_cmp (
         told_waits : (number : ℕ) (what : ℕ × ℕ × Op) → Contains told (number, what) → option_map told_of (get (members_of pool.items) (slot, number)) ≡ Some what
         told_waits number what c =
             let found = walk.sound (number, what) c in
-            let row = found.1 in
-            let key : key_of row ≡ (slot, number) = λ i. (found.3 i, (found.4 i).0) in
+            let row = found.row in
+            let key : key_of row ≡ (slot, number) = λ i. (found.of_slot i, (found.tells i).0) in
             ap (λ k. option_map told_of (get (members_of pool.items) k)) (sym key)
-            ∙ ap (option_map told_of) (members-row pool.items kept.different found.0 row found.2)
-            ∙ ap (λ x. Some x.1) found.4
+            ∙ ap (option_map told_of) (members-row pool.items kept.different found.node row found.is)
+            ∙ ap (λ x. Some x.1) found.tells
 
         waits_told : (number : ℕ) (what : ℕ × ℕ × Op) (o : Option Waiter) → get (members_of pool.items) (slot, number) ≡ o → option_map told_of (get (members_of pool.items) (slot, number)) ≡ Some what → Contains told (number, what)
         waits_told number what None e is = none_some (sym (ap (option_map told_of) e) ∙ is)
@@ -120,9 +147,21 @@ module _ (pool : Contents Row) (sessions : List Chain) (words : FinMap nat_cmp (
       pub telling-row : (row : Row) × (row_in pool.items node ≡ Some row) × (row.slot ≡ slot)
       telling-row = kept.by_session.belongs slot walk.chain node walk.is_chain contains
 
+      -- its number is not told yet, since no node stands twice on the list
+      new_number : AllPairs (λ a b. a ≢ b) (list_of pool OfSession walk.chain) → (row : Row) → row_in pool.items node ≡ Some row → (x : ℕ × (ℕ × ℕ × Op)) → Contains told x → x.0 ≢ row.number
+      new_number different row is x c same =
+          let found = walk.sound x c in
+          let here = telling-row in
+          let rows : here.0 ≡ row = some_same (sym here.1 ∙ is) in
+          let slots : found.row.slot ≡ row.slot = found.of_slot ∙ sym here.2 ∙ ap (λ (r : Row). r.slot) rows in
+          let numbers : found.row.number ≡ row.number = ap (λ t. t.0) found.tells ∙ same in
+          let key : key_of found.row ≡ key_of row = λ i. (slots i, numbers i) in
+          let nodes : found.node ≡ node = kept.different found.node node found.row row found.is is key in
+          twice node walk.before after.0 (subst (AllPairs (λ a b. a ≢ b)) split different) (subst (λ n. IsAmong n walk.before) nodes found.among)
+
       -- it is told
-      pub telling-next : (row : Row) (next : Option ℕ) → row_in pool.items node ≡ Some row → IsNext pool OfSession node next → IsTelling pool sessions slot next (steps + 1) end (told ++ told_row row ∷ [])
-      telling-next row next is goes = record {
+      pub telling-next : AllPairs (λ a b. a ≢ b) (list_of pool OfSession walk.chain) → (row : Row) (next : Option ℕ) → row_in pool.items node ≡ Some row → IsNext pool OfSession node next → IsTelling pool sessions slot next (steps + 1) end (told ++ told_row row ∷ [])
+      telling-next different row next is goes = record {
         chain = walk.chain;
         is_chain = walk.is_chain;
         whole = walk.whole;
@@ -140,11 +179,28 @@ module _ (pool : Contents Row) (sessions : List Chain) (words : FinMap nat_cmp (
             | inr none ↦ absurd none
           ]
         ];
-        sound = λ x c. elim (Contains-append_cases told (told_row row ∷ []) x c) as (λ _. (node : ℕ) × (row : Row) × (row_in pool.items node ≡ Some row) × (row.slot ≡ slot) × (told_row row ≡ x)) [
-          | inl old ↦ walk.sound x old
+        sound = λ x c. elim (Contains-append_cases told (told_row row ∷ []) x c) as (λ _. Told pool slot (walk.before ++ node ∷ []) x) [
+          | inl old ↦
+              let found = walk.sound x old in
+              record {
+                node = found.node;
+                row = found.row;
+                is = found.is;
+                of_slot = found.of_slot;
+                tells = found.tells;
+                among = among-append_left found.node walk.before (node ∷ []) found.among;
+              }
           | inr last ↦
               let found = telling-row in
               let rows : found.0 ≡ row = some_same (sym found.1 ∙ is) in
-              (node, row, is, ap (λ (r : Row). r.slot) (sym rows) ∙ found.2, only _ _ last)
+              record {
+                node = node;
+                row = row;
+                is = is;
+                of_slot = ap (λ (r : Row). r.slot) (sym rows) ∙ found.2;
+                tells = only _ _ last;
+                among = among-append_right node walk.before (node ∷ []) (inl refl);
+              }
         ];
+        once = all_pairs_push (λ a b. a.0 ≢ b.0) told (told_row row) walk.once (λ k d below. new_number different row is (get_or told k d) (element told k d below));
       }

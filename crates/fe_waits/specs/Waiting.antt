@@ -1,5 +1,5 @@
 -- What a contract sees of the waiting lists: the requests that wait, by slot and number.
-use Rattle.std.specs.Prelude.{◌≡◌, ◌≢◌, ◌↔◌, ◌==◌, ℕ, ◌<◌, ◌≤◌, Contains, List, not, Option, Some, None, refl, slice_index_or}
+use Rattle.std.specs.Prelude.{AllPairs, ◌≡◌, ◌≢◌, ◌↔◌, ◌==◌, ℕ, ◌<◌, ◌≤◌, Contains, List, not, Option, Some, None, refl, slice_index_or}
 use Rattle.std.specs.Option.{option_map}
 use Rattle.std.specs.Ordering.{nat_cmp}
 use Rattle.std.specs.Coded.{Coded, code_by, coded×, coded_ℕ, coded_list, coded_option}
@@ -72,6 +72,10 @@ told_of waiter = (waiter.array, waiter.index, waiter.op)
 abbrev pub AreTold : FinMap pair_cmp Waiter → ℕ → List (ℕ × (ℕ × ℕ × Op)) → Type 0
 AreTold members slot told =
     (number : ℕ) (what : ℕ × ℕ × Op) → Contains told (number, what) ↔ (option_map told_of (get members (slot, number)) ≡ Some what)
+
+-- no number is told twice
+abbrev pub AreToldOnce : List (ℕ × (ℕ × ℕ × Op)) → Type 0
+AreToldOnce told = AllPairs (λ a b. a.0 ≢ b.0) told
 
 -- the array is added, and the index is one of its
 abbrev pub IsWord : FinMap nat_cmp ℕ → ℕ → ℕ → Type 0

@@ -1,6 +1,6 @@
 ghost use Rattle.std.specs.Prelude.{◌≡◌, ◌≢◌, ◌↔◌, ◌<◌, Some, None, IfOk, OnErr, IfSome, IsSome, IsNone, IfNone};
 ghost use Rattle.std.specs.FinMap as map;
-ghost use Rattle.fe_waits.specs.Waiting.{key_of, waiter_of, row_of, row_at, of_slot, count_of, without_slot, IsWord, IsNodeOn, NoneOnWord, NoneOnArray, AreTold, IsWithinLimits};
+ghost use Rattle.fe_waits.specs.Waiting.{key_of, waiter_of, row_of, row_at, of_slot, count_of, without_slot, IsWord, IsNodeOn, NoneOnWord, NoneOnArray, AreTold, AreToldOnce, IsWithinLimits};
 ghost use Rattle.fe_waits.specs.within.Inner.{IsNodeOfSlot};
 
 use crate::chains::Chains;
@@ -178,7 +178,9 @@ impl Waits {
     pub fn told(&self, alloc: Global, slot: u8) -> Result<Vec<(u64, (u64, u32, Op))>, AllocError>
         requires slot { slot < 64 }
         ensures told { IfOk result (λ told. AreTold self.now.members slot told.items) }
+        ensures once { IfOk result (λ told. AreToldOnce told.items) }
     {
+        let _ = self.pool.capacity();
         let chain = self.sessions.at(slot as usize);
         let mut told = Vec::with_capacity(alloc, chain.length as usize)?;
         let mut at = chain.first;

@@ -1,4 +1,4 @@
-use Rattle.std.proofs.Common.{◌≡◌, ℕ, length, Option, Some, None, sym, ap, ◌∙◌, arith}
+use Rattle.std.proofs.Common.{◌≡◌, ℕ, length, Option, Some, None, refl, sym, ap, ◌∙◌, arith}
 use Rattle.std.specs.Prelude.{IfSome}
 use Rattle.fe_state.specs.declared.batch.Batch.{Batch}
 use Rattle.fe_front.specs.Front.{FrontState, out_length}
@@ -6,6 +6,7 @@ use Rattle.fe_front.specs.Posting.{IsOut}
 use Rattle.fe_front.specs.within.Tables.{front_of}
 use Rattle.fe_front.specs.declared.out.Out.{Out}
 use Rattle.fe_front.proofs.Keeping.{posted_all-keeps}
+use Rattle.fe_front.proofs.Ringing.{rings_alike}
 use Rattle.fe_front.proofs.tables.Tables.post.Goals as goal
 
 out_first : (o : Option Out) (batch : Batch) (mark : ℕ) → IsOut o batch → IfSome o (λ x. x.first ≡ mark) → batch.first ≡ mark
@@ -39,3 +40,6 @@ returns-clause-sound c =
       };
       spare = λ _. ap Some c.clear.ensures;
     }
+
+pub returns-clause-rings : goal.returns-clause-rings
+returns-clause-rings c = rings_alike _ (front_of c.post_all.new.self) _ _ _ refl c.post_all.ensures.rings

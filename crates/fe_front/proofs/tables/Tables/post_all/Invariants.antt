@@ -1,5 +1,6 @@
 use Rattle.std.proofs.Common.{◌≡◌, ◌+◌, drop}
 use Rattle.fe_front.specs.Posting.{posted_all}
+use Rattle.fe_front.specs.Ringing.{Rings}
 use Rattle.fe_front.specs.within.Tables.{front_of, AreSound}
 use Rattle.fe_front.proofs.tables.Tables.post_all.Given as goal
 
@@ -7,5 +8,6 @@ use Rattle.fe_front.proofs.tables.Tables.post_all.Given as goal
 abbrev pub invariant-loop-k : goal.invariant-loop-k
 invariant-loop-k l = record {
   sound : AreSound l.self;
+  rings : Rings (front_of l.initial.self) (front_of l.self) l.initial.bells l.bells;
   posted : posted_all (front_of l.self) (drop l.k l.entries) (l.first + l.k) ≡ posted_all (front_of l.initial.self) l.entries l.first;
 }

@@ -1,4 +1,5 @@
 use Rattle.std.proofs.Common.{◌+◌, is_some, ap, sym, subst}
+use Rattle.fe_pool.specs.declared.family.Family.TheVariants.{OfSession}
 use Rattle.fe_waits.proofs.ToldLemmas.{IsTelling, telling-none_yet, telling-more, telling-all, telling-on, telling-row, telling-next}
 use Rattle.fe_waits.proofs.waits.Waits.told.Goals as goal
 
@@ -23,7 +24,10 @@ loop-preserved c =
     subst
     (IsTelling c.self.inside.pool c.self.inside.sessions c.args.slot c.next-at.result (c.loop.counter + 1) c.at-chain.result.length)
     (sym c.in_ok-push.ensures.items)
-    (telling-next _ _ _ _ c.self.invariant _ _ _ _ _ c.loop.invariant _ c.unwrap-node.ensures c.get-row.result.now c.next-at.result c.get-row.ensures c.next-at.ensures)
+    (telling-next _ _ _ _ c.self.invariant _ _ _ _ _ c.loop.invariant _ c.unwrap-node.ensures ((c.capacity.ensures.sound.families OfSession).different _) c.get-row.result.now c.next-at.result c.get-row.ensures c.next-at.ensures)
 
 pub returns : goal.returns
-returns c = record { told = rw (← c.self.view_is) (telling-all _ _ _ _ c.self.invariant _ _ _ _ _ c.loop.invariant c.loop-test.false) }
+returns c = record {
+  told = rw (← c.self.view_is) (telling-all _ _ _ _ c.self.invariant _ _ _ _ _ c.loop.invariant c.loop-test.false);
+  once = c.loop.invariant.once;
+}

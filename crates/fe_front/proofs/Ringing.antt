@@ -1,0 +1,131 @@
+-- Which boxes stay where mails are made, connections go and entries are posted: all but that of the one addressed.
+use Rattle.std.proofs.Common.{◌≡◌, ◌≢◌, ◌⊎◌, ◌%◌, ◌<◌, ℕ, Bool, true, false, List, length, get_or, set, Option, Some, None, is_some, inl, inr, refl, sym, ap, subst, ◌∙◌, arith}
+use Rattle.std.specs.Prelude.{nat_lt, if◌then◌else◌, ◌++◌, ◌∷◌, [], slice_index_or}
+use Rattle.std.proofs.lemmas.Grind.{common_steps}
+use Rattle.std.specs.Option.{option_map_or}
+use Rattle.std.specs.FinMap.{get}
+use Rattle.fe_state.proofs.Maps.{get_left, same_or_other}
+use Rattle.fe_seats.specs.Seating.{holder_of, is_closing}
+use Rattle.fe_service.specs.Events.{left}
+use Rattle.fe_mail.specs.Books.{mail_refused_by_box}
+use Rattle.fe_mail.specs.Connections.{session_on, mails_on}
+use Rattle.fe_mail.specs.declared.connection.Connection.{Connection}
+use Rattle.fe_mail.specs.declared.mail.Mail.{Mail}
+use Rattle.fe_mail.proofs.Lookups.{is_some-with_mails, mails_on-with_mails-beside, is_some-with_session, mails_on-with_session}
+use Rattle.fe_front.specs.Front.{FrontState, is_connected}
+use Rattle.fe_front.specs.Steps.{parted, freed, departed, withdrawn_from, unboxed, dropped, boxed, overflowed, mailed}
+use Rattle.fe_front.specs.Posting.{vacated, ended}
+use Rattle.fe_front.specs.Ringing.{IsRung, HasItsBox, Rings}
+
+-- ---- one connection
+
+module _ (q : ℕ) where
+  its_own : (f : FrontState) → HasItsBox f f q
+  its_own f = record { mails = refl; there = refl }
+
+  both : (f g h : FrontState) → HasItsBox f g q → HasItsBox g h q → HasItsBox f h q
+  both f g h a b = record { mails = b.mails ∙ a.mails; there = b.there ∙ a.there }
+
+  parted-box : (f : FrontState) (conn session : ℕ) → HasItsBox f (parted f conn session) q
+  parted-box f conn session = record { mails = mails_on-with_session f.connections conn None q; there = is_some-with_session f.connections conn None q }
+
+  freed-box : (f : FrontState) (session : ℕ) → HasItsBox f (freed f session) q
+  freed-box f session = by (holder_of f.service.seats session)
+    where
+      by : (o : Option ℕ) → HasItsBox f (option_map_or (λ conn. parted f conn session) o f) q
+      by None = its_own f
+      by (Some conn) = parted-box f conn session
+
+  departed-box : (f : FrontState) (conn : ℕ) → HasItsBox f (departed f conn) q
+  departed-box f conn = by (session_on f.connections conn)
+    where
+      by : (o : Option ℕ) → HasItsBox f (option_map_or (λ session. parted (withdrawn_from f session) conn session) o f) q
+      by None = its_own f
+      by (Some session) = record { mails = mails_on-with_session f.connections conn None q; there = is_some-with_session f.connections conn None q }
+
+  vacated-box : (f : FrontState) (session : ℕ) → HasItsBox f (vacated f session) q
+  vacated-box f session = by (is_closing f.service.seats session)
+    where
+      by : (b : Bool) → HasItsBox f (if b then record f { service = left f.service session } else f) q
+      by true = record { mails = refl; there = refl }
+      by false = its_own f
+
+  ended-box : (f : FrontState) (session : ℕ) → HasItsBox f (ended f session) q
+  ended-box f session = both f (freed f session) (ended f session) (freed-box f session) (vacated-box (freed f session) session)
+
+  module _ (conn : ℕ) (other : q ≢ conn) where
+    unboxed-box : (f : FrontState) → HasItsBox f (unboxed f conn) q
+    unboxed-box f =
+        let same = get_left f.connections conn q other in
+        record { mails = ap (λ o. option_map_or (λ (c : Connection). c.mails) o []) same; there = ap is_some same }
+
+    dropped-box : (f : FrontState) → HasItsBox f (dropped f conn) q
+    dropped-box f = by (is_connected f conn)
+      where
+        by : (b : Bool) → HasItsBox f (if b then unboxed (departed f conn) conn else f) q
+        by true = both f (departed f conn) (unboxed (departed f conn) conn) (departed-box f conn) (unboxed-box (departed f conn))
+        by false = its_own f
+
+    mailed-box : (f : FrontState) (mail : Mail) → HasItsBox f (mailed f conn mail) q
+    mailed-box f mail = by (is_connected f conn) (nat_lt (length (mails_on f.connections conn)) 128)
+      where
+        by : (a b : Bool) → HasItsBox f (if a then (if b then boxed f conn mail else overflowed f conn) else f) q
+        by false b = its_own f
+        by true true = record {
+          mails = mails_on-with_mails-beside f.connections conn (mails_on f.connections conn ++ mail ∷ []) q other;
+          there = is_some-with_mails f.connections conn (mails_on f.connections conn ++ mail ∷ []) q;
+        }
+        by true false =
+            let refused : FrontState = record f { books = mail_refused_by_box f.books } in
+            both f refused (overflowed f conn) (record { mails = refl; there = refl }) (dropped-box refused)
+
+-- ---- bells
+
+pub rings_not : (f : FrontState) (bells : List Bool) → Rings f f bells bells
+rings_not f bells = record { still = λ conn is. is; rung = λ conn. inr (its_own conn f) }
+
+-- one post after the other
+pub rings_then : (f g h : FrontState) (a b c : List Bool) → Rings f g a b → Rings g h b c → Rings f h a c
+rings_then f g h a b c one two = record {
+  still = λ conn is. two.still conn (one.still conn is);
+  rung = λ conn. elim (two.rung conn) as (λ _. IsRung c conn ⊎ HasItsBox f h conn) [
+    | inl is ↦ inl is
+    | inr later ↦ elim (one.rung conn) as (λ _. IsRung c conn ⊎ HasItsBox f h conn) [
+      | inl is ↦ inl (two.still conn is)
+      | inr first ↦ inr (both conn f g h first later)
+    ]
+  ];
+}
+
+-- what the boxes are looked up in is all that counts
+pub rings_alike : (f g h : FrontState) (a b : List Bool) → h.connections ≡ g.connections → Rings f g a b → Rings f h a b
+rings_alike f g h a b same rings = record {
+  still = rings.still;
+  rung = λ conn. elim (rings.rung conn) as (λ _. IsRung b conn ⊎ HasItsBox f h conn) [
+    | inl is ↦ inl is
+    | inr box ↦ inr (record { mails = ap (λ m. mails_on m conn) same ∙ box.mails; there = ap (λ m. is_some (get m conn)) same ∙ box.there })
+  ];
+}
+
+pub rings_mailed : (f g : FrontState) (conn : ℕ) (mail : Mail) (a b : List Bool) → g ≡ mailed f conn mail → IsRung b conn → ((q : ℕ) → IsRung a q → IsRung b q) → Rings f g a b
+rings_mailed f g conn mail a b is here still = record {
+  still = still;
+  rung = λ q. elim (same_or_other q conn) as (λ _. IsRung b q ⊎ HasItsBox f g q) [
+    | inl same ↦ inl (subst (IsRung b) (sym same) here)
+    | inr other ↦ inr (subst (λ x. HasItsBox f x q) (sym is) (mailed-box q conn other f mail))
+  ];
+}
+
+pub rings_ended : (f g : FrontState) (session : ℕ) (bells : List Bool) → g ≡ ended f session → Rings f g bells bells
+rings_ended f g session bells is = record { still = λ q is. is; rung = λ q. inr (subst (λ x. HasItsBox f x q) (sym is) (ended-box q f session)) }
+
+-- ---- a bell that is rung
+
+pub rung_here : (bells : List Bool) (i : ℕ) → i < length bells → get_or (set bells i true) i false ≡ true
+rung_here bells i below = grind (arith, common_steps)
+
+pub rung_still : (bells : List Bool) (i j : ℕ) → i < length bells → get_or bells j false ≡ true → get_or (set bells i true) j false ≡ true
+rung_still bells i j below is = elim (same_or_other j i) as (λ _. get_or (set bells i true) j false ≡ true) [
+  | inl same ↦ ap (λ n. get_or (set bells i true) n false) same ∙ rung_here bells i below
+  | inr other ↦ grind (arith, common_steps)
+]
