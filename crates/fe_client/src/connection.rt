@@ -7,7 +7,7 @@ use fe_streams::{Failed, read_some, write_some};
 use std::os::unix::net::UnixStream;
 
 /// A call of a connection failed, or the other end has closed it.
-#[derive(Clone, Copy, Debug, PartialEq, Eq)]
+#[derive(Clone, Copy, PartialEq, Eq)]
 pub struct Broken;
 
 /// A connection to a server.

@@ -1,7 +1,7 @@
 use fe_text::StreamFault;
 
 /// Why a call ended before its input did.
-#[derive(Clone, Copy, Debug, PartialEq, Eq)]
+#[derive(Clone, Copy, PartialEq, Eq)]
 pub enum CallFault {
     /// The line of that number, counted from 1, isn't in the syntax.
     Line(u64),

@@ -19,7 +19,7 @@ pub struct MemoryConnection {
 }
 
 impl MemoryConnection {
-    /// The other end gives these bytes, in pieces of at most so many, and closes it then.
+    /// The other end gives these bytes, in pieces of at most this many, and then closes it.
     pub fn new(alloc: Global, answers: Vec<u8>, piece: usize) -> MemoryConnection
         requires { 0 < piece }
     {

@@ -57,7 +57,7 @@ fn are_zero(cells: &[u8]) -> bool
     cells.iter().all(|cell| *cell == 0)
 }
 
-/// The name in a row, if it is plain and has zeros behind it.
+/// The name in a row, if it is plain and is followed by zeros.
 fn name_in(len: usize, cells: &[u8]) -> Option<Name>
     requires { len ≤ length cells.now }
     ensures { result ≡ (if is_name_row len cells.now then Some (take len cells.now) else None) }

@@ -1,7 +1,7 @@
 use std::alloc::AllocError;
 
 /// Why no state was read from an image.
-#[derive(Clone, Copy, Debug, PartialEq, Eq)]
+#[derive(Clone, Copy, PartialEq, Eq)]
 pub enum ImageFault {
     /// The image is wrong, first at this offset (`docs/formats.md`, "Image").
     Damaged { offset: usize },
@@ -10,7 +10,7 @@ pub enum ImageFault {
 }
 
 /// Why a part of an image was not read.
-#[derive(Clone, Copy, Debug, PartialEq, Eq)]
+#[derive(Clone, Copy, PartialEq, Eq)]
 pub enum Fault {
     /// The image is wrong, and has this many bytes from its first fault on.
     Left(usize),

@@ -37,7 +37,7 @@ fn append_entries(format: Format, entries: &[Entry], out: &mut Vec<u8>)
     }
 }
 
-/// Appends the records of entries, one behind another. `AllocError` where the spare room doesn't
+/// Appends the records of entries, one after another. `AllocError` if the spare room doesn't
 /// hold them and there is no memory for more; then nothing is appended.
 pub fn put_group(format: Format, entries: &[Entry], out: &mut Vec<u8>) -> Result<(), AllocError>
     requires each { AllByRecursion (CanPut format) entries.now }
@@ -63,7 +63,7 @@ fn is_group_size(format: Format, size: usize) -> bool
     size % record == 0 && record <= size && size <= format.group_records() * record
 }
 
-/// The entry whose record the first bytes are, and the bytes behind it.
+/// The entry whose record the first bytes are, and the bytes after it.
 fn next_entry(format: Format, bytes: &[u8]) -> Option<(Entry, &[u8])>
     requires { record_bytes format ≤ length bytes.now }
     ensures found { IfSome result (λ x. FitsRecord format x.0 × (bytes.now ≡ entry_spelling format x.0 ++ x.1.now)) }
@@ -99,7 +99,7 @@ fn read_entries(
     Ok(Some(entries))
 }
 
-/// The entries whose records the bytes are, one behind another, or `None` where they are no group's:
+/// The entries whose records the bytes are, one after another, or `None` if they are no group's:
 /// 1 to `group_records` records of the format. `AllocError` where there is no memory for the entries.
 pub fn read_group(
     alloc: Global,

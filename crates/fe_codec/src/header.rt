@@ -15,7 +15,7 @@ const PLACE_LIMIT: u64 = 9223372036854775808;
 const COUNT_LIMIT: u32 = 65;
 
 /// The first fields of an image: its place, the next id, and how many arrays and sessions follow.
-#[derive(Clone, Copy, Debug)]
+#[derive(Clone, Copy)]
 pub struct Header {
     pub place: u64,
     pub next_id: u64,
@@ -23,7 +23,7 @@ pub struct Header {
     pub sessions: u32,
 }
 
-/// The next bytes, and those behind them.
+/// The next bytes, and those after them.
 #[tactic(auto, unfolding(crate::specs::FirstFault::row))]
 pub fn row(count: usize, bytes: &[u8]) -> Result<(&[u8], &[u8]), Fault>
     ensures given { Gives (λ x. (x.0.now, x.1.now)) result (row count bytes.now) }

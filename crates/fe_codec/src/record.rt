@@ -14,7 +14,7 @@ use std::marker::Model;
 const RECORD_BYTES: usize = 80;
 
 /// The record of an entry while it is written.
-#[derive(Debug, Drop)]
+#[derive(Drop)]
 pub struct Record {
     cells: [u8; RECORD_BYTES],
     len: usize,
@@ -143,7 +143,7 @@ impl Record {
         }
     }
 
-    /// An entry that has nothing behind the number or the floor.
+    /// An entry that has nothing after the number or the floor.
     fn short(format: Format, kind: u8, session: u64, number: u64) -> Record
         ensures bytes { result ≡ short_spelling format kind session number }
         ensures length { length result ≡ record_bytes format }

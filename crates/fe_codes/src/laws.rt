@@ -1,4 +1,4 @@
-//! Codes are read as what they stand for, and as nothing else.
+//! Each code is read as what it encodes, and as nothing else.
 
 ghost use Rattle.fe_codes.specs.Laws.{TagsAreTheirCodes, OpsAreTheirCodes, AnswersAreTheirCodes};
 

@@ -13,7 +13,7 @@ use fe_disk::Disk;
 use std::alloc::AllocError;
 
 impl<D: Disk> Parts<D> {
-    /// Where the port of a connection number stands, if there is one.
+    /// The index of a connection number's port, if there is one.
     pub(crate) fn place_of(&self, conn: u64) -> Option<usize>
         ensures place { IfSome result (λ at. IsFirstAt (map client_of self.now.trace.ports.items) conn at) }
         ensures none { IfNone result (find conn (map client_of self.now.trace.ports.items) ≡ None) }
@@ -123,7 +123,7 @@ impl<D: Disk> Parts<D> {
     }
 }
 
-/// Where the port of a connection number stands among ports, if there is one.
+/// The index of a connection number's port among ports, if there is one.
 fn place_among(ports: &[Port], conn: u64) -> Option<usize>
     ensures { result ≡ position (λ p. nat_eq p.conn conn) ports.now }
 {

@@ -1,7 +1,7 @@
 use fe_state::Batch;
 
 /// The batch that is out of the front.
-#[derive(Debug, Drop)]
+#[derive(Drop)]
 pub(crate) enum Handed {
     /// There is none.
     Nothing,

@@ -6,7 +6,7 @@ ghost use Rattle.fe_desk.specs.Lives.{StopsAreLives, GivenAgain};
 
 use fe_keeper::images_stand_for_one;
 
-/// Over any number of stops, what each of them kept and what came behind the last is one history, in which no number of a
+/// Over any number of stops, what each of them kept and what came after the last is one history, in which no number of a
 /// session takes effect twice (`fe_state::numbers_finish_once`).
 pub fn lives_join()
     ensures { LivesJoin }
@@ -19,7 +19,7 @@ pub fn acknowledged_answers_stand()
     ensures { AcknowledgedStand }
 {}
 
-/// Over any number of stops, where each store was opened from the image that the stop before left, one history stands: it
+/// Over any number of stops, where each store was opened from the image that the stop before left, there is one history: it
 /// has what each stop kept, and goes on with the groups of the last desk. A request number takes effect once in it while its
 /// session is kept. And each answer, welcome, goodbye and settled floor that was written in any of the lives is that of its
 /// entry in it.

@@ -23,7 +23,7 @@ use std::mem;
 #[derive(Drop)]
 pub struct Port {
     pub conn: u64,
-    /// The frames of its mails, all of them in order. Where the number was connected again they go on behind the earlier.
+    /// The frames of its mails, all of them in order. If the number was connected again, they follow the earlier ones.
     pub written: Written,
     pub(crate) decoder: Decoder,
     /// Messages that came whole. Those before `next` are taken.

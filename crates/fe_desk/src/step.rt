@@ -2,7 +2,7 @@ ghost use Rattle.std.specs.Prelude.{◌≡◌};
 ghost use Rattle.fe_desk.specs.Quiet.{mails_nothing};
 
 /// A step of a desk. One that has nothing to act on does nothing, but that mails which are owed are written first.
-#[derive(Debug, Drop)]
+#[derive(Drop)]
 pub enum Step {
     /// A connection comes, with a stream of its own.
     Connect { conn: u64 },

@@ -190,7 +190,7 @@ impl<D: Disk> Parts<D> {
         Ok(())
     }
 
-    /// Stores and posts what is out, and then what is pending. Where memory is short behind the cut, room is begun for
+    /// Stores and posts what is out, and then what is pending. If memory is short after the cut, room is begun for
     /// this connection.
     fn commit(&mut self, conn: u64) -> Result<(), Fault>
         requires desk { IsDesk D.honest D.may_leave (desk_of self.old) }

@@ -9,7 +9,7 @@ use std::alloc::Global;
 pub struct Trace {
     /// The groups that were handed to the store, in order.
     pub groups: Vec<Vec<Entry>>,
-    /// How many of them are stored: all, but for a last one whose append the device failed.
+    /// How many of them are stored: all, except a last one whose append the device failed.
     pub synced: u64,
     /// What was written to each connection number, in the order in which the numbers came first.
     pub ports: Vec<Port>,

@@ -2,7 +2,7 @@
 
 /// The reads, writes and syncs that were made. A disk that counts them fails a call of a kind of which it
 /// has counted `u64::MAX`.
-#[derive(Clone, Copy, Debug, PartialEq, Eq)]
+#[derive(Clone, Copy, PartialEq, Eq)]
 pub struct Calls {
     pub reads: u64,
     pub writes: u64,

@@ -4,7 +4,7 @@ ghost use Rattle.fe_disk.specs.Disk.{IsImage, bytes_at, after_write, IsTorn, Fol
 ghost use Rattle.fe_disk.specs.declared.calls.Calls.{Calls};
 
 /// The device did not do what it was asked to. It says no more than that.
-#[derive(Clone, Copy, Debug, PartialEq, Eq)]
+#[derive(Clone, Copy, PartialEq, Eq)]
 pub struct DeviceFault;
 
 /// A disk of a fixed size, in bytes, that may stop at any moment.
@@ -15,7 +15,7 @@ pub trait Disk {
     /// How many bytes the disk has. It never changes.
     ghost size: { Self → ℕ };
 
-    /// How many device calls have failed. It stands still at the top of a `u64`.
+    /// How many device calls have failed. At the top of a `u64` it stays.
     ghost failures: { Self → ℕ };
 
     /// How many reads, writes and syncs were made of it.
@@ -40,7 +40,7 @@ pub trait Disk {
     fn size(&self) -> usize
         ensures { result ≡ size self.now };
 
-    /// How many device calls have failed. At `u64::MAX` it stands still and each call is a fault.
+    /// How many device calls have failed. At `u64::MAX` it stays, and each call is a fault.
     fn failures(&self) -> u64
         ensures { result ≡ failures self.now };
 

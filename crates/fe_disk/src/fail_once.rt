@@ -1,10 +1,10 @@
-//! A disk that fails one call and goes on, so that what stands after a fault can be tried.
+//! A disk that fails one call and goes on, so that what holds after a fault can be tried.
 ghost use Rattle.std.specs.Prelude.{◌≡◌, ◌↔◌, Some, IsTrue};
 
 use crate::counted::Counted;
 use crate::{DeviceFault, Disk};
 
-/// Passes so many device calls on to its disk, fails the next one without touching the disk, and
+/// Passes this many device calls on to its disk, fails the next one without touching the disk, and
 /// passes on each one after.
 ///
 /// What a read gives and what a stop may leave are the disk's, so the call that fails changes no
@@ -18,7 +18,7 @@ pub struct FailOnce<D> {
 impl<D: Disk> FailOnce<D> {
     ghost use Rattle.fe_disk.specs.FailOnce.{disk_of, calls_before, fault_count, one_fewer};
 
-    /// A disk that passes so many calls and fails the next.
+    /// A disk that passes this many calls and fails the next.
     pub fn new(inner: D, calls: u64) -> FailOnce<D>
         ensures disk { disk_of result ≡ inner }
         ensures calls { calls_before result ≡ Some calls }

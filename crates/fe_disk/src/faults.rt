@@ -4,7 +4,7 @@ ghost use Rattle.fe_disk.specs.Disk.{Rises};
 
 use crate::DeviceFault;
 
-/// Counts a fault. At the top of a `u64` the count stands still.
+/// Counts a fault. At the top of a `u64` the count stays.
 pub fn fault(failures: &mut u64) -> DeviceFault
     ensures value { failures.new ≡ min (failures.old + 1) (2 ^ 64 - 1) }
     ensures fault { Rises failures.old failures.new }

@@ -49,7 +49,7 @@ pub struct FileDisk {
 impl FileDisk {
     ghost use Rattle.fe_disk.specs.FileDisk.{file_size, fault_count};
 
-    /// Makes a file of so many zero bytes that its owner alone may read and write, and syncs it and its folder. Where a file has
+    /// Makes a file of this many zero bytes, which only its owner may read and write, and syncs it and its folder. Where a file has
     /// the path already it refuses and leaves that as it is. Where a later step is refused the file stays, maybe of another size.
     pub fn create<R: Files<File = File>>(
         rt: &R,
@@ -78,7 +78,7 @@ impl FileDisk {
         }
     }
 
-    /// The disk over the file at the path, which has so many bytes, to be read alone: the file need
+    /// The disk over the file at the path, which has this size, for reading only: the file need
     /// not be writable, and each write is a fault. It has no lock: others may read and write the file meanwhile.
     pub fn read_only<R: Files<File = File>>(
         rt: &R,

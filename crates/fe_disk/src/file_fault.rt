@@ -1,9 +1,9 @@
 /// Why there is no disk over a file.
-#[derive(Clone, Copy, Debug, PartialEq, Eq)]
+#[derive(Clone, Copy, PartialEq, Eq)]
 pub enum FileFault {
     /// No file has the path.
     Missing,
-    /// The file has another size than was asked for, so many bytes.
+    /// The file has this size in bytes, and not the one asked for.
     WrongSize { found: u64 },
     /// The system refused a call, or another disk has the file, in this process or another.
     Device,

@@ -4,7 +4,7 @@ ghost use Rattle.std.specs.Prelude.{◌≡◌, ◌↔◌, ◌-◌, ◌<◌, IsTr
 use crate::counted::Counted;
 use crate::{DeviceFault, Disk};
 
-/// Passes so many device calls on to its disk, and fails each one after without touching the disk.
+/// Passes this many device calls on to its disk, and fails each later one without touching the disk.
 ///
 /// What a read gives and what a stop may leave are the disk's. Its count of faults starts with the
 /// disk's; at `u64::MAX` it fails each call too.
@@ -17,7 +17,7 @@ pub struct Fuse<D> {
 impl<D: Disk> Fuse<D> {
     ghost use Rattle.fe_disk.specs.Fuse.{disk_of, calls_left, fault_count};
 
-    /// A fuse that passes so many calls.
+    /// A fuse that passes this many calls.
     pub fn new(inner: D, calls: u64) -> Fuse<D>
         ensures disk { disk_of result ≡ inner }
         ensures calls { calls_left result ≡ calls }

@@ -1,7 +1,7 @@
 //! What holds the syncs of a `Held` back until another thread lets them go.
 use std::sync::{Condvar, Mutex, Wait};
 
-#[derive(Clone, Copy, Debug, PartialEq, Eq)]
+#[derive(Clone, Copy, PartialEq, Eq)]
 enum Stage {
     /// Syncs go on.
     Free,

@@ -12,7 +12,7 @@ use std::alloc::{AllocError, Global};
 use std::marker::Model;
 
 /// What a stop does to the ranges that were written since the last sync that succeeded.
-#[derive(Clone, Copy, Debug, PartialEq, Eq)]
+#[derive(Clone, Copy, PartialEq, Eq)]
 pub enum Torn {
     /// They are as written.
     Kept,
@@ -46,7 +46,7 @@ impl Model for MemoryDisk {
 }
 
 impl MemoryDisk {
-    /// A disk of so many bytes, all of them zero.
+    /// A disk of this many bytes, all of them zero.
     pub fn new(alloc: Global, size: usize) -> Result<MemoryDisk, AllocError>
         ensures blank { IfOk result (IsBlank size) }
         ensures honest { IfOk result IsHonest }

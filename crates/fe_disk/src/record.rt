@@ -15,7 +15,7 @@ pub enum Call {
     Synced,
 }
 
-/// Records a write of so many bytes, with those that are there now.
+/// Records a write of this many bytes, with those that are there now.
 pub fn record_write(
     alloc: Global,
     calls: &mut Vec<Call>,

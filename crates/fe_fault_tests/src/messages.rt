@@ -10,7 +10,7 @@ use std::process::Abort;
 #[derive(Clone, Copy)]
 pub enum Said {
     Attach(u64),
-    /// The array of so many words, under a number.
+    /// The array of this many words, under a number.
     Create(u64, u32, Tag),
     /// Array 1 goes.
     Remove(u64),
@@ -19,7 +19,7 @@ pub enum Said {
     Report,
 }
 
-/// What a client is told.
+/// What a client is sent.
 #[derive(Clone, Copy)]
 pub enum Told {
     /// A session, whose floor is 1.
@@ -109,7 +109,7 @@ pub fn put_told(rt: &impl Abort, out: &mut Vec<u8>, told: Told) {
     }
 }
 
-/// The first of the frames of at most 255 bytes, and those behind it.
+/// The first of the frames of at most 255 bytes, and those after it.
 pub fn first_frame<'a>(rt: &impl Abort, frames: &'a [u8]) -> (&'a [u8], &'a [u8]) {
     assert!(rt; frames.len() >= 4 && &frames[..3] == [0, 0, 0].as_slice());
     let length = 4 + frames[3] as usize;

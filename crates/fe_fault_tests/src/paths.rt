@@ -1,10 +1,10 @@
-//! Paths of messages, and what is told for them.
+//! Paths of messages, and what is sent for them.
 
 use crate::messages::{Said, Told};
 use fe_state::Answer;
 use fe_words::{Op, Tag};
 
-/// What connections send, what each is told for it in all, and how many groups are stored, one behind each line that makes an
+/// What connections send, all that each is sent for it, and how many groups are stored, one after each line that makes an
 /// entry.
 #[derive(Clone, Copy)]
 pub struct Path {

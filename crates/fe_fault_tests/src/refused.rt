@@ -15,7 +15,7 @@ const NO_MEMORY: u8 = 8;
 /// What a report tells where nothing waits.
 const NONE_WAITS: &[u8] = b"\0\0\0\x0b\x47waiting 0\n";
 
-/// The bytes of a new store, but for those that are zero: slot 0 has generation 1 and the image of the first state
+/// The bytes of a new store, except those that are zero: slot 0 has generation 1 and the image of the first state
 /// (`docs/formats.md`, "Device").
 const STORE: [(usize, &'static [u8]); 4] = [
     (0, b"FEMEMST2"),

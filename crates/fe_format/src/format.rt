@@ -3,7 +3,7 @@ ghost use Rattle.fe_format.specs.Layout.{magic_of, name_bytes, record_bytes, gro
 
 /// The format of a store, kept in each of its slots: its magic, how entries and images are spelled, and
 /// how long groups and images may be (`docs/formats.md`). New stores have format 2.
-#[derive(Clone, Copy, Debug, PartialEq, Eq)]
+#[derive(Clone, Copy, PartialEq, Eq)]
 pub enum Format {
     /// Names of up to 16 bytes, and no request that must not wait.
     One,
@@ -77,14 +77,14 @@ impl Format {
         }
     }
 
-    /// Whether a payload may have so many bytes.
+    /// Whether a payload may have this length in bytes.
     pub fn allows_payload(self, length: usize) -> bool
         ensures { IsTrue result ↔ IsPayloadLength self length }
     {
         length >= 1 && length <= self.longest_payload() && length % self.record_bytes() == 0
     }
 
-    /// Whether an image may have so many bytes.
+    /// Whether an image may have this length in bytes.
     pub fn allows_image(self, length: usize) -> bool
         ensures { IsTrue result ↔ IsImageLength self length }
     {

@@ -42,7 +42,7 @@ impl Tables {
         }
     }
 
-    /// The request that a number of a session stands for already.
+    /// The request to which a session's number already belongs.
     fn request_at(&self, session: u64, number: u64) -> Option<Request>
         ensures { result ≡ request_at (front_of self.now) session number }
     {
@@ -60,7 +60,7 @@ impl Tables {
         }
     }
 
-    /// A call repeats what its number stands for. Its answer is mailed again where it is kept and durable.
+    /// A call repeats the request of its number. A kept and durable answer is mailed again.
     fn repeat(&mut self, conn: u64, session: u64, number: u64) -> Outcome
         requires sound { AreSound self.old }
         ensures sound { AreSound self.new }
@@ -137,7 +137,7 @@ impl Tables {
         self.books.call_waits();
     }
 
-    /// A request of a number that is in the window and stands for none yet.
+    /// A request of a number that is in the window and belongs to no request yet.
     fn begin(&mut self, session: u64, number: u64, request: Request) -> Result<Outcome, Refusal>
         requires sound { AreSound self.old }
         requires free { IsFree self.old.service session number }
@@ -159,7 +159,7 @@ impl Tables {
         }
     }
 
-    /// A call, or why it is refused: its session's window has the number, and that is new or stands for the request.
+    /// A call, or why it is refused: its session's window has the number, and the number is new or belongs to the same request.
     pub(crate) fn call(
         &mut self,
         conn: u64,
@@ -195,7 +195,7 @@ impl Tables {
     }
 }
 
-/// Books so many calls that waited as completed.
+/// Books this many waiting calls as completed.
 fn count_served(books: &mut Books, count: u32)
     ensures books { books.new ≡ waiters_completed count books.old }
     ensures balance { (waiting left : ℕ) → Balances books.old (waiting + count) left → Balances books.new waiting left }

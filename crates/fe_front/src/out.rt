@@ -1,5 +1,5 @@
 /// Where the batch that is out begins, and how many entries it has.
-#[derive(Clone, Copy, Debug, PartialEq, Eq)]
+#[derive(Clone, Copy, PartialEq, Eq)]
 pub(crate) struct Out {
     pub first: u64,
     pub length: usize,

@@ -1,7 +1,7 @@
 use fe_state::Batch;
 
 /// What came of a call that was not refused.
-#[derive(Clone, Copy, Debug, PartialEq, Eq)]
+#[derive(Clone, Copy, PartialEq, Eq)]
 pub enum Outcome {
     /// The request completed. That many entries were made, its own among them.
     Completed { entries: u32 },
@@ -16,5 +16,5 @@ pub enum Outcome {
 }
 
 /// A batch that is not the one that is out.
-#[derive(Debug, Drop)]
+#[derive(Drop)]
 pub struct StrangeBatch(pub Batch);

@@ -67,7 +67,7 @@ impl Tables {
         }
     }
 
-    /// Posts entries in order, of which the first stands at the place.
+    /// Posts entries in order, the first of them at the place.
     pub(crate) fn post_all(
         &mut self,
         first: u64,

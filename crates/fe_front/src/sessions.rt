@@ -173,7 +173,7 @@ impl Tables {
         }
     }
 
-    /// A waiting request of a connection's session is taken out, and the connection is told; or why it may not be.
+    /// A waiting request of a connection's session is taken out, and the connection is sent a withdrawal; or why it may not be.
     pub(crate) fn cancel(&mut self, conn: u64, number: u64) -> Result<(), Refusal>
         requires sound { AreSound self.old }
         ensures sound { AreSound self.new }

@@ -1,7 +1,7 @@
 use fe_keeper::Fault;
 
 /// Why the committing side of a hall ended.
-#[derive(Clone, Copy, Debug, PartialEq, Eq)]
+#[derive(Clone, Copy, PartialEq, Eq)]
 pub enum CommitEnd {
     /// The hall was stopped, and all that was pending is stored and posted.
     Stopped,

@@ -1,11 +1,11 @@
 /// Why a read side ended. Its connection is gone then, unless the hall is stopped.
-#[derive(Clone, Copy, Debug, PartialEq, Eq)]
+#[derive(Clone, Copy, PartialEq, Eq)]
 pub enum ReadEnd {
     /// The stream ended.
     Closed,
     /// A read failed.
     Device,
-    /// A frame outside the grammar (`docs/formats.md`, "Frames"), and where its first byte stands in the stream, counted from
+    /// A frame outside the grammar (`docs/formats.md`, "Frames"), and the offset of its first byte in the stream, counted from
     /// 0; 2^64 - 1 for places beyond.
     BadFrame { offset: u64 },
     /// The connection was not there any more.

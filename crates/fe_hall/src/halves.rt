@@ -1,4 +1,4 @@
-//! The two directions of a connection, and what stands before each message.
+//! The two directions of a connection, and what each message passes first.
 
 ghost use Rattle.std.specs.Prelude.{◌≡◌, ◌≤◌, ◌++◌, [], ℕ, List, length, take, IfOk, OnOk, OnErr};
 
@@ -6,7 +6,7 @@ use std::alloc::Global;
 use std::sync::Wait;
 
 /// A read or a write of a connection failed.
-#[derive(Clone, Copy, Debug, PartialEq, Eq)]
+#[derive(Clone, Copy, PartialEq, Eq)]
 pub struct LineFault;
 
 /// The direction from the client.
@@ -47,7 +47,7 @@ pub trait Gate {
 }
 
 /// A gate that lets each message through.
-#[derive(Clone, Copy, Debug)]
+#[derive(Clone, Copy)]
 pub struct Open;
 
 impl Gate for Open {
@@ -64,7 +64,7 @@ pub struct MemoryRead {
 }
 
 impl MemoryRead {
-    /// These bytes, in pieces of at most so many.
+    /// These bytes, in pieces of at most this size.
     pub fn new(bytes: Vec<u8>, piece: usize) -> MemoryRead
         ensures { ⟦<MemoryRead as ReadHalf>⟧.told result ≡ [] }
     {

@@ -5,12 +5,12 @@ use fe_front::Mail;
 use fe_state::Answer;
 
 /// An answer that the write side of a connection took for its client.
-#[derive(Clone, Copy, Debug, PartialEq, Eq)]
+#[derive(Clone, Copy, PartialEq, Eq)]
 pub struct Receipt {
     pub session: u64,
     pub number: u64,
     pub answer: Answer,
-    /// The place of the answer's entry in the history: how many entries stand before it.
+    /// The place of the answer's entry in the history: how many entries come before it.
     pub place: u64,
 }
 

@@ -120,7 +120,7 @@ fn was_sent(sent: &[Vec<ClientMessage>], receipt: &Receipt, request: &Request) -
     })
 }
 
-/// Whether messages have a call of this number and request behind an attach of the session.
+/// Whether messages have a call of this number and request after an attach of the session.
 fn is_called_behind(
     messages: &[ClientMessage],
     session: u64,

@@ -1,5 +1,5 @@
 /// Why a write side ended. Its connection is gone then, but where it was stopped.
-#[derive(Clone, Copy, Debug, PartialEq, Eq)]
+#[derive(Clone, Copy, PartialEq, Eq)]
 pub enum WriteEnd {
     /// The connection was not there any more.
     Gone,

@@ -49,7 +49,7 @@ impl Step {
 pub enum Script {
     /// They take turns.
     Steps(&'static [Step]),
-    /// All at once, each with a session of its own: so many windows of 32 calls, each once all calls of the one before are
+    /// All at once, each with a session of its own: this many windows of 32 calls, each once all calls of the one before are
     /// answered.
     Windows(usize),
 }
@@ -72,7 +72,7 @@ pub struct Play {
     pub script: Script,
     /// Their connections are numbered from 1 on.
     pub connections: u64,
-    /// Where it is there, a read gives one byte, and a connection may make so many.
+    /// Where it is there, a read gives one byte, and a connection may make this many.
     pub reads: Option<u64>,
     /// No write returns before the read side of its connection has ended.
     pub is_deaf: bool,

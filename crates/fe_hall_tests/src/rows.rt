@@ -191,7 +191,7 @@ pub const TWO_LIVES: Play = Play {
 };
 
 /// A call is sent again, from another connection, while the sync of its entry is held back. Its one answer comes before the
-/// welcome of what is stored behind it.
+/// welcome of what is stored after it.
 pub const RESENT: Play = Play {
     script: Script::Steps(&[
         Step::Says(1, Say::Attach(7), &[(1, Hear::Welcome(7))]),
@@ -210,7 +210,7 @@ pub const RESENT: Play = Play {
     ..STAYING
 };
 
-/// A frame of no bytes, behind one of 13.
+/// An empty frame after one of 13 bytes.
 pub const BAD_FRAME: Play = Play {
     script: Script::Steps(&[
         Step::Says(1, Say::Attach(7), &[(1, Hear::Welcome(7))]),
@@ -238,7 +238,7 @@ pub const LAST_TURN: Play = Play {
     ..STAYING
 };
 
-/// A client that takes nothing behind its first refusal: its box has 128 more, the next one drops the connection, and the last
+/// A client that takes nothing after its first refusal: its box has 128 more, the next one drops the connection, and the last
 /// call finds none.
 pub const FULL_BOX: Play = Play {
     script: Script::Steps(&[

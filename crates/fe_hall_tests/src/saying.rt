@@ -11,7 +11,7 @@ use std::alloc::AllocError;
 #[derive(Clone, Copy)]
 pub enum Say {
     Attach(u64),
-    /// A call of that number makes the array, of so many words.
+    /// A call of that number makes the array, with this many words.
     Create(u64, u32, Tag),
     /// One finds it.
     Find(u64),
@@ -25,7 +25,7 @@ pub enum Say {
 #[derive(Clone, Copy)]
 pub enum Hear {
     Welcome(u64),
-    /// The answers of the call of that number: the array, of so many words; that it is done; and the value.
+    /// The answers of the call of that number: the array, with this many words; that it is done; and the value.
     Array(u64, u32),
     Done(u64),
     Value(u64, u64),

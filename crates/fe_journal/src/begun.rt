@@ -1,7 +1,7 @@
 use crate::Format;
 
 /// A slot that was begun and is not finished.
-#[derive(Clone, Copy, Debug, PartialEq, Eq)]
+#[derive(Clone, Copy, PartialEq, Eq)]
 pub struct Begun {
     pub format: Format,
     pub generation: u64,

@@ -2,7 +2,7 @@ ghost use Rattle.std.specs.Prelude.{◌≡◌, IfOk, vec_len};
 
 use std::alloc::{AllocError, Global};
 
-/// A buffer of so many bytes. Its length is all that is told of it: a contract that spelled out an
+/// A buffer of this many bytes. A contract knows only its length: a contract that spelled out an
 /// area's zeros would be as long as the area.
 pub fn buffer_of(alloc: Global, length: usize) -> Result<Vec<u8>, AllocError>
     ensures { IfOk result (λ buffer. vec_len buffer ≡ length) }

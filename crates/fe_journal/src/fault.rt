@@ -2,7 +2,7 @@ use fe_disk::DeviceFault;
 use std::alloc::AllocError;
 
 /// Why a store was not opened or formatted.
-#[derive(Clone, Copy, Debug, PartialEq, Eq)]
+#[derive(Clone, Copy, PartialEq, Eq)]
 pub enum StoreFault {
     /// The device has another size than a store, or no slot of it is valid.
     Unformatted,
@@ -15,7 +15,7 @@ pub enum StoreFault {
 }
 
 /// Why a call of a journal did nothing, or not all.
-#[derive(Clone, Copy, Debug, PartialEq, Eq)]
+#[derive(Clone, Copy, PartialEq, Eq)]
 pub enum JournalFault {
     /// A call of the device failed in this call. The store has to be opened again.
     Device,

@@ -63,7 +63,7 @@ impl Groups {
         self.start + self.at + 5
     }
 
-    /// Goes on behind the next group, where there is one. Else it does nothing.
+    /// Moves past the next group, if there is one.
     pub fn skip(&mut self)
         ensures at { (payload : List ℕ) (rest : List (List ℕ)) → Lists self.old (payload ∷ rest) → self.new ≡ record self.old { at = self.old.at + (5 + length payload) } }
         ensures rest { (payload : List ℕ) (rest : List (List ℕ)) → Lists self.old (payload ∷ rest) → Lists self.new rest }

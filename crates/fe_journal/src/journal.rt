@@ -17,10 +17,10 @@ use crate::{Format, JournalFault};
 use fe_disk::Disk;
 use std::marker::Model;
 
-/// The journal of an opened store: groups are appended behind the image of the slot that counts, and
+/// The journal of an opened store: groups are appended after the image of the slot that counts, and
 /// the other slot is made ready in pieces, to take its place.
 ///
-/// After a fault of the device each call answers `Failed` and makes no device call; what stands is
+/// After a fault of the device each call answers `Failed` and makes no device call; what holds is
 /// found by opening the store again. No call takes memory.
 #[derive(Drop)]
 pub struct Journal<D: Disk> {
@@ -74,7 +74,7 @@ impl<D: Disk> Journal<D> {
         }
     }
 
-    /// The offset in the journal area of the closed gate behind the groups.
+    /// The offset in the journal area of the closed gate after the groups.
     pub fn used(&self) -> u32
         ensures { result ≡ self.now.used }
     {
@@ -133,7 +133,7 @@ impl<D: Disk> Journal<D> {
         disk
     }
 
-    /// Appends a group with this payload behind the others: four device calls (`docs/store.md`).
+    /// Appends a group with this payload after the others: four device calls (`docs/store.md`).
     pub fn append_group(&mut self, payload: &[u8]) -> Result<(), JournalFault>
         requires allowed { IsPayloadLength self.old.format (length payload.now) }
         requires fits { length payload.now ≤ room_at self.old.used }
@@ -169,7 +169,7 @@ impl<D: Disk> Journal<D> {
     }
 
     /// Begins the slot that does not count: closes its gate, if that is open, and writes its header's
-    /// fields. At most three device calls beside a read.
+    /// fields. At most three device calls besides a read.
     pub fn slot_close(
         &mut self,
         format: Format,

@@ -1,4 +1,4 @@
-//! The journal of a store: two slots on a device, each with an image and the groups behind it.
+//! The journal of a store: two slots on a device, each with an image and the groups after it.
 //!
 //! It knows bytes, gates, generations and lengths, and nothing of what a payload or an image says
 //! (`docs/store.md`).

@@ -15,7 +15,7 @@ use crate::{Groups, Journal, StoreFault};
 use fe_disk::Disk;
 use std::alloc::Global;
 
-/// An opened store: the journal behind its groups, the bytes of its image, and its groups from the
+/// An opened store: the journal after its groups, the bytes of its image, and its groups from the
 /// first on.
 #[derive(Drop)]
 pub struct Found<D: Disk> {
@@ -28,7 +28,7 @@ impl<D: Disk> Journal<D> {
     /// Opens a store: a sync, and then only reads. It takes some three megabytes, of which the journal
     /// keeps one.
     ///
-    /// What is told of a damaged store is the first thing wrong in the slot that counts: its generation,
+    /// The fault of a damaged store is the first thing wrong in the slot that counts: its generation,
     /// its image's length, the lengths of its groups (`docs/formats.md`, "Device").
     pub fn find(alloc: Global, disk: D) -> Result<Found<D>, (StoreFault, D)>
         ensures found { D.honest disk → IfOk result (IsFound D.seen D.may_leave (D.seen disk)) }

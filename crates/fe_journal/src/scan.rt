@@ -6,8 +6,8 @@ use crate::Format;
 use crate::layout::AREA_BYTES;
 use byteorder::{BigEndian, ByteOrder};
 
-/// Where the closed gate behind the open groups stands in the area. `Err` tells the first open gate
-/// with a length behind it that is not allowed or does not fit.
+/// The offset in the area of the closed gate after the open groups. `Err` is the first open gate
+/// whose length is not allowed or does not fit.
 pub fn scan(area: &[u8], format: Format) -> Result<usize, usize>
     requires { length area.now ≡ 1048576 }
     ensures ends { IfOk result (EndsAt format area.now) }

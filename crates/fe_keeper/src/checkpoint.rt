@@ -36,7 +36,7 @@ pub(crate) struct Checkpoint {
 }
 
 impl Checkpoint {
-    /// A checkpoint of the state, of which nothing is written.
+    /// A checkpoint of the state, with nothing written yet.
     pub(crate) fn new(alloc: Global, state: &State) -> Result<Checkpoint, Fault>
         ensures image { IfOk result (λ made. IsImageOf made state.now) }
         ensures fresh { IfOk result (λ made. IsFresh made state.now.place) }

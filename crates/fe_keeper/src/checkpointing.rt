@@ -1,4 +1,4 @@
-//! Checkpoints: the image of the state is written beside the slot that counts, slice by slice.
+//! Checkpoints: the image of the state is written to the slot that does not count, slice by slice.
 
 ghost use Rattle.std.specs.Prelude.{◌≡◌, ◌+◌, ◌≤◌, ◌↔◌, true, false, length, is_some, vec_len, IsTrue, IfOk, IfSome, OnOk, OnErr, IsErrOf, IsSome};
 ghost use Rattle.fe_disk.specs.Disk.{LeavesOnly, Rises, MakesAtMost};

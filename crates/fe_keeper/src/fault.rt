@@ -3,7 +3,7 @@ use fe_replica::Refused;
 use std::alloc::AllocError;
 
 /// Why a call of a keeper did nothing, or not all.
-#[derive(Clone, Copy, Debug, PartialEq, Eq)]
+#[derive(Clone, Copy, PartialEq, Eq)]
 pub enum Fault {
     /// A call of the device failed in this call. The store has to be opened again.
     Device,

@@ -24,7 +24,7 @@ use std::marker::Model;
 /// The keeper of a store: a replica of the state, and the journal in which each batch is stored before
 /// it is answered.
 ///
-/// After a fault of the device each call answers `Failed` and makes no device call; what stands is found
+/// After a fault of the device each call answers `Failed` and makes no device call; what holds is found
 /// by opening the store again.
 #[derive(Drop)]
 pub struct Keeper<D: Disk> {
@@ -217,7 +217,7 @@ impl<D: Disk> Keeper<D> {
         self.parts.store.journal.has_failed()
     }
 
-    /// How many bytes of the journal area are used: the offset of the closed gate behind the groups.
+    /// How many bytes of the journal area are used: the offset of the closed gate after the groups.
     pub fn used(&self) -> u32
         ensures { result ≡ self.now.store.used }
     {

@@ -1,6 +1,6 @@
 //! The keeper of a store: a replica of the server's state, and the journal that it is kept in.
 //!
-//! Batches are appended as groups, checkpoints are made in slices beside them, and a store is opened as
+//! Batches are appended as groups, checkpoints are made in slices between them, and a store is opened as
 //! the state after whole groups, wherever it was stopped (`docs/store.md`).
 #![tactic(auto)]
 

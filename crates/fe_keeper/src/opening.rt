@@ -26,7 +26,7 @@ const DEVICE_BYTES: usize = 4_202_496;
 impl<D: Disk> Keeper<D> {
     /// Opens a store: a sync, and then only reads. The keeper has the state that the disk stands for.
     ///
-    /// What is told of a damaged store is the first thing wrong in the slot that counts: its generation, its
+    /// The fault of a damaged store is the first thing wrong in the slot that counts: its generation, its
     /// image's length, the lengths of its groups, its image, its generation against the image's place, and then
     /// its records (`docs/formats.md`, "Device").
     pub fn open(alloc: Global, disk: D) -> Result<Keeper<D>, (Fault, D)>

@@ -93,7 +93,7 @@ fn catch_up(checkpoint: &mut Option<Checkpoint>, format: Format, group: &[u8], e
     }
 }
 
-/// The longest payload, in bytes, behind the group of so many entries that a checkpoint catches up with.
+/// The longest payload, in bytes, after a catch-up group of this many entries.
 fn room_behind(entries: usize) -> usize
     requires few { entries ≤ 13107 }
     ensures { result ≡ room_at (caught_up_bytes entries) }

@@ -9,7 +9,7 @@ use fe_state::Entry;
 use std::alloc::Global;
 
 /// What is called.
-#[derive(Clone, Copy, Debug, PartialEq, Eq)]
+#[derive(Clone, Copy, PartialEq, Eq)]
 pub enum Verb {
     /// Of a disk: a write, and a sync.
     Write,

@@ -100,7 +100,7 @@ impl Bench {
         disks::write(&mut self.disk, at as usize, bytes.as_slice())
     }
 
-    /// The calls, with what their names stand for.
+    /// The calls, with what their names mean.
     pub fn acts(&self) -> Result<Vec<Act>, Trouble> {
         let mut acts = Vec::new(self.alloc);
         for line in self.calls.iter() {
@@ -145,7 +145,7 @@ impl Bench {
         }
     }
 
-    /// Makes the calls over a copy of the disk that passes so many device calls, or of which the one behind so many fails.
+    /// Makes the calls over a copy of the disk that passes this many device calls, or that fails only the one after this many.
     pub fn ran(&self, fails_once: bool, calls: u64) -> Result<Run, Trouble> {
         let acts = self.acts()?;
         let start = self.start()?;

@@ -12,7 +12,7 @@ use fe_state::State;
 use fe_wire::{ServerMessage, read_reply};
 use std::alloc::Global;
 
-/// The fault of the store, as which a want of memory counts.
+/// The fault of the store, which lack of memory counts as.
 pub fn store_fault(fault: DeskFault) -> Fault {
     match fault {
         DeskFault::Store(fault) => fault,
@@ -48,7 +48,7 @@ fn traced<D: Disk>(
     Ok(made)
 }
 
-/// Takes all steps, of which each behind a fault of the device is refused.
+/// Takes all steps, each of which is refused after a fault of the device.
 pub fn take_all<D: Disk>(alloc: Global, desk: &mut Desk<D>, acts: &[Act]) -> Result<Made, Trouble> {
     let mut made = Made::new(alloc);
     for act in acts {

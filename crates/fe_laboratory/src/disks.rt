@@ -16,7 +16,7 @@ pub fn write<D: Disk>(disk: &mut D, at: usize, bytes: &[u8]) -> Result<(), Troub
     Ok(())
 }
 
-/// Reads so many bytes.
+/// Reads this many bytes.
 pub fn read<D: Disk>(
     alloc: Global,
     disk: &mut D,

@@ -57,7 +57,7 @@ impl<'a> Trial<'a> {
         Ok((self.is_made_new(once.into_inner())?, is_met))
     }
 
-    /// How many device calls of a format were stopped and failed, or the first behind which something was wrong.
+    /// How many device calls of a format were stopped and failed, or the first after which something was wrong.
     pub fn format_each(&self) -> Result<Result<u64, u64>, Trouble> {
         for calls in 0..PLENTY {
             let (is_left, is_met) = self.format_stopped(calls)?;

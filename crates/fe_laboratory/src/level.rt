@@ -9,7 +9,7 @@ use fe_keeper::Fault;
 use std::alloc::Global;
 
 /// What is called.
-#[derive(Clone, Copy, Debug, PartialEq, Eq)]
+#[derive(Clone, Copy, PartialEq, Eq)]
 pub enum Level {
     Disk,
     Journal,

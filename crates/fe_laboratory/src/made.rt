@@ -20,9 +20,9 @@ pub struct Made {
     pub fault: Option<Fault>,
     /// Of each call `y` or `n`, or `x` where it had a fault.
     pub told: String,
-    /// Whether all was as it is to be behind the fault.
+    /// Whether all was as it should be after the fault.
     pub is_sound: bool,
-    /// The images of the states of which one is found on the disk. Both are empty where no store was opened.
+    /// Images of states; one of them is found on the disk. Both are empty if no store was opened.
     pub before: Vec<u8>,
     pub after: Vec<u8>,
     /// What a desk wrote, and how many entries the groups have that it handed to its store.

@@ -47,7 +47,7 @@ impl Names {
         Err(Trouble::Syntax)
     }
 
-    /// The bytes that the words of a text spell, one behind another.
+    /// The bytes that the words of a text spell, one after another.
     pub fn bytes_of(&self, text: &str) -> Result<Vec<u8>, Trouble> {
         let mut out = Vec::new(self.alloc);
         for word in text.split_whitespace() {

@@ -3,7 +3,7 @@
 use fe_disk::{DeviceFault, Disk};
 
 /// How many calls of each kind a disk was asked.
-#[derive(Clone, Copy, Debug, PartialEq, Eq)]
+#[derive(Clone, Copy, PartialEq, Eq)]
 pub struct Counts {
     pub reads: u64,
     pub writes: u64,

@@ -38,17 +38,17 @@ pub struct Run {
     pub failures: u64,
 }
 
-/// The stops that are tried behind a run.
+/// The stops that are tried after a run.
 #[derive(Clone, Copy)]
 pub enum Stops {
-    /// Of each kind, with a stop at each device call of the opening behind it.
+    /// Of each kind, with a stop at each device call of the opening after it.
     Each,
     /// Of one kind alone.
     One(Torn),
 }
 
 impl<'a> Trial<'a> {
-    /// The calls over a disk that passes so many device calls.
+    /// The calls over a disk that passes this many device calls.
     pub fn fused(&self, calls: u64) -> Result<Run, Trouble> {
         let copy = self.store.stopped(Torn::Kept)?;
         let fuse = Fuse::new(Tally::new(copy), calls);
@@ -58,7 +58,7 @@ impl<'a> Trial<'a> {
         ran(disk, made, counts, failures)
     }
 
-    /// The calls over a disk of which one call fails, behind so many others.
+    /// The calls over a disk that fails the call after this many.
     pub fn failing(&self, calls: u64) -> Result<Run, Trouble> {
         let copy = self.store.stopped(Torn::Kept)?;
         let once = FailOnce::new(Tally::new(copy), calls);
@@ -125,7 +125,7 @@ impl<'a> Trial<'a> {
         }
     }
 
-    /// Stops the calls at each device call, up to the first at which nothing stops. How many there were, or the first behind
+    /// Stops the calls at each device call, up to the first at which nothing stops. How many there were, or the first after
     /// which something was wrong.
     pub fn fuse_each(&self, stops: Stops) -> Result<Result<u64, u64>, Trouble> {
         for calls in 0..PLENTY {
@@ -187,7 +187,7 @@ impl<'a> Trial<'a> {
         trial.fuse_each(Stops::One(torn))
     }
 
-    /// Stops the calls at each device call, and behind that again.
+    /// Stops the calls at each device call, and then again.
     pub fn fuse_twice(&self) -> Result<Result<u64, u64>, Trouble> {
         for calls in 0..PLENTY {
             let run = self.fused(calls)?;

@@ -3,7 +3,7 @@
 use crate::trouble::Trouble;
 use fe_disk::Torn;
 
-/// The first word of the text, and the text behind the space that ends it.
+/// The first word of the text, and the text after the space that ends it.
 pub fn first_word(text: &str) -> (&str, &str) {
     match text.split_once(' ') {
         Some(parts) => parts,
@@ -19,7 +19,7 @@ pub fn number(word: &str) -> Result<u64, Trouble> {
     }
 }
 
-/// The number that the first word is, and the text behind it.
+/// The first word as a number, and the text after it.
 pub fn first_number(text: &str) -> Result<(u64, &str), Trouble> {
     let (word, rest) = first_word(text);
     Ok((number(word)?, rest))

@@ -2,7 +2,7 @@ use fe_store::OpenFault;
 use fe_text::StreamFault;
 
 /// Why a store is not shown, or not to the end.
-#[derive(Clone, Copy, Debug, PartialEq, Eq)]
+#[derive(Clone, Copy, PartialEq, Eq)]
 pub enum LookFault {
     /// It is not opened, so nothing is written.
     Store(OpenFault),

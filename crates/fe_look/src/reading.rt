@@ -22,7 +22,7 @@ const AREA: usize = 1_052_672;
 /// The bytes of a journal area.
 const AREA_BYTES: usize = 1_048_576;
 
-/// The bytes of a header that are read, beside its gate.
+/// The bytes of a header that are read, besides its gate.
 const FIELDS: usize = 20;
 
 /// How often a store is read, where a checkpoint begins each time.

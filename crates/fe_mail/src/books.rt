@@ -6,10 +6,10 @@ use std::marker::Model;
 /// The greatest number of calls, and of mails, that books count.
 const MOST: u64 = 9223372036854775807;
 
-/// What became of the calls and of the mails. Each call is counted in `calls` and in one of the five columns behind it,
-/// each mail in `mails` and in one of the three behind that. A call or a mail past 2^63 - 1 is not counted, but makes the
-/// books `spent`, and from then on they stand still.
-#[derive(Clone, Copy, Debug, PartialEq, Eq)]
+/// What became of the calls and of the mails. Each call is counted in `calls` and in one of the five columns after it,
+/// each mail in `mails` and in one of the three after that. A call or a mail past 2^63 - 1 is not counted, but makes the
+/// books `spent`, and from then on they do not change.
+#[derive(Clone, Copy, PartialEq, Eq)]
 pub struct Books {
     pub calls: u64,
     pub completed: u64,
@@ -128,7 +128,7 @@ impl Books {
         }
     }
 
-    /// One more mail, which stands in a box.
+    /// One more mail, which is in a box.
     pub fn mail_boxed(&mut self)
         ensures books { self.new ≡ mail_boxed self.old }
         ensures balance { (waiting left : ℕ) → Balances self.old waiting left → Balances self.new waiting (left + 1) }
@@ -162,7 +162,7 @@ impl Books {
         }
     }
 
-    /// A box with so many mails was dropped, and no more than are left.
+    /// A box with this many mails was dropped, and no more than are left.
     pub fn box_dropped(&mut self, n: u32)
         ensures books { self.new ≡ box_dropped n self.old }
         ensures balance { (waiting left : ℕ) → Balances self.old waiting (left + n) → Balances self.new waiting left }

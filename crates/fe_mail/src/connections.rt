@@ -75,7 +75,7 @@ impl Connections {
         }
     }
 
-    /// Whether a mail stands in a connection's box. `false` also where it is not connected.
+    /// Whether a connection's box has a mail; `false` if it is not connected.
     pub fn has_mail(&self, conn: u64) -> bool
         ensures { result ≡ nat_lt 0 (length (mails_on self.now conn)) }
     {
@@ -94,7 +94,7 @@ impl Connections {
         connection.session = session;
     }
 
-    /// Puts a mail behind the others in a connection's box. A box with 128 mails gives it back.
+    /// Puts a mail last into a connection's box. A box with 128 mails gives it back.
     pub fn put(&mut self, conn: u64, mail: Mail) -> Result<(), Mail>
         requires connected { IsSome (map.get self.old conn) }
         ensures room { IsOk result ↔ (length (mails_on self.old conn) < 128) }

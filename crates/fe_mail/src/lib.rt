@@ -1,4 +1,4 @@
-//! What connections are told, the boxes in which it waits for them, and the books of calls and mails.
+//! Mails to connections, the boxes in which they wait, and the books of calls and mails.
 #![tactic(auto)]
 
 mod books;

@@ -5,10 +5,10 @@ use crate::refusal::Refusal;
 use crate::report_text::ReportText;
 use fe_state::{Answer, Entry};
 
-/// What a connection is told.
-#[derive(Debug, Drop)]
+/// A message to a connection.
+#[derive(Drop)]
 pub enum Mail {
-    /// The connection has the session, whose floor is told.
+    /// The connection has the session, with this floor.
     Welcome {
         session: u64,
         floor: u64,
@@ -42,7 +42,7 @@ pub enum Mail {
 }
 
 impl Mail {
-    /// The mail of an entry that stands at that place.
+    /// The mail of the entry at that place.
     pub fn of(entry: &Entry, place: u64) -> Mail
         ensures { result ≡ mail_of entry.now place }
     {

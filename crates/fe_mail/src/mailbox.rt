@@ -5,11 +5,11 @@ use std::alloc::{AllocError, Global};
 use std::collections::VecDeque;
 use std::marker::Model;
 
-/// How many mails stand unread in one box at most.
+/// The most unread mails of one box.
 pub const MAILS: usize = 128;
 
 /// The mails of a connection that it has not taken yet, at most 128, with room for as many.
-#[derive(Debug, Drop)]
+#[derive(Drop)]
 pub(crate) struct Mailbox {
     mails: VecDeque<Mail>,
 }
@@ -36,7 +36,7 @@ impl Mailbox {
         })
     }
 
-    /// How many mails stand in the box.
+    /// How many mails the box has.
     pub fn len(&self) -> u32
         ensures len { result ≡ length self.now }
         ensures few { result ≤ 128 }
@@ -44,7 +44,7 @@ impl Mailbox {
         self.mails.len() as u32
     }
 
-    /// Puts a mail behind the others. A full box gives it back.
+    /// Puts a mail last. A full box gives it back.
     pub fn put(&mut self, mail: Mail) -> Result<(), Mail>
         ensures room { IsOk result ↔ (length self.old < 128) }
         ensures put { OnOk result (self.new ≡ self.old ++ mail ∷ []) }

@@ -6,7 +6,7 @@ use std::marker::Model;
 pub const REPORT_BYTES: usize = 262144;
 
 /// The text of a report: 1 to 262,144 bytes.
-#[derive(Debug, Drop)]
+#[derive(Drop)]
 pub struct ReportText {
     text: String,
 }

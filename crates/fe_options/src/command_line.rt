@@ -24,7 +24,7 @@ const CALL: &str = "Sends lines from standard input to a server";
 const LOOK: &str = "Shows what is in a store";
 
 /// What a command line asks for.
-#[derive(Clone, Copy, Debug, PartialEq, Eq)]
+#[derive(Clone, Copy, PartialEq, Eq)]
 pub enum Invocation<'a> {
     /// Run a schedule from standard input.
     Run,
@@ -158,7 +158,7 @@ fn asked_by<'a>(matches: &ArgMatches<'a>) -> Option<Invocation<'a>>
     asked(name, found)
 }
 
-/// What the words of a command line ask for, of which the first is the program's name. The error tells what is wrong
+/// What a command line asks for; its first word is the program's name. The error says what is wrong
 /// with the words, or has the help or the version that was asked for.
 pub fn arguments<'a, S: AsStr>(alloc: Global, words: &'a [S]) -> Result<Invocation<'a>, Error>
     // It is the command that `clap` finds in the words, with the value that it finds for its option.

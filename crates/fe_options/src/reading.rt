@@ -142,7 +142,7 @@ fn settings_in(alloc: Global, table: &Table) -> Result<Settings, SettingsFault>
 
 /// Reads the settings in a text (`docs/settings.md`). `NotToml` where the text is no document; else `Setting` at the first
 /// key, in the order of the fields, that has to be there and isn't or has a value that it may not have; else
-/// `UnknownKey` where there is a key beside them.
+/// `UnknownKey` if there is any other key.
 pub fn read_settings(alloc: Global, text: &str) -> Result<Settings, SettingsFault>
     ensures settings { IfOk result (λ settings. (document : Members) × (parse_document text.now ≡ Some document)
         × IsSettingsOf document settings) }

@@ -1,7 +1,7 @@
 //! How a server is run.
 
 /// How a server is run (`docs/settings.md`).
-#[derive(Debug, Drop, PartialEq, Eq)]
+#[derive(Drop, PartialEq, Eq)]
 pub struct Settings {
     /// The path of the socket.
     pub socket: String,

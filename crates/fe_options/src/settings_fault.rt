@@ -1,7 +1,7 @@
 use crate::key::Key;
 
 /// Why no settings are read (`docs/settings.md`).
-#[derive(Clone, Copy, Debug, PartialEq, Eq)]
+#[derive(Clone, Copy, PartialEq, Eq)]
 pub enum SettingsFault {
     /// The setting has to be there and isn't, or has a value that it may not have.
     Setting(Key),

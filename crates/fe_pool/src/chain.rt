@@ -1,7 +1,7 @@
 use crate::node::Node;
 
 /// The ends and the length of one list of a pool. The holder hands it in where the list changes.
-#[derive(Clone, Copy, Debug, PartialEq, Eq)]
+#[derive(Clone, Copy, PartialEq, Eq)]
 pub struct Chain {
     pub first: Option<Node>,
     pub last: Option<Node>,

@@ -1,5 +1,5 @@
-/// The two families of lists. A node stands on at most one list of each.
-#[derive(Clone, Copy, Debug, PartialEq, Eq)]
+/// The two families of lists. A node is on at most one list of each.
+#[derive(Clone, Copy, PartialEq, Eq)]
 pub enum Family {
     OfWord,
     OfSession,

@@ -1,7 +1,7 @@
 use std::marker::Model;
 
 /// A node of a pool, named by its place there, from 0 on.
-#[derive(Clone, Copy, Debug, PartialEq, Eq)]
+#[derive(Clone, Copy, PartialEq, Eq)]
 pub struct Node {
     place: u32,
 }

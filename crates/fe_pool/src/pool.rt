@@ -9,7 +9,7 @@ use crate::places::Places;
 use std::alloc::{AllocError, Global};
 use std::marker::Model;
 
-/// Nodes that hold a `T` each while they are taken, and stand on at most one list of each family.
+/// Nodes that hold a `T` each while they are taken, and are on at most one list of each family.
 ///
 /// All memory is taken by `with_nodes`, and each call after it takes a bounded time.
 #[derive(Drop)]
@@ -33,7 +33,7 @@ impl<T> Model for Pool<T> {
 }
 
 impl<T: Drop> Pool<T> {
-    /// A pool of so many nodes, all free.
+    /// A pool of this many nodes, all free.
     pub fn with_nodes(alloc: Global, nodes: u32) -> Result<Pool<T>, AllocError>
         ensures items { IfOk result (λ p. p.items ≡ replicate nodes None) }
         ensures of_word { IfOk result (λ p. p.of_word ≡ replicate nodes []) }
@@ -57,7 +57,7 @@ impl<T: Drop> Pool<T> {
         self.places.count()
     }
 
-    /// Puts the item into a free node, which stands on no list, or drops it where no node is free.
+    /// Puts the item into a free node, which is on no list, or drops it if no node is free.
     pub fn take(&mut self, item: T) -> Option<Node>
         ensures full { IsNone result ↔ ((node : ℕ) → ¬ (IsFree self.old node)) }
         ensures was_free { IfSome result (IsFree self.old) }
@@ -71,7 +71,7 @@ impl<T: Drop> Pool<T> {
         Some(node)
     }
 
-    /// Takes the item out of a node that stands on no list, which is free from then on.
+    /// Takes the item out of a node that is on no list; the node is free from then on.
     pub fn give_back(&mut self, node: Node) -> T
         requires taken { IsTaken self.old node }
         requires off { (family : _) → IsOff self.old family node }
@@ -92,7 +92,7 @@ impl<T: Drop> Pool<T> {
         self.places.item(node)
     }
 
-    /// The node behind this one on its list of the family, or `None` at the end.
+    /// The node after this one on its list of the family, or `None` at the end.
     pub fn next(&self, family: Family, node: Node) -> Option<Node>
         requires { IsOn self.now family node }
         ensures { IsNext self.now family node result }
@@ -100,7 +100,7 @@ impl<T: Drop> Pool<T> {
         self.places.neighbours(family, node).unwrap().next
     }
 
-    /// Puts a taken node that stands on no list of the family at the end of the chain's list.
+    /// Puts a taken node that is on no list of the family at the end of the chain's list.
     pub fn push_back(&mut self, family: Family, chain: &mut Chain, node: Node)
         requires chain { IsChain self.old family chain.old }
         requires taken { IsTaken self.old node }
@@ -134,7 +134,7 @@ impl<T: Drop> Pool<T> {
         };
     }
 
-    /// Takes a node out of the chain's list, wherever on it the node stands.
+    /// Takes a node out of the chain's list, wherever the node is on it.
     pub fn unlink(&mut self, family: Family, chain: &mut Chain, node: Node)
         requires chain { IsChain self.old family chain.old }
         requires on { Contains (list_of self.old family chain.old) node }

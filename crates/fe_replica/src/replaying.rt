@@ -9,7 +9,7 @@ use fe_codec::{Format, read_entry};
 use fe_state::{Entry, State};
 
 /// Why a stored group was not gone through to its end.
-#[derive(Clone, Copy, Debug, PartialEq, Eq)]
+#[derive(Clone, Copy, PartialEq, Eq)]
 pub enum ReplayFault {
     /// The record at this offset of the payload is no entry's, or its entry may not come next.
     Damaged { offset: usize },
@@ -18,7 +18,7 @@ pub enum ReplayFault {
 }
 
 /// Why the first record of what is left was not gone through.
-#[derive(Clone, Copy, Debug, PartialEq, Eq)]
+#[derive(Clone, Copy, PartialEq, Eq)]
 enum Fault {
     /// It is no entry's, or its entry may not come next.
     Bad,
@@ -48,7 +48,7 @@ pub fn replay(format: Format, payload: &[u8], state: &mut State) -> Result<(), R
     Ok(())
 }
 
-/// Carries out the entry whose record the first bytes are, and gives the bytes behind it.
+/// Carries out the entry whose record the first bytes are, and gives the bytes after it.
 fn replay_one<'a>(format: Format, bytes: &'a [u8], state: &mut State) -> Result<&'a [u8], Fault>
     ensures ok { IfOk result (λ behind. Steps format bytes.now state.old behind.now state.new) }
     ensures bad { result ≡ Err fault.Bad → NoneFollows format bytes.now state.old }
@@ -67,7 +67,7 @@ fn replay_one<'a>(format: Format, bytes: &'a [u8], state: &mut State) -> Result<
     }
 }
 
-/// The entry whose record the first bytes are, and the bytes behind it.
+/// The entry whose record the first bytes are, and the bytes after it.
 fn next_entry(format: Format, bytes: &[u8]) -> Option<(Entry, &[u8])>
     ensures found { IfSome result (λ x. FitsRecord format x.0 × (bytes.now ≡ entry_spelling format x.0 ++ x.1.now)) }
     ensures only { (entry : Step) (more : List ℕ) → FitsRecord format entry → bytes.now ≡ entry_spelling format entry ++ more → IsSome result }

@@ -7,7 +7,7 @@ ghost use Rattle.fe_replica.specs.declared.taking.Refused.TheVariants.{Mismatch,
 use fe_state::{Entry, State, UndoLog};
 
 /// Why a batch was not taken.
-#[derive(Clone, Copy, Debug, PartialEq, Eq)]
+#[derive(Clone, Copy, PartialEq, Eq)]
 pub enum Refused {
     /// The entries do not continue the history, first at this place.
     Mismatch { place: u64 },

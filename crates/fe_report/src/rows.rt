@@ -44,7 +44,7 @@ pub(crate) fn rows_by_word(alloc: Global, front: &Front) -> Result<Vec<(Spot, Op
     Ok(rows)
 }
 
-/// How many requests wait of each session of which some do.
+/// For each session with waiting requests, how many wait.
 pub(crate) fn rows_by_session(
     alloc: Global,
     front: &Front,

@@ -16,7 +16,7 @@ use fe_desk::Port;
 use fe_wire::{ServerMessage, read_reply};
 use std::alloc::{AllocError, Global};
 
-/// The first frame of the bytes and what stands behind it, if a whole one is there.
+/// The first frame of the bytes and what follows it, if a whole one is there.
 #[tactic(auto, unfolding(crate::specs::within::Frames::frame_at))]
 fn first_frame(bytes: &[u8]) -> Option<(&[u8], &[u8])>
     ensures frame { option_map (λ p. (p.0.now, p.1.now)) result ≡ frame_at bytes.entry.now }
@@ -68,7 +68,7 @@ fn read_told(
     Ok(())
 }
 
-/// Reads the replies of a port behind the front that is printed.
+/// Reads a port's replies after those that are printed.
 fn read_port(
     alloc: Global,
     port: &Port,
@@ -90,7 +90,7 @@ fn printed_at(printed: &[usize], at: usize) -> usize
     printed.get(at).copied().unwrap_or(0)
 }
 
-/// Reads the replies of all ports behind what is printed of each.
+/// Reads all ports' replies after those that are printed.
 pub(crate) fn read_all(
     alloc: Global,
     ports: &[Port],

@@ -16,7 +16,7 @@ pub(crate) struct Told {
 }
 
 impl Told {
-    /// What is told is sorted by: the connection, and then the number of the reply.
+    /// What is printed is sorted by: the connection, and then the number of the reply.
     fn key(&self) -> (u64, u64)
         ensures { result ≡ key_of self.now }
     {
@@ -30,14 +30,14 @@ impl Told {
     }
 }
 
-/// Sorts what is told by connection and then by number. What was told under one number stays in its order.
+/// Sorts replies by connection and then by number. Replies under one number keep their order.
 pub(crate) fn sort(told: &mut Vec<Told>) -> Result<(), AllocError>
     ensures { OnOk result (IsSorting told.old.items told.new.items) }
 {
     told.sort_by_key(|one| one.key())
 }
 
-/// Prints what is told, in its order.
+/// Prints the replies in order.
 pub(crate) fn print_told(text: &mut String, told: &[Told]) -> Result<(), AllocError>
     ensures { OnOk result (string_bytes text.new ≡ string_bytes text.old ++ flat_map told_text told.now) }
 {

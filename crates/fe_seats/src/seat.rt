@@ -1,5 +1,5 @@
 /// What is known of a session that has a seat.
-#[derive(Clone, Copy, Debug, PartialEq, Eq)]
+#[derive(Clone, Copy, PartialEq, Eq)]
 pub struct Seat {
     /// The connection that has the session, if one has it.
     pub holder: Option<u64>,

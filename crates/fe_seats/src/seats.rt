@@ -104,7 +104,7 @@ impl Seats {
         self.places.insert(session, Place { slot, seat });
     }
 
-    /// A session of which nothing waits leaves its seat.
+    /// A session without waiting requests leaves its seat.
     pub fn leave(&mut self, session: u64)
         requires seated { IsSome (map.get self.old.seats session) }
         requires idle { NoneOfSession self.old.waiting session }
@@ -133,7 +133,7 @@ impl Seats {
         self.places.get_mut(session).seat.closing = true;
     }
 
-    /// Adds an array of so many words, on which nothing waits. The one error is that memory is
+    /// Adds an array of this many words, on which nothing waits. The one error is that memory is
     /// short.
     pub fn add_array(&mut self, array: u64, length: u32) -> Result<(), AllocError>
         requires new { map.get self.old.arrays array ≡ None }
@@ -156,7 +156,7 @@ impl Seats {
         self.waits.drop_array(array);
     }
 
-    /// The request of a new number of a session waits from now on, behind the others on its word.
+    /// The request of a new number of a session waits from now on, after the others on its word.
     pub fn add(&mut self, session: u64, number: u64, array: u64, index: u32, op: Op)
         requires seated { IsSome (map.get self.old.seats session) }
         requires new { map.get self.old.waiting (session, number) ≡ None }

@@ -4,7 +4,7 @@ use fe_waits::Row;
 use fe_words::Op;
 
 /// A request that waits for its turn on a word.
-#[derive(Clone, Copy, Debug, PartialEq, Eq)]
+#[derive(Clone, Copy, PartialEq, Eq)]
 pub struct Turn {
     pub session: u64,
     /// Its number in the session.

@@ -1,4 +1,4 @@
-//! The socket is made, under a name beside its own, so that its file is there only once it listens.
+//! The socket is made, under another name in its folder, so that its file is there only once it listens.
 
 use std::alloc::Global;
 use std::fs;
@@ -7,7 +7,7 @@ use std::os::unix::fs::FileTypeExt;
 use std::os::unix::net::{UnixListener, UnixStream};
 use std::rt::Files;
 
-/// What the name beside it has behind the path.
+/// What the other name has after the path.
 const BESIDE: &str = ".new";
 
 /// The most bytes that the path of a socket has on Linux.
@@ -26,7 +26,7 @@ pub(crate) fn bind<R: Files + Net>(rt: &R, alloc: Global, path: &str) -> Option<
     }
 }
 
-/// A listener that was bound to the name beside its path, and moved there.
+/// A listener that was bound to the other name, and moved to its path.
 fn bind_ready<R: Files + Net>(rt: &R, alloc: Global, path: &str) -> Option<UnixListener> {
     let beside = name_beside(alloc, path)?;
     let listener = bind_beside(rt, beside.as_str())?;
@@ -43,7 +43,7 @@ fn is_taken<R: Files>(rt: &R, path: &str) -> bool {
     fs::symlink_metadata(rt, path).is_ok()
 }
 
-/// The name beside a path, where it is not too long and there is memory for it.
+/// The other name of a path, if it is not too long and there is memory for it.
 fn name_beside(alloc: Global, path: &str) -> Option<String> {
     if path.len() > LONGEST - BESIDE.len() {
         return None;
@@ -51,7 +51,7 @@ fn name_beside(alloc: Global, path: &str) -> Option<String> {
     format!(in alloc; "{path}{BESIDE}").ok()
 }
 
-/// A listener at the name beside. What a start that was killed left there is removed; the socket of one that is under way is not.
+/// A listener at the other name. What a start that was killed left there is removed; the socket of one that is under way is not.
 fn bind_beside<R: Files + Net>(rt: &R, beside: &str) -> Option<UnixListener> {
     if is_left(rt, beside) {
         let _ = fs::remove_file(rt, beside);

@@ -2,7 +2,7 @@ use crate::stop_fault::StopFault;
 use fe_store::OpenFault;
 
 /// Why a server ended with no books.
-#[derive(Clone, Copy, Debug, PartialEq, Eq)]
+#[derive(Clone, Copy, PartialEq, Eq)]
 pub enum ServeFault {
     /// The store is not opened.
     Store(OpenFault),

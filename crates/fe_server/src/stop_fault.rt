@@ -1,7 +1,7 @@
 use fe_keeper::Fault;
 
 /// Why a server over an opened store ended with no books.
-#[derive(Clone, Copy, Debug, PartialEq, Eq)]
+#[derive(Clone, Copy, PartialEq, Eq)]
 pub enum StopFault {
     /// The device of the store failed.
     Device,

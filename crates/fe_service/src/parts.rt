@@ -103,7 +103,7 @@ impl Parts {
         count
     }
 
-    /// Serves those that wait on the words of an array that is gone, which has so many. It counts them.
+    /// Serves the requests that wait on any of this many words of an array that is gone. Returns their number.
     pub(crate) fn serve_array(&mut self, array: u64, length: u32) -> u32
         requires there { get self.old.seats.arrays array ≡ Some length }
         requires usable { AreUsable self.old.state self.old.seats.waiting }

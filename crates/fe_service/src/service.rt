@@ -220,7 +220,7 @@ impl Service {
         self.parts.wait(session, number, array, index, op);
     }
 
-    /// Takes the entries that were made, and goes on with others, of which there are none yet.
+    /// Takes the entries that were made, and goes on with others, with an empty list.
     pub fn take_pending(&mut self, spare: Entries) -> Entries
         requires { spare ≡ [] }
         ensures entries { result ≡ self.old.pending }

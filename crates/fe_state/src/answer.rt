@@ -1,5 +1,5 @@
 /// The answer that a request gets once it completes.
-#[derive(Clone, Copy, Debug, PartialEq, Eq)]
+#[derive(Clone, Copy, PartialEq, Eq)]
 pub enum Answer {
     /// The value of the word before the operation.
     Value(u64),

@@ -4,7 +4,7 @@ use fe_table::Copied;
 use std::alloc::{AllocError, Global};
 
 /// An array: its name, and its words.
-#[derive(Debug, Drop)]
+#[derive(Drop)]
 pub struct Array {
     pub name: Name,
     pub words: Words,

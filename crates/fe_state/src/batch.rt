@@ -11,7 +11,7 @@ use std::marker::Model;
 pub const BATCH_ENTRIES: usize = 4097;
 
 /// The entries of a batch, in order: at most 4,097, with room for as many.
-#[derive(Debug, Drop)]
+#[derive(Drop)]
 pub struct Entries {
     items: Vec<Entry>,
 }
@@ -69,7 +69,7 @@ impl Entries {
 }
 
 /// Entries that follow one another in the history.
-#[derive(Debug, Drop)]
+#[derive(Drop)]
 pub struct Batch {
     /// The place of the first entry.
     pub first: u64,

@@ -2,7 +2,7 @@ use crate::array::Array;
 use fe_words::Word;
 
 /// What a request changed of the arrays, with what it takes to bring the arrays before it back.
-#[derive(Debug, Drop)]
+#[derive(Drop)]
 pub enum Change {
     Nothing,
     /// The array made last is new.

@@ -5,9 +5,9 @@ use crate::answer::Answer;
 use crate::request::Request;
 
 /// A step of the history: what was done to the state, with the answer that it gave.
-#[derive(Clone, Copy, Debug, PartialEq, Eq)]
+#[derive(Clone, Copy, PartialEq, Eq)]
 pub enum Entry {
-    /// A connection attached the session, whose floor is told.
+    /// A connection attached the session, with this floor.
     Attached {
         session: u64,
         floor: u64,

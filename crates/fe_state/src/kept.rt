@@ -2,7 +2,7 @@ use crate::answer::Answer;
 use crate::request::Request;
 
 /// What is kept of a request that completed: its content, its answer, and the place of its entry.
-#[derive(Clone, Copy, Debug, PartialEq, Eq)]
+#[derive(Clone, Copy, PartialEq, Eq)]
 pub struct Kept {
     pub request: Request,
     pub answer: Answer,

@@ -9,7 +9,7 @@ use std::marker::Model;
 pub const NAME_BYTES: usize = 32;
 
 /// The name of an array as a client sent it: 0 to 32 bytes of any kind.
-#[derive(Clone, Copy, Debug, PartialEq, Eq)]
+#[derive(Clone, Copy, PartialEq, Eq)]
 pub struct Name {
     len: u8,
     cells: [u8; NAME_BYTES],

@@ -2,7 +2,7 @@ use crate::name::Name;
 use fe_words::{Op, Tag};
 
 /// What a client asks of the arrays.
-#[derive(Clone, Copy, Debug, PartialEq, Eq)]
+#[derive(Clone, Copy, PartialEq, Eq)]
 pub enum Request {
     /// A new array of this many words, each of value 0 and with the tag.
     Create {

@@ -15,10 +15,10 @@ pub const WINDOW: u64 = 32;
 
 /// A session: its floor, which is its least usable number, and what is kept for the 32 numbers
 /// from the floor on. It takes no memory.
-#[derive(Debug, Drop)]
+#[derive(Drop)]
 pub struct Session {
     floor: u64,
-    /// What is kept for a number stands in the cell of the number's remainder by 32.
+    /// What is kept for a number is in the cell of the number's remainder by 32.
     cells: [Option<Kept>; 32],
 }
 
@@ -121,7 +121,7 @@ impl Session {
         self.floor = floor;
     }
 
-    /// Raises the floor as `raise`, and puts what is dropped behind `dropped`, which has room for 32 more.
+    /// Raises the floor as `raise`, and appends what is dropped to `dropped`, which has room for 32 more.
     pub(crate) fn settle(&mut self, floor: u64, dropped: &mut Vec<Dropped>)
         requires rise { MayRise self.old.floor floor }
         requires room { vec_len dropped.old + 32 ≤ vec_capacity dropped.old }
@@ -144,7 +144,7 @@ impl Session {
         self.floor = floor;
     }
 
-    /// Drops what is kept below a number, and puts it behind `dropped`, which has room for 32 more. The floor stays.
+    /// Drops what is kept below a number, and appends it to `dropped`, which has room for 32 more. The floor stays.
     pub(crate) fn drop_below(&mut self, end: u64, dropped: &mut Vec<Dropped>)
         requires least { self.old.floor ≤ end }
         requires most { end ≤ self.old.floor + 32 }

@@ -31,7 +31,7 @@ use std::marker::Model;
 pub const GREATEST_PLACE: u64 = 9223372036854775807;
 
 /// An entry that may not come next.
-#[derive(Clone, Copy, Debug, PartialEq, Eq)]
+#[derive(Clone, Copy, PartialEq, Eq)]
 pub struct Illegal;
 
 /// The arrays and sessions after the entries so far.

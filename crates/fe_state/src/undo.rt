@@ -3,8 +3,8 @@ ghost use Rattle.fe_state.specs.UndoLog.{answers_of};
 
 use crate::change::Change;
 
-/// What an entry changed of the state. The answers that it dropped stand in the log.
-#[derive(Debug, Drop)]
+/// What an entry changed of the state. The answers that it dropped are in the log.
+#[derive(Drop)]
 pub struct Undo {
     pub session: u64,
     pub session_change: SessionChange,
@@ -12,14 +12,14 @@ pub struct Undo {
 }
 
 /// What an entry changed of its session.
-#[derive(Clone, Copy, Debug)]
+#[derive(Clone, Copy)]
 pub enum SessionChange {
     Same,
     /// The session is new.
     Opened,
-    /// The session is gone. It had this floor, and so many answers.
+    /// The session is gone. It had this floor, and this many answers.
     Closed { floor: u64, answers: usize },
-    /// The floor was this one, and so many answers were kept below the new one.
+    /// The floor was this one, and this many answers were kept below the new one.
     Settled { floor: u64, answers: usize },
     /// The number has an answer that is new.
     Kept(u64),

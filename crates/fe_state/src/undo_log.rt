@@ -18,9 +18,9 @@ const MOST_DROPPED: usize = 32;
 
 /// What entries changed, so that they can be undone from the latest to the first.
 ///
-/// It makes its room when it is made. The answers that a session lost when it was settled or closed stand
+/// It makes its room when it is made. The answers that a session lost when it was settled or closed are
 /// in a part that the other entries never touch.
-#[derive(Debug, Drop)]
+#[derive(Drop)]
 pub struct UndoLog {
     room: usize,
     undos: Vec<Undo>,
@@ -41,7 +41,7 @@ impl Model for UndoLog {
 }
 
 impl UndoLog {
-    /// A log with nothing in it, and room for so many entries. The one error is that memory is short.
+    /// A log with nothing in it, and room for this many entries. The one error is that memory is short.
     pub fn with_room(alloc: Global, entries: usize) -> Result<UndoLog, AllocError>
         ensures { IfOk result (λ log. log ≡ empty_log entries) }
     {

@@ -1,4 +1,4 @@
-//! Files beside that of a store: `PATH.new`, which is being made, and `PATH.before-format`, the bytes that a formatting replaced.
+//! The files next to a store: `PATH.new`, which is being made, and `PATH.before-format`, the bytes that a formatting replaced.
 //!
 //! Whoever makes `PATH.new` or removes it has the lock of the file, and has seen that the name leads to it. So two that start at
 //! once never remove or name what the other makes.
@@ -50,7 +50,7 @@ pub(crate) fn make<R: Files<File = File>>(
     }
 }
 
-/// Sees to it that nothing is lost where an unformatted store is formatted: its bytes are kept in a file beside it, unless they are
+/// Formatting an unformatted store loses nothing: its bytes are kept in a file next to it, unless they are
 /// zeros and what formatting writes, or kept there already. A file that is there and has others stays, and is a fault.
 pub(crate) fn keep<R: Files<File = File>>(
     rt: &R,
@@ -159,7 +159,7 @@ fn copy<R: Files<File = File>>(
     }
 }
 
-/// Whether a file keeps these bytes, but for those that nobody misses.
+/// Whether a file keeps these bytes, except those that nobody misses.
 fn compare<R: Files<File = File>>(
     rt: &R,
     alloc: Global,

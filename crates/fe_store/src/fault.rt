@@ -7,13 +7,13 @@ use fe_keeper::Fault;
 use std::alloc::AllocError;
 
 /// Why a store is not opened.
-#[derive(Clone, Copy, Debug, PartialEq, Eq)]
+#[derive(Clone, Copy, PartialEq, Eq)]
 pub enum OpenFault {
     /// There is no file of the store, another program has it, or its device failed.
     Device,
     /// There is no memory.
     Memory,
-    /// The file of the store has another size than a store, so many bytes.
+    /// The store's file has this size, which no store has.
     Size(u64),
     /// No slot of the store is valid.
     Unformatted,
@@ -58,7 +58,7 @@ impl From<DeviceFault> for OpenFault {
     }
 }
 
-/// What is told where a keeper is not opened.
+/// The fault when a keeper is not opened.
 pub(crate) fn told_as(fault: Fault) -> OpenFault
     requires { IsOpenFault fault }
     ensures { IsToldAs fault result }

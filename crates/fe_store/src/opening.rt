@@ -14,7 +14,7 @@ use fe_disk::Disk;
 use fe_keeper::Keeper;
 use std::alloc::Global;
 
-/// Opens the store on a disk, which is synced and then only read. `Size` is told of a file alone.
+/// Opens the store on a disk, which is synced and then only read. Only a file can have the fault `Size`.
 pub fn open_existing<D: Disk>(alloc: Global, disk: D) -> Result<Keeper<D>, (OpenFault, D)>
     // The keeper has the state that the disk stands for, and so does each image that a stop may leave.
     ensures opened { D.honest disk → IfOk result (λ keeper. StandsFor (D.seen disk) keeper.state) }

@@ -10,7 +10,7 @@ use std::io::{ErrorKind, Read, Write};
 const TRIES: u64 = 1 << 40;
 
 /// A read or a write failed, for another reason than a signal.
-#[derive(Clone, Copy, Debug, PartialEq, Eq)]
+#[derive(Clone, Copy, PartialEq, Eq)]
 pub struct Failed;
 
 /// Reads some bytes into the front of the buffer, and says how many; none only where the stream has ended or the buffer has no room.

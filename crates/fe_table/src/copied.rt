@@ -2,7 +2,7 @@ ghost use Rattle.std.specs.Prelude.{◌≡◌, IfOk};
 
 use std::alloc::{AllocError, Global};
 
-/// A value of which a second can be made, in memory of its own.
+/// A value that can be copied into memory of its own.
 pub trait Copied: Sized {
     /// The same value again. The one error is that memory is short.
     fn copied(&self, alloc: Global) -> Result<Self, AllocError>

@@ -1,5 +1,5 @@
 /// Why a stream was not read or written to its end.
-#[derive(Clone, Copy, Debug, PartialEq, Eq)]
+#[derive(Clone, Copy, PartialEq, Eq)]
 pub enum StreamFault {
     /// It can't be read or written further.
     Input,

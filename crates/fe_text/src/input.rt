@@ -3,7 +3,7 @@
 ghost use Rattle.std.specs.Prelude.{◌≡◌, ◌<◌, ◌==◌, ◌++◌, ◌∷◌, length, position, IfNone, IfSome};
 ghost use Rattle.fe_text.specs.Lines.{HasNoFeed};
 
-/// Where the first line feed stands.
+/// The index of the first line feed.
 fn feed_in(bytes: &[u8]) -> Option<usize>
     ensures place { result ≡ position (λ byte. byte == 10) bytes.now }
     ensures within { IfSome result (λ at. at < length bytes.now) }
@@ -11,7 +11,7 @@ fn feed_in(bytes: &[u8]) -> Option<usize>
     bytes.iter().position(|byte| *byte == b'\n')
 }
 
-/// The bytes in front of the first line feed, and those behind it, if there is one.
+/// The bytes before the first line feed and those after it, if there is one.
 pub fn first_line(bytes: &[u8]) -> Option<(&[u8], &[u8])>
     ensures parts { IfSome result (λ p. bytes.entry.now ≡ p.0.now ++ 10 ∷ p.1.now) }
     ensures first { IfSome result (λ p. HasNoFeed p.0.now) }

@@ -15,7 +15,7 @@ pub const LONGEST: usize = 99;
 const CONNECTIONS: u64 = 999;
 
 /// A line of a schedule.
-#[derive(Clone, Copy, Debug, PartialEq, Eq)]
+#[derive(Clone, Copy, PartialEq, Eq)]
 pub enum Line {
     /// A connection sends a message.
     Message { conn: u64, message: ClientMessage },
@@ -115,7 +115,7 @@ pub fn message_in(words: &[u8]) -> Option<ClientMessage>
     }
 }
 
-/// What stands behind the name of a connection.
+/// What follows the name of a connection.
 #[tactic(auto, unfolding(crate::specs::Line::told_in))]
 fn told_in(conn: u64, words: &[u8]) -> Option<Line>
     ensures line { result ≡ told_in conn words.now }

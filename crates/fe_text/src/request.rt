@@ -83,7 +83,7 @@ fn remove_in(words: &[u8]) -> Option<Request>
     Some(Request::Remove { array })
 }
 
-/// The last word without a `nowait` behind it, and whether that is there.
+/// The last word, without a `nowait` after it, and whether there is one.
 #[tactic(auto, unfolding(crate::specs::Requests::last_in))]
 fn last_in(words: &[u8]) -> Option<(&[u8], bool)>
     ensures { option_map (λ p. (p.0.now, p.1)) result ≡ last_in words.entry.now }

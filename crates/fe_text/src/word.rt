@@ -10,7 +10,7 @@ use fe_words::Tag;
 
 const SPACE: u8 = b' ';
 
-/// Where the first space stands.
+/// The index of the first space.
 fn space_in(line: &[u8]) -> Option<usize>
     ensures place { result ≡ position (λ byte. byte == 32) line.now }
     ensures within { IfSome result (λ at. at < length line.now) }
@@ -18,7 +18,7 @@ fn space_in(line: &[u8]) -> Option<usize>
     line.iter().position(|byte| *byte == SPACE)
 }
 
-/// The word before the first space, and what stands behind that space.
+/// The word before the first space, and what follows that space.
 #[tactic(auto, unfolding(crate::specs::Words::words_at))]
 pub(crate) fn word_at(line: &[u8]) -> Option<(&[u8], &[u8])>
     ensures { option_map (λ p. (p.0.now, p.1.now)) result ≡ words_at line.entry.now }

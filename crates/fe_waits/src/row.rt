@@ -1,7 +1,7 @@
 use fe_words::Op;
 
 /// A request that waits.
-#[derive(Clone, Copy, Debug, PartialEq, Eq)]
+#[derive(Clone, Copy, PartialEq, Eq)]
 pub struct Row {
     /// The place of its session, 0 to 63.
     pub slot: u8,

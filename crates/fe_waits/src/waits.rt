@@ -78,7 +78,7 @@ impl Waits {
         self.sessions.at(slot as usize).length
     }
 
-    /// Adds an array of so many words, on which nothing waits. The one error is that memory is
+    /// Adds an array of this many words, on which nothing waits. The one error is that memory is
     /// short.
     pub fn add_array(&mut self, array: u64, length: u32) -> Result<(), AllocError>
         requires new { map.get self.old.arrays array ≡ None }
@@ -101,7 +101,7 @@ impl Waits {
         self.words.remove(array);
     }
 
-    /// The request of a new slot and number waits from now on, behind the others on its word.
+    /// The request of a new slot and number waits from now on, after the others on its word.
     pub fn add(&mut self, slot: u8, number: u64, array: u64, index: u32, op: Op)
         requires slot { slot < 64 }
         requires new { map.get self.old.members (slot, number) ≡ None }

@@ -1,7 +1,7 @@
 use fe_state::Request;
 
 /// A message from a client.
-#[derive(Clone, Copy, Debug, PartialEq, Eq)]
+#[derive(Clone, Copy, PartialEq, Eq)]
 pub enum ClientMessage {
     /// The connection wants this session.
     Attach { session: u64 },

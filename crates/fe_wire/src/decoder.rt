@@ -13,7 +13,7 @@ use std::marker::Model;
 
 /// Reads the stream of one connection, which comes in any pieces. It keeps no more than the
 /// beginning of one frame (`docs/formats.md`, "Frames").
-#[derive(Debug, Drop)]
+#[derive(Drop)]
 pub struct Decoder {
     place: Place,
 }

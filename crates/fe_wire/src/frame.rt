@@ -16,7 +16,7 @@ pub fn is_long(name: &Name) -> bool
 }
 
 /// A frame that is being written, of at most 51 bytes.
-#[derive(Debug, Drop)]
+#[derive(Drop)]
 pub struct Frame {
     cells: [u8; FRAME_BYTES],
     len: usize,

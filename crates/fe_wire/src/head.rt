@@ -1,4 +1,4 @@
-//! What stands at the front of the bytes of a stream.
+//! What is at the front of a stream's bytes.
 
 ghost use Rattle.std.specs.Prelude.{◌≡◌, ◌≤◌, length};
 ghost use Rattle.fe_wire.specs.Stream.{IsHead, length_field, length_of_kind, longest};
@@ -20,7 +20,7 @@ pub enum Head {
     Unfinished,
     /// It is outside the grammar, whatever comes.
     Bad,
-    /// The whole frame is there, of so many bytes, and spells the message.
+    /// The whole frame of this many bytes is there, and spells the message.
     Whole(usize, ClientMessage),
 }
 
@@ -61,7 +61,7 @@ fn length_of_kind(version: Version, kind: u8) -> Option<u32>
     }
 }
 
-/// The head of the bytes; others may stand behind its frame.
+/// The head of the bytes; others may follow its frame.
 pub fn head_of(version: Version, bytes: &[u8]) -> Head
     ensures { IsHead version result bytes.now }
 {

@@ -2,7 +2,7 @@
 
 ghost use Rattle.fe_wire.specs.Laws.{EachHasReading, HasOneReading, HasOneOutcome, HasOneSpelling, HasOneReplySpelling, HasOneReplyReading};
 
-/// Two readings of one stream in one version are one: its messages, and the rest behind them.
+/// Two readings of one stream in one version are one: its messages, and the rest after them.
 pub fn one_reading()
     ensures { HasOneReading }
 {}
@@ -12,13 +12,13 @@ pub fn has_reading()
     ensures { EachHasReading }
 {}
 
-/// Two decoders of one version that have read one stream have the same messages, and stand alike, however the
+/// Two decoders of one version that have read one stream have the same messages, and are in the same position, however the
 /// stream was cut into pieces for each.
 pub fn one_outcome()
     ensures { HasOneOutcome }
 {}
 
-/// No message's frame begins another's, and no two messages have one frame, of whichever versions.
+/// No message's frame begins another's, and no two messages have one frame, whatever their versions.
 pub fn one_spelling()
     ensures { HasOneSpelling }
 {}

@@ -10,8 +10,8 @@ use crate::version::Version;
 /// The bytes of the longest frame from a client.
 pub const FRAME_BYTES: usize = 51;
 
-/// Where a decoder stands in its stream.
-#[derive(Clone, Copy, Debug)]
+/// A decoder's position in its stream.
+#[derive(Clone, Copy)]
 pub struct Place {
     /// Where the frame begins that the bytes held are of; 2^64 - 1 for places beyond.
     pub offset: u64,

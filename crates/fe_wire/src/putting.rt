@@ -78,7 +78,7 @@ fn refused_frame(number: u64, code: u8) -> Frame
     frame
 }
 
-/// The text goes into `out` straight behind its length and kind, and is copied into no `Frame`.
+/// The text goes straight into `out`, after its length and kind, and not through a `Frame`.
 fn put_report(out: &mut Vec<u8>, report: &ReportText) -> Result<(), AllocError>
     ensures ok { OnOk result (out.new.items ≡ out.old.items ++ reply_spelling (ServerMessage.Report report.now)) }
     ensures err { OnErr result (out.new.items ≡ out.old.items) }

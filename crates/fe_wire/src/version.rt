@@ -1,5 +1,5 @@
 /// A version of the frames (`docs/formats.md`, "Frames").
-#[derive(Clone, Copy, Debug, PartialEq, Eq)]
+#[derive(Clone, Copy, PartialEq, Eq)]
 pub enum Version {
     /// Each access waits where it has to, and a name has up to 16 bytes.
     One,

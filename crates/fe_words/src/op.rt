@@ -5,7 +5,7 @@ use crate::word::{Need, Reply, Tag, Word};
 
 /// An operation on a tagged word. The operand of a write is the value written, that of
 /// `IntFetchAdd` the number added.
-#[derive(Clone, Copy, Debug, PartialEq, Eq)]
+#[derive(Clone, Copy, PartialEq, Eq)]
 pub enum Op {
     ReadFe,
     ReadFf,

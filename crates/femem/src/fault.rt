@@ -25,7 +25,7 @@ pub(crate) enum Fault {
     /// There is no file of the store, or its device failed.
     #[error("femem: store device")]
     Device,
-    /// The file of the store has another size than a store, so many bytes.
+    /// The store's file has this size, which no store has.
     #[error("femem: store size {0}")]
     Size(u64),
     /// No slot of the store is valid.
