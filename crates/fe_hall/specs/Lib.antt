@@ -3,3 +3,4 @@ pub mod Seats
 pub mod Commits
 pub mod Reads
 pub mod Writes
+pub mod Audits

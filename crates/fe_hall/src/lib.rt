@@ -19,7 +19,7 @@ mod tally;
 mod write_end;
 mod writing;
 
-pub use closing::{Closing, Unclosed, close};
+pub use closing::{Audit, Closing, Unclosed, close, settle};
 pub use commit_end::CommitEnd;
 pub use committing::commit_side;
 pub use ends::ReadEnd;
