@@ -34,7 +34,7 @@ const MOST: u64 = 9223372036854767616;
 /// The front and its ledgers, which agree with its books.
 #[derive(Drop)]
 pub(crate) struct Floor<C: Tally, M: Tally> {
-    pub(crate) front: Front,
+    front: Front,
     calls: Book<C>,
     mails: Book<M>,
     spare_calls: Share<C>,
@@ -45,7 +45,7 @@ pub(crate) struct Floor<C: Tally, M: Tally> {
     present: Vec<u64>,
     /// Those whose read side waits for their box.
     watched: Vec<u64>,
-    pub(crate) stopped: bool,
+    stopped: bool,
     ghost open: { IsOpen front.books },
     ghost calls_agree: { calls.total ≡ front.books.calls },
     ghost mails_agree: { mails.total ≡ front.books.taken },
@@ -232,6 +232,24 @@ impl<C: Tally, M: Tally> Floor<C, M> {
     /// Whether it is noted that the read side of a connection waits for its box.
     pub(crate) fn is_watched(&self, conn: u64) -> bool {
         self.watched.iter().any(|other| *other == conn)
+    }
+
+    /// The hall is stopped.
+    pub(crate) fn stop(&mut self)
+        ensures stopped { self.new.stopped ≡ true }
+        ensures front { self.new.front ≡ self.old.front }
+    {
+        self.stopped = true;
+    }
+
+    pub(crate) fn is_stopped(&self) -> bool
+        ensures { result ≡ self.now.stopped }
+    {
+        self.stopped
+    }
+
+    pub(crate) fn has_mail(&self, conn: u64) -> bool {
+        self.front.has_mail(conn)
     }
 
     /// Whether a connection is told nothing any more: it is gone, or the hall is stopped.

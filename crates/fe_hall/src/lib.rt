@@ -1,6 +1,6 @@
 //! The hall: one front under a lock, for the threads of connections and the thread that stores.
 //!
-//! Each hold of the lock is one event of the front. Two ledgers lie beside it, of the calls and of the mails that were taken,
+//! Each hold of the lock is one event of the front (`Hold`). Two ledgers lie beside it, of the calls and of the mails that were taken,
 //! and each side of a connection has a seat that says what it did, so that the books can be compared with the seats.
 #![tactic(auto)]
 
@@ -11,6 +11,7 @@ mod ends;
 mod floor;
 mod hall;
 mod halves;
+mod hold;
 mod reading;
 mod receipt;
 mod seat;
