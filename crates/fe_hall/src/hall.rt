@@ -1,16 +1,17 @@
-ghost use Rattle.std.specs.Prelude.{◌≡◌, ◌≢◌, ◌+◌, IfOk, IfErr, OnOk, OnErr, length};
+ghost use Rattle.std.specs.Prelude.{◌≡◌, ◌+◌, IfOk, IfErr, IfSome, length, true};
 ghost use Rattle.fe_mail.specs.Books.{first_books};
-ghost use Rattle.fe_hall.specs.Seats.{calls_in, risen, most_connections};
+ghost use Rattle.fe_hall.specs.Seats.{HasDeparted, ReadSeat, TookNoMessage, WriteSeat, first_read_seat, first_write_seat, message_answered, taking_answered, most_connections};
 ghost use Rattle.fe_hall.specs.Commits.{IsStored};
-ghost use Rattle.fe_hall.specs.Writes.{IsNoFault};
 
-use crate::floor::{BELLS, Floor, Handled, Unconnected};
+use crate::call_seat::CallSeat;
+use crate::floor::{BELLS, Cutting, Floor, Posted, Unconnected};
 use crate::hold::Lock;
-use crate::seat::{CallSeat, MailSeat};
+use crate::mail_seat::MailSeat;
+use crate::standing::Standing;
+use crate::taking::Taking;
 use crate::tally::Tally;
-use crate::write_end::WriteEnd;
 use fe_disk::Disk;
-use fe_front::{Front, Mail, StrangeBatch};
+use fe_front::{Front, StrangeBatch};
 use fe_keeper::Keeper;
 use fe_state::Batch;
 use fe_wire::ClientMessage;
@@ -63,8 +64,8 @@ impl<C: Tally, M: Tally> Hall<C, M> {
         rt: &R,
         conn: u64,
     ) -> Result<(CallSeat<C>, MailSeat<M>), Unconnected>
-        ensures calls { IfOk result (λ seats. seats.0 ≡ record { connections = 1; amount = 0 }) }
-        ensures mails { IfOk result (λ seats. seats.1 ≡ record { connections = 1; amount = 0 }) }
+        ensures calls { IfOk result (λ seats. seats.0 ≡ first_read_seat conn) }
+        ensures mails { IfOk result (λ seats. seats.1 ≡ first_write_seat conn) }
     {
         self.lock.enter(rt).connect(conn)
     }
@@ -79,34 +80,27 @@ impl<C: Tally, M: Tally> Hall<C, M> {
         }
     }
 
-    /// Rings for the sides of a connection that wait for its box.
-    fn ring(&self, conn: u64) {
-        self.bells[(conn % BELLS) as usize].notify_all();
-    }
-
-    /// Takes a message of a connection, once there is room for it.
+    /// Takes a message of a connection, once there is room for it; or tells its seat why not.
     pub(crate) fn handle<R: Wait>(
         &self,
         rt: &R,
         alloc: Global,
-        conn: u64,
         message: &ClientMessage,
         seat: &mut CallSeat<C>,
-    ) -> Handled
-        ensures taken { result ≡ Handled.Taken → seat.new ≡ risen seat.old (calls_in message.now) }
-        ensures other { result ≢ Handled.Taken → seat.new ≡ seat.old }
+    ) -> Standing
+        ensures { seat.new ≡ message_answered seat.old message.now result }
     {
         let mut hold = self.lock.enter(rt);
         for _ in rt.forever() {
             let mails = hold.mails_made();
-            if let Some(handled) = hold.handle(alloc, conn, message, seat) {
+            if let Some(standing) = hold.handle(alloc, message, seat) {
                 let told = hold.mails_made() != mails;
                 hold.end();
                 self.work.notify_one();
                 if told {
-                    self.ring(conn);
+                    self.ring(seat.conn());
                 }
-                return handled;
+                return standing;
             }
             hold = hold.wait(rt, &self.room);
         }
@@ -115,7 +109,8 @@ impl<C: Tally, M: Tally> Hall<C, M> {
 
     /// Waits until the write side of a connection has written all that it took and the box is empty, or the connection is over. It does
     /// not wait where there is no memory for that.
-    pub(crate) fn await_rest<R: Wait>(&self, rt: &R, conn: u64) {
+    pub(crate) fn await_rest<R: Wait>(&self, rt: &R, seat: &CallSeat<C>) {
+        let conn = seat.conn();
         let mut hold = self.lock.enter(rt);
         if !hold.watch(conn) {
             return;
@@ -134,7 +129,11 @@ impl<C: Tally, M: Tally> Hall<C, M> {
 
     /// Waits until all that comes of the messages of a connection was taken for it, but for what waits; it is gone then. No message of
     /// it comes any more. Where the hall is stopped it is left to its write side, which takes what is in the box.
-    pub(crate) fn drain<R: Wait>(&self, rt: &R, conn: u64) {
+    pub(crate) fn drain<R: Wait>(&self, rt: &R, seat: &mut CallSeat<C>)
+        ensures untaken { TookNoMessage seat.old seat.new }
+        ensures departed { HasDeparted seat.new }
+    {
+        let conn = seat.conn();
         let mut hold = self.lock.enter(rt);
         let place = hold.place();
         for _ in rt.forever() {
@@ -144,44 +143,41 @@ impl<C: Tally, M: Tally> Hall<C, M> {
             hold = hold.wait(rt, &self.bells[(conn % BELLS) as usize]);
         }
         let _ = hold.unwatch(conn);
-        if hold.is_stopped() {
-            return;
-        }
-        hold.leave(conn);
+        hold.depart(seat);
         hold.end();
         self.ring(conn);
     }
 
-    /// A connection is gone, if it still is there.
-    pub(crate) fn leave<R: Wait>(&self, rt: &R, conn: u64) {
-        self.lock.enter(rt).leave(conn);
-        self.ring(conn);
+    /// The read side of a connection makes it gone, if it still is there.
+    pub(crate) fn leave_by_reader<R: Wait>(&self, rt: &R, seat: &mut CallSeat<C>)
+        ensures { seat.new ≡ record seat.old { departed = true } }
+    {
+        self.lock.enter(rt).leave_by_reader(seat);
+        self.ring(seat.conn());
     }
 
-    /// Waits for a mail of a connection and takes it; with it, whether more are in its box. The error is why its write side ends.
-    pub(crate) fn take_mail<R: Wait>(
-        &self,
-        rt: &R,
-        conn: u64,
-        seat: &mut MailSeat<M>,
-    ) -> Result<(Mail, bool), WriteEnd>
-        ensures seat { OnOk result (seat.new ≡ risen seat.old 1) }
-        ensures untaken { OnErr result (seat.new ≡ seat.old) }
-        ensures end { IfErr result IsNoFault }
+    /// The write side of a connection makes it gone, if it still is there.
+    pub(crate) fn leave_by_writer<R: Wait>(&self, rt: &R, seat: &mut MailSeat<M>)
+        ensures { seat.new ≡ record seat.old { departed = true } }
     {
+        self.lock.enter(rt).leave_by_writer(seat);
+        self.ring(seat.conn());
+    }
+
+    /// Waits for a mail of a connection and takes it; or tells its seat why none comes.
+    pub(crate) fn take_mail<R: Wait>(&self, rt: &R, seat: &mut MailSeat<M>) -> Taking
+        ensures { seat.new ≡ taking_answered seat.old result }
+    {
+        let conn = seat.conn();
         let mut hold = self.lock.enter(rt);
         for _ in rt.forever() {
-            if let Some(mail) = hold.take_mail(conn, seat) {
-                let more = hold.has_mail(conn);
-                let is_awaited = !more && hold.is_watched(conn);
+            if let Some(taking) = hold.take_mail(seat) {
+                let is_awaited = !seat.more() && hold.is_watched(conn);
                 hold.end();
                 if is_awaited {
                     self.ring(conn);
                 }
-                return Ok((mail, more));
-            }
-            if let Some(end) = hold.end_of_writer(conn) {
-                return Err(end);
+                return taking;
             }
             if hold.unwatch(conn) {
                 self.ring(conn);
@@ -191,15 +187,12 @@ impl<C: Tally, M: Tally> Hall<C, M> {
         unreachable!()
     }
 
-    /// Waits for entries, and cuts them. `None` where the hall is stopped and none is pending.
-    pub(crate) fn next_batch<R: Wait>(&self, rt: &R) -> Option<Batch> {
+    /// Waits for entries, and cuts them; or says that the hall is stopped and nothing is left to store.
+    pub(crate) fn next_batch<R: Wait>(&self, rt: &R) -> Cutting {
         let mut hold = self.lock.enter(rt);
         for _ in rt.forever() {
-            if let Some(batch) = hold.cut() {
-                return Some(batch);
-            }
-            if hold.is_stopped() {
-                return None;
+            if let Some(cutting) = hold.cut() {
+                return cutting;
             }
             hold = hold.wait(rt, &self.work);
         }
@@ -211,16 +204,17 @@ impl<C: Tally, M: Tally> Hall<C, M> {
         &self,
         rt: &R,
         batch: Batch,
-        _keeper: &Keeper<D>,
-    ) -> Option<Result<(), StrangeBatch>>
-        requires stored { IsStored batch _keeper.now.state }
+        keeper: &Keeper<D>,
+    ) -> Option<Result<Posted, StrangeBatch>>
+        requires stored { IsStored batch keeper.now.state }
+        ensures { IfSome result (λ outcome. IfOk outcome (λ posted. posted.durable ≡ batch.first + length batch.entries)) }
     {
         let mut wakes = [false; BELLS as usize];
         let mut hold = self.lock.enter(rt);
         if !hold.posts_more(&batch) {
             return None;
         }
-        let outcome = hold.post(batch);
+        let outcome = hold.post(batch, keeper);
         hold.mark(&mut wakes);
         hold.end();
         self.room.notify_all();
@@ -230,6 +224,11 @@ impl<C: Tally, M: Tally> Hall<C, M> {
             }
         }
         Some(outcome)
+    }
+
+    /// Rings for the sides of a connection that wait for its box.
+    fn ring(&self, conn: u64) {
+        self.bells[(conn % BELLS) as usize].notify_all();
     }
 
     /// What lies under the lock, once no thread has the hall.

@@ -1,20 +1,25 @@
 //! A hold of a hall's lock, in which one event of the front is made at most.
 
 ghost use Rattle.std.specs.Sync.Mutex.{mutex_guard_value as under};
-ghost use Rattle.std.specs.Prelude.{◌≡◌, ◌≢◌, ◌↔◌, ℕ, List, [], true, false, Ok, Err, Some, None, IsTrue, IsErr, IfOk, OnOk, OnErr, IfSome, MatchOption};
+ghost use Rattle.std.specs.Prelude.{◌≡◌, ◌≢◌, ◌+◌, ◌↔◌, ℕ, List, [], true, false, Ok, Err, Some, None, IsTrue, IsErr, IfOk, OnOk, OnErr, MatchOption, length};
 ghost use Rattle.fe_state.specs.declared.entry.Entry.{Entry};
 ghost use Rattle.fe_front.specs.Event as event;
 ghost use Rattle.fe_front.specs.Posting.{IsOut};
 ghost use Rattle.fe_front.specs.Step.{FrontStep};
 ghost use Rattle.fe_messages.specs.Taking.{Takes};
-ghost use Rattle.fe_hall.specs.Seats.{calls_in, risen, posts_more};
-ghost use Rattle.fe_hall.specs.Writes.{IsNoFault};
+ghost use Rattle.fe_hall.specs.Commits.{IsStored};
+ghost use Rattle.fe_hall.specs.Holds.{Cuts, TakesMail};
+ghost use Rattle.fe_hall.specs.Seats.{HasDeparted, ReadSeat, TookNoMessage, WriteSeat, first_read_seat, first_write_seat, message_answered, taking_answered, posts_more};
 
-use crate::floor::{BELLS, Floor, Handled, Unconnected};
-use crate::seat::{CallSeat, MailSeat};
+use crate::call_seat::CallSeat;
+use crate::floor::{BELLS, Cutting, Floor, Posted, Unconnected};
+use crate::mail_seat::MailSeat;
+use crate::standing::Standing;
+use crate::taking::Taking;
 use crate::tally::Tally;
-use crate::write_end::WriteEnd;
-use fe_front::{Mail, StrangeBatch};
+use fe_disk::Disk;
+use fe_front::StrangeBatch;
+use fe_keeper::Keeper;
 use fe_state::Batch;
 use fe_wire::ClientMessage;
 use std::alloc::Global;
@@ -95,8 +100,8 @@ impl<'a, C: Tally, M: Tally> Hold<'a, C, M> {
         ensures used { self.new.used ≡ true }
         ensures step { OnOk result (FrontStep (under self.old.floor).front (event.Connect conn) [] (under self.new.floor).front) }
         ensures err { OnErr result ((under self.new.floor).front ≡ (under self.old.floor).front) }
-        ensures calls { IfOk result (λ seats. seats.0 ≡ record { connections = 1; amount = 0 }) }
-        ensures mails { IfOk result (λ seats. seats.1 ≡ record { connections = 1; amount = 0 }) }
+        ensures calls { IfOk result (λ seats. seats.0 ≡ first_read_seat conn) }
+        ensures mails { IfOk result (λ seats. seats.1 ≡ first_write_seat conn) }
     {
         self.used = true;
         self.floor.connect(conn)
@@ -106,61 +111,92 @@ impl<'a, C: Tally, M: Tally> Hold<'a, C, M> {
     pub(crate) fn handle(
         &mut self,
         alloc: Global,
-        conn: u64,
         message: &ClientMessage,
         seat: &mut CallSeat<C>,
-    ) -> Option<Handled>
+    ) -> Option<Standing>
         requires fresh { self.old.used ≡ false }
         ensures used { self.new.used ≡ true }
-        ensures taken { result ≡ Some Handled.Taken → ((es : List Entry) × Takes (under self.old.floor).front conn message.now es (under self.new.floor).front) × (seat.new ≡ risen seat.old (calls_in message.now)) }
-        ensures other { result ≢ Some Handled.Taken → ((under self.new.floor).front ≡ (under self.old.floor).front) × (seat.new ≡ seat.old) }
+        ensures taken { result ≡ Some Standing.Served → (es : List Entry) × Takes (under self.old.floor).front seat.old.conn message.now es (under self.new.floor).front }
+        ensures other { result ≢ Some Standing.Served → (under self.new.floor).front ≡ (under self.old.floor).front }
+        ensures seat { MatchOption result (seat.new ≡ seat.old) (λ s. seat.new ≡ message_answered seat.old message.now s) }
     {
         self.used = true;
-        self.floor.handle(alloc, conn, message, seat)
+        self.floor.handle(alloc, message, seat)
     }
 
-    /// The event that a mail is taken (`Floor::take_mail`).
-    pub(crate) fn take_mail(&mut self, conn: u64, seat: &mut MailSeat<M>) -> Option<Mail>
+    /// The event that a mail is taken, or why none comes (`Floor::take_mail`).
+    pub(crate) fn take_mail(&mut self, seat: &mut MailSeat<M>) -> Option<Taking>
         requires fresh { self.old.used ≡ false }
         ensures used { self.new.used ≡ true }
-        ensures step { FrontStep (under self.old.floor).front (event.TakeMail conn result) [] (under self.new.floor).front }
-        ensures seat { MatchOption result (seat.new ≡ seat.old) (λ mail. seat.new ≡ risen seat.old 1) }
+        ensures takes { TakesMail (under self.old.floor).front (under self.old.floor).stopped seat.old.conn result (under self.new.floor).front }
+        ensures seat { MatchOption result (seat.new ≡ seat.old) (λ taking. seat.new ≡ taking_answered seat.old taking) }
     {
         self.used = true;
-        self.floor.take_mail(conn, seat)
+        self.floor.take_mail(seat)
     }
 
-    /// The event that a connection is gone (`Floor::leave`).
-    pub(crate) fn leave(&mut self, conn: u64)
+    /// The event that a read side makes its connection gone (`Floor::leave_by_reader`).
+    pub(crate) fn leave_by_reader(&mut self, seat: &mut CallSeat<C>)
         requires fresh { self.old.used ≡ false }
         ensures used { self.new.used ≡ true }
-        ensures step { (count : ℕ) × FrontStep (under self.old.floor).front (event.Gone conn count) [] (under self.new.floor).front }
+        ensures step { (count : ℕ) × FrontStep (under self.old.floor).front (event.Gone seat.old.conn count) [] (under self.new.floor).front }
+        ensures seat { seat.new ≡ record seat.old { departed = true } }
     {
         self.used = true;
-        self.floor.leave(conn);
+        self.floor.leave_by_reader(seat);
+    }
+
+    /// The event that a write side does so (`Floor::leave_by_writer`).
+    pub(crate) fn leave_by_writer(&mut self, seat: &mut MailSeat<M>)
+        requires fresh { self.old.used ≡ false }
+        ensures used { self.new.used ≡ true }
+        ensures step { (count : ℕ) × FrontStep (under self.old.floor).front (event.Gone seat.old.conn count) [] (under self.new.floor).front }
+        ensures seat { seat.new ≡ record seat.old { departed = true } }
+    {
+        self.used = true;
+        self.floor.leave_by_writer(seat);
+    }
+
+    /// The event that a read side makes its connection gone, but where the hall is stopped (`Floor::depart`).
+    pub(crate) fn depart(&mut self, seat: &mut CallSeat<C>)
+        requires fresh { self.old.used ≡ false }
+        ensures used { self.new.used ≡ true }
+        ensures departed { HasDeparted seat.new }
+        ensures untaken { TookNoMessage seat.old seat.new }
+        ensures step { (under self.old.floor).stopped ≡ false → (count : ℕ) × FrontStep (under self.old.floor).front (event.Gone seat.old.conn count) [] (under self.new.floor).front }
+        ensures stopped { (under self.old.floor).stopped ≡ true → (under self.new.floor).front ≡ (under self.old.floor).front }
+    {
+        self.used = true;
+        self.floor.depart(seat);
     }
 
     /// The event that the pending entries are handed out (`Floor::cut`).
-    pub(crate) fn cut(&mut self) -> Option<Batch>
+    pub(crate) fn cut(&mut self) -> Option<Cutting>
         requires fresh { self.old.used ≡ false }
         ensures used { self.new.used ≡ true }
-        ensures step { FrontStep (under self.old.floor).front (event.Cut result) [] (under self.new.floor).front }
+        ensures cuts { Cuts (under self.old.floor).front (under self.old.floor).stopped result (under self.new.floor).front }
     {
         self.used = true;
         self.floor.cut()
     }
 
     /// The event that a batch is posted (`Floor::post`).
-    pub(crate) fn post(&mut self, batch: Batch) -> Result<(), StrangeBatch>
+    pub(crate) fn post<D: Disk>(
+        &mut self,
+        batch: Batch,
+        keeper: &Keeper<D>,
+    ) -> Result<Posted, StrangeBatch>
         requires fresh { self.old.used ≡ false }
         requires more { IsTrue (posts_more (under self.old.floor).front.books batch) }
+        requires stored { IsStored batch keeper.now.state }
         ensures used { self.new.used ≡ true }
         ensures refused { IsErr result ↔ (¬ IsOut (under self.old.floor).front.out batch) }
         ensures step { OnOk result (FrontStep (under self.old.floor).front (event.Post batch) [] (under self.new.floor).front) }
+        ensures durable { IfOk result (λ posted. posted.durable ≡ batch.first + length batch.entries) }
         ensures err { OnErr result ((under self.new.floor).front ≡ (under self.old.floor).front) }
     {
         self.used = true;
-        self.floor.post(batch)
+        self.floor.post(batch, keeper)
     }
 
     /// The hall is stopped. It is no event of the front, but its hold makes none.
@@ -194,10 +230,6 @@ impl<'a, C: Tally, M: Tally> Hold<'a, C, M> {
         self.floor.is_watched(conn)
     }
 
-    pub(crate) fn is_stopped(&self) -> bool {
-        self.floor.is_stopped()
-    }
-
     /// Whether a connection is told nothing any more (`Floor::is_over`).
     pub(crate) fn is_over(&self, conn: u64) -> bool {
         self.floor.is_over(conn)
@@ -216,17 +248,6 @@ impl<'a, C: Tally, M: Tally> Hold<'a, C, M> {
     /// How many mails were made, also those that met a full box.
     pub(crate) fn mails_made(&self) -> u64 {
         self.floor.mails_made()
-    }
-
-    pub(crate) fn has_mail(&self, conn: u64) -> bool {
-        self.floor.has_mail(conn)
-    }
-
-    /// Why the write side of a connection without mail ends, if it does.
-    pub(crate) fn end_of_writer(&self, conn: u64) -> Option<WriteEnd>
-        ensures { IfSome result IsNoFault }
-    {
-        self.floor.end_of_writer(conn)
     }
 
     /// Whether the mails of a batch stay within the books of a hall.

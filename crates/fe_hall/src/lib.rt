@@ -4,6 +4,8 @@
 //! and each side of a connection has a seat that says what it did, so that the books can be compared with the seats.
 #![tactic(auto)]
 
+mod call_seat;
+mod call_seats;
 mod closing;
 mod commit_end;
 mod committing;
@@ -12,14 +14,19 @@ mod floor;
 mod hall;
 mod halves;
 mod hold;
+mod mail_seat;
+mod mail_seats;
 mod reading;
 mod receipt;
-mod seat;
+mod standing;
 mod strange;
+mod taking;
 mod tally;
 mod write_end;
 mod writing;
 
+pub use call_seat::CallSeat;
+pub use call_seats::CallSeats;
 pub use closing::{Closing, Unclosed, close};
 pub use commit_end::CommitEnd;
 pub use committing::commit_side;
@@ -27,9 +34,11 @@ pub use ends::ReadEnd;
 pub use floor::Unconnected;
 pub use hall::Hall;
 pub use halves::{Gate, LineFault, MemoryRead, MemoryWrite, Open, ReadHalf, WriteHalf};
+pub use mail_seat::MailSeat;
+pub use mail_seats::MailSeats;
 pub use reading::read_side;
 pub use receipt::Receipt;
-pub use seat::{CallSeat, MailSeat};
+pub use standing::Standing;
 pub use tally::Tally;
 pub use write_end::WriteEnd;
 pub use writing::write_side;
