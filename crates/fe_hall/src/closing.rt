@@ -5,9 +5,10 @@ ghost use Rattle.fe_mail.specs.Books.{AddUp};
 ghost use Rattle.fe_hall.specs.Receipts.{IsBorneOut, IsFirstStrange, IsStrange};
 ghost use Rattle.fe_hall.specs.declared.closing.Unclosed.TheVariants.{SeatMissing, StrangeReceipt};
 
+use crate::call_seats::CallSeats;
 use crate::hall::Hall;
+use crate::mail_seats::MailSeats;
 use crate::receipt::Receipt;
-use crate::seat::{CallSeat, MailSeat};
 use crate::strange::first_strange;
 use crate::tally::Tally;
 use fe_disk::Disk;
@@ -79,8 +80,8 @@ impl Audit {
 /// also with the lists, until one is found that has its call.
 pub fn settle<C: Tally, M: Tally>(
     hall: Hall<C, M>,
-    calls: CallSeat<C>,
-    mails: MailSeat<M>,
+    calls: CallSeats<C>,
+    mails: MailSeats<M>,
     sent: Vec<Vec<ClientMessage>>,
     receipts: Vec<Receipt>,
     state: &State,
@@ -121,8 +122,8 @@ pub fn settle<C: Tally, M: Tally>(
 /// Closes a hall over the state that the keeper has.
 pub fn close<C: Tally, M: Tally, D: Disk + Drop>(
     hall: Hall<C, M>,
-    calls: CallSeat<C>,
-    mails: MailSeat<M>,
+    calls: CallSeats<C>,
+    mails: MailSeats<M>,
     sent: Vec<Vec<ClientMessage>>,
     receipts: Vec<Receipt>,
     keeper: Keeper<D>,
