@@ -40,6 +40,13 @@ module _ (s : ServerState) (sent : List (List ClientMessage)) (receipts : List R
   pub none_strange : All (IsBorneOut s sent) receipts → Any (IsStrange s sent) receipts → ⊥
   none_strange all one = not_both s sent one.1 (subst (λ r. IsBorneOut s sent r) one.3 (all one.0 one.1 one.2)) one.4
 
+-- the same is said of the same state
+pub all_as : (s t : ServerState) (sent own : List (List ClientMessage)) (read receipts : List Receipt) → s ≡ t → sent ≡ own → read ≡ receipts → All (IsBorneOut s sent) read → All (IsBorneOut t own) receipts
+all_as s t sent own read receipts same_state same_sent same_receipts all =
+    subst (λ (rs : List Receipt). All (IsBorneOut t own) rs) same_receipts
+    (subst (λ (ms : List (List ClientMessage)). All (IsBorneOut t ms) read) same_sent
+    (subst (λ (st : ServerState). All (IsBorneOut st sent) read) same_state all))
+
 -- the same is said of what was lent
 module _ {V : Type 0} (s t : ServerState) (lent own : List V) (read receipts : List Receipt) (f : V → List ClientMessage) (same_state : s ≡ t) (same_sent : lent ≡ own) (same_receipts : read ≡ receipts) where
   pub one_strange : (place : ℕ) → IsFirstStrange s (map f lent) read place → Any (IsStrange t (map f own)) receipts

@@ -1,6 +1,6 @@
 -- How the keeper of a committing side goes on, over calls one after the other.
-use Rattle.std.proofs.Common.{◌≡◌, ◌⊎◌, inl, inr, ⊎_elim, ℕ, suc, ◌+◌, ◌≤◌, false, Option, Some, None, List, [], ◌∷◌, ◌++◌, length, take, refl, sym, ap, subst, ◌∙◌, zero-add, arith}
-use Rattle.std.specs.Prelude.{◌↔◌}
+use Rattle.std.proofs.Common.{◌≡◌, ◌⊎◌, inl, inr, ⊎_elim, ℕ, suc, ◌+◌, ◌≤◌, Bool, true, false, Option, Some, None, List, [], ◌∷◌, ◌++◌, length, take, refl, sym, ap, subst, ◌∙◌, zero-add, arith}
+use Rattle.std.specs.Prelude.{◌↔◌, if◌then◌else◌}
 use Rattle.std.proofs.lemmas.List.{length-append, take-append-le, take_all}
 use Rattle.fe_disk.specs.Disk.{LeavesOnly}
 use Rattle.fe_disk.proofs.Moments.{started, joined, weaker}
@@ -10,12 +10,12 @@ use Rattle.fe_state.specs.declared.entry.Entry.{Entry}
 use Rattle.fe_state.proofs.Histories.{history-append}
 use Rattle.fe_replica.specs.Taking.{Continues}
 use Rattle.std.specs.Option.{option_map_or}
-use Rattle.fe_keeper.specs.Keeper.{KeeperState, StoreState, Progress, stepped, stepped_by, finished, finished_by}
+use Rattle.fe_keeper.specs.Keeper.{KeeperState, StoreState, Progress, fits, must_begin, made_room, renewed, appended, stepped, stepped_by, finished, finished_by}
 use Rattle.fe_keeper.specs.Prefix.{LeavesPrefix}
 use Rattle.fe_keeper.specs.Stands.{StandsFor, StandsForEither, EachStandsFor}
 use Rattle.fe_keeper.specs.declared.fault.Fault.{Fault}
 use Rattle.fe_keeper.specs.declared.fault.Fault.TheVariants.{Device, Failed, NoMemory, Mismatch, Damaged, Unformatted}
-use Rattle.fe_hall.specs.Commits.{Commits, Rests, IsStill, end_of}
+use Rattle.fe_hall.specs.Commits.{Append, AreAppends, HoldsSince, Commits, Rests, IsStill, end_of}
 use Rattle.fe_hall.specs.declared.commit_end.CommitEnd.{CommitEnd}
 use Rattle.fe_hall.specs.declared.commit_end.CommitEnd.TheVariants.{Store, Strange}
 
@@ -35,32 +35,103 @@ take_behind (x ∷ xs) ys m =
 after_behind : (begun : ServerState) (groups more : List (List Entry)) (m : ℕ) → after_groups begun (take (length groups + m) (groups ++ more)) ≡ after_groups (after_groups begun groups) (take m more)
 after_behind begun groups more m = ap (λ gs. after_groups begun gs) (take_behind groups more m) ∙ after_groups-append begun groups (take m more)
 
-leaves_at : (begun : ServerState) (groups : List (List Entry)) (j : ℕ) (image : List ℕ) (s : ServerState) → j ≤ length groups → s ≡ after_groups begun (take j groups) → StandsFor image s
-    → LeavesPrefix begun groups 0 image
-leaves_at begun groups j image s le is stands = record { state = s; stands = stands; prefix = record { kept = j; least = omega arith; most = le; state_is = is } }
+leaves_at : (begun : ServerState) (groups : List (List Entry)) (k j : ℕ) (image : List ℕ) (s : ServerState) → k ≤ j → j ≤ length groups → s ≡ after_groups begun (take j groups) → StandsFor image s
+    → LeavesPrefix begun groups k image
+leaves_at begun groups k j image s least most is stands = record { state = s; stands = stands; prefix = record { kept = j; least = least; most = most; state_is = is } }
+
+-- a prefix with k groups or more has fewer or more
+prefix_fewer : (begun : ServerState) (groups : List (List Entry)) (j k : ℕ) (image : List ℕ) → j ≤ k → LeavesPrefix begun groups k image → LeavesPrefix begun groups j image
+prefix_fewer begun groups j k image le p =
+    let q = p.prefix in
+    leaves_at begun groups j q.kept image p.state (omega (arith, le, q.least)) q.most q.state_is p.stands
 
 -- a prefix of the first groups is one of all
-prefix_front : (begun : ServerState) (groups more : List (List Entry)) (image : List ℕ) → LeavesPrefix begun groups 0 image → LeavesPrefix begun (groups ++ more) 0 image
-prefix_front begun groups more image p =
+prefix_front : (begun : ServerState) (groups more : List (List Entry)) (k : ℕ) (image : List ℕ) → LeavesPrefix begun groups k image → LeavesPrefix begun (groups ++ more) k image
+prefix_front begun groups more k image p =
     let q = p.prefix in
-    leaves_at begun (groups ++ more) q.kept image p.state (omega (arith, q.most, length-append groups more))
+    leaves_at begun (groups ++ more) k q.kept image p.state q.least (omega (arith, q.most, length-append groups more))
     (q.state_is ∙ ap (λ (gs : List (List Entry)). after_groups begun gs) (sym (take-append-le q.kept groups more q.most))) p.stands
 
 -- so is all of the first groups with a prefix of those behind
-prefix_behind : (begun : ServerState) (groups more : List (List Entry)) (s : ServerState) (image : List ℕ) → s ≡ after_groups begun groups → LeavesPrefix s more 0 image → LeavesPrefix begun (groups ++ more) 0 image
-prefix_behind begun groups more s image is p =
+prefix_behind : (begun : ServerState) (groups more : List (List Entry)) (s : ServerState) (k : ℕ) (image : List ℕ) → s ≡ after_groups begun groups → LeavesPrefix s more k image
+    → LeavesPrefix begun (groups ++ more) (length groups + k) image
+prefix_behind begun groups more s k image is p =
     let q = p.prefix in
-    leaves_at begun (groups ++ more) (length groups + q.kept) image p.state (omega (arith, q.most, length-append groups more))
+    leaves_at begun (groups ++ more) (length groups + k) (length groups + q.kept) image p.state (omega (arith, q.least)) (omega (arith, q.most, length-append groups more))
     (q.state_is ∙ ap (λ (t : ServerState). after_groups t (take q.kept more)) is ∙ sym (after_behind begun groups more q.kept)) p.stands
 
 take_whole : (groups : List (List Entry)) (n : ℕ) → n ≡ length groups → take n groups ≡ groups
 take_whole groups n is = take_all n groups (omega (arith, is))
 
--- ---- calls of a keeper
+-- ---- appends
 
--- a call that appended a group: its state is the one after the group, or the side ends since the device failed
-abbrev pub Leads : ServerState → ServerState → List Entry → Option CommitEnd → Type 0
-Leads old new entries end = (new ≡ after_all old entries) ⊎ ((new ≡ old) × (end ≡ Some (Store Device)))
+-- one append for each group
+appends_length : {D : Type 0} (s : ServerState) (groups : List (List Entry)) (appends : List (Append D)) → AreAppends s groups appends → length appends ≡ length groups
+appends_length s [] [] are = refl
+appends_length s [] (append ∷ appends) are = absurd are
+appends_length s (group ∷ groups) [] are = absurd are
+appends_length s (group ∷ groups) (append ∷ appends) are = ap suc (appends_length (after_all s group) groups appends are.2)
+
+-- appends behind appends
+appends_both : {D : Type 0} (s t : ServerState) (groups more : List (List Entry)) (first second : List (Append D)) → t ≡ after_groups s groups → AreAppends s groups first → AreAppends t more second
+    → AreAppends s (groups ++ more) (first ++ second)
+appends_both s t [] more [] second is one two = subst (λ (u : ServerState). AreAppends u more second) is two
+appends_both s t [] more (append ∷ appends) second is one two = absurd one
+appends_both s t (group ∷ groups) more [] second is one two = absurd one
+appends_both s t (group ∷ groups) more (append ∷ appends) second is one two =
+    (one.0, one.1, appends_both (after_all s group) t groups more appends second is one.2 two)
+
+module _ {D : Type 0} (moment : D → ℕ) (left_since : D → ℕ → List ℕ → Type 0) where
+  -- what holds before the next append
+  holds_here : (begun : ServerState) (history : List (List Entry)) (n : ℕ) (here : D) (appends : List (Append D)) (last : D) → HoldsSince moment left_since begun history n here appends last
+      → LeavesOnly moment left_since here last (LeavesPrefix begun history n)
+  holds_here begun history n here [] last holds = holds
+  holds_here begun history n here (append ∷ appends) last holds = holds.0
+
+  holds_as : (begun : ServerState) (history : List (List Entry)) (n m : ℕ) (here : D) (appends : List (Append D)) (last : D) → n ≡ m → HoldsSince moment left_since begun history n here appends last
+      → HoldsSince moment left_since begun history m here appends last
+  holds_as begun history n m here appends last is holds = subst (λ (k : ℕ). HoldsSince moment left_since begun history k here appends last) is holds
+
+  -- the groups stand behind others
+  holds_behind : (begun : ServerState) (groups more : List (List Entry)) (s : ServerState) → s ≡ after_groups begun groups → (n : ℕ) (here : D) (appends : List (Append D)) (last : D)
+      → HoldsSince moment left_since s more n here appends last → HoldsSince moment left_since begun (groups ++ more) (length groups + n) here appends last
+  holds_behind begun groups more s is n here [] last holds =
+      weaker moment left_since here last (LeavesPrefix s more n) (LeavesPrefix begun (groups ++ more) (length groups + n)) (λ image p. prefix_behind begun groups more s n image is p) holds
+  holds_behind begun groups more s is n here (append ∷ appends) last holds = (
+      weaker moment left_since here last (LeavesPrefix s more n) (LeavesPrefix begun (groups ++ more) (length groups + n)) (λ image p. prefix_behind begun groups more s n image is p) holds.0,
+      holds.1,
+      holds.2,
+      holds_as begun (groups ++ more) (length groups + (n + 1)) (length groups + n + 1) append.after.store.disk appends last (omega arith)
+      (holds_behind begun groups more s is (n + 1) append.after.store.disk appends last holds.3),
+    )
+
+  -- what holds of the first groups holds while those behind are stored too
+  holds_longer : (begun : ServerState) (groups more : List (List Entry)) (n : ℕ) (here mid last : D) → n ≤ length groups → LeavesOnly moment left_since here mid (LeavesPrefix begun groups n)
+      → LeavesOnly moment left_since mid last (LeavesPrefix begun (groups ++ more) (length groups)) → LeavesOnly moment left_since here last (LeavesPrefix begun (groups ++ more) n)
+  holds_longer begun groups more n here mid last le first second =
+      joined moment left_since here mid last (LeavesPrefix begun (groups ++ more) n)
+      (weaker moment left_since here mid (LeavesPrefix begun groups n) (LeavesPrefix begun (groups ++ more) n) (λ image p. prefix_front begun groups more n image p) first)
+      (weaker moment left_since mid last (LeavesPrefix begun (groups ++ more) (length groups)) (LeavesPrefix begun (groups ++ more) n)
+      (λ image p. prefix_fewer begun (groups ++ more) n (length groups) image le p) second)
+
+  holds_both : (begun : ServerState) (groups more : List (List Entry)) (n : ℕ) (here : D) (first : List (Append D)) (mid : D) (second : List (Append D)) (last : D) → n + length first ≡ length groups
+      → HoldsSince moment left_since begun groups n here first mid → HoldsSince moment left_since begun (groups ++ more) (length groups) mid second last
+      → HoldsSince moment left_since begun (groups ++ more) n here (first ++ second) last
+  holds_both begun groups more n here [] mid [] last count one two = holds_longer begun groups more n here mid last (omega (arith, count)) one two
+  holds_both begun groups more n here [] mid (append ∷ appends) last count one two = (
+      holds_longer begun groups more n here mid last (omega (arith, count)) one two.0,
+      omega (arith, one.later, two.1),
+      two.2,
+      holds_as begun (groups ++ more) (length groups + 1) (n + 1) append.after.store.disk appends last (omega (arith, count)) two.3,
+    )
+  holds_both begun groups more n here (append ∷ appends) mid second last count one two = (
+      holds_longer begun groups more n here mid last (omega (arith, count)) one.0 (holds_here begun (groups ++ more) (length groups) mid second last two),
+      one.1,
+      one.2,
+      holds_both begun groups more (n + 1) append.after.store.disk appends mid second last (omega (arith, count)) one.3 two,
+    )
+
+-- ---- calls of a keeper
 
 module _ {D : Type 0} (honest : D → Type 0) (moment : D → ℕ) (left_since : D → ℕ → List ℕ → Type 0) where
   -- the state was kept
@@ -71,29 +142,58 @@ module _ {D : Type 0} (honest : D → Type 0) (moment : D → ℕ) (left_since :
     stored = 0;
     all = inl refl;
     state_is = rests.state;
+    appends = [];
+    are_appends = tt;
     any_moment = λ h works.
         weaker moment left_since old.store.disk new.store.disk (λ image. StandsFor image old.state) (LeavesPrefix old.state [] 0)
-        (λ image stands. leaves_at old.state [] 0 image old.state (omega arith) refl stands) (rests.any_moment h works);
+        (λ image stands. leaves_at old.state [] 0 0 image old.state (omega arith) (omega arith) refl stands) (rests.any_moment h works);
   }
 
+  either : (s : ServerState) (entries : List Entry) (image : List ℕ) → StandsForEither s (after_all s entries) image → LeavesPrefix s (entries ∷ []) 0 image
+  either s entries image (inl before) = leaves_at s (entries ∷ []) 0 0 image s (omega arith) (omega arith) refl before
+  either s entries image (inr after) = leaves_at s (entries ∷ []) 0 1 image (after_all s entries) (omega arith) (omega arith) refl after
+
   -- a group was appended
-  pub commits_group : (old new : KeeperState D) (end : Option CommitEnd) (entries : List Entry) → 1 ≤ length entries → AreLegal old.state entries → Leads old.state new.state entries end
+  pub commits_group : (may_leave : D → List ℕ → Type 0) → ((disk : D) (image : List ℕ) → honest disk → left_since disk (moment disk) image → may_leave disk image) → (old new : KeeperState D) (end : Option CommitEnd) (entries : List Entry)
+      → 1 ≤ length entries → AreLegal old.state entries → new.state ≡ after_all old.state entries → new.store.has_failed ≡ old.store.has_failed → (honest new.store.disk ↔ honest old.store.disk)
+      → (honest new.store.disk → new.store.has_failed ≡ false → EachStandsFor may_leave new.store.disk new.state)
       → (honest old.store.disk → old.store.has_failed ≡ false → LeavesOnly moment left_since old.store.disk new.store.disk (StandsForEither old.state (after_all old.state entries)))
       → Commits honest moment left_since old new end
-  commits_group old new end entries some legal leads run = by leads
-    where
-      either : (image : List ℕ) → StandsForEither old.state (after_all old.state entries) image → LeavesPrefix old.state (entries ∷ []) 0 image
-      either image (inl before) = leaves_at old.state (entries ∷ []) 0 image old.state (omega arith) refl before
-      either image (inr after) = leaves_at old.state (entries ∷ []) 1 image (after_all old.state entries) (omega arith) refl after
+  commits_group may_leave only_now old new end entries some legal state still honesty stands run = record {
+    groups = entries ∷ [];
+    history = (omega (arith, some), legal, tt);
+    stored = 1;
+    all = inl refl;
+    state_is = state;
+    appends = record { before = old; after = new } ∷ [];
+    are_appends = (refl, state, tt);
+    any_moment = λ h works.
+        let moments = run h works in (
+          weaker moment left_since old.store.disk new.store.disk (StandsForEither old.state (after_all old.state entries)) (LeavesPrefix old.state (entries ∷ []) 0)
+          (λ image two. either old.state entries image two) moments,
+          omega arith,
+          moments.later,
+          started moment left_since new.store.disk (LeavesPrefix old.state (entries ∷ []) 1)
+          (λ image left. leaves_at old.state (entries ∷ []) 1 1 image new.state (omega arith) (omega arith) state (stands (honesty.1 h) (still ∙ works) image (only_now new.store.disk image (honesty.1 h) left))),
+        );
+  }
 
-      moments : honest old.store.disk → old.store.has_failed ≡ false → LeavesOnly moment left_since old.store.disk new.store.disk (LeavesPrefix old.state (entries ∷ []) 0)
-      moments h works =
-          weaker moment left_since old.store.disk new.store.disk (StandsForEither old.state (after_all old.state entries)) (LeavesPrefix old.state (entries ∷ []) 0) either (run h works)
-
-      by : Leads old.state new.state entries end → Commits honest moment left_since old new end
-      by (inl stored) = record { groups = entries ∷ []; history = (omega (arith, some), legal, tt); stored = 1; all = inl refl; state_is = stored; any_moment = moments }
-      by (inr torn) =
-          record { groups = entries ∷ []; history = (omega (arith, some), legal, tt); stored = 0; all = inr (refl, torn.1); state_is = torn.0; any_moment = moments }
+  -- the device failed as a group was appended
+  pub commits_torn : (old new : KeeperState D) (entries : List Entry) → 1 ≤ length entries → AreLegal old.state entries → new.state ≡ old.state
+      → (honest old.store.disk → old.store.has_failed ≡ false → LeavesOnly moment left_since old.store.disk new.store.disk (StandsForEither old.state (after_all old.state entries)))
+      → Commits honest moment left_since old new (Some (Store Device))
+  commits_torn old new entries some legal state run = record {
+    groups = entries ∷ [];
+    history = (omega (arith, some), legal, tt);
+    stored = 0;
+    all = inr (refl, refl);
+    state_is = state;
+    appends = [];
+    are_appends = tt;
+    any_moment = λ h works.
+        weaker moment left_since old.store.disk new.store.disk (StandsForEither old.state (after_all old.state entries)) (LeavesPrefix old.state (entries ∷ []) 0)
+        (λ image two. either old.state entries image two) (run h works);
+  }
 
   -- calls behind calls
   pub commits_both : (a b c : KeeperState D) (end : Option CommitEnd) → b.store.has_failed ≡ a.store.has_failed → (honest b.store.disk ↔ honest a.store.disk)
@@ -108,19 +208,26 @@ module _ {D : Type 0} (honest : D → Type 0) (moment : D → ℕ) (left_since :
         (λ (torn : (bc.stored + 1 ≡ length bc.groups) × (end ≡ Some (Store Device))). let one = torn.0 in inr (omega (arith, one, n), torn.1)) bc.all;
     state_is =
         bc.state_is ∙ ap (λ (s : ServerState). after_groups s (take bc.stored bc.groups)) reached ∙ sym (after_behind a.state ab.groups bc.groups bc.stored);
+    appends = ab.appends ++ bc.appends;
+    are_appends =
+        subst (λ (gs : List (List Entry)). AreAppends a.state gs (ab.appends ++ bc.appends)) (sym (take_behind ab.groups bc.groups bc.stored))
+        (appends_both a.state b.state ab.groups (take bc.stored bc.groups) ab.appends bc.appends reached each bc.are_appends);
     any_moment = λ h fine.
-        joined moment left_since a.store.disk b.store.disk c.store.disk (LeavesPrefix a.state (ab.groups ++ bc.groups) 0)
-        (weaker moment left_since a.store.disk b.store.disk (LeavesPrefix a.state ab.groups 0) (LeavesPrefix a.state (ab.groups ++ bc.groups) 0)
-        (λ image p. prefix_front a.state ab.groups bc.groups image p) (ab.any_moment h fine))
-        (weaker moment left_since b.store.disk c.store.disk (LeavesPrefix b.state bc.groups 0) (LeavesPrefix a.state (ab.groups ++ bc.groups) 0)
-        (λ image p. prefix_behind a.state ab.groups bc.groups b.state image reached p) (bc.any_moment (honesty.1 h) (works ∙ fine)));
+        holds_both moment left_since a.state ab.groups bc.groups 0 a.store.disk ab.appends b.store.disk bc.appends c.store.disk (zero-add (length ab.appends) ∙ appends_length a.state ab.groups ab.appends each) (ab.any_moment h fine)
+        (holds_as moment left_since a.state (ab.groups ++ bc.groups) (length ab.groups + 0) (length ab.groups) b.store.disk bc.appends c.store.disk (omega arith)
+        (holds_behind moment left_since a.state ab.groups bc.groups b.state reached 0 b.store.disk bc.appends c.store.disk (bc.any_moment (honesty.1 h) (works ∙ fine))));
   }
     where
-      whole : ab.stored ≡ length ab.groups
-      whole = ⊎_elim (λ (all : ab.stored ≡ length ab.groups). all) (λ (torn : (ab.stored + 1 ≡ length ab.groups) × (None ≡ Some (Store Device))). absurd (cc torn.1)) ab.all
+      whole : take ab.stored ab.groups ≡ ab.groups
+      whole =
+          take_whole ab.groups ab.stored
+          (⊎_elim (λ (all : ab.stored ≡ length ab.groups). all) (λ (torn : (ab.stored + 1 ≡ length ab.groups) × (None ≡ Some (Store Device))). absurd (cc torn.1)) ab.all)
 
       reached : b.state ≡ after_groups a.state ab.groups
-      reached = ab.state_is ∙ ap (λ (gs : List (List Entry)). after_groups a.state gs) (take_whole ab.groups ab.stored whole)
+      reached = ab.state_is ∙ ap (λ (gs : List (List Entry)). after_groups a.state gs) whole
+
+      each : AreAppends a.state ab.groups ab.appends
+      each = subst (λ (gs : List (List Entry)). AreAppends a.state gs ab.appends) whole ab.are_appends
 
   -- a batch was stored, and then the state was kept
   pub commits_turn : (a k m n : KeeperState D) (end : Option CommitEnd) → k.store.has_failed ≡ a.store.has_failed → m.store.has_failed ≡ k.store.has_failed
@@ -145,6 +252,16 @@ finished_works {D} s t disk is = ap (λ (u : StoreState D). u.has_failed) is ∙
     by : (o : Option Progress) → (option_map_or (finished_by s) o s).has_failed ≡ s.has_failed
     by None = refl
     by (Some p) = refl
+
+-- so does a batch that is appended
+pub appended_works : {D : Type 0} (s t : StoreState D) (entries : List Entry) (disk : D) → t ≡ record (appended (made_room s entries) entries) { disk = disk } → t.has_failed ≡ s.has_failed
+appended_works {D} s t entries disk is = ap (λ (u : StoreState D). u.has_failed) is ∙ by (must_begin s entries) (fits s entries) s.checkpoint
+  where
+    by : (whole fit : Bool) (o : Option Progress) → (if whole then renewed s else (if fit then s else option_map_or (finished_by s) o s)).has_failed ≡ s.has_failed
+    by true fit o = refl
+    by false true o = refl
+    by false false None = refl
+    by false false (Some p) = refl
 
 module _ {D : Type 0} (honest : D → Type 0) (may_leave : D → List ℕ → Type 0) (moment : D → ℕ) (left_since : D → ℕ → List ℕ → Type 0) where
   -- nothing was done
@@ -209,7 +326,7 @@ module _ {D : Type 0} (honest : D → Type 0) (may_leave : D → List ℕ → Ty
       → Commits honest moment left_since old new (Some (end_of fault))
   commits_fault Device first entries faults short unmatched untouched continued state run =
       let continues = continued refl in
-      commits_group honest moment left_since old new (Some (Store Device)) entries continues.some continues.legal (inr (state, refl)) run
+      commits_torn honest moment left_since old new entries continues.some continues.legal state run
   commits_fault Failed first entries faults short unmatched untouched continued state run = commits_none (Some (Store Failed)) (untouched refl)
   commits_fault NoMemory first entries faults short unmatched untouched continued state run = commits_none (Some (Store NoMemory)) (short refl)
   commits_fault (Mismatch place) first entries faults short unmatched untouched continued state run = commits_none (Some Strange) (unmatched place refl)

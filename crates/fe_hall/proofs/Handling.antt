@@ -1,13 +1,14 @@
 -- A message more is handled.
-use Rattle.std.proofs.Common.{◌≡◌, ℕ, ◌+◌, ◌<◌, ◌≤◌, inl, inr, Bool, true, false, List, [], ◌∷◌, ◌++◌, length, take, get_or, sym, ap, subst, ◌∙◌, append_assoc, arith}
+use Rattle.std.proofs.Common.{◌≡◌, ℕ, ◌+◌, ◌<◌, ◌≤◌, inl, inr, Bool, true, false, List, [], ◌∷◌, ◌++◌, length, take, get_or, refl, sym, ap, subst, ◌∙◌, append_assoc, arith}
 use Rattle.std.specs.Prelude.{◌&&◌, nat_lt, if◌then◌else◌, filter}
 use Rattle.std.proofs.lemmas.Bool.{cases_lt, lt-ltb, le-ltb}
 use Rattle.std.proofs.lemmas.List.{append-nil, length-append, length-take-le, take_all, take_more, take-append-le}
 use Rattle.std.proofs.lemmas.List.Elements.{filter-append}
 use Rattle.std.proofs.lemmas.List.Sums.{sum_by-append}
 use Rattle.fe_wire.specs.declared.client_message.ClientMessage.{ClientMessage}
-use Rattle.fe_hall.specs.Seats.{Seat, calls_in, risen}
-use Rattle.fe_hall.specs.Reads.{is_sent, calls_among, sent_among, listed_with, most_listed, AreHandled}
+use Rattle.fe_hall.specs.Seats.{ReadSeat, TookNoMessage, calls_in, message_taken}
+use Rattle.fe_hall.specs.Reads.{is_sent, calls_among, sent_among, listed_with, most_listed, AreHandled, HandlesStream}
+use Rattle.fe_hall.specs.declared.ends.ReadEnd.{ReadEnd}
 
 -- the first elements of a list, with one more behind it
 first_with : (n : ℕ) (xs : List ClientMessage) (m : ClientMessage) → take n (xs ++ m ∷ []) ≡ (if nat_lt (length (take n xs)) n then take n xs ++ m ∷ [] else take n xs)
@@ -29,31 +30,47 @@ listed_more messages m = ap (λ (ms : List ClientMessage). take most_listed ms) 
     by true = first_with most_listed (filter is_sent messages) m
     by false = ap (λ (ms : List ClientMessage). take most_listed ms) (append-nil (filter is_sent messages))
 
-pub handled_more : (before old new : Seat) (listed list messages : List ClientMessage) (m : ClientMessage) → new ≡ risen old (calls_in m) → list ≡ listed_with listed m
+pub handled_more : (before old new : ReadSeat) (listed list messages : List ClientMessage) (m : ClientMessage) → new ≡ message_taken old m → list ≡ listed_with listed m
     → AreHandled before old listed messages → AreHandled before new list (messages ++ m ∷ [])
 handled_more before old new listed list messages m rises lists handled =
-    let counted : old.amount + calls_in m ≡ before.amount + calls_among (messages ++ m ∷ []) =
-    omega (arith, ap (λ (s : Seat). s.amount) handled.seat, sum_by-append calls_in messages (m ∷ [])) in
     record {
-      seat = rises ∙ ap (λ (s : Seat). risen s (calls_in m)) handled.seat ∙ ap (λ n. record before { amount = n }) (omega (arith, sum_by-append calls_in messages (m ∷ [])));
+      conn = ap (λ (s : ReadSeat). s.conn) rises ∙ handled.conn;
+      calls = omega (arith, ap (λ (s : ReadSeat). s.calls) rises, handled.calls, sum_by-append calls_in messages (m ∷ []));
+      taken = omega (arith, ap (λ (s : ReadSeat). s.taken) rises, handled.taken, length-append messages (m ∷ []));
       listed = lists ∙ ap (λ (ms : List ClientMessage). listed_with ms m) handled.listed ∙ sym (listed_more messages m);
     }
 
 -- the message behind the first i is handled
-pub handled_next : (before old new : Seat) (listed list earlier messages : List ClientMessage) (i : ℕ) (m : ClientMessage) → i < length messages → m ≡ get_or messages i m
-    → new ≡ risen old (calls_in m) → list ≡ listed_with listed m → AreHandled before old listed (earlier ++ take i messages) → AreHandled before new list (earlier ++ take (i + 1) messages)
+pub handled_next : (before old new : ReadSeat) (listed list earlier messages : List ClientMessage) (i : ℕ) (m : ClientMessage) → i < length messages → m ≡ get_or messages i m
+    → new ≡ message_taken old m → list ≡ listed_with listed m → AreHandled before old listed (earlier ++ take i messages) → AreHandled before new list (earlier ++ take (i + 1) messages)
 handled_next before old new listed list earlier messages i m lt at rises lists handled =
     let more : (earlier ++ take i messages) ++ m ∷ [] ≡ earlier ++ take (i + 1) messages =
     append_assoc earlier (take i messages) (m ∷ []) ∙ ap (λ (ms : List ClientMessage). earlier ++ ms) (ap (λ (x : ClientMessage). take i messages ++ x ∷ []) at ∙ sym (take_more messages i m lt)) in
     subst (λ (ms : List ClientMessage). AreHandled before new list ms) more (handled_more before old new listed list (earlier ++ take i messages) m rises lists handled)
 
--- nothing changed
-pub handled_still : (before old new : Seat) (listed list messages : List ClientMessage) → new ≡ old → list ≡ listed → AreHandled before old listed messages → AreHandled before new list messages
-handled_still before old new listed list messages seat same handled = record { seat = seat ∙ handled.seat; listed = same ∙ handled.listed }
+-- no message was taken
+pub handled_still : (before old new : ReadSeat) (listed list messages : List ClientMessage) → TookNoMessage old new → list ≡ listed → AreHandled before old listed messages → AreHandled before new list messages
+handled_still before old new listed list messages none same handled = record {
+  conn = none.conn ∙ handled.conn;
+  calls = none.calls ∙ handled.calls;
+  taken = none.taken ∙ handled.taken;
+  listed = same ∙ handled.listed;
+}
 
-pub handled_whole : (before old : Seat) (listed earlier messages : List ClientMessage) (i : ℕ) → length messages ≤ i → AreHandled before old listed (earlier ++ take i messages) → AreHandled before old listed (earlier ++ messages)
+-- what a side handled stays so while it leaves
+pub stream_left : (bytes : List ℕ) (before old new : ReadSeat) (list : List ClientMessage) (end : ReadEnd) → TookNoMessage old new → HandlesStream bytes before old list end → HandlesStream bytes before new list end
+stream_left bytes before old new list end none h = record {
+  messages = h.messages;
+  rest = h.rest;
+  is_stream = h.is_stream;
+  count = h.count;
+  handled = handled_still before old new list list (take h.count h.messages) none refl h.handled;
+  ends = h.ends;
+}
+
+pub handled_whole : (before old : ReadSeat) (listed earlier messages : List ClientMessage) (i : ℕ) → length messages ≤ i → AreHandled before old listed (earlier ++ take i messages) → AreHandled before old listed (earlier ++ messages)
 handled_whole before old listed earlier messages i le handled =
     subst (λ (ms : List ClientMessage). AreHandled before old listed (earlier ++ ms)) (take_all i messages le) handled
 
-pub handled_none : (before old : Seat) (listed earlier messages : List ClientMessage) → AreHandled before old listed earlier → AreHandled before old listed (earlier ++ take 0 messages)
+pub handled_none : (before old : ReadSeat) (listed earlier messages : List ClientMessage) → AreHandled before old listed earlier → AreHandled before old listed (earlier ++ take 0 messages)
 handled_none before old listed earlier messages handled = subst (λ (ms : List ClientMessage). AreHandled before old listed ms) (sym (append-nil earlier)) handled

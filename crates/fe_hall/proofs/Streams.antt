@@ -17,7 +17,7 @@ use Rattle.fe_wire.proofs.Existence.{each_has_reading}
 use Rattle.fe_wire.proofs.StreamLaws.{one_reading, nothing_unfinished}
 use Rattle.fe_hall.specs.declared.ends.ReadEnd.{ReadEnd}
 use Rattle.fe_hall.specs.declared.ends.ReadEnd.TheVariants.{Closed, Device, BadFrame, Gone, Turns, Stopped, Spent, NoMemory}
-use Rattle.fe_hall.specs.Seats.{Seat}
+use Rattle.fe_hall.specs.Seats.{ReadSeat}
 use Rattle.fe_hall.specs.Reads.{AreHandled, EndsEarly, EndsAmong, EndsAt, HandlesStream, IsAt}
 
 -- what begins with a message's frame is no rest
@@ -52,7 +52,7 @@ breaks d rest two bad h =
     let P : Bool → Type 0 = λ b. StandsAt d.version b d.held rest in
     subst (λ (w : Version). IsBad w rest) two (subst P bad h).0
 
-module _ (before after : Seat) (list : List ClientMessage) where
+module _ (before after : ReadSeat) (list : List ClientMessage) where
   handled_as : (xs ys : List ClientMessage) → xs ≡ ys → AreHandled before after list xs → AreHandled before after list ys
   handled_as xs ys same handled = subst (λ (ms : List ClientMessage). AreHandled before after list ms) same handled
 
@@ -166,7 +166,7 @@ tells_offset d fault bad is some = by d.is_bad (sym is ∙ some)
 abbrev pub ReadsOn : Decoding → Decoding → List ℕ → List ClientMessage → Type 0
 ReadsOn d x piece more = (start : ℕ) (before : List ℕ) (earlier : List ClientMessage) → HasReadFrom start d before earlier → HasReadFrom start x (before ++ piece) (earlier ++ more)
 
-module _ (before old new : Seat) (listed list : List ClientMessage) (bytes piece : List ℕ) (d x : Decoding) (slice more : List ClientMessage)
+module _ (before old new : ReadSeat) (listed list : List ClientMessage) (bytes piece : List ℕ) (d x : Decoding) (slice more : List ClientMessage)
     (fits : IsBytes piece) (at : IsAt bytes before d old listed) (version : x.version ≡ d.version) (reads : ReadsOn d x piece more) (same : slice ≡ more) where
   read_on : HasRead x (bytes ++ piece) (at.messages ++ slice)
   read_on = subst (λ (ms : List ClientMessage). HasRead x (bytes ++ piece) (at.messages ++ ms)) (sym same) (reads 0 bytes at.messages at.reads)
@@ -197,13 +197,13 @@ module _ (before old new : Seat) (listed list : List ClientMessage) (bytes piece
   piece_among end among = ends_within before new list (bytes ++ piece) x end at.messages slice (version ∙ at.version) read_on (among at.messages at.handled)
 
 -- none were, for want of memory
-pub piece_unread : (before seat : Seat) (list : List ClientMessage) (bytes piece : List ℕ) (d : Decoding) → IsBytes piece → CompletesMessage d piece → IsAt bytes before d seat list
+pub piece_unread : (before seat : ReadSeat) (list : List ClientMessage) (bytes piece : List ℕ) (d : Decoding) → IsBytes piece → CompletesMessage d piece → IsAt bytes before d seat list
     → HandlesStream (bytes ++ piece) before seat list NoMemory
 piece_unread before seat list bytes piece d fits completes at = ends_unread before seat list bytes piece d (IsBytes-append bytes piece at.are_bytes fits) completes at
 
 -- ---- the beginning
 
-pub begins : (d : Decoding) (seat : Seat) → d.version ≡ Two → HasRead d [] [] → IsAt [] seat d seat []
+pub begins : (d : Decoding) (seat : ReadSeat) → d.version ≡ Two → HasRead d [] [] → IsAt [] seat d seat []
 begins d seat two reads =
     record {
       are_bytes = λ i. lit< tt;
@@ -211,7 +211,7 @@ begins d seat two reads =
       goes_on = by d.is_bad reads.stands;
       messages = [];
       reads = reads;
-      handled = record { seat = ap (λ n. record seat { amount = n }) (sym (add-zero seat.amount)); listed = refl };
+      handled = record { conn = refl; calls = sym (add-zero seat.calls); taken = sym (add-zero seat.taken); listed = refl };
     }
   where
     by : (b : Bool) → StandsAt d.version b d.held reads.rest → b ≡ false
@@ -219,7 +219,7 @@ begins d seat two reads =
     by true stands = absurd ((nothing_unfinished d.version).1 (subst (IsBad d.version) (sym reads.is_stream.parts) stands.0))
 
 -- no memory for the first read
-pub ends_first : (before seat : Seat) (list : List ClientMessage) (bytes : List ℕ) (d : Decoding) → bytes ≡ [] → IsAt [] before d seat list → HandlesStream bytes before seat list NoMemory
+pub ends_first : (before seat : ReadSeat) (list : List ClientMessage) (bytes : List ℕ) (d : Decoding) → bytes ≡ [] → IsAt [] before d seat list → HandlesStream bytes before seat list NoMemory
 ends_first before seat list bytes d none at =
     let first : at.messages ≡ [] =
     (one_reading d.version [] at.messages [] at.reads.rest [] at.reads.is_stream (record { parts = refl; each = tt; end = inl (nothing_unfinished d.version) })).0 in

@@ -2,6 +2,7 @@
 use Rattle.std.proofs.Common.{◌≡◌, ℕ, zero, suc, ◌+◌, ◌-◌, ◌<◌, ◌≤◌, Bool, true, List, [], ◌∷◌, ◌++◌, length, take, drop, Option, Some, None, Result, Ok, Err, refl, sym, ap, subst, ◌∙◌, append_assoc, arith, length-append}
 use Rattle.std.specs.Prelude.{if◌then◌else◌, is_ok}
 use Rattle.std.specs.List.{filter_map, cons_option}
+use Rattle.std.proofs.lemmas.Option.{none-some, same_Some}
 use Rattle.std.proofs.lemmas.List.{append-nil, take-append-le, take_all, take-take}
 use Rattle.std.proofs.lemmas.List.Elements.{filter_map-append}
 use Rattle.std.proofs.lemmas.Grind.{flat_map-append}
@@ -13,8 +14,12 @@ use Rattle.fe_wire.specs.declared.server_message.ServerMessage.{ServerMessage}
 use Rattle.fe_hall.specs.declared.receipt.Receipt.{Receipt}
 use Rattle.fe_hall.specs.declared.write_end.WriteEnd.{WriteEnd}
 use Rattle.fe_hall.specs.declared.write_end.WriteEnd.TheVariants.{Gone, Device, Stopped, Spent, NoMemory}
-use Rattle.fe_hall.specs.Seats.{Seat, risen}
-use Rattle.fe_hall.specs.Writes.{receipt_of, receipts_with, IsBatch, BreaksOff, MayLackLast, IsWritten, AreTaken, TakesOn, IsNoFault, AreSpelled}
+use Rattle.fe_hall.specs.declared.standing.Standing.{Standing}
+use Rattle.fe_hall.specs.declared.standing.Standing.TheVariants as standing
+use Rattle.fe_hall.specs.declared.taking.Taking.{Taking}
+use Rattle.fe_hall.specs.declared.taking.Taking.TheVariants as taking
+use Rattle.fe_hall.specs.Seats.{WriteSeat, TookNoMail, mail_taken, taking_answered}
+use Rattle.fe_hall.specs.Writes.{receipt_of, receipts_with, IsBatch, BreaksOff, MayLackLast, IsWritten, AreTaken, TakesOn, IsNoFault, IsTold, AreSpelled, end_of}
 
 -- ---- lists
 
@@ -38,17 +43,17 @@ spelled-append xs ys = flat_map-append (λ m. reply_spelling (reply_of m)) xs ys
 
 -- ---- seat and receipts
 
-pub takes_none : (s : Seat) (kept : List Receipt) → length kept ≤ 1024 → TakesOn s s kept kept []
+pub takes_none : (s : WriteSeat) (kept : List Receipt) → length kept ≤ 1024 → TakesOn s s kept kept []
 takes_none s kept few = record {
-  seat = let same : s.amount ≡ s.amount + 0 = omega arith in ap (λ (k : ℕ). record s { amount = k }) same;
+  conn = refl;
+  count = let same : s.mails ≡ s.mails + 0 = omega arith in same;
   receipts = sym (ap (λ t. take 1024 t) (append-nil kept) ∙ take_all 1024 kept few);
 }
 
-pub takes_on : (a b c : Seat) (kept more all : List Receipt) (ms ns : List Mail) → TakesOn a b kept more ms → TakesOn b c more all ns → TakesOn a c kept all (ms ++ ns)
+pub takes_on : (a b c : WriteSeat) (kept more all : List Receipt) (ms ns : List Mail) → TakesOn a b kept more ms → TakesOn b c more all ns → TakesOn a c kept all (ms ++ ns)
 takes_on a b c kept more all ms ns one two = record {
-  seat =
-      let count : a.amount + length ms + length ns ≡ a.amount + length (ms ++ ns) = omega (arith, length-append ms ns) in
-      two.seat ∙ ap (λ (s : Seat). risen s (length ns)) one.seat ∙ ap (λ (k : ℕ). record a { amount = k }) count;
+  conn = two.conn ∙ one.conn;
+  count = omega (arith, one.count, two.count, length-append ms ns);
   receipts =
       two.receipts
       ∙ ap (λ (rs : List Receipt). receipts_with rs ns) one.receipts
@@ -56,20 +61,54 @@ takes_on a b c kept more all ms ns one two = record {
       ∙ ap (λ t. take 1024 t) (append_assoc kept (filter_map receipt_of ms) (filter_map receipt_of ns) ∙ ap (λ t. kept ++ t) (sym (filter_map-append receipt_of ms ns)));
 }
 
-pub takes_same : (a b : Seat) (kept same : List Receipt) → length kept ≤ 1024 → b ≡ a → same ≡ kept → TakesOn a b kept same []
-takes_same a b kept same few seat receipts =
-    let none = takes_none a kept few in record { seat = seat ∙ none.seat; receipts = receipts ∙ none.receipts }
+pub takes_same : (a b : WriteSeat) (kept same : List Receipt) → length kept ≤ 1024 → TookNoMail a b → same ≡ kept → TakesOn a b kept same []
+takes_same a b kept same few still receipts =
+    let none = takes_none a kept few in record { conn = still.conn; count = still.mails ∙ none.count; receipts = receipts ∙ none.receipts }
+
+-- the seat of a side that took none, behind one that is the same
+pub none_since : (a b c : WriteSeat) → b ≡ a → TookNoMail b c → TookNoMail a c
+none_since a b c same none = record { conn = none.conn ∙ ap (λ (s : WriteSeat). s.conn) same; mails = none.mails ∙ ap (λ (s : WriteSeat). s.mails) same }
 
 -- a mail is taken, and its receipt kept
-pub takes_one : (a b c : Seat) (kept same all : List Receipt) (m : Mail) → b ≡ a → same ≡ kept → c ≡ risen b 1 → all ≡ receipts_with same (m ∷ []) → TakesOn a c kept all (m ∷ [])
-takes_one a b c kept same all m seat receipts risen_by more = record {
-  seat = risen_by ∙ ap (λ (s : Seat). risen s 1) seat;
-  receipts = more ∙ ap (λ (rs : List Receipt). receipts_with rs (m ∷ [])) receipts;
-}
+pub takes_one : (a b c d : WriteSeat) (kept same all : List Receipt) (m : Mail) (more : Bool) → b ≡ a → same ≡ kept → c ≡ mail_taken b more → d ≡ c → all ≡ receipts_with same (m ∷ [])
+    → TakesOn a d kept all (m ∷ [])
+takes_one a b c d kept same all m more seat receipts taken as_it_was keeps =
+    let took : d ≡ mail_taken a more = as_it_was ∙ taken ∙ ap (λ (s : WriteSeat). mail_taken s more) seat in
+    record {
+      conn = ap (λ (s : WriteSeat). s.conn) took;
+      count = ap (λ (s : WriteSeat). s.mails) took;
+      receipts = keeps ∙ ap (λ (rs : List Receipt). receipts_with rs (m ∷ [])) receipts;
+    }
 
--- all that a side took
-pub as_taken : {before after : Seat} {none kept : List Receipt} {mails : List Mail} → TakesOn before after none kept mails → none ≡ [] → AreTaken before after kept mails
-as_taken {mails} takes is = record { seat = takes.seat; receipts = takes.receipts ∙ ap (λ (rs : List Receipt). receipts_with rs mails) is }
+-- all that a side took, and that it took when it leaves
+pub as_taken : {before after left : WriteSeat} {none kept : List Receipt} {mails : List Mail} → TakesOn before after none kept mails → none ≡ [] → TookNoMail after left → AreTaken before left kept mails
+as_taken {mails} takes is still =
+    record { conn = still.conn ∙ takes.conn; count = still.mails ∙ takes.count; receipts = takes.receipts ∙ ap (λ (rs : List Receipt). receipts_with rs mails) is }
+
+-- ---- what the hall told
+
+-- a mail came
+pub answered_mail : (s t : WriteSeat) (given : Taking) (m : Mail) (more : Bool) → t ≡ taking_answered s given → given ≡ taking.Mail m more → t ≡ mail_taken s more
+answered_mail s t given m more answered is = answered ∙ ap (λ (g : Taking). taking_answered s g) is
+
+-- the seat of a side that is told how it stands
+none_at : (s t : WriteSeat) (told : Standing) → t ≡ record s { standing = told } → TookNoMail s t
+none_at s t told is = record { conn = ap (λ (u : WriteSeat). u.conn) is; mails = ap (λ (u : WriteSeat). u.mails) is }
+
+-- none came, for this reason
+pub record EndsSo (s t : WriteSeat) (end : WriteEnd) : Type 0 where
+  pub none : TookNoMail s t
+  pub fine : IsNoFault end
+  pub told : IsTold end t.standing
+
+pub answered_end : (s t : WriteSeat) (given : Taking) (end : WriteEnd) → t ≡ taking_answered s given → end_of given ≡ Some end → EndsSo s t end
+answered_end s t (taking.Mail m more) end answered is = absurd (none-some end is)
+answered_end s t taking.Gone end answered is =
+    subst (λ (e : WriteEnd). EndsSo s t e) (same_Some _ _ is) (record { none = none_at s t standing.Gone answered; fine = tt; told = ap (λ (u : WriteSeat). u.standing) answered })
+answered_end s t taking.Stopped end answered is =
+    subst (λ (e : WriteEnd). EndsSo s t e) (same_Some _ _ is) (record { none = none_at s t standing.Stopped answered; fine = tt; told = ap (λ (u : WriteSeat). u.standing) answered })
+answered_end s t taking.Spent end answered is =
+    subst (λ (e : WriteEnd). EndsSo s t e) (same_Some _ _ is) (record { none = none_at s t standing.Spent answered; fine = tt; told = ap (λ (u : WriteSeat). u.standing) answered })
 
 -- a mail without a receipt, and one whose receipt is kept, or is beyond the first
 pub keeps_none : (kept : List Receipt) (m : Mail) → length kept ≤ 1024 → None ≡ receipt_of m → kept ≡ receipts_with kept (m ∷ [])

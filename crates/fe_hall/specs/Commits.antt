@@ -1,5 +1,5 @@
 -- What the committing side of a hall does to the keeper that it is lent.
-use Rattle.std.specs.Prelude.{◌≡◌, ◌⊎◌, ◌↔◌, ℕ, ◌+◌, true, false, List, length, take, Option, Some, None}
+use Rattle.std.specs.Prelude.{◌≡◌, ◌⊎◌, ◌↔◌, ℕ, ◌+◌, ◌≤◌, true, false, List, [], ◌∷◌, length, take, Option, Some, None}
 use Rattle.fe_disk.specs.Disk.{LeavesOnly, Rises}
 use Rattle.fe_state.specs.State.{ServerState, after_all}
 use Rattle.fe_state.specs.History.{IsHistory, after_groups}
@@ -20,17 +20,42 @@ pub record IsStored (batch : Batch) (s : ServerState) : Type 0 where
   pub continues : Continues before batch.first batch.entries
   pub state_is : s ≡ after_all before batch.entries
 
+-- an append that succeeded: the keeper as it began, and the keeper as it ended, with which the batch is posted
+pub record Append (D : Type 0) : Type 0 where
+  pub before : KeeperState D
+  pub after : KeeperState D
+
+-- the appends stored the groups from the state on, one by one
+abbrev pub AreAppends : {D : Type 0} → ServerState → List (List Entry) → List (Append D) → Type 0
+AreAppends s [] [] = Unit {0}
+AreAppends s [] (append ∷ appends) = ⊥
+AreAppends s (group ∷ groups) [] = ⊥
+AreAppends s (group ∷ groups) (append ∷ appends) =
+    (append.before.state ≡ s) × (append.after.state ≡ after_all s group) × AreAppends (after_all s group) groups appends
+
+-- From this disk on, and up to the last, each image that a stop leaves stands for a prefix of the history with n groups or more. From the
+-- end of the next append on the prefix has one group more, and so on. Each append begins where the one before it has ended, or later.
+abbrev pub HoldsSince : {D : Type 0} → (D → ℕ) → (D → ℕ → List ℕ → Type 0) → ServerState → List (List Entry) → ℕ → D → List (Append D) → D → Type 0
+HoldsSince moment left_since begun history n here [] last = LeavesOnly moment left_since here last (LeavesPrefix begun history n)
+HoldsSince moment left_since begun history n here (append ∷ appends) last =
+    LeavesOnly moment left_since here last (LeavesPrefix begun history n)
+    × (moment here ≤ moment append.before.store.disk)
+    × (moment append.before.store.disk ≤ moment append.after.store.disk)
+    × HoldsSince moment left_since begun history (n + 1) append.after.store.disk appends last
+
 -- Groups were appended, a history from the keeper's state. All of them are in its state then, but for a last one, where the side
--- ended since the device failed. At every moment each image that a stop leaves stands for a prefix of that history, none of
--- what was stored before being lost. `None`: the side goes on.
+-- ended since the device failed. At every moment each image that a stop leaves stands for a prefix of that history, with all
+-- groups whose appends had ended by then. `None`: the side goes on.
 pub record Commits {D : Type 0} (honest : D → Type 0) (moment : D → ℕ) (left_since : D → ℕ → List ℕ → Type 0) (old new : KeeperState D) (end : Option CommitEnd) : Type 0 where
   pub groups : List (List Entry)
   pub history : IsHistory old.state groups
   pub stored : ℕ
   pub all : (stored ≡ length groups) ⊎ ((stored + 1 ≡ length groups) × (end ≡ Some (Store Device)))
   pub state_is : new.state ≡ after_groups old.state (take stored groups)
+  pub appends : List (Append D)
+  pub are_appends : AreAppends old.state (take stored groups) appends
   pub any_moment : honest old.store.disk → old.store.has_failed ≡ false
-      → LeavesOnly moment left_since old.store.disk new.store.disk (LeavesPrefix old.state groups 0)
+      → HoldsSince moment left_since old.state groups 0 old.store.disk appends new.store.disk
 
 -- The keeper's state is as it was, and at every moment each image that a stop leaves stands for it.
 pub record Rests {D : Type 0} (honest : D → Type 0) (moment : D → ℕ) (left_since : D → ℕ → List ℕ → Type 0) (old new : KeeperState D) : Type 0 where

@@ -1,5 +1,5 @@
 -- What a read side makes of the bytes of its stream.
-use Rattle.std.specs.Prelude.{◌≡◌, ℕ, ◌<◌, ◌^◌, ◌-◌, ◌⊎◌, Bool, true, false, ◌&&◌, nat_lt, if◌then◌else◌, min, List, [], ◌∷◌, ◌++◌, length, take, filter, sum_by}
+use Rattle.std.specs.Prelude.{◌≡◌, ℕ, ◌+◌, ◌<◌, ◌^◌, ◌-◌, ◌⊎◌, Bool, true, false, ◌&&◌, nat_lt, if◌then◌else◌, min, List, [], ◌∷◌, ◌++◌, length, take, filter, sum_by}
 use Rattle.std.specs.List.{flat_map}
 use Rattle.fe_wire.specs.Spelling.{spelling}
 use Rattle.fe_wire.specs.Stream.{Decoding, HasRead, IsStream, IsUnfinished, IsBad}
@@ -9,7 +9,9 @@ use Rattle.fe_wire.specs.declared.client_message.ClientMessage.TheVariants.{Atta
 use Rattle.fe_wire.specs.declared.version.Version.TheVariants.{Two}
 use Rattle.fe_hall.specs.declared.ends.ReadEnd.{ReadEnd}
 use Rattle.fe_hall.specs.declared.ends.ReadEnd.TheVariants.{Closed, Device, BadFrame, Gone, Turns, Stopped, Spent, NoMemory}
-use Rattle.fe_hall.specs.Seats.{Seat, calls_in, risen}
+use Rattle.fe_hall.specs.declared.standing.Standing.{Standing}
+use Rattle.fe_hall.specs.declared.standing.Standing.TheVariants as standing
+use Rattle.fe_hall.specs.Seats.{ReadSeat, calls_in}
 
 -- the message is an attach or a call
 abbrev pub is_sent : ClientMessage → Bool
@@ -32,9 +34,12 @@ most_listed = 1024
 abbrev pub sent_among : List ClientMessage → List ClientMessage
 sent_among messages = take most_listed (filter is_sent messages)
 
--- These messages were handled: the seat rose by the calls among them, and the list has the first attaches and calls.
-pub record AreHandled (before after : Seat) (list messages : List ClientMessage) : Type 0 where
-  pub seat : after ≡ risen before (calls_among messages)
+-- These messages of a connection were handled: its seat counts them and the calls among them, and the list has the first
+-- attaches and calls.
+pub record AreHandled (before after : ReadSeat) (list messages : List ClientMessage) : Type 0 where
+  pub conn : after.conn ≡ before.conn
+  pub calls : after.calls ≡ before.calls + calls_among messages
+  pub taken : after.taken ≡ before.taken + length messages
   pub listed : list ≡ sent_among messages
 
 -- what an end says, where the stream is these messages and this rest, and so many of the messages were handled
@@ -51,13 +56,24 @@ EndsAt NoMemory messages rest count = (count < length messages) ⊎ (messages �
 
 -- A side that was told these bytes, the stream of its client: the first so many of the stream's messages were handled, and
 -- none behind them.
-pub record HandlesStream (bytes : List ℕ) (before after : Seat) (list : List ClientMessage) (end : ReadEnd) : Type 0 where
+pub record HandlesStream (bytes : List ℕ) (before after : ReadSeat) (list : List ClientMessage) (end : ReadEnd) : Type 0 where
   pub messages : List ClientMessage
   pub rest : List ℕ
   pub is_stream : IsStream Two bytes messages rest
   pub count : ℕ
   pub handled : AreHandled before after list (take count messages)
   pub ends : EndsAt end messages rest count
+
+-- an end that the hall told the side
+abbrev pub IsTold : ReadEnd → Standing → Type 0
+IsTold Closed s = Unit {0}
+IsTold Device s = Unit {0}
+IsTold Turns s = Unit {0}
+IsTold (BadFrame offset) s = Unit {0}
+IsTold Gone s = s ≡ standing.Gone
+IsTold Stopped s = s ≡ standing.Stopped
+IsTold Spent s = s ≡ standing.Spent
+IsTold NoMemory s = Unit {0}
 
 -- ---- on the way
 
@@ -77,7 +93,7 @@ EndsEarly Spent = Unit {0}
 EndsEarly NoMemory = Unit {0}
 
 -- All messages of the bytes that came so far were handled, and more bytes are waited for.
-pub record IsAt (bytes : List ℕ) (before : Seat) (decoder : Decoding) (after : Seat) (list : List ClientMessage) : Type 0 where
+pub record IsAt (bytes : List ℕ) (before : ReadSeat) (decoder : Decoding) (after : ReadSeat) (list : List ClientMessage) : Type 0 where
   pub are_bytes : IsBytes bytes
   pub version : decoder.version ≡ Two
   pub goes_on : decoder.is_bad ≡ false
@@ -86,7 +102,7 @@ pub record IsAt (bytes : List ℕ) (before : Seat) (decoder : Decoding) (after :
   pub handled : AreHandled before after list messages
 
 -- The side ended before one of these messages, which came behind the earlier ones.
-pub record EndsAmong (before after : Seat) (list earlier messages : List ClientMessage) (end : ReadEnd) : Type 0 where
+pub record EndsAmong (before after : ReadSeat) (list earlier messages : List ClientMessage) (end : ReadEnd) : Type 0 where
   pub breaks : EndsEarly end
   pub count : ℕ
   pub fewer : count < length messages

@@ -1,22 +1,59 @@
 -- What the sides of connections did, and what the books of a hall may hold.
-use Rattle.std.specs.Prelude.{◌≡◌, ℕ, ◌+◌, ◌-◌, ◌^◌, ◌≤◌, Bool, false, ◌&&◌, nat_lt, nat_le, length}
+use Rattle.std.specs.Prelude.{◌≡◌, ◌⊎◌, ℕ, ◌+◌, ◌-◌, ◌^◌, ◌≤◌, Bool, true, false, ◌&&◌, nat_lt, nat_le, length, Option, Some, None}
 use Rattle.fe_state.specs.declared.batch.Batch.{Batch}
 use Rattle.fe_mail.specs.Books.{Books}
 use Rattle.fe_wire.specs.declared.client_message.ClientMessage.{ClientMessage}
 use Rattle.fe_wire.specs.declared.client_message.ClientMessage.TheVariants.{Attach, Call, Cancel, Settle, Bye, Report}
+use Rattle.fe_hall.specs.declared.standing.Standing.{Standing}
+use Rattle.fe_hall.specs.declared.standing.Standing.TheVariants.{Served, Gone, Stopped, Spent}
+use Rattle.fe_hall.specs.declared.taking.Taking.{Taking}
+use Rattle.fe_hall.specs.declared.taking.Taking.TheVariants as taking
 
--- the sides of so many connections, and how many calls they made, or how many mails they took
-pub record Seat : Type 0 where
+-- what the read side of a connection did
+pub record ReadSeat : Type 0 where
+  -- the connection's number
+  pub conn : ℕ
+  -- how many calls it made
+  pub calls : ℕ
+  -- how many of its messages were taken, and the last of them
+  pub taken : ℕ
+  pub last : Option ClientMessage
+  -- how it stood when the hall last answered it
+  pub standing : Standing
+  -- whether it made its connection gone
+  pub departed : Bool
+
+-- what the write side of a connection did
+pub record WriteSeat : Type 0 where
+  -- the connection's number
+  pub conn : ℕ
+  -- how many mails it took
+  pub mails : ℕ
+  -- whether more were in its box then
+  pub more : Bool
+  -- how it stood when the hall last answered it
+  pub standing : Standing
+  -- whether it made its connection gone
+  pub departed : Bool
+
+-- the seats of so many connections, and how many calls or mails they booked
+pub record Seats : Type 0 where
   pub connections : ℕ
   pub amount : ℕ
 
--- the sides of the connections of both
-abbrev pub joined : Seat → Seat → Seat
-joined a b = record { connections = a.connections + b.connections; amount = a.amount + b.amount }
+-- the seats of the two sides of a connection just made
+abbrev pub first_read_seat : ℕ → ReadSeat
+first_read_seat conn = record { conn = conn; calls = 0; taken = 0; last = None; standing = Served; departed = false }
 
--- the sides did so many more
-abbrev pub risen : Seat → ℕ → Seat
-risen s n = record s { amount = s.amount + n }
+abbrev pub first_write_seat : ℕ → WriteSeat
+first_write_seat conn = record { conn = conn; mails = 0; more = false; standing = Served; departed = false }
+
+-- the seats of one connection, which booked so many, and of one connection more
+abbrev pub one_seat : ℕ → Seats
+one_seat amount = record { connections = 1; amount = amount }
+
+abbrev pub with_seat : Seats → ℕ → Seats
+with_seat s amount = record { connections = s.connections + 1; amount = s.amount + amount }
 
 -- how many connections a hall makes at most
 abbrev pub most_connections : ℕ
@@ -40,6 +77,43 @@ calls_in (Cancel number) = 0
 calls_in (Settle floor) = 0
 calls_in Bye = 0
 calls_in Report = 0
+
+-- a message of a read side was taken
+abbrev pub message_taken : ReadSeat → ClientMessage → ReadSeat
+message_taken s m = record s { calls = s.calls + calls_in m; taken = s.taken + 1; last = Some m; standing = Served }
+
+-- the seat of a read side whose message was answered so
+abbrev pub message_answered : ReadSeat → ClientMessage → Standing → ReadSeat
+message_answered s m Served = message_taken s m
+message_answered s m Gone = record s { standing = Gone }
+message_answered s m Stopped = record s { standing = Stopped }
+message_answered s m Spent = record s { standing = Spent }
+
+-- a mail was taken for a write side, and whether more are in its box
+abbrev pub mail_taken : WriteSeat → Bool → WriteSeat
+mail_taken s more = record s { mails = s.mails + 1; more = more; standing = Served }
+
+-- the seat of a write side whose box was looked into with this outcome
+abbrev pub taking_answered : WriteSeat → Taking → WriteSeat
+taking_answered s (taking.Mail mail more) = mail_taken s more
+taking_answered s taking.Gone = record s { standing = Gone }
+taking_answered s taking.Stopped = record s { standing = Stopped }
+taking_answered s taking.Spent = record s { standing = Spent }
+
+-- a read side had no message taken in between
+pub record TookNoMessage (s t : ReadSeat) : Type 0 where
+  pub conn : t.conn ≡ s.conn
+  pub calls : t.calls ≡ s.calls
+  pub taken : t.taken ≡ s.taken
+
+-- a write side took no mail in between
+pub record TookNoMail (s t : WriteSeat) : Type 0 where
+  pub conn : t.conn ≡ s.conn
+  pub mails : t.mails ≡ s.mails
+
+-- the side made its connection gone, or was told that the hall is stopped
+abbrev pub HasDeparted : ReadSeat → Type 0
+HasDeparted s = (s.departed ≡ true) ⊎ (s.standing ≡ Stopped)
 
 -- one message more may be taken
 abbrev pub takes_more : Books → Bool

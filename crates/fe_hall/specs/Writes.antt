@@ -1,5 +1,5 @@
 -- What the write side of a connection takes out of its box, and what its client gets.
-use Rattle.std.specs.Prelude.{◌≡◌, ℕ, ◌-◌, ◌<◌, ◌≤◌, List, ◌++◌, length, take, Option, Some, None, Result, Ok, Err}
+use Rattle.std.specs.Prelude.{◌≡◌, ℕ, ◌+◌, ◌-◌, ◌<◌, ◌≤◌, List, ◌++◌, length, take, Option, Some, None, Result, Ok, Err}
 use Rattle.std.specs.List.{filter_map}
 use Rattle.fe_mail.specs.declared.mail.Mail.{Mail}
 use Rattle.fe_mail.specs.declared.mail.Mail.TheVariants as mail
@@ -7,7 +7,11 @@ use Rattle.fe_messages.specs.Mails.{spelled}
 use Rattle.fe_hall.specs.declared.receipt.Receipt.{Receipt}
 use Rattle.fe_hall.specs.declared.write_end.WriteEnd.{WriteEnd}
 use Rattle.fe_hall.specs.declared.write_end.WriteEnd.TheVariants.{Gone, Device, Stopped, Spent, NoMemory}
-use Rattle.fe_hall.specs.Seats.{Seat, risen}
+use Rattle.fe_hall.specs.declared.standing.Standing.{Standing}
+use Rattle.fe_hall.specs.declared.standing.Standing.TheVariants as standing
+use Rattle.fe_hall.specs.declared.taking.Taking.{Taking}
+use Rattle.fe_hall.specs.declared.taking.Taking.TheVariants as taking
+use Rattle.fe_hall.specs.Seats.{WriteSeat}
 
 -- an answer has a receipt, and no other mail has one
 abbrev pub receipt_of : Mail → Option Receipt
@@ -27,9 +31,10 @@ most_receipts = 1024
 abbrev pub receipts_of : List Mail → List Receipt
 receipts_of mails = take most_receipts (filter_map receipt_of mails)
 
--- These mails were taken: the seat rose by their number, and the receipts are those of their first answers.
-pub record AreTaken (before after : Seat) (kept : List Receipt) (mails : List Mail) : Type 0 where
-  pub seat : after ≡ risen before (length mails)
+-- These mails of a connection were taken: its seat counts them, and the receipts are those of their first answers.
+pub record AreTaken (before after : WriteSeat) (kept : List Receipt) (mails : List Mail) : Type 0 where
+  pub conn : after.conn ≡ before.conn
+  pub count : after.mails ≡ before.mails + length mails
   pub receipts : kept ≡ receipts_of mails
 
 -- mails that are written at once: all but the last of them are spelled in less than 64 KiB
@@ -62,15 +67,31 @@ IsWritten before mails Spent after = after ≡ before ++ spelled mails
 IsWritten before mails Device after = BreaksOff before mails after
 IsWritten before mails NoMemory after = MayLackLast before mails after
 
+-- an end that the hall told the side
+abbrev pub IsTold : WriteEnd → Standing → Type 0
+IsTold Gone s = s ≡ standing.Gone
+IsTold Device s = Unit {0}
+IsTold Stopped s = s ≡ standing.Stopped
+IsTold Spent s = s ≡ standing.Spent
+IsTold NoMemory s = Unit {0}
+
 -- ---- on the way
+
+-- why a side ends with this outcome of a look into its box
+abbrev pub end_of : Taking → Option WriteEnd
+end_of (taking.Mail mail more) = None
+end_of taking.Gone = Some Gone
+end_of taking.Stopped = Some Stopped
+end_of taking.Spent = Some Spent
 
 -- the receipts of a side, with those of mails that it took next
 abbrev pub receipts_with : List Receipt → List Mail → List Receipt
 receipts_with receipts mails = take most_receipts (receipts ++ filter_map receipt_of mails)
 
 -- a side took these mails next
-pub record TakesOn (before after : Seat) (kept kept_after : List Receipt) (mails : List Mail) : Type 0 where
-  pub seat : after ≡ risen before (length mails)
+pub record TakesOn (before after : WriteSeat) (kept kept_after : List Receipt) (mails : List Mail) : Type 0 where
+  pub conn : after.conn ≡ before.conn
+  pub count : after.mails ≡ before.mails + length mails
   pub receipts : kept_after ≡ receipts_with kept mails
 
 -- why a side ends that has no mail: not for a fault of its half, and not for want of memory

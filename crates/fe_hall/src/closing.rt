@@ -5,15 +5,18 @@ ghost use Rattle.fe_mail.specs.Books.{AddUp};
 ghost use Rattle.fe_hall.specs.Receipts.{IsBorneOut, IsFirstStrange, IsStrange};
 ghost use Rattle.fe_hall.specs.declared.closing.Unclosed.TheVariants.{SeatMissing, StrangeReceipt};
 
+use crate::call_seats::CallSeats;
 use crate::hall::Hall;
+use crate::mail_seats::MailSeats;
 use crate::receipt::Receipt;
-use crate::seat::{CallSeat, MailSeat};
 use crate::strange::first_strange;
 use crate::tally::Tally;
 use fe_disk::Disk;
 use fe_front::Books;
 use fe_keeper::Keeper;
+use fe_state::State;
 use fe_wire::ClientMessage;
+use std::marker::Model;
 
 /// What a hall leaves: its books, and the keeper.
 #[derive(Drop)]
@@ -31,16 +34,96 @@ pub enum Unclosed {
     StrangeReceipt { place: u64 },
 }
 
+/// What was told of a hall that was closed: its books, the lists of its read sides, and the receipts, all of which were compared. Only
+/// `settle` makes it, so the books are those under the lock.
+#[derive(Drop)]
+pub struct Audit {
+    books: Books,
+    sent: Vec<Vec<ClientMessage>>,
+    receipts: Vec<Receipt>,
+}
+
+impl Model for Audit {
+    ghost use Rattle.std.specs.Prelude.{◌≡◌, false, map};
+    ghost use Rattle.fe_mail.specs.Books.{AddUp};
+    ghost use Rattle.fe_hall.specs.Audits.{Audited};
+
+    ghost Value = { Audited };
+
+    ghost view = { λ a. record { books = a.books; sent = map (λ v. v.items) a.sent.items; receipts = a.receipts.items } };
+
+    ghost invariant = { λ a. AddUp a.books × (a.books.spent ≡ false) };
+}
+
+impl Audit {
+    pub fn books(&self) -> Books
+        ensures books { result ≡ self.now.books }
+        ensures add_up { AddUp result }
+        ensures unspent { result.spent ≡ false }
+    {
+        self.books
+    }
+
+    /// The receipts of the write sides: of each connection the first 1,024 answers that it took.
+    pub fn receipts(&self) -> &[Receipt]
+        ensures { result.now ≡ self.now.receipts }
+    {
+        self.receipts.as_slice()
+    }
+}
+
 /// Closes a hall that no thread has any more, with the seats of all its connections: the calls that were booked are those that
 /// the read sides made, and the mails that were taken are those that the write sides took. No receipt is strange.
 ///
-/// `sent` are the lists of the read sides: of each connection the first 1,024 attaches and calls. It takes no memory. A
-/// receipt is compared with all that the replica keeps, at most 2,048 answers; one whose answer is still kept also with the
-/// lists, until one is found that has its call.
+/// `state` is what is stored. `sent` are the lists of the read sides: of each connection the first 1,024 attaches and calls. It
+/// takes no memory. A receipt is compared with all that the state keeps, at most 2,048 answers; one whose answer is still kept
+/// also with the lists, until one is found that has its call.
+pub fn settle<C: Tally, M: Tally>(
+    hall: Hall<C, M>,
+    calls: CallSeats<C>,
+    mails: MailSeats<M>,
+    sent: Vec<Vec<ClientMessage>>,
+    receipts: Vec<Receipt>,
+    state: &State,
+) -> Result<Audit, Unclosed>
+    requires calls { C.all ≡ C.parts }
+    requires mails { M.all ≡ M.parts }
+    ensures calls { IfOk result (λ audit. audit.books.calls ≡ calls.amount) }
+    ensures mails { IfOk result (λ audit. audit.books.taken ≡ mails.amount) }
+    ensures add_up { IfOk result (λ audit. AddUp audit.books) }
+    ensures unspent { IfOk result (λ audit. audit.books.spent ≡ false) }
+    ensures sent { IfOk result (λ audit. audit.sent ≡ map (λ v. v.items) sent.items) }
+    ensures receipts { IfOk result (λ audit. audit.receipts ≡ receipts.items) }
+    ensures borne_out { IfOk result (λ audit. All (IsBorneOut state.now audit.sent) audit.receipts) }
+    ensures strange { (place : ℕ) → result ≡ Err (StrangeReceipt place) → IsFirstStrange state.now (map (λ v. v.items) sent.items) receipts.items place }
+    // Where all seats are here, it is refused just where some receipt is strange.
+    ensures refused { result ≢ Err SeatMissing → IsErr result ↔ Any (IsStrange state.now (map (λ v. v.items) sent.items)) receipts.items }
+{
+    let Some(books) = hall.into_floor().audit(calls, mails) else {
+        drop(sent);
+        drop(receipts);
+        return Err(Unclosed::SeatMissing);
+    };
+    let strange = first_strange(state, sent.as_slice(), receipts.as_slice());
+    match strange {
+        Some(place) => {
+            drop(sent);
+            drop(receipts);
+            Err(Unclosed::StrangeReceipt { place })
+        }
+        None => Ok(Audit {
+            books,
+            sent,
+            receipts,
+        }),
+    }
+}
+
+/// Closes a hall over the state that the keeper has.
 pub fn close<C: Tally, M: Tally, D: Disk + Drop>(
     hall: Hall<C, M>,
-    calls: CallSeat<C>,
-    mails: MailSeat<M>,
+    calls: CallSeats<C>,
+    mails: MailSeats<M>,
     sent: Vec<Vec<ClientMessage>>,
     receipts: Vec<Receipt>,
     keeper: Keeper<D>,
@@ -57,17 +140,15 @@ pub fn close<C: Tally, M: Tally, D: Disk + Drop>(
     // Where all seats are here, it is refused just where some receipt is strange.
     ensures refused { result ≢ Err SeatMissing → IsErr result ↔ Any (IsStrange keeper.state (map (λ v. v.items) sent.items)) receipts.items }
 {
-    let Some(books) = hall.into_floor().audit(calls, mails) else {
-        drop(sent);
-        drop(receipts);
-        drop(keeper);
-        return Err(Unclosed::SeatMissing);
-    };
-    let strange = first_strange(keeper.state(), sent.as_slice(), receipts.as_slice());
-    drop(sent);
-    drop(receipts);
-    match strange {
-        Some(place) => Err(Unclosed::StrangeReceipt { place }),
-        None => Ok(Closing { books, keeper }),
+    match settle(hall, calls, mails, sent, receipts, keeper.state()) {
+        Ok(audit) => {
+            let books = audit.books();
+            drop(audit);
+            Ok(Closing { books, keeper })
+        }
+        Err(unclosed) => {
+            drop(keeper);
+            Err(unclosed)
+        }
     }
 }

@@ -6,6 +6,7 @@ ghost use Rattle.fe_keeper.specs.declared.fault.Fault.TheVariants.{Device};
 ghost use Rattle.fe_hall.specs.Commits.{Commits, Rests, IsStill, HasFailed, TellsEnd, end_of};
 
 use crate::commit_end::CommitEnd;
+use crate::floor::Cutting;
 use crate::hall::Hall;
 use crate::tally::Tally;
 use fe_disk::Disk;
@@ -49,7 +50,7 @@ fn commit_all<C: Tally, M: Tally, D: Disk, R: Wait>(
     let _ = keeper.state();
     let mut slices = true;
     for _ in rt.forever() {
-        let Some(batch) = hall.next_batch(rt) else {
+        let Cutting::Batch(batch) = hall.next_batch(rt) else {
             return CommitEnd::Stopped;
         };
         if let Some(end) = commit(rt, hall, keeper, batch) {
@@ -80,7 +81,7 @@ fn commit<C: Tally, M: Tally, D: Disk, R: Wait>(
 {
     match keeper.append(batch) {
         Ok(batch) => match hall.post(rt, batch, keeper) {
-            Some(Ok(())) => None,
+            Some(Ok(_)) => None,
             Some(Err(_)) => Some(CommitEnd::Strange),
             None => Some(CommitEnd::Spent),
         },

@@ -1,6 +1,6 @@
 //! What lies under the lock of a hall: the front, with a ledger of its calls and one of the mails that were taken.
 
-ghost use Rattle.std.specs.Prelude.{◌≡◌, ◌≢◌, ◌+◌, ◌≤◌, ◌↔◌, ℕ, List, [], true, false, Ok, Err, Some, None, IsTrue, IsErr, IfOk, IfErr, OnOk, OnErr, IfSome, MatchOption, slice_get, length};
+ghost use Rattle.std.specs.Prelude.{◌≡◌, ◌≢◌, ◌+◌, ◌-◌, ◌^◌, ◌≤◌, ◌⊎◌, ◌↔◌, ℕ, List, [], true, false, Ok, Err, Some, None, IsTrue, IsErr, IfOk, IfErr, OnOk, OnErr, IfSome, MatchOption, slice_get, length, nat_lt};
 ghost use Rattle.std.specs.FinMap.{get};
 ghost use Rattle.fe_state.specs.declared.entry.Entry.{Entry};
 ghost use Rattle.fe_front.specs.Front.{has_room, is_connected};
@@ -9,13 +9,20 @@ ghost use Rattle.fe_front.specs.Event as event;
 ghost use Rattle.fe_front.specs.Posting.{IsOut};
 ghost use Rattle.fe_front.specs.Step.{FrontStep};
 ghost use Rattle.fe_messages.specs.Taking.{Takes};
-ghost use Rattle.fe_hall.specs.Seats.{IsOpen, calls_in, risen, takes_more, posts_more, most_connections};
-ghost use Rattle.fe_hall.specs.Writes.{IsNoFault};
+ghost use Rattle.fe_hall.specs.Commits.{IsStored};
+ghost use Rattle.fe_hall.specs.Holds.{Cuts, Ends, TakesMail};
+ghost use Rattle.fe_hall.specs.Seats.{HasDeparted, IsOpen, ReadSeat, TookNoMessage, WriteSeat, first_read_seat, first_write_seat, message_taken, message_answered, taking_answered, takes_more, posts_more, most_connections};
 
-use crate::seat::{CallSeat, MailSeat};
+use crate::call_seat::CallSeat;
+use crate::call_seats::CallSeats;
+use crate::mail_seat::MailSeat;
+use crate::mail_seats::MailSeats;
+use crate::standing::Standing;
+use crate::taking::Taking;
 use crate::tally::Tally;
-use crate::write_end::WriteEnd;
-use fe_front::{Books, Front, Mail, StrangeBatch};
+use fe_disk::Disk;
+use fe_front::{Books, Front, StrangeBatch};
+use fe_keeper::Keeper;
 use fe_messages::take_message;
 use fe_state::Batch;
 use fe_wire::ClientMessage;
@@ -34,7 +41,7 @@ const MOST: u64 = 9223372036854767616;
 /// The front and its ledgers, which agree with its books.
 #[derive(Drop)]
 pub(crate) struct Floor<C: Tally, M: Tally> {
-    pub(crate) front: Front,
+    front: Front,
     calls: Book<C>,
     mails: Book<M>,
     spare_calls: Share<C>,
@@ -45,7 +52,7 @@ pub(crate) struct Floor<C: Tally, M: Tally> {
     present: Vec<u64>,
     /// Those whose read side waits for their box.
     watched: Vec<u64>,
-    pub(crate) stopped: bool,
+    stopped: bool,
     ghost open: { IsOpen front.books },
     ghost calls_agree: { calls.total ≡ front.books.calls },
     ghost mails_agree: { mails.total ≡ front.books.taken },
@@ -54,16 +61,25 @@ pub(crate) struct Floor<C: Tally, M: Tally> {
     ghost mail_parts: { (spare_mails.parts + made ≡ M.all) × (spare_mails.amount ≡ 0) × (M.all ≡ most_connections + 1) },
 }
 
-/// What came of a message, or why no mail comes.
-#[derive(Clone, Copy, Debug, PartialEq, Eq)]
-pub(crate) enum Handled {
-    Taken,
-    /// The connection is not there.
-    Gone,
-    /// The hall is stopped.
-    Stopped,
-    /// A book is full.
-    Spent,
+/// That a hall is stopped and all that was made in it is durable. Only a cut makes one.
+#[derive(Clone, Copy, Debug)]
+pub(crate) struct AllDurable {
+    place: u64,
+}
+
+/// That a batch was posted. Only a post makes one.
+#[derive(Clone, Copy, Debug)]
+pub(crate) struct Posted {
+    /// The place behind its entries.
+    durable: u64,
+}
+
+/// What a cut gave.
+#[derive(Drop)]
+pub(crate) enum Cutting {
+    Batch(Batch),
+    /// The hall is stopped, and nothing is left to store.
+    Stopped(AllDurable),
 }
 
 /// Why no connection was made.
@@ -108,8 +124,8 @@ impl<C: Tally, M: Tally> Floor<C, M> {
         ensures made { OnOk result (self.new.made ≡ self.old.made + 1) }
         ensures unmade { OnErr result (self.new.made ≡ self.old.made) }
         ensures still { self.new.stopped ≡ self.old.stopped }
-        ensures calls { IfOk result (λ seats. seats.0 ≡ record { connections = 1; amount = 0 }) }
-        ensures mails { IfOk result (λ seats. seats.1 ≡ record { connections = 1; amount = 0 }) }
+        ensures calls { IfOk result (λ seats. seats.0 ≡ first_read_seat conn) }
+        ensures mails { IfOk result (λ seats. seats.1 ≡ first_write_seat conn) }
     {
         if self.front.connected(conn) {
             return Err(Unconnected::InUse);
@@ -126,7 +142,7 @@ impl<C: Tally, M: Tally> Floor<C, M> {
         let calls = self.spare_calls.split_off(1, 0);
         let mails = self.spare_mails.split_off(1, 0);
         self.made += 1;
-        Ok((CallSeat::new(calls), MailSeat::new(mails)))
+        Ok((CallSeat::new(calls, conn), MailSeat::new(mails, conn)))
     }
 
     /// Whether one message more stays within the books of a hall.
@@ -138,56 +154,59 @@ impl<C: Tally, M: Tally> Floor<C, M> {
     }
 
     /// A message of a connection is its event, or its refusal is mailed.
-    pub(crate) fn take_message(
-        &mut self,
-        alloc: Global,
-        conn: u64,
-        message: ClientMessage,
-        seat: &mut CallSeat<C>,
-    )
+    fn take_message(&mut self, alloc: Global, message: ClientMessage, seat: &mut CallSeat<C>)
         requires room { IsTrue (has_room self.old.front) }
         requires more { IsTrue (takes_more self.old.front.books) }
-        ensures taken { (es : List Entry) × Takes self.old.front conn message es self.new.front }
-        ensures seat { seat.new ≡ risen seat.old (calls_in message) }
+        requires few { IsTrue (nat_lt seat.old.taken (2 ^ 64 - 1)) }
+        ensures taken { (es : List Entry) × Takes self.old.front seat.old.conn message es self.new.front }
+        ensures seat { seat.new ≡ message_taken seat.old message }
         ensures still { self.new.stopped ≡ self.old.stopped }
     {
         // It names what is always true of the front (`docs/DECISIONS.md`, "Toolchain").
         let _ = self.front.state();
-        seat.called(&mut self.calls, calls_in(&message));
+        let conn = seat.conn();
+        seat.take(&mut self.calls, &message);
         take_message(alloc, &mut self.front, conn, message);
     }
 
-    /// Takes a message of a connection where there is room for it; else nothing, and `None`.
+    /// Takes a message of a connection where there is room for it; else nothing, and `None`. Its seat is told how it stands.
     pub(crate) fn handle(
         &mut self,
         alloc: Global,
-        conn: u64,
         message: &ClientMessage,
         seat: &mut CallSeat<C>,
-    ) -> Option<Handled>
-        ensures taken { result ≡ Some Handled.Taken → ((es : List Entry) × Takes self.old.front conn message.now es self.new.front) × (seat.new ≡ risen seat.old (calls_in message.now)) }
-        ensures other { result ≢ Some Handled.Taken → (self.new.front ≡ self.old.front) × (seat.new ≡ seat.old) }
+    ) -> Option<Standing>
+        ensures taken { result ≡ Some Standing.Served → (es : List Entry) × Takes self.old.front seat.old.conn message.now es self.new.front }
+        ensures other { result ≢ Some Standing.Served → self.new.front ≡ self.old.front }
+        ensures seat { MatchOption result (seat.new ≡ seat.old) (λ s. seat.new ≡ message_answered seat.old message.now s) }
         // Each other answer has its reason, and stopped comes first.
-        ensures stopped { (result ≡ Some Handled.Stopped) ↔ (self.old.stopped ≡ true) }
-        ensures gone { result ≡ Some Handled.Gone → is_connected self.old.front conn ≡ false }
-        ensures spent { result ≡ Some Handled.Spent → takes_more self.old.front.books ≡ false }
+        ensures stopped { (result ≡ Some Standing.Stopped) ↔ (self.old.stopped ≡ true) }
+        ensures gone { result ≡ Some Standing.Gone → is_connected self.old.front seat.old.conn ≡ false }
+        ensures spent { result ≡ Some Standing.Spent → (takes_more self.old.front.books ≡ false) ⊎ (nat_lt seat.old.taken (2 ^ 64 - 1) ≡ false) }
         ensures full { result ≡ None → has_room self.old.front ≡ false }
         ensures still { self.new.stopped ≡ self.old.stopped }
     {
         if self.stopped {
-            return Some(Handled::Stopped);
+            seat.tell(&self.calls, Standing::Stopped);
+            return Some(Standing::Stopped);
         }
-        if !self.front.connected(conn) {
-            return Some(Handled::Gone);
+        if !self.front.connected(seat.conn()) {
+            seat.tell(&self.calls, Standing::Gone);
+            return Some(Standing::Gone);
         }
         if !self.takes_more() {
-            return Some(Handled::Spent);
+            seat.tell(&self.calls, Standing::Spent);
+            return Some(Standing::Spent);
+        }
+        if !seat.counts_more() {
+            seat.tell(&self.calls, Standing::Spent);
+            return Some(Standing::Spent);
         }
         if !self.front.room() {
             return None;
         }
-        self.take_message(alloc, conn, *message, seat);
-        Some(Handled::Taken)
+        self.take_message(alloc, *message, seat);
+        Some(Standing::Served)
     }
 
     /// Whether the write side of a connection has to look: it has mail, or it is gone.
@@ -234,13 +253,23 @@ impl<C: Tally, M: Tally> Floor<C, M> {
         self.watched.iter().any(|other| *other == conn)
     }
 
+    /// The hall is stopped.
+    pub(crate) fn stop(&mut self)
+        ensures stopped { self.new.stopped ≡ true }
+        ensures front { self.new.front ≡ self.old.front }
+    {
+        self.stopped = true;
+    }
+
     /// Whether a connection is told nothing any more: it is gone, or the hall is stopped.
     pub(crate) fn is_over(&self, conn: u64) -> bool {
         self.stopped || !self.front.connected(conn)
     }
 
     /// The place behind all that was made so far.
-    pub(crate) fn place(&self) -> u64 {
+    pub(crate) fn place(&self) -> u64
+        ensures { result ≡ self.now.front.service.state.place }
+    {
         self.front.state().place()
     }
 
@@ -254,60 +283,108 @@ impl<C: Tally, M: Tally> Floor<C, M> {
         self.front.books().mails
     }
 
-    /// Why the write side of a connection without mail ends, if it does.
-    pub(crate) fn end_of_writer(&self, conn: u64) -> Option<WriteEnd>
-        ensures { IfSome result IsNoFault }
+    /// Takes the first mail out of a connection's box, or tells its seat why none comes. `None`: the side waits for one.
+    pub(crate) fn take_mail(&mut self, seat: &mut MailSeat<M>) -> Option<Taking>
+        ensures takes { TakesMail self.old.front self.old.stopped seat.old.conn result self.new.front }
+        ensures seat { MatchOption result (seat.new ≡ seat.old) (λ taking. seat.new ≡ taking_answered seat.old taking) }
+        ensures still { self.new.stopped ≡ self.old.stopped }
     {
-        if !self.front.connected(conn) {
-            return Some(WriteEnd::Gone);
+        let _ = self.front.state();
+        let conn = seat.conn();
+        match self.front.take_mail(conn) {
+            Some(mail) => {
+                let more = self.front.has_mail(conn);
+                seat.take(&mut self.mails, more);
+                Some(Taking::Mail { mail, more })
+            }
+            None => self.end_of_mails(seat),
+        }
+    }
+
+    /// Why no mail comes any more for a connection whose box is empty. `None` where one may.
+    fn end_of_mails(&self, seat: &mut MailSeat<M>) -> Option<Taking>
+        ensures ends { Ends self.now.front self.now.stopped seat.old.conn result }
+        ensures seat { MatchOption result (seat.new ≡ seat.old) (λ taking. seat.new ≡ taking_answered seat.old taking) }
+    {
+        if !self.front.connected(seat.conn()) {
+            seat.tell(&self.mails, Standing::Gone);
+            return Some(Taking::Gone);
         }
         if self.stopped {
-            return Some(WriteEnd::Stopped);
+            seat.tell(&self.mails, Standing::Stopped);
+            return Some(Taking::Stopped);
         }
         if self.front.books().taken >= MOST {
-            return Some(WriteEnd::Spent);
+            seat.tell(&self.mails, Standing::Spent);
+            return Some(Taking::Spent);
         }
         None
     }
 
-    /// Takes the first mail out of a connection's box.
-    pub(crate) fn take_mail(&mut self, conn: u64, seat: &mut MailSeat<M>) -> Option<Mail>
-        ensures step { FrontStep self.old.front (event.TakeMail conn result) [] self.new.front }
-        ensures seat { MatchOption result (seat.new ≡ seat.old) (λ mail. seat.new ≡ risen seat.old 1) }
-    {
-        let _ = self.front.state();
-        match self.front.take_mail(conn) {
-            Some(mail) => {
-                seat.taken(&mut self.mails);
-                Some(mail)
-            }
-            None => None,
-        }
-    }
-
     /// A connection is gone, with its box and what waits of its session.
-    pub(crate) fn leave(&mut self, conn: u64)
-        ensures { (count : ℕ) × FrontStep self.old.front (event.Gone conn count) [] self.new.front }
+    fn drop_connection(&mut self, conn: u64)
+        ensures step { (count : ℕ) × FrontStep self.old.front (event.Gone conn count) [] self.new.front }
+        ensures still { self.new.stopped ≡ self.old.stopped }
     {
         self.forget(conn);
         let _ = self.front.state();
         let _ = self.front.gone(conn);
     }
 
+    /// A read side makes its connection gone.
+    pub(crate) fn leave_by_reader(&mut self, seat: &mut CallSeat<C>)
+        ensures step { (count : ℕ) × FrontStep self.old.front (event.Gone seat.old.conn count) [] self.new.front }
+        ensures seat { seat.new ≡ record seat.old { departed = true } }
+    {
+        self.drop_connection(seat.conn());
+        seat.depart(&self.calls);
+    }
+
+    /// A write side makes its connection gone.
+    pub(crate) fn leave_by_writer(&mut self, seat: &mut MailSeat<M>)
+        ensures step { (count : ℕ) × FrontStep self.old.front (event.Gone seat.old.conn count) [] self.new.front }
+        ensures seat { seat.new ≡ record seat.old { departed = true } }
+    {
+        self.drop_connection(seat.conn());
+        seat.depart(&self.mails);
+    }
+
+    /// A read side makes its connection gone, but where the hall is stopped: it is told so, and the write side goes on.
+    pub(crate) fn depart(&mut self, seat: &mut CallSeat<C>)
+        ensures departed { HasDeparted seat.new }
+        ensures untaken { TookNoMessage seat.old seat.new }
+        ensures step { self.old.stopped ≡ false → (count : ℕ) × FrontStep self.old.front (event.Gone seat.old.conn count) [] self.new.front }
+        ensures stopped { self.old.stopped ≡ true → self.new.front ≡ self.old.front }
+    {
+        if self.stopped {
+            seat.tell(&self.calls, Standing::Stopped);
+            return;
+        }
+        self.leave_by_reader(seat);
+    }
+
     /// Takes a connection out of the list of those that are present.
     fn forget(&mut self, conn: u64)
-        ensures { self.new.front ≡ self.old.front }
+        ensures front { self.new.front ≡ self.old.front }
+        ensures still { self.new.stopped ≡ self.old.stopped }
     {
         if let Some(at) = self.present.iter().position(|other| *other == conn) {
             let _ = self.present.swap_remove(at);
         }
     }
 
-    /// Hands all pending entries out, if there are some and no batch is out.
-    pub(crate) fn cut(&mut self) -> Option<Batch>
-        ensures { FrontStep self.old.front (event.Cut result) [] self.new.front }
+    /// Hands all pending entries out, if there are some and no batch is out. `None` where entries are waited for.
+    pub(crate) fn cut(&mut self) -> Option<Cutting>
+        ensures { Cuts self.old.front self.old.stopped result self.new.front }
     {
-        self.front.cut()
+        if let Some(batch) = self.front.cut() {
+            return Some(Cutting::Batch(batch));
+        }
+        let place = self.place();
+        if self.stopped && self.front.durable() == place {
+            return Some(Cutting::Stopped(AllDurable { place }));
+        }
+        None
     }
 
     /// Whether the mails of a batch stay within the books of a hall.
@@ -318,26 +395,38 @@ impl<C: Tally, M: Tally> Floor<C, M> {
         self.front.books().mails <= MOST - count
     }
 
-    /// Takes the batch that is out as stored, and mails its entries.
-    pub(crate) fn post(&mut self, batch: Batch) -> Result<(), StrangeBatch>
-        requires { IsTrue (posts_more self.old.front.books batch) }
+    /// Takes the batch that is out, and that the keeper stored last, as stored, and mails its entries.
+    pub(crate) fn post<D: Disk>(
+        &mut self,
+        batch: Batch,
+        keeper: &Keeper<D>,
+    ) -> Result<Posted, StrangeBatch>
+        requires more { IsTrue (posts_more self.old.front.books batch) }
+        requires stored { IsStored batch keeper.now.state }
         ensures refused { IsErr result ↔ (¬ IsOut self.old.front.out batch) }
         ensures step { OnOk result (FrontStep self.old.front (event.Post batch) [] self.new.front) }
+        ensures durable { IfOk result (λ posted. posted.durable ≡ batch.first + length batch.entries) }
         ensures err { OnErr result (self.new.front ≡ self.old.front) }
     {
+        let _ = keeper;
         let _ = self.front.state();
-        self.front.post(batch)
+        match self.front.post(batch) {
+            Ok(()) => Ok(Posted {
+                durable: self.front.durable(),
+            }),
+            Err(strange) => Err(strange),
+        }
     }
 
     // Whether the seats are those of all connections that were made.
-    fn made_all(&self, calls: &CallSeat<C>, mails: &MailSeat<M>) -> bool
+    fn made_all(&self, calls: &CallSeats<C>, mails: &MailSeats<M>) -> bool
         ensures { IsTrue result ↔ ((calls.now.connections ≡ self.now.made) × (mails.now.connections ≡ self.now.made)) }
     {
         calls.connections() == self.made && mails.connections() == self.made
     }
 
     /// The books, once all seats of the hall are here.
-    pub(crate) fn audit(self, calls: CallSeat<C>, mails: MailSeat<M>) -> Option<Books>
+    pub(crate) fn audit(self, calls: CallSeats<C>, mails: MailSeats<M>) -> Option<Books>
         requires calls { C.all ≡ C.parts }
         requires mails { M.all ≡ M.parts }
         ensures all { IfSome result (λ books. (books.calls ≡ calls.amount) × (books.taken ≡ mails.amount) × (books ≡ self.front.books)) }
@@ -372,15 +461,5 @@ impl<C: Tally, M: Tally> Floor<C, M> {
         mails.audit(&mut taken, spare_mails);
         drop(taken);
         Some(books)
-    }
-}
-
-/// How many calls a message is.
-fn calls_in(message: &ClientMessage) -> u64
-    ensures { result ≡ calls_in message.now }
-{
-    match message {
-        ClientMessage::Call { .. } => 1,
-        _ => 0,
     }
 }

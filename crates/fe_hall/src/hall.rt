@@ -1,31 +1,30 @@
-ghost use Rattle.std.specs.Prelude.{◌≡◌, ◌≢◌, ◌+◌, IfOk, IfErr, OnOk, OnErr, length};
+ghost use Rattle.std.specs.Prelude.{◌≡◌, ◌+◌, IfOk, IfErr, IfSome, length, true};
 ghost use Rattle.fe_mail.specs.Books.{first_books};
-ghost use Rattle.fe_hall.specs.Seats.{calls_in, risen, most_connections};
+ghost use Rattle.fe_hall.specs.Seats.{HasDeparted, ReadSeat, TookNoMessage, WriteSeat, first_read_seat, first_write_seat, message_answered, taking_answered, most_connections};
 ghost use Rattle.fe_hall.specs.Commits.{IsStored};
-ghost use Rattle.fe_hall.specs.Writes.{IsNoFault};
 
-use crate::floor::{BELLS, Floor, Handled, Unconnected};
-use crate::seat::{CallSeat, MailSeat};
+use crate::call_seat::CallSeat;
+use crate::floor::{BELLS, Cutting, Floor, Posted, Unconnected};
+use crate::hold::Lock;
+use crate::mail_seat::MailSeat;
+use crate::standing::Standing;
+use crate::taking::Taking;
 use crate::tally::Tally;
-use crate::write_end::WriteEnd;
 use fe_disk::Disk;
-use fe_front::{Front, Mail, StrangeBatch};
+use fe_front::{Front, StrangeBatch};
 use fe_keeper::Keeper;
 use fe_state::Batch;
 use fe_wire::ClientMessage;
 use std::alloc::{AllocError, Global};
 use std::sync::ledger::Blank;
-use std::sync::{Condvar, Mutex, MutexGuard, Wait};
+use std::sync::{Condvar, Wait};
 
-/// How often a thread tries to take the lock before it sleeps: a hold is shorter than a sleep and a wake-up.
-const LOOKS: u64 = 100;
-
-/// A front for many threads. Whoever has the lock makes one event of it.
+/// A front for many threads. A hold of its lock makes one event of it.
 ///
 /// It is generic in the names of its two ledgers, of the calls and of the mails that were taken.
 #[derive(Drop)]
 pub struct Hall<C: Tally, M: Tally> {
-    floor: Mutex<Floor<C, M>>,
+    lock: Lock<C, M>,
     /// Rung where entries are pending, and where the hall is stopped.
     work: Condvar,
     /// Rung where room came for an event, and where the hall is stopped.
@@ -50,7 +49,7 @@ impl<C: Tally, M: Tally> Hall<C, M> {
     {
         match bells(alloc) {
             Ok(bells) => Ok(Hall {
-                floor: Mutex::new(Floor::new(alloc, front, calls, mails)),
+                lock: Lock::new(Floor::new(alloc, front, calls, mails)),
                 work: Condvar::new(),
                 room: Condvar::new(),
                 bells,
@@ -65,15 +64,15 @@ impl<C: Tally, M: Tally> Hall<C, M> {
         rt: &R,
         conn: u64,
     ) -> Result<(CallSeat<C>, MailSeat<M>), Unconnected>
-        ensures calls { IfOk result (λ seats. seats.0 ≡ record { connections = 1; amount = 0 }) }
-        ensures mails { IfOk result (λ seats. seats.1 ≡ record { connections = 1; amount = 0 }) }
+        ensures calls { IfOk result (λ seats. seats.0 ≡ first_read_seat conn) }
+        ensures mails { IfOk result (λ seats. seats.1 ≡ first_write_seat conn) }
     {
-        self.floor.lock(rt).connect(conn)
+        self.lock.enter(rt).connect(conn)
     }
 
     /// Tells all sides to end. What is pending is still stored.
     pub fn stop<R: Wait>(&self, rt: &R) {
-        self.floor.lock(rt).stopped = true;
+        self.lock.enter(rt).stop();
         self.work.notify_all();
         self.room.notify_all();
         for bell in &self.bells {
@@ -81,139 +80,121 @@ impl<C: Tally, M: Tally> Hall<C, M> {
         }
     }
 
-    /// Takes the lock. The standard library's `lock` sleeps at once where another thread sleeps already, so it tries for a while first.
-    fn enter<R: Wait>(&self, rt: &R) -> MutexGuard<'_, Floor<C, M>> {
-        for _k in 0..LOOKS {
-            if let Some(floor) = self.floor.try_lock() {
-                return floor;
-            }
-        }
-        self.floor.lock(rt)
-    }
-
-    /// Rings for the sides of a connection that wait for its box.
-    fn ring(&self, conn: u64) {
-        self.bells[(conn % BELLS) as usize].notify_all();
-    }
-
-    /// Takes a message of a connection, once there is room for it.
+    /// Takes a message of a connection, once there is room for it; or tells its seat why not.
     pub(crate) fn handle<R: Wait>(
         &self,
         rt: &R,
         alloc: Global,
-        conn: u64,
         message: &ClientMessage,
         seat: &mut CallSeat<C>,
-    ) -> Handled
-        ensures taken { result ≡ Handled.Taken → seat.new ≡ risen seat.old (calls_in message.now) }
-        ensures other { result ≢ Handled.Taken → seat.new ≡ seat.old }
+    ) -> Standing
+        ensures { seat.new ≡ message_answered seat.old message.now result }
     {
-        let mut floor = self.enter(rt);
+        let mut hold = self.lock.enter(rt);
         for _ in rt.forever() {
-            let mails = floor.mails_made();
-            if let Some(handled) = floor.handle(alloc, conn, message, seat) {
-                let told = floor.mails_made() != mails;
-                MutexGuard::unlock(floor);
+            let mails = hold.mails_made();
+            if let Some(standing) = hold.handle(alloc, message, seat) {
+                let told = hold.mails_made() != mails;
+                hold.end();
                 self.work.notify_one();
                 if told {
-                    self.ring(conn);
+                    self.ring(seat.conn());
                 }
-                return handled;
+                return standing;
             }
-            floor = self.room.wait(rt, floor);
+            hold = hold.wait(rt, &self.room);
         }
         unreachable!()
     }
 
     /// Waits until the write side of a connection has written all that it took and the box is empty, or the connection is over. It does
     /// not wait where there is no memory for that.
-    pub(crate) fn await_rest<R: Wait>(&self, rt: &R, conn: u64) {
-        let mut floor = self.enter(rt);
-        if !floor.watch(conn) {
+    pub(crate) fn await_rest<R: Wait>(&self, rt: &R, seat: &CallSeat<C>) {
+        let conn = seat.conn();
+        let mut hold = self.lock.enter(rt);
+        if !hold.watch(conn) {
             return;
         }
         // A write side that rests already says so too.
         self.ring(conn);
         for _ in rt.forever() {
-            if floor.is_over(conn) || !floor.is_watched(conn) {
-                let _ = floor.unwatch(conn);
+            if hold.is_over(conn) || !hold.is_watched(conn) {
+                let _ = hold.unwatch(conn);
                 return;
             }
-            floor = self.bells[(conn % BELLS) as usize].wait(rt, floor);
+            hold = hold.wait(rt, &self.bells[(conn % BELLS) as usize]);
         }
         unreachable!()
     }
 
     /// Waits until all that comes of the messages of a connection was taken for it, but for what waits; it is gone then. No message of
     /// it comes any more. Where the hall is stopped it is left to its write side, which takes what is in the box.
-    pub(crate) fn drain<R: Wait>(&self, rt: &R, conn: u64) {
-        let mut floor = self.enter(rt);
-        let place = floor.place();
+    pub(crate) fn drain<R: Wait>(&self, rt: &R, seat: &mut CallSeat<C>)
+        ensures untaken { TookNoMessage seat.old seat.new }
+        ensures departed { HasDeparted seat.new }
+    {
+        let conn = seat.conn();
+        let mut hold = self.lock.enter(rt);
+        let place = hold.place();
         for _ in rt.forever() {
-            if floor.is_drained(conn, place) || !floor.watch(conn) {
+            if hold.is_drained(conn, place) || !hold.watch(conn) {
                 break;
             }
-            floor = self.bells[(conn % BELLS) as usize].wait(rt, floor);
+            hold = hold.wait(rt, &self.bells[(conn % BELLS) as usize]);
         }
-        let _ = floor.unwatch(conn);
-        if floor.stopped {
-            return;
-        }
-        floor.leave(conn);
-        MutexGuard::unlock(floor);
+        let _ = hold.unwatch(conn);
+        hold.depart(seat);
+        hold.end();
         self.ring(conn);
     }
 
-    /// A connection is gone, if it still is there.
-    pub(crate) fn leave<R: Wait>(&self, rt: &R, conn: u64) {
-        self.floor.lock(rt).leave(conn);
-        self.ring(conn);
-    }
-
-    /// Waits for a mail of a connection and takes it; with it, whether more are in its box. The error is why its write side ends.
-    pub(crate) fn take_mail<R: Wait>(
-        &self,
-        rt: &R,
-        conn: u64,
-        seat: &mut MailSeat<M>,
-    ) -> Result<(Mail, bool), WriteEnd>
-        ensures seat { OnOk result (seat.new ≡ risen seat.old 1) }
-        ensures untaken { OnErr result (seat.new ≡ seat.old) }
-        ensures end { IfErr result IsNoFault }
+    /// The read side of a connection makes it gone, if it still is there.
+    pub(crate) fn leave_by_reader<R: Wait>(&self, rt: &R, seat: &mut CallSeat<C>)
+        ensures { seat.new ≡ record seat.old { departed = true } }
     {
-        let mut floor = self.enter(rt);
+        self.lock.enter(rt).leave_by_reader(seat);
+        self.ring(seat.conn());
+    }
+
+    /// The write side of a connection makes it gone, if it still is there.
+    pub(crate) fn leave_by_writer<R: Wait>(&self, rt: &R, seat: &mut MailSeat<M>)
+        ensures { seat.new ≡ record seat.old { departed = true } }
+    {
+        self.lock.enter(rt).leave_by_writer(seat);
+        self.ring(seat.conn());
+    }
+
+    /// Waits for a mail of a connection and takes it; or tells its seat why none comes.
+    pub(crate) fn take_mail<R: Wait>(&self, rt: &R, seat: &mut MailSeat<M>) -> Taking
+        ensures { seat.new ≡ taking_answered seat.old result }
+    {
+        let conn = seat.conn();
+        let mut hold = self.lock.enter(rt);
         for _ in rt.forever() {
-            if let Some(mail) = floor.take_mail(conn, seat) {
-                let more = floor.front.has_mail(conn);
-                let is_awaited = !more && floor.is_watched(conn);
-                MutexGuard::unlock(floor);
+            if let Some(taking) = hold.take_mail(seat) {
+                let is_awaited = !seat.more() && hold.is_watched(conn);
+                hold.end();
                 if is_awaited {
                     self.ring(conn);
                 }
-                return Ok((mail, more));
+                return taking;
             }
-            if let Some(end) = floor.end_of_writer(conn) {
-                return Err(end);
-            }
-            if floor.unwatch(conn) {
+            if hold.unwatch(conn) {
                 self.ring(conn);
             }
-            floor = self.bells[(conn % BELLS) as usize].wait(rt, floor);
+            hold = hold.wait(rt, &self.bells[(conn % BELLS) as usize]);
         }
         unreachable!()
     }
 
-    /// Waits for entries, and cuts them. `None` where the hall is stopped and none is pending.
-    pub(crate) fn next_batch<R: Wait>(&self, rt: &R) -> Option<Batch> {
-        let mut floor = self.enter(rt);
+    /// Waits for entries, and cuts them; or says that the hall is stopped and nothing is left to store.
+    pub(crate) fn next_batch<R: Wait>(&self, rt: &R) -> Cutting {
+        let mut hold = self.lock.enter(rt);
         for _ in rt.forever() {
-            if let Some(batch) = floor.cut() {
-                return Some(batch);
+            if let Some(cutting) = hold.cut() {
+                return cutting;
             }
-            if floor.stopped {
-                return None;
-            }
-            floor = self.work.wait(rt, floor);
+            hold = hold.wait(rt, &self.work);
         }
         unreachable!()
     }
@@ -223,18 +204,19 @@ impl<C: Tally, M: Tally> Hall<C, M> {
         &self,
         rt: &R,
         batch: Batch,
-        _keeper: &Keeper<D>,
-    ) -> Option<Result<(), StrangeBatch>>
-        requires stored { IsStored batch _keeper.now.state }
+        keeper: &Keeper<D>,
+    ) -> Option<Result<Posted, StrangeBatch>>
+        requires stored { IsStored batch keeper.now.state }
+        ensures { IfSome result (λ outcome. IfOk outcome (λ posted. posted.durable ≡ batch.first + length batch.entries)) }
     {
         let mut wakes = [false; BELLS as usize];
-        let mut floor = self.enter(rt);
-        if !floor.posts_more(&batch) {
+        let mut hold = self.lock.enter(rt);
+        if !hold.posts_more(&batch) {
             return None;
         }
-        let outcome = floor.post(batch);
-        floor.mark(&mut wakes);
-        MutexGuard::unlock(floor);
+        let outcome = hold.post(batch, keeper);
+        hold.mark(&mut wakes);
+        hold.end();
         self.room.notify_all();
         for at in 0..self.bells.len() {
             if wakes[at] {
@@ -244,10 +226,15 @@ impl<C: Tally, M: Tally> Hall<C, M> {
         Some(outcome)
     }
 
+    /// Rings for the sides of a connection that wait for its box.
+    fn ring(&self, conn: u64) {
+        self.bells[(conn % BELLS) as usize].notify_all();
+    }
+
     /// What lies under the lock, once no thread has the hall.
     pub(crate) fn into_floor(self) -> Floor<C, M> {
-        let Hall { floor, .. } = self;
-        floor.into_inner()
+        let Hall { lock, .. } = self;
+        lock.into_floor()
     }
 }
 

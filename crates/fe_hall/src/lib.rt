@@ -1,9 +1,11 @@
 //! The hall: one front under a lock, for the threads of connections and the thread that stores.
 //!
-//! Each hold of the lock is one event of the front. Two ledgers lie beside it, of the calls and of the mails that were taken,
+//! Each hold of the lock is one event of the front (`Hold`). Two ledgers lie beside it, of the calls and of the mails that were taken,
 //! and each side of a connection has a seat that says what it did, so that the books can be compared with the seats.
 #![tactic(auto)]
 
+mod call_seat;
+mod call_seats;
 mod closing;
 mod commit_end;
 mod committing;
@@ -11,24 +13,32 @@ mod ends;
 mod floor;
 mod hall;
 mod halves;
+mod hold;
+mod mail_seat;
+mod mail_seats;
 mod reading;
 mod receipt;
-mod seat;
+mod standing;
 mod strange;
+mod taking;
 mod tally;
 mod write_end;
 mod writing;
 
-pub use closing::{Closing, Unclosed, close};
+pub use call_seat::CallSeat;
+pub use call_seats::CallSeats;
+pub use closing::{Audit, Closing, Unclosed, close, settle};
 pub use commit_end::CommitEnd;
 pub use committing::commit_side;
 pub use ends::ReadEnd;
 pub use floor::Unconnected;
 pub use hall::Hall;
 pub use halves::{Gate, LineFault, MemoryRead, MemoryWrite, Open, ReadHalf, WriteHalf};
+pub use mail_seat::MailSeat;
+pub use mail_seats::MailSeats;
 pub use reading::read_side;
 pub use receipt::Receipt;
-pub use seat::{CallSeat, MailSeat};
+pub use standing::Standing;
 pub use tally::Tally;
 pub use write_end::WriteEnd;
 pub use writing::write_side;

@@ -2,14 +2,14 @@
 
 ghost use Rattle.std.specs.Prelude.{◌≡◌, ◌≢◌, ◌↔◌, ◌++◌, [], ℕ, List, IsNone, IsSome, Some, IfNone, IfSome, OnSome, MatchOption};
 ghost use Rattle.fe_wire.specs.declared.client_message.ClientMessage.{ClientMessage as Message};
-ghost use Rattle.fe_hall.specs.Seats.{Seat, calls_in, risen};
-ghost use Rattle.fe_hall.specs.Reads.{is_sent, listed_with, AreHandled, EndsEarly, EndsAmong, HandlesStream, IsAt};
+ghost use Rattle.fe_hall.specs.Seats.{HasDeparted, ReadSeat, TookNoMessage, message_taken};
+ghost use Rattle.fe_hall.specs.Reads.{is_sent, listed_with, AreHandled, EndsEarly, EndsAmong, HandlesStream, IsAt, IsTold};
 
+use crate::call_seat::CallSeat;
 use crate::ends::ReadEnd;
-use crate::floor::Handled;
 use crate::hall::Hall;
 use crate::halves::{Gate, ReadHalf};
-use crate::seat::CallSeat;
+use crate::standing::Standing;
 use crate::tally::Tally;
 use fe_wire::{ClientMessage, Decoder, Version};
 use std::alloc::Global;
@@ -32,7 +32,6 @@ pub fn read_side<C: Tally, M: Tally, H: ReadHalf, G: Gate, R: Wait>(
     alloc: Global,
     hall: &Hall<C, M>,
     seat: CallSeat<C>,
-    conn: u64,
     half: &mut H,
     gate: &G,
     turns: Option<u64>,
@@ -41,18 +40,20 @@ pub fn read_side<C: Tally, M: Tally, H: ReadHalf, G: Gate, R: Wait>(
     ensures handled { H.tells half.old → H.told half.old ≡ [] → HandlesStream (H.told half.new) seat result.0 result.1.items result.2 }
     ensures tells { H.tells half.old → H.tells half.new }
     ensures turns { result.2 ≡ ReadEnd.Turns → IsSome turns }
+    // Where the side ends since its connection is gone, the hall is stopped or a book is full, the hall told it so.
+    ensures told { IsTold result.2 result.0.standing }
+    ensures departed { result.2 ≢ ReadEnd.Stopped → HasDeparted result.0 }
 {
     let decoder = Decoder::with_version(Version::Two);
     let listed = Vec::new(alloc);
     let mut reading = Reading {
         alloc,
-        conn,
         seat,
         decoder,
         listed,
     };
     let end = reading.read_all(rt, hall, half, gate, turns);
-    depart(rt, hall, conn, end);
+    depart(rt, hall, &mut reading.seat, end);
     let Reading { seat, listed, .. } = reading;
     (seat, listed, end)
 }
@@ -61,7 +62,6 @@ pub fn read_side<C: Tally, M: Tally, H: ReadHalf, G: Gate, R: Wait>(
 #[derive(Drop)]
 struct Reading<C: Tally> {
     alloc: Global,
-    conn: u64,
     seat: CallSeat<C>,
     decoder: Decoder,
     /// The first attaches and calls that were handled.
@@ -82,6 +82,7 @@ impl<C: Tally> Reading<C> {
             → HandlesStream (H.told half.new) self.old.seat self.new.seat self.new.listed.items result }
         ensures tells { H.tells half.old → H.tells half.new }
         ensures turns { result ≡ ReadEnd.Turns → IsSome turns }
+        ensures told { IsTold result self.new.seat.standing }
     {
         let Ok(mut buffer) = vec![in self.alloc; 0u8; PIECE_BYTES] else {
             return ReadEnd::NoMemory;
@@ -109,11 +110,12 @@ impl<C: Tally> Reading<C> {
         gate: &G,
         buffer: &mut [u8],
     ) -> Option<ReadEnd>
-        ensures handled { (before : Seat) → H.tells half.old → IsAt (H.told half.old) before self.old.decoder self.old.seat self.old.listed.items
+        ensures handled { (before : ReadSeat) → H.tells half.old → IsAt (H.told half.old) before self.old.decoder self.old.seat self.old.listed.items
             → MatchOption result (IsAt (H.told half.new) before self.new.decoder self.new.seat self.new.listed.items)
             (HandlesStream (H.told half.new) before self.new.seat self.new.listed.items) }
         ensures tells { H.tells half.old → H.tells half.new }
         ensures turns { IfSome result (λ end. end ≢ ReadEnd.Turns) }
+        ensures told { IfSome result (λ end. IsTold end self.new.seat.standing) }
     {
         match half.read(buffer) {
             Err(_) => Some(ReadEnd::Device),
@@ -130,10 +132,11 @@ impl<C: Tally> Reading<C> {
         gate: &G,
         piece: &[u8],
     ) -> Option<ReadEnd>
-        ensures handled { (before : Seat) (bytes : List ℕ) → IsAt bytes before self.old.decoder self.old.seat self.old.listed.items
+        ensures handled { (before : ReadSeat) (bytes : List ℕ) → IsAt bytes before self.old.decoder self.old.seat self.old.listed.items
             → MatchOption result (IsAt (bytes ++ piece.now) before self.new.decoder self.new.seat self.new.listed.items)
             (HandlesStream (bytes ++ piece.now) before self.new.seat self.new.listed.items) }
         ensures turns { IfSome result (λ end. end ≢ ReadEnd.Turns) }
+        ensures told { IfSome result (λ end. IsTold end self.new.seat.standing) }
     {
         let Ok(fed) = self.decoder.feed(self.alloc, piece) else {
             return Some(ReadEnd::NoMemory);
@@ -155,10 +158,11 @@ impl<C: Tally> Reading<C> {
         gate: &G,
         messages: &[ClientMessage],
     ) -> Option<ReadEnd>
-        ensures handled { (before : Seat) (earlier : List Message) → AreHandled before self.old.seat self.old.listed.items earlier
+        ensures handled { (before : ReadSeat) (earlier : List Message) → AreHandled before self.old.seat self.old.listed.items earlier
             → MatchOption result (AreHandled before self.new.seat self.new.listed.items (earlier ++ messages.now))
             (EndsAmong before self.new.seat self.new.listed.items earlier messages.now) }
         ensures turns { IfSome result (λ end. end ≢ ReadEnd.Turns) }
+        ensures told { IfSome result (λ end. IsTold end self.new.seat.standing) }
         ensures decoder { self.new.decoder ≡ self.old.decoder }
     {
         for message in messages {
@@ -177,23 +181,24 @@ impl<C: Tally> Reading<C> {
         gate: &G,
         message: &ClientMessage,
     ) -> Option<ReadEnd>
-        ensures seat { IfNone result (self.new.seat ≡ risen self.old.seat (calls_in message.now)) }
+        ensures seat { IfNone result (self.new.seat ≡ message_taken self.old.seat message.now) }
         ensures listed { IfNone result (self.new.listed.items ≡ listed_with self.old.listed.items message.now) }
-        ensures untaken { OnSome result ((self.new.seat ≡ self.old.seat) × (self.new.listed.items ≡ self.old.listed.items)) }
+        ensures untaken { OnSome result (TookNoMessage self.old.seat self.new.seat × (self.new.listed.items ≡ self.old.listed.items)) }
         ensures end { IfSome result EndsEarly }
+        ensures told { IfSome result (λ end. IsTold end self.new.seat.standing) }
         ensures decoder { self.new.decoder ≡ self.old.decoder }
     {
         let lists = is_sent(message) && self.listed.len() < LISTED;
         if lists && self.listed.reserve(1).is_err() {
             return Some(ReadEnd::NoMemory);
         }
-        gate.pass(rt, self.conn);
+        gate.pass(rt, self.seat.conn());
         // A report may be long, and a client may ask for many and read none.
         if matches!(message, ClientMessage::Report) {
-            hall.await_rest(rt, self.conn);
+            hall.await_rest(rt, &self.seat);
         }
-        let handled = hall.handle(rt, self.alloc, self.conn, message, &mut self.seat);
-        if let Some(end) = end_of(handled) {
+        let standing = hall.handle(rt, self.alloc, message, &mut self.seat);
+        if let Some(end) = end_of(standing) {
             return Some(end);
         }
         if lists && self.listed.push(*message).is_err() {
@@ -204,27 +209,35 @@ impl<C: Tally> Reading<C> {
 }
 
 /// Makes the connection gone whose read side ended so; where its stream ended or its reads are used up, once it is drained.
-fn depart<C: Tally, M: Tally, R: Wait>(rt: &R, hall: &Hall<C, M>, conn: u64, end: ReadEnd) {
+fn depart<C: Tally, M: Tally, R: Wait>(
+    rt: &R,
+    hall: &Hall<C, M>,
+    seat: &mut CallSeat<C>,
+    end: ReadEnd,
+)
+    ensures untaken { TookNoMessage seat.old seat.new }
+    ensures told { IsTold end seat.old.standing → IsTold end seat.new.standing }
+    ensures departed { end ≢ ReadEnd.Stopped → HasDeparted seat.new }
+{
     match end {
-        ReadEnd::Closed | ReadEnd::Turns => hall.drain(rt, conn),
+        ReadEnd::Closed => hall.drain(rt, seat),
+        ReadEnd::Turns => hall.drain(rt, seat),
         ReadEnd::Stopped => {}
-        _ => hall.leave(rt, conn),
+        _ => hall.leave_by_reader(rt, seat),
     }
 }
 
 /// Why a side ends whose message was not taken. `None` where it was.
-fn end_of(handled: Handled) -> Option<ReadEnd>
-    ensures taken { IsNone result ↔ (handled ≡ Handled.Taken) }
-    ensures gone { handled ≡ Handled.Gone → result ≡ Some ReadEnd.Gone }
-    ensures stopped { handled ≡ Handled.Stopped → result ≡ Some ReadEnd.Stopped }
-    ensures spent { handled ≡ Handled.Spent → result ≡ Some ReadEnd.Spent }
+fn end_of(standing: Standing) -> Option<ReadEnd>
+    ensures served { IsNone result ↔ (standing ≡ Standing.Served) }
+    ensures told { IfSome result (λ end. IsTold end standing) }
     ensures end { IfSome result EndsEarly }
 {
-    match handled {
-        Handled::Taken => None,
-        Handled::Gone => Some(ReadEnd::Gone),
-        Handled::Stopped => Some(ReadEnd::Stopped),
-        Handled::Spent => Some(ReadEnd::Spent),
+    match standing {
+        Standing::Served => None,
+        Standing::Gone => Some(ReadEnd::Gone),
+        Standing::Stopped => Some(ReadEnd::Stopped),
+        Standing::Spent => Some(ReadEnd::Spent),
     }
 }
 

@@ -1,14 +1,17 @@
 //! The write side of a connection: the mails of its box are spelled to its client, in their order.
 
-ghost use Rattle.std.specs.Prelude.{◌≡◌, ◌<◌, ◌≤◌, ◌∷◌, ◌++◌, [], ℕ, List, length, take, vec_len, vec_capacity, OnOk, OnErr, IfNone, MatchOption};
+ghost use Rattle.std.specs.Prelude.{◌≡◌, ◌≢◌, ◌⊎◌, true, Some, ◌<◌, ◌≤◌, ◌∷◌, ◌++◌, [], ℕ, List, length, take, vec_len, vec_capacity, OnOk, OnErr, IfOk, IfErr, IfNone, IfSome, MatchOption};
 ghost use Rattle.fe_mail.specs.declared.mail.Mail.{Mail as Told};
 ghost use Rattle.fe_messages.specs.Mails.{spelled};
-ghost use Rattle.fe_hall.specs.Writes.{AreTaken, IsWritten, TakesOn, IsBatch, AreSpelled, receipts_with};
+ghost use Rattle.fe_hall.specs.Writes.{AreTaken, IsWritten, IsTold, TakesOn, IsBatch, AreSpelled, end_of, receipts_with};
+ghost use Rattle.fe_hall.specs.Seats.{TookNoMail};
+ghost use Rattle.fe_hall.specs.declared.taking.Taking.TheVariants as Taken;
 
 use crate::hall::Hall;
 use crate::halves::{LineFault, WriteHalf};
+use crate::mail_seat::MailSeat;
 use crate::receipt::Receipt;
-use crate::seat::MailSeat;
+use crate::taking::Taking;
 use crate::tally::Tally;
 use crate::write_end::WriteEnd;
 use fe_front::Mail;
@@ -32,23 +35,22 @@ pub fn write_side<C: Tally, M: Tally, H: WriteHalf, R: Wait>(
     alloc: Global,
     hall: &Hall<C, M>,
     seat: MailSeat<M>,
-    conn: u64,
     half: &mut H,
 ) -> (MailSeat<M>, Vec<Receipt>, WriteEnd)
     // The mails that were taken: seat and receipts tell them, and a half that tells its bytes got their spelling.
     ensures wrote { (mails : List Told) × AreTaken seat result.0 result.1.items mails × (H.tells half.old → IsWritten (H.got half.old) mails result.2 (H.got half.new)) }
     ensures tells { H.tells half.old → H.tells half.new }
+    // Where the side ends since its connection is gone, the hall is stopped or a book is full, the hall told it so.
+    ensures told { IsTold result.2 result.0.standing }
+    ensures departed { result.2 ≢ WriteEnd.Stopped → result.0.departed ≡ true }
 {
     let mut writing = Writing {
-        conn,
         seat,
         receipts: Vec::new(alloc),
         frames: Vec::new(alloc),
     };
     let end = writing.write_all(rt, hall, half);
-    if end != WriteEnd::Stopped {
-        hall.leave(rt, conn);
-    }
+    depart(rt, hall, &mut writing.seat, end);
     let Writing { seat, receipts, .. } = writing;
     (seat, receipts, end)
 }
@@ -56,7 +58,6 @@ pub fn write_side<C: Tally, M: Tally, H: WriteHalf, R: Wait>(
 /// A write side at work.
 #[derive(Drop)]
 struct Writing<M: Tally> {
-    conn: u64,
     seat: MailSeat<M>,
     /// The receipts of the first answers that were taken.
     receipts: Vec<Receipt>,
@@ -77,6 +78,7 @@ impl<M: Tally> Writing<M> {
         ensures wrote { (mails : List Told) × TakesOn self.old.seat self.new.seat self.old.receipts.items self.new.receipts.items mails
             × (H.tells half.old → IsWritten (H.got half.old) mails result (H.got half.new)) }
         ensures tells { H.tells half.old → H.tells half.new }
+        ensures told { IsTold result self.new.seat.standing }
     {
         for _ in rt.forever() {
             if let Some(end) = self.write_box(rt, hall, half) {
@@ -98,6 +100,7 @@ impl<M: Tally> Writing<M> {
             × (H.tells half.old → MatchOption result (H.got half.new ≡ H.got half.old ++ spelled mails) (λ end. IsWritten (H.got half.old) mails end (H.got half.new))) }
         ensures frames { IfNone result (self.new.frames.items ≡ []) }
         ensures tells { H.tells half.old → H.tells half.new }
+        ensures told { IfSome result (λ end. IsTold end self.new.seat.standing) }
     {
         let taken = self.take_mails(rt, hall);
         if let Err(_) = write_whole(half, self.frames.as_slice()) {
@@ -111,8 +114,9 @@ impl<M: Tally> Writing<M> {
     /// short, at most the last mail that was taken is not spelled.
     fn take_mails<C: Tally, R: Wait>(&mut self, rt: &R, hall: &Hall<C, M>) -> Result<(), WriteEnd>
         requires { self.old.frames.items ≡ [] }
-        ensures { (mails : List Told) × TakesOn self.old.seat self.new.seat self.old.receipts.items self.new.receipts.items mails
+        ensures took { (mails : List Told) × TakesOn self.old.seat self.new.seat self.old.receipts.items self.new.receipts.items mails
             × IsBatch mails × AreSpelled [] result mails self.new.frames.items }
+        ensures told { IfErr result (λ end. IsTold end self.new.seat.standing) }
     {
         let mut more = true;
         for _ in rt.forever() {
@@ -126,13 +130,17 @@ impl<M: Tally> Writing<M> {
 
     /// Waits for a mail, takes it, keeps its receipt, and spells it. Whether more are in the box.
     fn take_mail<C: Tally, R: Wait>(&mut self, rt: &R, hall: &Hall<C, M>) -> Result<bool, WriteEnd>
-        ensures { (mails : List Told) × TakesOn self.old.seat self.new.seat self.old.receipts.items self.new.receipts.items mails
+        // It may wait, so nothing that was taken is left to write, or more mails are in the box.
+        requires { (self.old.frames.items ≡ []) ⊎ (self.old.seat.more ≡ true) }
+        ensures took { (mails : List Told) × TakesOn self.old.seat self.new.seat self.old.receipts.items self.new.receipts.items mails
             × (length mails ≤ 1) × AreSpelled self.old.frames.items result mails self.new.frames.items }
+        ensures more { IfOk result (λ more. more ≡ self.new.seat.more) }
+        ensures told { IfErr result (λ end. IsTold end self.new.seat.standing) }
     {
         if self.make_room().is_err() {
             return Err(WriteEnd::NoMemory);
         }
-        let (mail, more) = hall.take_mail(rt, self.conn, &mut self.seat)?;
+        let (mail, more) = mail_in(hall.take_mail(rt, &mut self.seat))?;
         self.keep_receipt(&mail);
         match Reply::of(mail).put(&mut self.frames) {
             Ok(()) => Ok(more),
@@ -168,6 +176,36 @@ impl<M: Tally> Writing<M> {
                 unreachable!();
             }
         }
+    }
+}
+
+/// The mail that was taken, and whether more are in the box; or why the side ends.
+fn mail_in(taking: Taking) -> Result<(Mail, bool), WriteEnd>
+    ensures mail { IfOk result (λ taken. taking ≡ Taken.Mail taken.0 taken.1) }
+    ensures end { IfErr result (λ end. end_of taking ≡ Some end) }
+{
+    match taking {
+        Taking::Mail { mail, more } => Ok((mail, more)),
+        Taking::Gone => Err(WriteEnd::Gone),
+        Taking::Stopped => Err(WriteEnd::Stopped),
+        Taking::Spent => Err(WriteEnd::Spent),
+    }
+}
+
+/// Makes the connection gone whose write side ended so.
+fn depart<C: Tally, M: Tally, R: Wait>(
+    rt: &R,
+    hall: &Hall<C, M>,
+    seat: &mut MailSeat<M>,
+    end: WriteEnd,
+)
+    ensures untaken { TookNoMail seat.old seat.new }
+    ensures told { seat.new.standing ≡ seat.old.standing }
+    ensures departed { end ≢ WriteEnd.Stopped → seat.new.departed ≡ true }
+{
+    match end {
+        WriteEnd::Stopped => {}
+        _ => hall.leave_by_writer(rt, seat),
     }
 }
 

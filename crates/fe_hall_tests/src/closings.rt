@@ -8,7 +8,9 @@ use crate::saying::{Say, message_of};
 use crate::stage::{PARTS, hall_over};
 use crate::tests::store_after;
 use fe_disk::MemoryDisk;
-use fe_hall::{CallSeat, Hall, MailSeat, Receipt, Tally, Unclosed, Unconnected, close};
+use fe_hall::{
+    CallSeat, CallSeats, Hall, MailSeat, MailSeats, Receipt, Tally, Unclosed, Unconnected, close,
+};
 use fe_keeper::Keeper;
 use fe_state::{Answer, Request};
 use fe_wire::ClientMessage;
@@ -115,6 +117,7 @@ fn close_as<C: Tally, M: Tally, R: Abort + Wait>(
         .ok()
         .expect(rt, "a hall");
     let (calls, mails) = connect(rt, &hall, connections).ok().expect(rt, "connected");
+    let (calls, mails) = (CallSeats::of(calls), MailSeats::of(mails));
     match close(hall, calls, mails, sent, receipts, keeper) {
         Ok(closing) => {
             drop(closing);

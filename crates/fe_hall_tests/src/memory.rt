@@ -84,7 +84,7 @@ fn store<C: Tally, M: Tally, R: Abort + Wait>(
     let mut half = Failing {
         half: MemoryRead::new(bytes, 4096),
     };
-    let (_, _, end) = read_side(rt, alloc, hall, seat, 1, &mut half, &Open, None);
+    let (_, _, end) = read_side(rt, alloc, hall, seat, &mut half, &Open, None);
     match end {
         ReadEnd::Device => {
             hall.stop(rt);

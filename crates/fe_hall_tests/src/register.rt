@@ -1,7 +1,9 @@
 ghost use Rattle.std.specs.Prelude.{◌≡◌};
 
 use fe_disk::Disk;
-use fe_hall::{CallSeat, Closing, Hall, MailSeat, Receipt, Tally, Unclosed, close};
+use fe_hall::{
+    CallSeat, CallSeats, Closing, Hall, MailSeat, MailSeats, Receipt, Tally, Unclosed, close,
+};
 use fe_keeper::Keeper;
 use fe_wire::ClientMessage;
 use std::alloc::Global;
@@ -9,8 +11,8 @@ use std::alloc::Global;
 /// What the connections of a hall did that ended.
 #[derive(Drop)]
 pub struct Register<C: Tally, M: Tally> {
-    calls: Option<CallSeat<C>>,
-    mails: Option<MailSeat<M>>,
+    calls: Option<CallSeats<C>>,
+    mails: Option<MailSeats<M>>,
     sent: Vec<Vec<ClientMessage>>,
     receipts: Vec<Receipt>,
 }
@@ -31,8 +33,8 @@ impl<C: Tally, M: Tally> Register<C, M> {
         requires { C.all ≡ C.parts }
     {
         match &mut self.calls {
-            Some(calls) => calls.join(seat),
-            None => self.calls = Some(seat),
+            Some(calls) => calls.add(seat),
+            None => self.calls = Some(CallSeats::of(seat)),
         }
         let _ = self.sent.push(sent);
     }
@@ -42,8 +44,8 @@ impl<C: Tally, M: Tally> Register<C, M> {
         requires { M.all ≡ M.parts }
     {
         match &mut self.mails {
-            Some(mails) => mails.join(seat),
-            None => self.mails = Some(seat),
+            Some(mails) => mails.add(seat),
+            None => self.mails = Some(MailSeats::of(seat)),
         }
         let _ = self.receipts.extend_from_slice(receipts.as_slice());
     }

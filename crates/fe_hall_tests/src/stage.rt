@@ -281,7 +281,7 @@ fn read<C: Tally, M: Tally, R: Clock + Wait>(
     let reads = stage.play.reads;
     let piece = if reads.is_some() { 1 } else { PIECE };
     let mut half = ClientRead::new(rt, alloc, &stage.board, stage.hold, conn, piece);
-    let (seat, sent, end) = read_side(rt, alloc, &stage.hall, seat, conn, &mut half, &Open, reads);
+    let (seat, sent, end) = read_side(rt, alloc, &stage.hall, seat, &mut half, &Open, reads);
     stage.board.lock(rt).read_ended(conn, end);
     stage.register.lock(rt).add_calls(seat, sent);
 }
@@ -297,7 +297,7 @@ fn write<C: Tally, M: Tally, R: Clock + Wait>(
     requires { M.all ≡ M.parts }
 {
     let mut half = ClientWrite::new(rt, &stage.board, conn);
-    let (seat, receipts, end) = write_side(rt, alloc, &stage.hall, seat, conn, &mut half);
+    let (seat, receipts, end) = write_side(rt, alloc, &stage.hall, seat, &mut half);
     stage.board.lock(rt).write_ended(conn, end);
     stage.register.lock(rt).add_mails(seat, receipts);
 }

@@ -1,8 +1,8 @@
 -- What the connections that ended leave.
-use Rattle.std.specs.Prelude.{Option, Some, None}
-use Rattle.fe_hall.specs.Seats.{Seat, joined}
+use Rattle.std.specs.Prelude.{ℕ, Option, Some, None}
+use Rattle.fe_hall.specs.Seats.{Seats, one_seat, with_seat}
 
--- the seat of all connections that ended, with that of one more
-abbrev pub joined_to : Option Seat → Seat → Option Seat
-joined_to None seat = Some seat
-joined_to (Some all) seat = Some (joined all seat)
+-- the seats of all connections that ended, with that of one more, which booked so many calls or mails
+abbrev pub joined_to : Option Seats → ℕ → Option Seats
+joined_to None amount = Some (one_seat amount)
+joined_to (Some all) amount = Some (with_seat all amount)

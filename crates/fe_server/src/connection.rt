@@ -49,15 +49,15 @@ pub(crate) fn attend<
                 scope,
                 move ||
                     requires { M.all ≡ M.parts }
-                { write_once(rt, alloc, house, desk, conn, line) },
+                { write_once(rt, alloc, house, desk, line) },
             );
             // What has no writer is not read.
             let turns = if writer.is_ok() { turns } else { 0 };
-            read(rt, alloc, house, calls, conn, line, gate, turns);
+            read(rt, alloc, house, calls, line, gate, turns);
         },
     );
     // Where no writer could be started its seat is still here.
-    write_once(rt, alloc, house, &seat, conn, &stream);
+    write_once(rt, alloc, house, &seat, &stream);
     house.ended(rt, conn);
 }
 
@@ -78,8 +78,8 @@ pub(crate) fn turn_away<C: Tally, M: Tally, G: Gate, R: Wait>(
         calls,
         mails,
     } = newcomer;
-    read(rt, alloc, house, calls, conn, &stream, gate, 0);
-    write(rt, alloc, house, mails, conn, &stream);
+    read(rt, alloc, house, calls, &stream, gate, 0);
+    write(rt, alloc, house, mails, &stream);
     house.ended(rt, conn);
 }
 
@@ -90,7 +90,6 @@ fn read<C: Tally, M: Tally, G: Gate, R: Wait>(
     alloc: Global,
     house: &House<C, M>,
     seat: CallSeat<C>,
-    conn: u64,
     stream: &UnixStream,
     gate: &G,
     turns: u64,
@@ -103,7 +102,6 @@ fn read<C: Tally, M: Tally, G: Gate, R: Wait>(
         alloc,
         &house.hall,
         seat,
-        conn,
         &mut half,
         gate,
         Some(turns),
@@ -123,13 +121,12 @@ fn write<C: Tally, M: Tally, R: Wait>(
     alloc: Global,
     house: &House<C, M>,
     seat: MailSeat<M>,
-    conn: u64,
     stream: &UnixStream,
 )
     requires ledger { M.all ≡ M.parts }
 {
     let mut half = SocketWrite::new(stream);
-    let (seat, receipts, end) = write_side(rt, alloc, &house.hall, seat, conn, &mut half);
+    let (seat, receipts, end) = write_side(rt, alloc, &house.hall, seat, &mut half);
     let _ = stream.shutdown(Shutdown::Both);
     if end == WriteEnd::Spent {
         house.spend(rt);
@@ -143,13 +140,12 @@ fn write_once<C: Tally, M: Tally, R: Wait>(
     alloc: Global,
     house: &House<C, M>,
     desk: &Mutex<Option<MailSeat<M>>>,
-    conn: u64,
     stream: &UnixStream,
 )
     requires ledger { M.all ≡ M.parts }
 {
     let seat = desk.lock(rt).take();
     if let Some(seat) = seat {
-        write(rt, alloc, house, seat, conn, stream);
+        write(rt, alloc, house, seat, stream);
     }
 }

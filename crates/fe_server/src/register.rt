@@ -8,7 +8,9 @@ ghost use Rattle.fe_server.specs.Ended.{joined_to};
 
 use crate::stop_fault::StopFault;
 use fe_disk::Disk;
-use fe_hall::{CallSeat, Closing, Hall, MailSeat, Receipt, Tally, close};
+use fe_hall::{
+    CallSeat, CallSeats, Closing, Hall, MailSeat, MailSeats, Receipt, Tally, close,
+};
 use fe_keeper::Keeper;
 use fe_wire::ClientMessage;
 use std::alloc::Global;
@@ -46,8 +48,8 @@ pub(crate) struct Register<C: Tally, M: Tally> {
     /// A book of the hall is full.
     pub(crate) spent: bool,
     /// The seats of all connections that ended.
-    calls: Option<CallSeat<C>>,
-    mails: Option<MailSeat<M>>,
+    calls: Option<CallSeats<C>>,
+    mails: Option<MailSeats<M>>,
     /// The list of each read side that ended, and the receipts of the write sides.
     sent: Vec<Vec<ClientMessage>>,
     receipts: Vec<Receipt>,
@@ -148,7 +150,7 @@ impl<C: Tally, M: Tally> Register<C, M> {
     /// Adds what the read side of a connection did.
     pub(crate) fn add_calls(&mut self, seat: CallSeat<C>, sent: Vec<ClientMessage>)
         requires ledger { C.all ≡ C.parts }
-        ensures joined { self.new.calls ≡ joined_to self.old.calls seat }
+        ensures joined { self.new.calls ≡ joined_to self.old.calls seat.calls }
         // A list that is to be kept is kept, or memory is told to be short.
         ensures sent { IsTrue self.old.keeps → self.new.short ≡ false → self.new.sent.items ≡ self.old.sent.items ++ sent ∷ [] }
         ensures none { self.old.keeps ≡ false → self.new.sent.items ≡ self.old.sent.items }
@@ -157,8 +159,8 @@ impl<C: Tally, M: Tally> Register<C, M> {
         ensures receipts { self.new.receipts.items ≡ self.old.receipts.items }
     {
         match &mut self.calls {
-            Some(calls) => calls.join(seat),
-            None => self.calls = Some(seat),
+            Some(calls) => calls.add(seat),
+            None => self.calls = Some(CallSeats::of(seat)),
         }
         if self.keeps && self.sent.push(sent).is_err() {
             self.short = true;
@@ -168,7 +170,7 @@ impl<C: Tally, M: Tally> Register<C, M> {
     /// Adds what the write side of a connection did.
     pub(crate) fn add_mails(&mut self, seat: MailSeat<M>, receipts: Vec<Receipt>)
         requires ledger { M.all ≡ M.parts }
-        ensures joined { self.new.mails ≡ joined_to self.old.mails seat }
+        ensures joined { self.new.mails ≡ joined_to self.old.mails seat.mails }
         ensures receipts { IsTrue self.old.keeps → self.new.short ≡ false → self.new.receipts.items ≡ self.old.receipts.items ++ receipts.items }
         ensures none { self.old.keeps ≡ false → self.new.receipts.items ≡ self.old.receipts.items }
         ensures short { IsTrue self.old.short → IsTrue self.new.short }
@@ -176,8 +178,8 @@ impl<C: Tally, M: Tally> Register<C, M> {
         ensures sent { self.new.sent.items ≡ self.old.sent.items }
     {
         match &mut self.mails {
-            Some(mails) => mails.join(seat),
-            None => self.mails = Some(seat),
+            Some(mails) => mails.add(seat),
+            None => self.mails = Some(MailSeats::of(seat)),
         }
         if self.keeps
             && self

@@ -1,18 +1,31 @@
-use Rattle.std.proofs.Common.{refl, sym, true≢false}
-use Rattle.fe_hall.proofs.BorneOut.{one_strange, all_borne_out, none_is}
+use Rattle.std.proofs.Common.{◌≡◌, Err, map, refl, sym, ap, subst, true≢false}
+use Rattle.std.specs.Prelude.{Any}
+use Rattle.fe_state.specs.State.{ServerState}
+use Rattle.fe_hall.specs.Receipts.{IsStrange, IsFirstStrange}
+use Rattle.fe_hall.specs.declared.closing.Unclosed.TheVariants.{SeatMissing, StrangeReceipt}
+use Rattle.fe_hall.proofs.BorneOut.{all_as, none_strange}
 use Rattle.fe_hall.proofs.closing.close.Goals as goal
 
-pub returns-in-Some-strange-clause-refused : goal.returns-in-Some-strange-clause-refused
-returns-in-Some-strange-clause-refused g c = λ _. (
-  λ _. one_strange c.state.result.now c.args.keeper.state c.as_slice.result.now c.args.sent.items c.as_slice-2.result.now c.args.receipts.items (λ v. v.items) c.state.ensures.state c.as_slice.ensures.value c.as_slice-2.ensures.value c.in-Some-strange.place c.in-Some-strange.ensures.some,
-  λ _. refl,
-)
+pub returns-in-Ok-clause-receipts : goal.returns-in-Ok-clause-receipts
+returns-in-Ok-clause-receipts g c =
+    let e = c.in-Ok.ensures in
+    all_as c.state.result.now c.args.keeper.state c.in-Ok.audit.sent (map (λ v. v.items) c.args.sent.items) c.in-Ok.audit.receipts c.args.receipts.items c.state.ensures.state e.sent e.receipts e.borne_out
 
-pub returns-in-None-clause-receipts : goal.returns-in-None-clause-receipts
-returns-in-None-clause-receipts g c = all_borne_out c.state.result.now c.args.keeper.state c.as_slice.result.now c.args.sent.items c.as_slice-2.result.now c.args.receipts.items (λ v. v.items) c.state.ensures.state c.as_slice.ensures.value c.as_slice-2.ensures.value c.in-None.ensures.none
-
-pub returns-in-None-clause-refused : goal.returns-in-None-clause-refused
-returns-in-None-clause-refused g c = λ _. (
+pub returns-in-Ok-clause-refused : goal.returns-in-Ok-clause-refused
+returns-in-Ok-clause-refused g c = λ _. (
   λ err. absurd (true≢false (sym err)),
-  λ one. absurd (none_is c.state.result.now c.args.keeper.state c.as_slice.result.now c.args.sent.items c.as_slice-2.result.now c.args.receipts.items (λ v. v.items) c.state.ensures.state c.as_slice.ensures.value c.as_slice-2.ensures.value c.in-None.ensures.none one),
+  λ one. absurd (none_strange c.args.keeper.state (map (λ v. v.items) c.args.sent.items) c.args.receipts.items (returns-in-Ok-clause-receipts g c) one),
 )
+
+pub returns-in-Err-clause-strange : goal.returns-in-Err-clause-strange
+returns-in-Err-clause-strange g c = λ place is.
+    let why : c.in-Err.unclosed ≡ StrangeReceipt place = cc is in
+    subst (λ (s : ServerState). IsFirstStrange s (map (λ v. v.items) c.args.sent.items) c.args.receipts.items place) c.state.ensures.state
+    (c.in-Err.ensures.strange place (ap (λ u. Err u) why))
+
+pub returns-in-Err-clause-refused : goal.returns-in-Err-clause-refused
+returns-in-Err-clause-refused g c = λ other.
+    let here = c.in-Err.ensures.refused (λ same. let why : c.in-Err.unclosed ≡ SeatMissing = cc same in other (ap (λ u. Err u) why)) in (
+      λ err. subst (λ (s : ServerState). Any (IsStrange s (map (λ v. v.items) c.args.sent.items)) c.args.receipts.items) c.state.ensures.state (here.0 err),
+      λ one. refl,
+    )

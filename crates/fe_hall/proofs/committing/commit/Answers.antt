@@ -1,9 +1,9 @@
-use Rattle.std.proofs.Common.{inl, Some, None, sym, subst}
+use Rattle.std.proofs.Common.{Some, None, sym, subst}
 use Rattle.fe_state.specs.declared.batch.Batch.{Batch}
 use Rattle.fe_hall.specs.Commits.{Commits, IsStored}
 use Rattle.fe_hall.specs.declared.commit_end.CommitEnd.{CommitEnd}
 use Rattle.fe_hall.specs.declared.commit_end.CommitEnd.TheVariants.{Strange, Spent}
-use Rattle.fe_hall.proofs.Committed.{commits_group, commits_fault}
+use Rattle.fe_hall.proofs.Committed.{commits_group, commits_fault, appended_works}
 use Rattle.fe_hall.proofs.committing.commit.Goals as goal
 
 pub post-requires : goal.post-requires
@@ -17,19 +17,26 @@ post-requires g c =
 pub returns-in-Some-Ok-clause-commits : goal.returns-in-Some-Ok-clause-commits
 returns-in-Some-Ok-clause-commits g c =
     let e = c.in-Ok.ensures in
-    commits_group g.D.Disk.honest g.D.Disk.moment g.D.Disk.left_since c.args.keeper.now c.append.new.self None c.args.batch.entries e.continues.some e.continues.legal (inl e.state) c.append.ensures.any_moment
+    let old = c.args.keeper.now in
+    let new = c.append.new.self in
+    commits_group g.D.Disk.honest g.D.Disk.moment g.D.Disk.left_since g.D.Disk.may_leave g.met.D.Disk.only_now old new None c.args.batch.entries e.continues.some e.continues.legal e.state
+    (appended_works old.store new.store c.args.batch.entries new.store.disk e.store) c.append.ensures.honesty c.append.ensures.stands c.append.ensures.any_moment
 
 pub returns-in-Some-Err-clause-commits : goal.returns-in-Some-Err-clause-commits
 returns-in-Some-Err-clause-commits g c =
     let e = c.in-Ok.ensures in
-    commits_group g.D.Disk.honest g.D.Disk.moment g.D.Disk.left_since c.args.keeper.now c.append.new.self (Some Strange) c.args.batch.entries e.continues.some e.continues.legal (inl e.state)
-    c.append.ensures.any_moment
+    let old = c.args.keeper.now in
+    let new = c.append.new.self in
+    commits_group g.D.Disk.honest g.D.Disk.moment g.D.Disk.left_since g.D.Disk.may_leave g.met.D.Disk.only_now old new (Some Strange) c.args.batch.entries e.continues.some e.continues.legal e.state
+    (appended_works old.store new.store c.args.batch.entries new.store.disk e.store) c.append.ensures.honesty c.append.ensures.stands c.append.ensures.any_moment
 
 pub returns-in-Ok-clause-commits : goal.returns-in-Ok-clause-commits
 returns-in-Ok-clause-commits g c =
     let e = c.in-Ok.ensures in
-    commits_group g.D.Disk.honest g.D.Disk.moment g.D.Disk.left_since c.args.keeper.now c.append.new.self (Some Spent) c.args.batch.entries e.continues.some e.continues.legal (inl e.state)
-    c.append.ensures.any_moment
+    let old = c.args.keeper.now in
+    let new = c.append.new.self in
+    commits_group g.D.Disk.honest g.D.Disk.moment g.D.Disk.left_since g.D.Disk.may_leave g.met.D.Disk.only_now old new (Some Spent) c.args.batch.entries e.continues.some e.continues.legal e.state
+    (appended_works old.store new.store c.args.batch.entries new.store.disk e.store) c.append.ensures.honesty c.append.ensures.stands c.append.ensures.any_moment
 
 pub returns-clause-commits : goal.returns-clause-commits
 returns-clause-commits g c =

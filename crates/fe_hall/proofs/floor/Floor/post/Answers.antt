@@ -6,7 +6,7 @@ pub invariant_of-self : goal.invariant_of-self
 invariant_of-self g c =
     let s = c.args.self.now in
     let e = c.post.ensures in
-    let goes = posted_goes s.front c.post.new.self c.args.batch c.post.result c.state.ensures.front s.open c.requires e.refused e.posted e.err in
+    let goes = posted_goes s.front c.post.new.self c.args.batch c.post.result c.state.ensures.front s.open c.requires.more e.refused e.posted e.err in
     record {
       «open» = goes.books;
       calls_agree = omega (arith, s.calls_agree, goes.calls);
@@ -16,6 +16,8 @@ invariant_of-self g c =
       mail_parts = s.mail_parts;
     }
 
-pub returns-clause-step : goal.returns-clause-step
-returns-clause-step g c =
-    let e = c.post.ensures in posted_steps c.args.self.now.front c.post.new.self c.args.batch c.post.result e.refused e.posted
+pub returns-in-Ok-clause-step : goal.returns-in-Ok-clause-step
+returns-in-Ok-clause-step g c =
+    let e = c.post.ensures in
+    let step = posted_steps c.args.self.now.front c.post.new.self c.args.batch c.post.result e.refused e.posted in
+    rw c.in-Ok.is at step

@@ -5,11 +5,11 @@ use Rattle.fe_hall.proofs.floor.Floor.take_mail.Goals as goal
 pub invariant_of-self : goal.invariant_of-self
 invariant_of-self g c =
     let s = c.args.self.now in
-    let goes = taken_goes s.front c.take_mail.new.self c.args.conn c.in-Some.mail c.state.ensures.front s.open (sym c.in-Some.is ∙ c.take_mail.ensures.mail) c.take_mail.ensures.taken in
+    let goes = taken_goes s.front c.take_mail.new.self c.conn-conn.result c.in-Some.mail c.state.ensures.front s.open (sym c.in-Some.is ∙ c.take_mail.ensures.mail) c.take_mail.ensures.taken in
     record {
       «open» = goes.books;
       calls_agree = omega (arith, s.calls_agree, goes.calls);
-      mails_agree = omega (arith, s.mails_agree, goes.taken, c.taken.ensures.book);
+      mails_agree = omega (arith, s.mails_agree, goes.taken, c.take.ensures.book);
       few = s.few;
       call_parts = s.call_parts;
       mail_parts = s.mail_parts;

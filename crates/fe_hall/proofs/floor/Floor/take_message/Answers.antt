@@ -6,10 +6,10 @@ pub invariant_of-self : goal.invariant_of-self
 invariant_of-self g c =
     let s = c.args.self.now in
     let t = c.take_message.ensures.taken in
-    let goes = takes_goes s.front c.take_message.new.front c.args.conn c.args.message t.0 c.state.ensures.front s.open c.requires.more t.1 in
+    let goes = takes_goes s.front c.take_message.new.front c.conn-conn.result c.args.message t.0 c.state.ensures.front s.open c.requires.more t.1 in
     record {
       «open» = goes.books;
-      calls_agree = omega (arith, s.calls_agree, goes.calls, c.called.ensures.book, c.calls_in.ensures);
+      calls_agree = omega (arith, s.calls_agree, goes.calls, c.take.ensures.book);
       mails_agree = omega (arith, s.mails_agree, goes.taken);
       few = s.few;
       call_parts = s.call_parts;

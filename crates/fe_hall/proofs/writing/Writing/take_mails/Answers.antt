@@ -1,19 +1,19 @@
-use Rattle.std.proofs.Common.{◌<◌, ℕ, Bool, List, [], ◌++◌, length, subst, arith}
+use Rattle.std.proofs.Common.{inl, inr, ◌<◌, ℕ, Bool, List, [], ◌++◌, length, subst, arith}
 use Rattle.std.proofs.lemmas.Result.{err_from_is_err_and}
 use Rattle.fe_hall.proofs.Written.{takes_none, takes_on, batch_none, batch_more, spelled_more, spells_on}
 use Rattle.fe_hall.proofs.writing.Writing.take_mails.Goals as goal
 
 pub loop-init : goal.loop-init
 loop-init g c =
-    let s = c.args.self.now in (([], takes_none s.seat s.receipts.items s.few, batch_none, c.requires), (tt, tt))
+    let s = c.args.self.now in (([], takes_none s.seat s.receipts.items s.few, batch_none, c.requires), inl c.requires, (tt, tt))
 
-pub returns-in_err-more : goal.returns-in_err-more
-returns-in_err-more g c =
+pub returns-in_err-more-clause-took : goal.returns-in_err-more-clause-took
+returns-in_err-more-clause-took g c =
     let s = c.args.self.now in
     let l = c.loop.self in
     let n = c.take_mail.new.self in
     let i = c.loop.invariant.0 in
-    let t = c.in_err-more.ensures in
+    let t = c.in_err-more.ensures.took in
     let p = err_from_is_err_and c.from_residual.result c.from_residual.ensures.1 in
     let room : length l.frames.items < 65536 = omega arith in
     let short = subst (λ (xs : List ℕ). length xs < 65536) i.3 room in
@@ -26,8 +26,8 @@ loop-preserved g c =
     let l = c.loop.self in
     let n = c.take_mail.new.self in
     let i = c.loop.invariant.0 in
-    let t = c.in_ok-more.ensures in
+    let t = c.in_ok-more.ensures.took in
     let room : length l.frames.items < 65536 = omega arith in
     let short = subst (λ (xs : List ℕ). length xs < 65536) i.3 room in
     let takes = takes_on s.seat l.seat n.seat s.receipts.items l.receipts.items n.receipts.items i.0 t.0 i.1 t.1 in
-    ((i.0 ++ t.0, takes, batch_more i.0 t.0 i.2 t.2 short, spelled_more l.frames.items n.frames.items i.0 t.0 i.3 t.3), (tt, tt))
+    ((i.0 ++ t.0, takes, batch_more i.0 t.0 i.2 t.2 short, spelled_more l.frames.items n.frames.items i.0 t.0 i.3 t.3), inr c.in_ok-more.ensures.more, (tt, tt))

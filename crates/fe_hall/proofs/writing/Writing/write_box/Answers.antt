@@ -3,7 +3,7 @@ use Rattle.fe_hall.proofs.writing.Writing.write_box.Goals as goal
 
 pub returns-in-Err-clause-wrote : goal.returns-in-Err-clause-wrote
 returns-in-Err-clause-wrote g c =
-    let t = c.take_mails-taken.ensures in
+    let t = c.take_mails-taken.ensures.took in
     let got = g.H.WriteHalf.got in (
       t.0,
       t.1,

@@ -1,0 +1,5 @@
+use Rattle.std.specs.Prelude.{◌≡◌, false}
+use Rattle.fe_hall.proofs.hall.Hall.drain.Given as goal
+
+abbrev pub invariant-loop : goal.invariant-loop
+invariant-loop g l = (l.hold.used ≡ false) × ((goal.iterator-loop g).can_next l.iterator' × (goal.iterator-loop g).is_finite l.iterator')

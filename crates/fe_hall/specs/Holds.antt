@@ -1,0 +1,37 @@
+-- What a hold of a hall's lock did to the front, and why it did nothing.
+use Rattle.std.specs.Prelude.{◌≡◌, ℕ, ◌≤◌, Bool, true, false, [], length, nat_lt, Option, Some, None}
+use Rattle.fe_mail.specs.Connections.{mails_on}
+use Rattle.fe_front.specs.Event as event
+use Rattle.fe_front.specs.Front.{FrontState, is_connected}
+use Rattle.fe_front.specs.Step.{FrontStep}
+use Rattle.fe_hall.specs.Seats.{most_counted}
+use Rattle.fe_hall.specs.declared.floor.Cutting.{Cutting}
+use Rattle.fe_hall.specs.declared.floor.Cutting.TheVariants as cutting
+use Rattle.fe_hall.specs.declared.taking.Taking.{Taking}
+use Rattle.fe_hall.specs.declared.taking.Taking.TheVariants as taking
+
+-- whether a mail is in a connection's box
+abbrev pub has_mail : FrontState → ℕ → Bool
+has_mail f conn = nat_lt 0 (length (mails_on f.connections conn))
+
+-- Why no mail comes any more for a connection whose box is empty; `None`: one may come.
+abbrev pub Ends : FrontState → Bool → ℕ → Option Taking → Type 0
+Ends f stopped conn (Some (taking.Mail mail more)) = ⊥
+Ends f stopped conn (Some taking.Gone) = is_connected f conn ≡ false
+Ends f stopped conn (Some taking.Stopped) = (is_connected f conn ≡ true) × (stopped ≡ true)
+Ends f stopped conn (Some taking.Spent) = most_counted ≤ f.books.taken
+Ends f stopped conn None = (is_connected f conn ≡ true) × (stopped ≡ false)
+
+-- A mail of a connection was taken, or its box was empty, and then why none comes any more.
+abbrev pub TakesMail : FrontState → Bool → ℕ → Option Taking → FrontState → Type 0
+TakesMail f stopped conn (Some (taking.Mail mail more)) g = FrontStep f (event.TakeMail conn (Some mail)) [] g × (more ≡ has_mail g conn)
+TakesMail f stopped conn (Some taking.Gone) g = FrontStep f (event.TakeMail conn None) [] g × Ends g stopped conn (Some taking.Gone)
+TakesMail f stopped conn (Some taking.Stopped) g = FrontStep f (event.TakeMail conn None) [] g × Ends g stopped conn (Some taking.Stopped)
+TakesMail f stopped conn (Some taking.Spent) g = FrontStep f (event.TakeMail conn None) [] g × Ends g stopped conn (Some taking.Spent)
+TakesMail f stopped conn None g = FrontStep f (event.TakeMail conn None) [] g × Ends g stopped conn None
+
+-- A batch was cut; or none was, and where the hall is stopped all that was made is durable, so that nothing is left to store.
+abbrev pub Cuts : FrontState → Bool → Option Cutting → FrontState → Type 0
+Cuts f stopped (Some (cutting.Batch batch)) g = FrontStep f (event.Cut (Some batch)) [] g
+Cuts f stopped (Some (cutting.Stopped all)) g = FrontStep f (event.Cut None) [] g × (stopped ≡ true) × (g.durable ≡ g.service.state.place)
+Cuts f stopped None g = FrontStep f (event.Cut None) [] g

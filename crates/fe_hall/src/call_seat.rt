@@ -1,0 +1,117 @@
+ghost use Rattle.std.specs.Prelude.{◌≡◌, ◌+◌, ◌-◌, ◌^◌, true, IsTrue, nat_lt};
+ghost use Rattle.fe_hall.specs.Seats.{calls_in, first_read_seat, message_taken, most_connections};
+
+use crate::standing::Standing;
+use crate::tally::Tally;
+use fe_wire::ClientMessage;
+use std::marker::Model;
+use std::snapshot::Snapshot;
+use std::sync::ledger::{Book, Share};
+
+/// The seat of a connection's read side: contracts see the connection's number, and what the side did.
+///
+/// Only the hall changes it, in the hold in which it serves the side: who has the book may.
+#[derive(Drop)]
+pub struct CallSeat<C: Tally> {
+    share: Share<C>,
+    conn: u64,
+    /// How many messages were taken.
+    taken: u64,
+    /// The last of them.
+    last: Snapshot<Option<ClientMessage>>,
+    standing: Standing,
+    /// The side made its connection gone.
+    departed: bool,
+}
+
+impl<C: Tally> Model for CallSeat<C> {
+    ghost use Rattle.std.specs.Prelude.{◌≡◌, ◌+◌};
+    ghost use Rattle.fe_hall.specs.Seats.{ReadSeat, most_connections};
+
+    ghost Value = { ReadSeat };
+
+    ghost view = { λ s. record { conn = s.conn; calls = s.share.amount; taken = s.taken; last = s.last.value; standing = s.standing; departed = s.departed } };
+
+    ghost invariant = { λ s. (s.share.parts ≡ 1) × (C.all ≡ most_connections + 1) };
+}
+
+impl<C: Tally> CallSeat<C> {
+    /// The seat of a connection just made: one part of the ledger.
+    pub(crate) fn new(share: Share<C>, conn: u64) -> CallSeat<C>
+        requires part { share.parts ≡ 1 }
+        requires nothing { share.amount ≡ 0 }
+        requires all { C.all ≡ most_connections + 1 }
+        ensures { result ≡ first_read_seat conn }
+    {
+        let none: Option<ClientMessage> = None;
+        CallSeat {
+            share,
+            conn,
+            taken: 0,
+            last: Snapshot::of(&none),
+            standing: Standing::Served,
+            departed: false,
+        }
+    }
+
+    /// The connection's number.
+    pub(crate) fn conn(&self) -> u64
+        ensures { result ≡ self.now.conn }
+    {
+        self.conn
+    }
+
+    /// Whether it can count one message more.
+    pub(crate) fn counts_more(&self) -> bool
+        ensures { result ≡ nat_lt self.now.taken (2 ^ 64 - 1) }
+    {
+        self.taken < u64::MAX
+    }
+
+    /// A message is taken, and its calls are booked here and in the book.
+    pub(crate) fn take(&mut self, book: &mut Book<C>, message: &ClientMessage)
+        requires { IsTrue (nat_lt self.old.taken (2 ^ 64 - 1)) }
+        ensures seat { self.new ≡ message_taken self.old message.now }
+        ensures book { book.new.total ≡ book.old.total + calls_in message.now }
+    {
+        book.add(&mut self.share, calls_in(message));
+        self.taken += 1;
+        let taken = Some(*message);
+        self.last = Snapshot::of(&taken);
+        self.standing = Standing::Served;
+    }
+
+    /// The side is told how it stands.
+    pub(crate) fn tell(&mut self, _book: &Book<C>, standing: Standing)
+        ensures { self.new ≡ record self.old { standing = standing } }
+    {
+        self.standing = standing;
+    }
+
+    /// The side makes its connection gone.
+    pub(crate) fn depart(&mut self, _book: &Book<C>)
+        ensures { self.new ≡ record self.old { departed = true } }
+    {
+        self.departed = true;
+    }
+
+    /// The part of the ledger, with the calls.
+    pub(crate) fn into_share(self) -> Share<C>
+        ensures parts { result.parts ≡ 1 }
+        ensures amount { result.amount ≡ self.calls }
+        ensures all { C.all ≡ most_connections + 1 }
+    {
+        let CallSeat { share, .. } = self;
+        share
+    }
+}
+
+/// How many calls a message is.
+fn calls_in(message: &ClientMessage) -> u64
+    ensures { result ≡ calls_in message.now }
+{
+    match message {
+        ClientMessage::Call { .. } => 1,
+        _ => 0,
+    }
+}

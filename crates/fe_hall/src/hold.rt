@@ -1,0 +1,264 @@
+//! A hold of a hall's lock, in which one event of the front is made at most.
+
+ghost use Rattle.std.specs.Sync.Mutex.{mutex_guard_value as under};
+ghost use Rattle.std.specs.Prelude.{◌≡◌, ◌≢◌, ◌+◌, ◌↔◌, ℕ, List, [], true, false, Ok, Err, Some, None, IsTrue, IsErr, IfOk, OnOk, OnErr, MatchOption, length};
+ghost use Rattle.fe_state.specs.declared.entry.Entry.{Entry};
+ghost use Rattle.fe_front.specs.Event as event;
+ghost use Rattle.fe_front.specs.Posting.{IsOut};
+ghost use Rattle.fe_front.specs.Step.{FrontStep};
+ghost use Rattle.fe_messages.specs.Taking.{Takes};
+ghost use Rattle.fe_hall.specs.Commits.{IsStored};
+ghost use Rattle.fe_hall.specs.Holds.{Cuts, TakesMail};
+ghost use Rattle.fe_hall.specs.Seats.{HasDeparted, ReadSeat, TookNoMessage, WriteSeat, first_read_seat, first_write_seat, message_answered, taking_answered, posts_more};
+
+use crate::call_seat::CallSeat;
+use crate::floor::{BELLS, Cutting, Floor, Posted, Unconnected};
+use crate::mail_seat::MailSeat;
+use crate::standing::Standing;
+use crate::taking::Taking;
+use crate::tally::Tally;
+use fe_disk::Disk;
+use fe_front::StrangeBatch;
+use fe_keeper::Keeper;
+use fe_state::Batch;
+use fe_wire::ClientMessage;
+use std::alloc::Global;
+use std::sync::{Condvar, Mutex, MutexGuard, Wait};
+
+/// How often a thread tries to take the lock before it sleeps: a hold is shorter than a sleep and a wake-up.
+const LOOKS: u64 = 100;
+
+/// The lock of a hall. What lies under it is reached through its holds alone.
+#[derive(Drop)]
+pub(crate) struct Lock<C: Tally, M: Tally> {
+    floor: Mutex<Floor<C, M>>,
+}
+
+/// A hold of the lock.
+#[derive(Drop)]
+pub(crate) struct Hold<'a, C: Tally, M: Tally> {
+    floor: MutexGuard<'a, Floor<C, M>>,
+    /// Its event was made.
+    used: bool,
+}
+
+impl<C: Tally, M: Tally> Lock<C, M> {
+    pub(crate) fn new(floor: Floor<C, M>) -> Lock<C, M> {
+        Lock {
+            floor: Mutex::new(floor),
+        }
+    }
+
+    /// Takes the lock, for one event.
+    pub(crate) fn enter<R: Wait>(&self, rt: &R) -> Hold<'_, C, M>
+        ensures { result.used ≡ false }
+    {
+        Hold {
+            floor: self.guard(rt),
+            used: false,
+        }
+    }
+
+    /// The standard library's `lock` sleeps at once where another thread sleeps already, so this tries for a while first.
+    fn guard<R: Wait>(&self, rt: &R) -> MutexGuard<'_, Floor<C, M>> {
+        for _k in 0..LOOKS {
+            if let Some(floor) = self.floor.try_lock() {
+                return floor;
+            }
+        }
+        self.floor.lock(rt)
+    }
+
+    /// What lies under the lock, once no thread has it.
+    pub(crate) fn into_floor(self) -> Floor<C, M> {
+        let Lock { floor } = self;
+        floor.into_inner()
+    }
+}
+
+impl<'a, C: Tally, M: Tally> Hold<'a, C, M> {
+    /// Lets the lock go until a bell is rung, and takes it again, for one event.
+    pub(crate) fn wait<R: Wait>(self, rt: &R, bell: &Condvar) -> Hold<'a, C, M>
+        ensures { result.used ≡ false }
+    {
+        let Hold { floor, used: _ } = self;
+        Hold {
+            floor: bell.wait(rt, floor),
+            used: false,
+        }
+    }
+
+    /// Lets the lock go.
+    pub(crate) fn end(self) {
+        let Hold { floor, used: _ } = self;
+        MutexGuard::unlock(floor);
+    }
+
+    /// The event that a connection comes (`Floor::connect`).
+    pub(crate) fn connect(&mut self, conn: u64) -> Result<(CallSeat<C>, MailSeat<M>), Unconnected>
+        requires fresh { self.old.used ≡ false }
+        ensures used { self.new.used ≡ true }
+        ensures step { OnOk result (FrontStep (under self.old.floor).front (event.Connect conn) [] (under self.new.floor).front) }
+        ensures err { OnErr result ((under self.new.floor).front ≡ (under self.old.floor).front) }
+        ensures calls { IfOk result (λ seats. seats.0 ≡ first_read_seat conn) }
+        ensures mails { IfOk result (λ seats. seats.1 ≡ first_write_seat conn) }
+    {
+        self.used = true;
+        self.floor.connect(conn)
+    }
+
+    /// The event of a message, where there is room for it (`Floor::handle`).
+    pub(crate) fn handle(
+        &mut self,
+        alloc: Global,
+        message: &ClientMessage,
+        seat: &mut CallSeat<C>,
+    ) -> Option<Standing>
+        requires fresh { self.old.used ≡ false }
+        ensures used { self.new.used ≡ true }
+        ensures taken { result ≡ Some Standing.Served → (es : List Entry) × Takes (under self.old.floor).front seat.old.conn message.now es (under self.new.floor).front }
+        ensures other { result ≢ Some Standing.Served → (under self.new.floor).front ≡ (under self.old.floor).front }
+        ensures seat { MatchOption result (seat.new ≡ seat.old) (λ s. seat.new ≡ message_answered seat.old message.now s) }
+    {
+        self.used = true;
+        self.floor.handle(alloc, message, seat)
+    }
+
+    /// The event that a mail is taken, or why none comes (`Floor::take_mail`).
+    pub(crate) fn take_mail(&mut self, seat: &mut MailSeat<M>) -> Option<Taking>
+        requires fresh { self.old.used ≡ false }
+        ensures used { self.new.used ≡ true }
+        ensures takes { TakesMail (under self.old.floor).front (under self.old.floor).stopped seat.old.conn result (under self.new.floor).front }
+        ensures seat { MatchOption result (seat.new ≡ seat.old) (λ taking. seat.new ≡ taking_answered seat.old taking) }
+    {
+        self.used = true;
+        self.floor.take_mail(seat)
+    }
+
+    /// The event that a read side makes its connection gone (`Floor::leave_by_reader`).
+    pub(crate) fn leave_by_reader(&mut self, seat: &mut CallSeat<C>)
+        requires fresh { self.old.used ≡ false }
+        ensures used { self.new.used ≡ true }
+        ensures step { (count : ℕ) × FrontStep (under self.old.floor).front (event.Gone seat.old.conn count) [] (under self.new.floor).front }
+        ensures seat { seat.new ≡ record seat.old { departed = true } }
+    {
+        self.used = true;
+        self.floor.leave_by_reader(seat);
+    }
+
+    /// The event that a write side does so (`Floor::leave_by_writer`).
+    pub(crate) fn leave_by_writer(&mut self, seat: &mut MailSeat<M>)
+        requires fresh { self.old.used ≡ false }
+        ensures used { self.new.used ≡ true }
+        ensures step { (count : ℕ) × FrontStep (under self.old.floor).front (event.Gone seat.old.conn count) [] (under self.new.floor).front }
+        ensures seat { seat.new ≡ record seat.old { departed = true } }
+    {
+        self.used = true;
+        self.floor.leave_by_writer(seat);
+    }
+
+    /// The event that a read side makes its connection gone, but where the hall is stopped (`Floor::depart`).
+    pub(crate) fn depart(&mut self, seat: &mut CallSeat<C>)
+        requires fresh { self.old.used ≡ false }
+        ensures used { self.new.used ≡ true }
+        ensures departed { HasDeparted seat.new }
+        ensures untaken { TookNoMessage seat.old seat.new }
+        ensures step { (under self.old.floor).stopped ≡ false → (count : ℕ) × FrontStep (under self.old.floor).front (event.Gone seat.old.conn count) [] (under self.new.floor).front }
+        ensures stopped { (under self.old.floor).stopped ≡ true → (under self.new.floor).front ≡ (under self.old.floor).front }
+    {
+        self.used = true;
+        self.floor.depart(seat);
+    }
+
+    /// The event that the pending entries are handed out (`Floor::cut`).
+    pub(crate) fn cut(&mut self) -> Option<Cutting>
+        requires fresh { self.old.used ≡ false }
+        ensures used { self.new.used ≡ true }
+        ensures cuts { Cuts (under self.old.floor).front (under self.old.floor).stopped result (under self.new.floor).front }
+    {
+        self.used = true;
+        self.floor.cut()
+    }
+
+    /// The event that a batch is posted (`Floor::post`).
+    pub(crate) fn post<D: Disk>(
+        &mut self,
+        batch: Batch,
+        keeper: &Keeper<D>,
+    ) -> Result<Posted, StrangeBatch>
+        requires fresh { self.old.used ≡ false }
+        requires more { IsTrue (posts_more (under self.old.floor).front.books batch) }
+        requires stored { IsStored batch keeper.now.state }
+        ensures used { self.new.used ≡ true }
+        ensures refused { IsErr result ↔ (¬ IsOut (under self.old.floor).front.out batch) }
+        ensures step { OnOk result (FrontStep (under self.old.floor).front (event.Post batch) [] (under self.new.floor).front) }
+        ensures durable { IfOk result (λ posted. posted.durable ≡ batch.first + length batch.entries) }
+        ensures err { OnErr result ((under self.new.floor).front ≡ (under self.old.floor).front) }
+    {
+        self.used = true;
+        self.floor.post(batch, keeper)
+    }
+
+    /// The hall is stopped. It is no event of the front, but its hold makes none.
+    pub(crate) fn stop(&mut self)
+        requires fresh { self.old.used ≡ false }
+        ensures used { self.new.used ≡ true }
+        ensures stopped { (under self.new.floor).stopped ≡ true }
+        ensures front { (under self.new.floor).front ≡ (under self.old.floor).front }
+    {
+        self.used = true;
+        self.floor.stop();
+    }
+
+    /// Notes that the read side of a connection waits for its box, or no more: no events of the front.
+    pub(crate) fn watch(&mut self, conn: u64) -> bool
+        ensures same { self.new.used ≡ self.old.used }
+        ensures front { (under self.new.floor).front ≡ (under self.old.floor).front }
+    {
+        self.floor.watch(conn)
+    }
+
+    pub(crate) fn unwatch(&mut self, conn: u64) -> bool
+        ensures same { self.new.used ≡ self.old.used }
+        ensures front { (under self.new.floor).front ≡ (under self.old.floor).front }
+    {
+        self.floor.unwatch(conn)
+    }
+
+    /// Whether it is noted that the read side of a connection waits for its box.
+    pub(crate) fn is_watched(&self, conn: u64) -> bool {
+        self.floor.is_watched(conn)
+    }
+
+    /// Whether a connection is told nothing any more (`Floor::is_over`).
+    pub(crate) fn is_over(&self, conn: u64) -> bool {
+        self.floor.is_over(conn)
+    }
+
+    /// The place behind all that was made so far.
+    pub(crate) fn place(&self) -> u64 {
+        self.floor.place()
+    }
+
+    /// Whether nothing is left to take for a connection of what was made before this place (`Floor::is_drained`).
+    pub(crate) fn is_drained(&self, conn: u64, place: u64) -> bool {
+        self.floor.is_drained(conn, place)
+    }
+
+    /// How many mails were made, also those that met a full box.
+    pub(crate) fn mails_made(&self) -> u64 {
+        self.floor.mails_made()
+    }
+
+    /// Whether the mails of a batch stay within the books of a hall.
+    pub(crate) fn posts_more(&self, batch: &Batch) -> bool
+        ensures { result ≡ posts_more (under self.now.floor).front.books batch.now }
+    {
+        self.floor.posts_more(batch)
+    }
+
+    /// Marks the bells of the connections of which a side has to look.
+    pub(crate) fn mark(&self, wakes: &mut [bool; BELLS as usize]) {
+        self.floor.mark(wakes);
+    }
+}

@@ -1,0 +1,98 @@
+ghost use Rattle.std.specs.Prelude.{◌≡◌, ◌+◌, true};
+ghost use Rattle.fe_hall.specs.Seats.{first_write_seat, mail_taken, most_connections};
+
+use crate::standing::Standing;
+use crate::tally::Tally;
+use std::marker::Model;
+use std::sync::ledger::{Book, Share};
+
+/// The seat of a connection's write side: contracts see the connection's number, and what the side did.
+///
+/// Only the hall changes it, in the hold in which it serves the side: who has the book may.
+#[derive(Drop)]
+pub struct MailSeat<M: Tally> {
+    share: Share<M>,
+    conn: u64,
+    /// Whether more mails were in the box when one was taken.
+    more: bool,
+    standing: Standing,
+    /// The side made its connection gone.
+    departed: bool,
+}
+
+impl<M: Tally> Model for MailSeat<M> {
+    ghost use Rattle.std.specs.Prelude.{◌≡◌, ◌+◌};
+    ghost use Rattle.fe_hall.specs.Seats.{WriteSeat, most_connections};
+
+    ghost Value = { WriteSeat };
+
+    ghost view = { λ s. record { conn = s.conn; mails = s.share.amount; more = s.more; standing = s.standing; departed = s.departed } };
+
+    ghost invariant = { λ s. (s.share.parts ≡ 1) × (M.all ≡ most_connections + 1) };
+}
+
+impl<M: Tally> MailSeat<M> {
+    /// The seat of a connection just made: one part of the ledger.
+    pub(crate) fn new(share: Share<M>, conn: u64) -> MailSeat<M>
+        requires part { share.parts ≡ 1 }
+        requires nothing { share.amount ≡ 0 }
+        requires all { M.all ≡ most_connections + 1 }
+        ensures { result ≡ first_write_seat conn }
+    {
+        MailSeat {
+            share,
+            conn,
+            more: false,
+            standing: Standing::Served,
+            departed: false,
+        }
+    }
+
+    /// The connection's number.
+    pub(crate) fn conn(&self) -> u64
+        ensures { result ≡ self.now.conn }
+    {
+        self.conn
+    }
+
+    /// Whether more mails were in the box when one was taken last.
+    pub(crate) fn more(&self) -> bool
+        ensures { result ≡ self.now.more }
+    {
+        self.more
+    }
+
+    /// A mail is taken, and booked here and in the book; `more`: others are in the box.
+    pub(crate) fn take(&mut self, book: &mut Book<M>, more: bool)
+        ensures seat { self.new ≡ mail_taken self.old more }
+        ensures book { book.new.total ≡ book.old.total + 1 }
+    {
+        book.add(&mut self.share, 1);
+        self.more = more;
+        self.standing = Standing::Served;
+    }
+
+    /// The side is told how it stands.
+    pub(crate) fn tell(&mut self, _book: &Book<M>, standing: Standing)
+        ensures { self.new ≡ record self.old { standing = standing } }
+    {
+        self.standing = standing;
+    }
+
+    /// The side makes its connection gone.
+    pub(crate) fn depart(&mut self, _book: &Book<M>)
+        ensures { self.new ≡ record self.old { departed = true } }
+    {
+        self.departed = true;
+    }
+
+    /// The part of the ledger, with the mails.
+    pub(crate) fn into_share(self) -> Share<M>
+        ensures parts { result.parts ≡ 1 }
+        ensures amount { result.amount ≡ self.mails }
+        ensures all { M.all ≡ most_connections + 1 }
+    {
+        let MailSeat { share, .. } = self;
+        share
+    }
+}

@@ -1,0 +1,12 @@
+/// How a side of a connection stood when the hall last answered it.
+#[derive(Clone, Copy, Debug, PartialEq, Eq)]
+pub enum Standing {
+    /// It was served, or nothing was asked for it yet.
+    Served,
+    /// Its connection is not there.
+    Gone,
+    /// The hall is stopped. A write side is told so once its box is empty.
+    Stopped,
+    /// A book is full.
+    Spent,
+}
