@@ -7,6 +7,7 @@ ghost use Rattle.fe_front.specs.Front.{has_room, is_connected};
 ghost use Rattle.fe_mail.specs.Books.{AddUp, first_books};
 ghost use Rattle.fe_front.specs.Event as event;
 ghost use Rattle.fe_front.specs.Posting.{IsOut};
+ghost use Rattle.fe_front.specs.Ringing.{Rings};
 ghost use Rattle.fe_front.specs.Step.{FrontStep};
 ghost use Rattle.fe_messages.specs.Taking.{Takes};
 ghost use Rattle.fe_hall.specs.Commits.{IsStored};
@@ -21,16 +22,13 @@ use crate::standing::Standing;
 use crate::taking::Taking;
 use crate::tally::Tally;
 use fe_disk::Disk;
-use fe_front::{Books, Front, StrangeBatch};
+use fe_front::{BELLS, Books, Front, StrangeBatch};
 use fe_keeper::Keeper;
 use fe_messages::take_message;
 use fe_state::Batch;
 use fe_wire::ClientMessage;
 use std::alloc::Global;
 use std::sync::ledger::{Blank, Book, Share};
-
-/// How many bells a hall has.
-pub(crate) const BELLS: u64 = 256;
 
 /// How many connections a hall makes, 2^62.
 const CONNECTIONS: u64 = 4611686018427387904;
@@ -48,8 +46,6 @@ pub(crate) struct Floor<C: Tally, M: Tally> {
     spare_mails: Share<M>,
     /// How many connections were made.
     made: u64,
-    /// The connections that were made and did not leave.
-    present: Vec<u64>,
     /// Those whose read side waits for their box.
     watched: Vec<u64>,
     stopped: bool,
@@ -109,7 +105,6 @@ impl<C: Tally, M: Tally> Floor<C, M> {
             spare_calls,
             spare_mails,
             made: 0,
-            present: Vec::new(alloc),
             watched: Vec::new(alloc),
             stopped: false,
         }
@@ -133,11 +128,8 @@ impl<C: Tally, M: Tally> Floor<C, M> {
         if self.made == CONNECTIONS {
             return Err(Unconnected::Spent);
         }
-        if self.present.reserve(1).is_err() || self.front.connect(conn).is_err() {
+        if self.front.connect(conn).is_err() {
             return Err(Unconnected::NoMemory);
-        }
-        if self.present.push(conn).is_err() {
-            unreachable!();
         }
         let calls = self.spare_calls.split_off(1, 0);
         let mails = self.spare_mails.split_off(1, 0);
@@ -209,18 +201,8 @@ impl<C: Tally, M: Tally> Floor<C, M> {
         Some(Standing::Served)
     }
 
-    /// Whether the write side of a connection has to look: it has mail, or it is gone.
-    pub(crate) fn calls_writer(&self, conn: u64) -> bool {
-        self.front.has_mail(conn) || !self.front.connected(conn)
-    }
-
-    /// Marks the bells of the connections of which a side has to look.
-    pub(crate) fn mark(&self, wakes: &mut [bool; BELLS as usize]) {
-        for conn in &self.present {
-            if self.calls_writer(*conn) {
-                wakes[(*conn % BELLS) as usize] = true;
-            }
-        }
+    /// Marks the bells of the read sides that wait for their boxes.
+    pub(crate) fn mark_watched(&self, wakes: &mut [bool; BELLS as usize]) {
         for conn in &self.watched {
             wakes[(*conn % BELLS) as usize] = true;
         }
@@ -326,7 +308,6 @@ impl<C: Tally, M: Tally> Floor<C, M> {
         ensures step { (count : ℕ) × FrontStep self.old.front (event.Gone conn count) [] self.new.front }
         ensures still { self.new.stopped ≡ self.old.stopped }
     {
-        self.forget(conn);
         let _ = self.front.state();
         let _ = self.front.gone(conn);
     }
@@ -363,16 +344,6 @@ impl<C: Tally, M: Tally> Floor<C, M> {
         self.leave_by_reader(seat);
     }
 
-    /// Takes a connection out of the list of those that are present.
-    fn forget(&mut self, conn: u64)
-        ensures front { self.new.front ≡ self.old.front }
-        ensures still { self.new.stopped ≡ self.old.stopped }
-    {
-        if let Some(at) = self.present.iter().position(|other| *other == conn) {
-            let _ = self.present.swap_remove(at);
-        }
-    }
-
     /// Hands all pending entries out, if there are some and no batch is out. `None` where entries are waited for.
     pub(crate) fn cut(&mut self) -> Option<Cutting>
         ensures { Cuts self.old.front self.old.stopped result self.new.front }
@@ -395,22 +366,25 @@ impl<C: Tally, M: Tally> Floor<C, M> {
         self.front.books().mails <= MOST - count
     }
 
-    /// Takes the batch that is out, and that the keeper stored last, as stored, and mails its entries.
+    /// Takes the batch that is out, and that the keeper stored last, as stored, and mails its entries. Marks the bells of the
+    /// connections whose boxes it changes.
     pub(crate) fn post<D: Disk>(
         &mut self,
         batch: Batch,
         keeper: &Keeper<D>,
+        wakes: &mut [bool; BELLS as usize],
     ) -> Result<Posted, StrangeBatch>
         requires more { IsTrue (posts_more self.old.front.books batch) }
         requires stored { IsStored batch keeper.now.state }
         ensures refused { IsErr result ↔ (¬ IsOut self.old.front.out batch) }
         ensures step { OnOk result (FrontStep self.old.front (event.Post batch) [] self.new.front) }
         ensures durable { IfOk result (λ posted. posted.durable ≡ batch.first + length batch.entries) }
+        ensures rings { Rings self.old.front self.new.front wakes.old wakes.new }
         ensures err { OnErr result (self.new.front ≡ self.old.front) }
     {
         let _ = keeper;
         let _ = self.front.state();
-        match self.front.post(batch) {
+        match self.front.post_ringing(batch, wakes) {
             Ok(()) => Ok(Posted {
                 durable: self.front.durable(),
             }),
@@ -448,11 +422,9 @@ impl<C: Tally, M: Tally> Floor<C, M> {
             spare_calls,
             spare_mails,
             made: _,
-            present,
             watched,
             stopped: _,
         } = self;
-        drop(present);
         drop(watched);
         let books = front.books();
         drop(front);

@@ -4,14 +4,14 @@ ghost use Rattle.fe_hall.specs.Seats.{HasDeparted, ReadSeat, TookNoMessage, Writ
 ghost use Rattle.fe_hall.specs.Commits.{IsStored};
 
 use crate::call_seat::CallSeat;
-use crate::floor::{BELLS, Cutting, Floor, Posted, Unconnected};
+use crate::floor::{Cutting, Floor, Posted, Unconnected};
 use crate::hold::Lock;
 use crate::mail_seat::MailSeat;
 use crate::standing::Standing;
 use crate::taking::Taking;
 use crate::tally::Tally;
 use fe_disk::Disk;
-use fe_front::{Front, StrangeBatch};
+use fe_front::{BELLS, Front, StrangeBatch};
 use fe_keeper::Keeper;
 use fe_state::Batch;
 use fe_wire::ClientMessage;
@@ -214,8 +214,8 @@ impl<C: Tally, M: Tally> Hall<C, M> {
         if !hold.posts_more(&batch) {
             return None;
         }
-        let outcome = hold.post(batch, keeper);
-        hold.mark(&mut wakes);
+        let outcome = hold.post(batch, keeper, &mut wakes);
+        hold.mark_watched(&mut wakes);
         hold.end();
         self.room.notify_all();
         for at in 0..self.bells.len() {

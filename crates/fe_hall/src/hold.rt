@@ -5,6 +5,7 @@ ghost use Rattle.std.specs.Prelude.{◌≡◌, ◌≢◌, ◌+◌, ◌↔◌, �
 ghost use Rattle.fe_state.specs.declared.entry.Entry.{Entry};
 ghost use Rattle.fe_front.specs.Event as event;
 ghost use Rattle.fe_front.specs.Posting.{IsOut};
+ghost use Rattle.fe_front.specs.Ringing.{Rings};
 ghost use Rattle.fe_front.specs.Step.{FrontStep};
 ghost use Rattle.fe_messages.specs.Taking.{Takes};
 ghost use Rattle.fe_hall.specs.Commits.{IsStored};
@@ -12,13 +13,13 @@ ghost use Rattle.fe_hall.specs.Holds.{Cuts, TakesMail};
 ghost use Rattle.fe_hall.specs.Seats.{HasDeparted, ReadSeat, TookNoMessage, WriteSeat, first_read_seat, first_write_seat, message_answered, taking_answered, posts_more};
 
 use crate::call_seat::CallSeat;
-use crate::floor::{BELLS, Cutting, Floor, Posted, Unconnected};
+use crate::floor::{Cutting, Floor, Posted, Unconnected};
 use crate::mail_seat::MailSeat;
 use crate::standing::Standing;
 use crate::taking::Taking;
 use crate::tally::Tally;
 use fe_disk::Disk;
-use fe_front::StrangeBatch;
+use fe_front::{BELLS, StrangeBatch};
 use fe_keeper::Keeper;
 use fe_state::Batch;
 use fe_wire::ClientMessage;
@@ -185,6 +186,7 @@ impl<'a, C: Tally, M: Tally> Hold<'a, C, M> {
         &mut self,
         batch: Batch,
         keeper: &Keeper<D>,
+        wakes: &mut [bool; BELLS as usize],
     ) -> Result<Posted, StrangeBatch>
         requires fresh { self.old.used ≡ false }
         requires more { IsTrue (posts_more (under self.old.floor).front.books batch) }
@@ -193,10 +195,11 @@ impl<'a, C: Tally, M: Tally> Hold<'a, C, M> {
         ensures refused { IsErr result ↔ (¬ IsOut (under self.old.floor).front.out batch) }
         ensures step { OnOk result (FrontStep (under self.old.floor).front (event.Post batch) [] (under self.new.floor).front) }
         ensures durable { IfOk result (λ posted. posted.durable ≡ batch.first + length batch.entries) }
+        ensures rings { Rings (under self.old.floor).front (under self.new.floor).front wakes.old wakes.new }
         ensures err { OnErr result ((under self.new.floor).front ≡ (under self.old.floor).front) }
     {
         self.used = true;
-        self.floor.post(batch, keeper)
+        self.floor.post(batch, keeper, wakes)
     }
 
     /// The hall is stopped. It is no event of the front, but its hold makes none.
@@ -257,8 +260,8 @@ impl<'a, C: Tally, M: Tally> Hold<'a, C, M> {
         self.floor.posts_more(batch)
     }
 
-    /// Marks the bells of the connections of which a side has to look.
-    pub(crate) fn mark(&self, wakes: &mut [bool; BELLS as usize]) {
-        self.floor.mark(wakes);
+    /// Marks the bells of the read sides that wait for their boxes (`Floor::mark_watched`).
+    pub(crate) fn mark_watched(&self, wakes: &mut [bool; BELLS as usize]) {
+        self.floor.mark_watched(wakes);
     }
 }
