@@ -2,7 +2,7 @@
 use Rattle.std.specs.Prelude.{◌≡◌, ◌≢◌, ℕ, ◌+◌, ◌-◌, ◌^◌, ◌<◌, ◌≤◌, List, [], ◌∷◌, ◌++◌, length, map, take, Option, None, Some, string_bytes, vec_capacity}
 use Rattle.std.specs.Io.KnownBytes.{Appends}
 use Rattle.fe_disk.specs.Memory.{MemoryState}
-use Rattle.fe_desk.specs.Crash.{DeskState, IsFrom}
+use Rattle.fe_desk.specs.Crash.{DeskState, IsFrom, disk_of}
 use Rattle.fe_desk.specs.Frames.{AreReplies}
 use Rattle.fe_desk.specs.Messages.{outputs}
 use Rattle.fe_desk.specs.Standing.{Standing, IsFirstStanding}
@@ -53,9 +53,18 @@ pub record PrintsMore (counts : List ℕ) (s : Standing) (before after : List �
 
 -- ---- a machine
 
+-- the disk of a store that could not be opened, or else that of the desk
+abbrev pub last_of : Option MemoryState → MemoryState → MemoryState
+last_of None disk = disk
+last_of (Some lost) disk = lost
+
+abbrev pub last_disk : Machine → MemoryState
+last_disk m = last_of m.lost (disk_of m.desk)
+
 -- the desk is between two steps, and what is printed is a front of what it wrote
 pub record IsMachine (m : Machine) : Type 0 where
   pub ready : IsReady m.desk
+  pub lost : m.lost ≡ None
   pub printed : ArePrinted m.printed.items (writings m.desk.standing)
 
 -- where the steps of a line begin

@@ -14,7 +14,7 @@ use Rattle.fe_text.specs.Line.{parsed}
 use Rattle.fe_text.specs.Lines.{lines_of}
 use Rattle.fe_text.specs.declared.fault.StreamFault.{StreamFault}
 use Rattle.fe_text.specs.declared.fault.StreamFault.TheVariants as stream
-use Rattle.fe_schedules.specs.Fault.{of_stream}
+use Rattle.fe_schedules.specs.Fault.{IsOfStream}
 use Rattle.fe_schedules.specs.Told.{PrintsSince}
 use Rattle.fe_schedules.specs.declared.fault.ScheduleFault.{ScheduleFault}
 use Rattle.fe_schedules.specs.declared.fault.ScheduleFault.TheVariants as fault
@@ -121,10 +121,6 @@ EndsAtLine (fault.Line number) lines left = (number ≡ length lines + 1) × Sta
 EndsAtLine fault.Memory lines left = StartsSaid left
 EndsAtLine fault.Device lines left = StartsSaid left
 EndsAtLine fault.Input lines left = length lines ≡ 2 ^ 64 - 2
-
--- a stream failed, and this is told of it
-abbrev pub IsOfStream : (StreamFault → Type 0) → ScheduleFault → Type 0
-IsOfStream fails end = (f : StreamFault) × fails f × (end ≡ of_stream f)
 
 -- what is told of memory or of the disk
 abbrev pub IsOfStore : ScheduleFault → Type 0

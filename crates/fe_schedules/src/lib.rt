@@ -13,4 +13,5 @@ mod told;
 
 pub use fault::ScheduleFault;
 pub use schedule::run_schedule;
+pub use serving::STORE;
 pub use streams::{Sink, Source};

@@ -5,13 +5,13 @@ use Rattle.fe_text.proofs.Results.{match_of, then_ok, err_then, err_both}
 use Rattle.fe_schedules.proofs.Taking.{ends_between, ends_within, last_fails}
 use Rattle.fe_schedules.proofs.run.Run.end_last.Goals as goal
 
-pub returns-then-is_empty : goal.returns-then-is_empty
-returns-then-is_empty c = λ read before now so.
+pub returns-then-is_empty-clause-ended : goal.returns-then-is_empty-clause-ended
+returns-then-is_empty-clause-ended c = λ read before now so.
     let none : c.args.self.now.begun.items ≡ [] = sym c.as_slice-begun.ensures.value ∙ is_nothing c.as_slice-begun.result.now c.is_empty.result c.is_empty.ensures c.if-is_empty.true in
     ends_between read before now c.args.self.now so none
 
-pub returns : goal.returns
-returns c = λ read before now so.
+pub returns-clause-ended : goal.returns-clause-ended
+returns-clause-ended c = λ read before now so.
     let r = c.args.self.now in
     let s = c.end_line.new.self in
     let line = r.begun.items ++ [] in
