@@ -77,11 +77,7 @@ impl Run {
     }
 
     /// Runs each line that this piece ends, and writes what they print.
-    pub fn take_piece<W: Sink>(
-        &mut self,
-        piece: &[u8],
-        writer: &mut W,
-    ) -> Result<(), ScheduleFault>
+    pub fn take_piece<W: Sink>(&mut self, piece: &[u8], writer: &mut W) -> Result<(), ScheduleFault>
         requires { IsRun self.old }
         ensures run { OnOk result (IsRun self.new) }
         ensures none_kept { string_bytes self.new.text ≡ [] }
