@@ -1,12 +1,12 @@
 -- Steps of a desk, one behind the other.
-use Rattle.std.proofs.Common.{◌≡◌, ℕ, List, [], ◌∷◌, ◌++◌, refl, sym, subst}
+use Rattle.std.proofs.Common.{◌≡◌, ℕ, List, [], ◌∷◌, ◌++◌, Option, refl, sym, ap, ◌∙◌, subst}
 use Rattle.fe_disk.specs.Memory.{MemoryState}
-use Rattle.fe_desk.specs.Crash.{DeskState}
+use Rattle.fe_desk.specs.Crash.{DeskState, disk_of}
 use Rattle.fe_desk.specs.Standing.{Standing}
 use Rattle.fe_desk.specs.Steps.{DeskRun}
 use Rattle.fe_desk.specs.declared.step.Step.{Step}
-use Rattle.fe_schedules.specs.Ready.{IsReady, Moves}
-use Rattle.fe_schedules.specs.Runs.{ArePrinted, ActsOn}
+use Rattle.fe_schedules.specs.Ready.{IsReady, Moves, ChecksEach}
+use Rattle.fe_schedules.specs.Runs.{ArePrinted, ActsOn, IsMachine, last_of, last_disk}
 use Rattle.fe_schedules.specs.Schedule.{writings}
 use Rattle.fe_text.specs.declared.line.Line.{Line}
 use Rattle.fe_text.specs.declared.line.Line.TheVariants as line
@@ -18,16 +18,24 @@ pub runs_both : (xs ys : List Step) (s u t : Standing) → DeskRun s xs u → De
 runs_both [] ys s u t e f = subst (λ (w : Standing). DeskRun w ys t) e f
 runs_both (x ∷ xs) ys s u t e f = (e.0, e.1, runs_both xs ys e.0 u t e.2 f)
 
+checks_both : (xs ys : List Step) (d m e : DeskState MemoryState) → ChecksEach d xs m → ChecksEach m ys e → ChecksEach d (xs ++ ys) e
+checks_both [] ys d m e p q = subst (λ (w : DeskState MemoryState). ChecksEach w ys e) p q
+checks_both (x ∷ xs) ys d m e p q = (p.0, p.1, checks_both xs ys p.0 m e p.2 q)
+
 pub moves_none : (d : DeskState MemoryState) → Moves d [] d
-moves_none d = record { runs = refl; from = λ begun from. from }
+moves_none d = record { runs = refl; from = λ begun from. from; checks = refl }
 
 pub moves_both : (d m e : DeskState MemoryState) (xs ys : List Step) → Moves d xs m → Moves m ys e → Moves d (xs ++ ys) e
-moves_both d m e xs ys p q = record { runs = runs_both xs ys d.standing m.standing e.standing p.runs q.runs; from = λ begun from. q.from begun (p.from begun from) }
+moves_both d m e xs ys p q = record { runs = runs_both xs ys d.standing m.standing e.standing p.runs q.runs; from = λ begun from. q.from begun (p.from begun from); checks = checks_both xs ys d m e p.checks q.checks }
 
 -- what is printed stays a front of what is written
 pub printed_over : (ns : List ℕ) (d e : DeskState MemoryState) (steps : List Step) → IsReady d → Moves d steps e → ArePrinted ns (writings d.standing) → ArePrinted ns (writings e.standing)
 printed_over ns d e steps ready moved printed =
     printed_later ns d.standing.clients e.standing.clients (ran steps d.standing e.standing ready.owes ready.written moved.runs).extends printed
+
+-- no call of the disk failed
+pub calm_disk : (m : Machine) → IsMachine m → (last_disk m).failures ≡ 0
+calm_disk m is = ap (λ (lost : Option MemoryState). (last_of lost (disk_of m.desk)).failures) is.lost ∙ is.ready.calm
 
 -- ---- lines with no steps
 

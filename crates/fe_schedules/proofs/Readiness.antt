@@ -1,5 +1,5 @@
 -- A desk stays ready for the next step.
-use Rattle.std.proofs.Common.{◌≡◌, ◌≢◌, None, ℕ, ◌≤◌, false, List, take, take_all, length, sym, ap, ◌∙◌, ◌⊎◌, inl, inr, subst, arith}
+use Rattle.std.proofs.Common.{◌≡◌, ◌≢◌, None, ℕ, ◌≤◌, false, List, take, take_all, length, refl, zero, sym, ap, ◌∙◌, ◌⊎◌, inl, inr, subst, arith, Some, Option, suc, ◌<◌, ◌↔◌}
 use Rattle.fe_disk.specs.Memory.{MemoryState, IsHonest, LeavesNow, LeavesSince}
 use Rattle.fe_state.specs.State.{ServerState}
 use Rattle.fe_state.specs.History.{after_groups}
@@ -16,7 +16,11 @@ use Rattle.fe_desk.proofs.Openings.{first_from}
 use Rattle.fe_desk.specs.declared.fault.DeskFault.{DeskFault}
 use Rattle.fe_desk.specs.declared.fault.DeskFault.TheVariants as desk
 use Rattle.std.proofs.lemmas.Option.{none-some}
-use Rattle.fe_schedules.specs.Fault.{of_desk}
+use Rattle.fe_disk.specs.Disk.{Rises}
+use Rattle.fe_desk.specs.Crash.{TellsStep}
+use Rattle.fe_schedules.specs.Fault.{of_desk, TellsDisk}
+use Rattle.fe_schedules.specs.declared.fault.MachineFault.{MachineFault}
+use Rattle.fe_schedules.specs.declared.fault.MachineFault.TheVariants as machine
 use Rattle.fe_desk.specs.Quiet.{AreWritten}
 use Rattle.fe_schedules.specs.Ready.{IsReady}
 use Rattle.fe_schedules.proofs.Growth.{extended, stepped}
@@ -46,6 +50,7 @@ ready_after old new x ready step more stands synced fine =
     let from : IsFrom ready.begun new = more.from ready.begun ready.from in
     record {
       works = fine.works;
+      calm = fine.still ∙ ready.calm;
       honest = honest;
       begun = ready.begun;
       from = from;
@@ -55,9 +60,10 @@ ready_after old new x ready step more stands synced fine =
       written = extended old.standing.clients new.standing.clients grown.extends;
     }
 
-pub ready_first : (d : DeskState MemoryState) (s : ServerState) → IsHonest (disk_of d) → d.keeper.store.has_failed ≡ false → IsFirstStanding s d.standing → d.keeper.state ≡ s → d.synced ≡ 0 → EachStandsFor LeavesNow (disk_of d) s → IsReady d
-ready_first d s honest works first is synced stands = record {
+pub ready_first : (d : DeskState MemoryState) (s : ServerState) → IsHonest (disk_of d) → d.keeper.store.has_failed ≡ false → (disk_of d).failures ≡ 0 → IsFirstStanding s d.standing → d.keeper.state ≡ s → d.synced ≡ 0 → EachStandsFor LeavesNow (disk_of d) s → IsReady d
+ready_first d s honest works calm first is synced stands = record {
   works = works;
+  calm = calm;
   honest = honest;
   begun = s;
   from = first_from s d is first.groups synced;
@@ -78,3 +84,46 @@ kept_over d e image ready one may stands = one image e.keeper.state d.keeper.sta
 pub store_fault : (f : DeskFault) → (f ≡ desk.Store store.Device) ⊎ (f ≡ desk.NoMemory false) → of_desk f ≢ None
 store_fault f (inl e) none = absurd (none-some _ (sym none ∙ ap of_desk e))
 store_fault f (inr e) none = absurd (none-some _ (sym none ∙ ap of_desk e))
+
+abbrev machine_of : Option MachineFault → MachineFault
+machine_of None = machine.Memory
+machine_of (Some r) = r
+
+-- the device is told, or memory
+device_tells : (f : DeskFault) (r : MachineFault) (disk : MemoryState) → f ≡ desk.Store store.Device → of_desk f ≡ Some r → 0 < disk.failures → TellsDisk disk r
+device_tells f r disk e is rises = subst (λ (x : MachineFault). TellsDisk disk x) (ap machine_of (sym (ap of_desk e) ∙ is)) rises
+
+memory_tells : (f : DeskFault) (r : MachineFault) (disk : MemoryState) → of_desk f ≡ Some machine.Memory → of_desk f ≡ Some r → disk.failures ≡ 0 → TellsDisk disk r
+memory_tells f r disk e is calm = subst (λ (x : MachineFault). TellsDisk disk x) (ap machine_of (sym e ∙ is)) calm
+
+-- a count that was 0
+rose : (old new : ℕ) → old ≡ 0 → Rises old new → 0 < new
+rose old new calm (inl less) = omega (arith, calm, less)
+rose old new calm (inr top) = let most = top.0 in absurd (omega (arith, calm, most))
+
+still : (old new : ℕ) → old ≡ 0 → (Rises old new → ⊥) → new ≡ 0
+still old zero calm stays = refl
+still old (suc new) calm stays = absurd (stays (inl (omega (arith, calm))))
+
+abbrev store_of : DeskFault → Option ℕ
+store_of (desk.NoMemory fed) = None
+store_of other = Some 0
+
+no_device : (f : DeskFault) → f ≡ desk.NoMemory false → f ≡ desk.Store store.Device → ⊥
+no_device f e d = none-some 0 (ap store_of (sym e ∙ d))
+
+pub step_tells : (old new : DeskState MemoryState) (f : DeskFault) (r : MachineFault) → (disk_of old).failures ≡ 0 → of_desk f ≡ Some r → TellsStep (λ (disk : MemoryState). disk.failures) old new f → TellsDisk (disk_of new) r
+step_tells old new (desk.Store cause) r calm is t = device_tells (desk.Store cause) r (disk_of new) (ap (λ c. desk.Store c) t.0) is (rose (disk_of old).failures (disk_of new).failures calm t.1.rises)
+step_tells old new (desk.NoMemory fed) r calm is t = memory_tells (desk.NoMemory fed) r (disk_of new) refl is (t.still ∙ calm)
+step_tells old new desk.Unwritten r calm is t = memory_tells desk.Unwritten r (disk_of new) refl is (t.still ∙ calm)
+
+pub format_tells : (old new : MemoryState) (f : DeskFault) (r : MachineFault) → old.failures ≡ 0 → of_desk f ≡ Some r → (f ≡ desk.Store store.Device) ⊎ ((f ≡ desk.Store store.Unformatted) ⊎ (f ≡ desk.NoMemory false))
+    → (f ≡ desk.Store store.Device → Rises old.failures new.failures) → (f ≢ desk.Store store.Device → new.failures ≡ old.failures) → TellsDisk new r
+format_tells old new f r calm is (inl e) rises same = device_tells f r new e is (rose old.failures new.failures calm (rises e))
+format_tells old new f r calm is (inr (inl e)) rises same = absurd (none-some r (sym (ap of_desk e) ∙ is))
+format_tells old new f r calm is (inr (inr e)) rises same = memory_tells f r new (ap of_desk e) is (same (no_device f e) ∙ calm)
+
+pub open_tells : (old new : MemoryState) (f : DeskFault) (r : MachineFault) → old.failures ≡ 0 → of_desk f ≡ Some r → (f ≡ desk.Store store.Device) ⊎ (f ≡ desk.NoMemory false)
+    → ((f ≡ desk.Store store.Device) ↔ Rises old.failures new.failures) → TellsDisk new r
+open_tells old new f r calm is (inl e) rises = device_tells f r new e is (rose old.failures new.failures calm (rises.0 e))
+open_tells old new f r calm is (inr e) rises = memory_tells f r new (ap of_desk e) is (still old.failures new.failures calm (λ up. no_device f e (rises.1 up)))

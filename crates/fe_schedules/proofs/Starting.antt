@@ -1,6 +1,7 @@
 -- A schedule before its first line, and how it ends where a stream or memory fails.
-use Rattle.std.proofs.Common.{◌≡◌, ℕ, List, [], ◌++◌, Option, Some, None, false, refl, sym, ap, subst, ◌∙◌, string_bytes}
+use Rattle.std.proofs.Common.{◌≡◌, ℕ, List, [], ◌++◌, Option, Some, None, false, ◌⊎◌, inl, inr, refl, sym, ap, subst, ◌∙◌, string_bytes}
 use Rattle.std.specs.FinMap.{empty, get-empty}
+use Rattle.std.specs.Prelude.{IfSome}
 use Rattle.std.specs.Option.{option_map}
 use Rattle.std.specs.Ordering.{nat_cmp}
 use Rattle.std.proofs.KnownBytes.{Appends-nil}
@@ -16,12 +17,12 @@ use Rattle.fe_schedules.specs.Fault.{of_machine, of_stream}
 use Rattle.fe_schedules.specs.declared.fault.MachineFault.{MachineFault}
 use Rattle.fe_schedules.specs.declared.fault.MachineFault.TheVariants as machine
 use Rattle.fe_text.specs.Lines.{lines_of, HasNoFeed}
-use Rattle.fe_schedules.specs.Schedule.{Stage, IsStart, Prints, RunsAll, RunsUntil, EndsAt}
+use Rattle.fe_schedules.specs.Schedule.{Stage, IsStart, Prints, RunsAll, RunsUntil, IsOfStore}
 use Rattle.fe_schedules.specs.Runs.{IsAt, SoFar, Whole, Ended}
 use Rattle.fe_schedules.specs.declared.fault.ScheduleFault.{ScheduleFault}
 use Rattle.fe_schedules.specs.declared.fault.ScheduleFault.TheVariants as fault
 use Rattle.fe_schedules.specs.declared.run.Run.{Run}
-use Rattle.fe_schedules.proofs.Taking.{until, all_ran, known, known_all, write_fails}
+use Rattle.fe_schedules.proofs.Taking.{until, unread_left, all_ran, known, known_all}
 
 abbrev first_front : FrontState
 first_front = record { service = record { state = first_state; seats = empty; waiting = empty; pending = [] }; connections = empty; durable = 0; out = None; books = first_books }
@@ -52,29 +53,34 @@ starts = record { begun = refl; standing = is_first; is_holding = refl }
 none_ran : Prints [] []
 none_ran = record { start = first_stage; starts = starts; end = first_stage; runs = (refl, refl) }
 
+-- the lines of the input, where it is known
+abbrev input_lines : Option (List ℕ) → List (List ℕ)
+input_lines None = []
+input_lines (Some bytes) = lines_of bytes
+
+are_lines : (o : Option (List ℕ)) → IfSome o (λ bytes. lines_of bytes ≡ input_lines o)
+are_lines None = tt
+are_lines (Some bytes) = refl
+
 -- nothing was read
-nothing_read : (end : ScheduleFault) (o now : Option (List ℕ)) → ((left : List (List ℕ)) → EndsAt end [] left []) → RunsUntil end o now now
-nothing_read end None now ends = record { lines = []; left = []; all = tt; text = []; more = []; prints = none_ran; written = Appends-nil now; ends = ends [] }
-nothing_read end (Some bytes) now ends = record { lines = []; left = lines_of bytes; all = refl; text = []; more = []; prints = none_ran; written = Appends-nil now; ends = ends (lines_of bytes) }
+pub nothing_read : (reader writer : StreamFault → Type 0) (unread : Type 0) (end : ScheduleFault) (o now : Option (List ℕ)) → IsOfStore end → unread → RunsUntil reader writer unread end o now now
+nothing_read reader writer unread end o now of none =
+    record { lines = []; left = input_lines o; all = are_lines o; text = []; more = []; prints = none_ran; written = Appends-nil now; ends = inr (refl, inr (refl, of, none)) }
 
-pub no_stream : (f : StreamFault) (o now : Option (List ℕ)) → RunsUntil (of_stream f) o now now
-no_stream stream.Input o now = nothing_read fault.Input o now (λ left. tt)
-no_stream stream.Memory o now = nothing_read fault.Memory o now (λ left. tt)
-
-pub no_desk : (f : MachineFault) (o now : Option (List ℕ)) → RunsUntil (of_machine f) o now now
-no_desk machine.Memory o now = nothing_read fault.Memory o now (λ left. tt)
-no_desk machine.Device o now = nothing_read fault.Device o now (λ left. tt)
+pub of_store : (f : MachineFault) → IsOfStore (of_machine f)
+of_store machine.Memory = inl refl
+of_store machine.Device = inr refl
 
 -- ---- ends
 
-pub broke : (end : ScheduleFault) (o i : Option (List ℕ)) (read : List ℕ) (before after : Option (List ℕ)) → Consumes o i read → ((others : List ℕ) → Ended end (read ++ others) before after []) → RunsUntil end o before after
-broke end o i read before after c ended = let k = known o i read c in until end o (read ++ k.0) before after k.1 (ended k.0)
+pub broke : (reader writer : StreamFault → Type 0) (unread : Type 0) (end : ScheduleFault) (o i : Option (List ℕ)) (read : List ℕ) (before after : Option (List ℕ)) → Consumes o i read → ((others : List ℕ) → Ended writer end (read ++ others) before after []) → RunsUntil reader writer unread end o before after
+broke reader writer unread end o i read before after c ended = let k = known o i read c in until reader writer unread end o (read ++ k.0) before after k.1 (ended k.0)
 
-pub halted : (f : StreamFault) (o i : Option (List ℕ)) (read : List ℕ) (before now : Option (List ℕ)) (r : Run) → Consumes o i read → SoFar read before now r → RunsUntil (of_stream f) o before now
-halted f o i read before now r c so = broke (of_stream f) o i read before now c (write_fails f read before now now r 0 so (Appends-nil now))
+pub halted : (reader writer : StreamFault → Type 0) (unread : Type 0) (f : StreamFault) → reader f → (o i : Option (List ℕ)) (read : List ℕ) (before now : Option (List ℕ)) (r : Run) → Consumes o i read → SoFar read before now r → string_bytes r.text ≡ [] → RunsUntil reader writer unread (of_stream f) o before now
+halted reader writer unread f fails o i read before now r c so none = let k = known o i read c in unread_left reader writer unread f fails o read k.0 before now r k.1 so none
 
-pub ended : (end : ScheduleFault) (o i : Option (List ℕ)) (read : List ℕ) (before after : Option (List ℕ)) → Consumes o i read → IsAtEnd i → Ended end read before after [] → RunsUntil end o before after
-ended end o i read before after c e at = until end o read before after (known_all o i read c e) at
+pub ended : (reader writer : StreamFault → Type 0) (unread : Type 0) (end : ScheduleFault) (o i : Option (List ℕ)) (read : List ℕ) (before after : Option (List ℕ)) → Consumes o i read → IsAtEnd i → Ended writer end read before after [] → RunsUntil reader writer unread end o before after
+ended reader writer unread end o i read before after c e at = until reader writer unread end o read before after (known_all o i read c e) at
 
 pub finished : (o i : Option (List ℕ)) (read : List ℕ) (before after : Option (List ℕ)) → Consumes o i read → IsAtEnd i → Whole read before after [] → RunsAll o before after
 finished o i read before after c e w = all_ran o read before after (known_all o i read c e) w

@@ -1,5 +1,5 @@
 -- The lines that ran, and what they print, one behind the other.
-use Rattle.std.proofs.Common.{◌≡◌, ◌≢◌, ℕ, ◌+◌, ◌<◌, List, [], ◌∷◌, ◌++◌, Option, Some, None, IfSome, length, take, drop, refl, sym, ap, subst, ◌∙◌, arith, append_assoc, append-nil, string_bytes}
+use Rattle.std.proofs.Common.{◌≡◌, ◌≢◌, ℕ, ◌+◌, ◌<◌, List, [], ◌∷◌, ◌++◌, Option, Some, None, IfSome, ◌⊎◌, inl, inr, length, take, drop, refl, sym, ap, subst, ◌∙◌, arith, append_assoc, append-nil, string_bytes}
 use Rattle.std.proofs.lemmas.Bool.{lt-ltb}
 use Rattle.std.proofs.lemmas.List.{length-append, take-append-drop}
 use Rattle.std.proofs.KnownBytes.{Appends-trans}
@@ -8,9 +8,12 @@ use Rattle.fe_text.specs.Line.{parsed}
 use Rattle.fe_text.specs.Lines.{lines_of, HasNoFeed}
 use Rattle.fe_text.specs.declared.fault.StreamFault.{StreamFault}
 use Rattle.fe_text.specs.declared.fault.StreamFault.TheVariants as stream
-use Rattle.fe_schedules.specs.Fault.{of_stream}
-use Rattle.fe_schedules.specs.Schedule.{Stage, RunsBytes, RunsLines, Prints, EndsAt, RunsAll, RunsUntil}
-use Rattle.fe_schedules.specs.Runs.{IsAt, RanBytes, IsFaultOf, IsTooLong, SoFar, Whole, Ended}
+use Rattle.fe_text.specs.declared.line.Line.{Line}
+use Rattle.fe_schedules.specs.Fault.{of_stream, of_machine}
+use Rattle.fe_schedules.specs.declared.fault.MachineFault.{MachineFault}
+use Rattle.fe_schedules.specs.declared.fault.MachineFault.TheVariants as machine
+use Rattle.fe_schedules.specs.Schedule.{Stage, RunsBytes, RunsLines, Prints, EndsWithin, RunsAll, RunsUntil}
+use Rattle.fe_schedules.specs.Runs.{IsAt, RanBytes, SaysLine, IsStray, IsFaultOf, IsTooLong, SoFar, Whole, Ended}
 use Rattle.fe_schedules.specs.declared.fault.ScheduleFault.{ScheduleFault}
 use Rattle.fe_schedules.specs.declared.fault.ScheduleFault.TheVariants as fault
 use Rattle.fe_schedules.specs.declared.run.Run.{Run}
@@ -71,9 +74,10 @@ took_line read before now r s bytes so none ran =
 
 -- ---- faults
 
-outside : (f : StreamFault) (lines left : List (List ℕ)) (more : List ℕ) → EndsAt (of_stream f) lines left more
-outside stream.Input lines left more = tt
-outside stream.Memory lines left more = tt
+-- a line that says something, of which memory or the disk is told
+pub said_fault : (number : ℕ) (bytes : List ℕ) (l : Line) (f : MachineFault) → SaysLine bytes (Some l) → IsFaultOf number bytes (of_machine f)
+said_fault number bytes l machine.Memory said = (said.0, l, said.1)
+said_fault number bytes l machine.Device said = (said.0, l, said.1)
 
 -- the text that is kept, with nothing behind it
 alone : (text kept : List ℕ) → text ++ kept ≡ (text ++ kept) ++ []
@@ -82,21 +86,25 @@ alone text kept = sym (append-nil (text ++ kept))
 prints_as : (lines : List (List ℕ)) (a b : List ℕ) → a ≡ b → Prints lines a → Prints lines b
 prints_as lines a b e p = subst (λ (x : List ℕ). Prints lines x) e p
 
-stray : (end : ScheduleFault) (number : ℕ) (line : List ℕ) (lines left : List (List ℕ)) → number ≡ length lines → IsFaultOf (number + 1) line end → EndsAt end lines (line ∷ left) []
-stray (fault.Line told) number line lines left counts is = (is.0 ∙ ap (λ (n : ℕ). n + 1) counts, (is.1, is.2), refl)
-stray fault.Input number line lines left counts is = tt
-stray fault.Memory number line lines left counts is = tt
-stray fault.Device number line lines left counts is = tt
+at_line : (writer : StreamFault → Type 0) (end : ScheduleFault) (number : ℕ) (line : List ℕ) (lines left : List (List ℕ)) → number ≡ length lines → IsFaultOf (number + 1) line end → EndsWithin writer end lines (line ∷ left) []
+at_line writer (fault.Line told) number line lines left counts is = inl (refl, (is.0 ∙ ap (λ (n : ℕ). n + 1) counts, (is.1, is.2)))
+at_line writer fault.Input number line lines left counts is = inl (refl, omega (arith, counts, is))
+at_line writer fault.Memory number line lines left counts is = inl (refl, is)
+at_line writer fault.Device number line lines left counts is = inl (refl, is)
+
+-- a line outside the syntax is told as a fault of it
+pub stray_fault : (number : ℕ) (bytes : List ℕ) (end : ScheduleFault) → IsStray number bytes end → IsFaultOf number bytes end
+stray_fault number bytes end is = subst (λ (e : ScheduleFault). IsFaultOf number bytes e) (sym is.0) (refl, is.1, is.2)
 
 -- a line at fault, which comes whole
-pub line_fails : (end : ScheduleFault) (read : List ℕ) (before now : Option (List ℕ)) (r : Run) (bytes kept : List ℕ) → SoFar read before now r → HasNoFeed bytes → IsFaultOf (r.lines + 1) (r.begun.items ++ bytes) end → kept ≡ string_bytes r.text
-    → (others : List ℕ) → Ended end ((read ++ (bytes ++ 10 ∷ [])) ++ others) before now kept
-line_fails end read before now r bytes kept so none is same others = record {
+pub line_fails : (writer : StreamFault → Type 0) (end : ScheduleFault) (read : List ℕ) (before now : Option (List ℕ)) (r : Run) (bytes kept : List ℕ) → SoFar read before now r → HasNoFeed bytes → IsFaultOf (r.lines + 1) (r.begun.items ++ bytes) end → kept ≡ string_bytes r.text
+    → (others : List ℕ) → Ended writer end ((read ++ (bytes ++ 10 ∷ [])) ++ others) before now kept
+line_fails writer end read before now r bytes kept so none is same others = record {
   lines = so.lines;
   left = (r.begun.items ++ bytes) ∷ lines_of others;
   more = [];
   all = line_ends read bytes r.begun.items others so.lines so.splits so.no_feed none;
-  ends = stray end r.lines (r.begun.items ++ bytes) so.lines (lines_of others) so.counts is;
+  ends = at_line writer end r.lines (r.begun.items ++ bytes) so.lines (lines_of others) so.counts is;
   text = so.text;
   prints = prints_as so.lines (so.text ++ string_bytes r.text) ((so.text ++ kept) ++ []) (ap (λ (x : List ℕ). so.text ++ x) (sym same) ∙ alone so.text kept) (record { start = so.start; starts = so.starts; end = so.here; runs = so.runs });
   written = so.written;
@@ -107,32 +115,27 @@ pub long_stray : (bytes : List ℕ) → 99 < length bytes → (bytes ≢ []) × 
 unfolding parsed
 long_stray bytes long = (λ e. let z = ap (length {A = ℕ}) e in absurd (omega (arith, long, z)), rw (lt-ltb 99 (length bytes) long) refl)
 
-pub too_long : (end : ScheduleFault) (number : ℕ) (bytes : List ℕ) → IsTooLong number bytes end → IsFaultOf number bytes end
-too_long (fault.Line told) number bytes is = (is.0, (long_stray bytes is.1).0, (long_stray bytes is.1).1)
-too_long fault.Input number bytes is = absurd is
-too_long fault.Memory number bytes is = tt
-too_long fault.Device number bytes is = absurd is
+pub too_long : (end : ScheduleFault) (number : ℕ) (bytes : List ℕ) → IsTooLong number bytes end → IsStray number bytes end
+too_long end number bytes is = (is.0, (long_stray bytes is.1).0, (long_stray bytes is.1).1)
 
 -- the lines at a line that is too long
-record Long (end : ScheduleFault) (lines : List (List ℕ)) (input : List ℕ) : Type 0 where
+record Long (writer : StreamFault → Type 0) (end : ScheduleFault) (lines : List (List ℕ)) (input : List ℕ) : Type 0 where
   left : List (List ℕ)
   is : lines_of input ≡ left
-  ends : EndsAt end lines left []
+  ends : EndsWithin writer end lines left []
 
-long_ends : (end : ScheduleFault) (number : ℕ) (line others : List ℕ) (lines : List (List ℕ)) → number ≡ length lines → HasNoFeed line → IsTooLong (number + 1) line end → Long end lines (line ++ others)
-long_ends (fault.Line told) number [] others lines counts none is = let long = is.1 in absurd (omega (arith, long))
-long_ends (fault.Line told) number (x ∷ xs) others lines counts none is =
+long_ends : (writer : StreamFault → Type 0) (end : ScheduleFault) (number : ℕ) (line others : List ℕ) (lines : List (List ℕ)) → number ≡ length lines → HasNoFeed line → IsTooLong (number + 1) line end → Long writer end lines (line ++ others)
+long_ends writer end number [] others lines counts none is = let long = is.1 in absurd (omega (arith, long))
+long_ends writer end number (x ∷ xs) others lines counts none is =
     let b = begins x xs others none in
     let long : 99 < length ((x ∷ xs) ++ b.0) = let few = is.1 in omega (arith, few, length-append (x ∷ xs) b.0) in
-    record { left = ((x ∷ xs) ++ b.0) ∷ b.1; is = b.2; ends = (is.0 ∙ ap (λ (n : ℕ). n + 1) counts, long_stray ((x ∷ xs) ++ b.0) long, refl) }
-long_ends fault.Input number line others lines counts none is = absurd is
-long_ends fault.Memory number line others lines counts none is = record { left = lines_of (line ++ others); is = refl; ends = tt }
-long_ends fault.Device number line others lines counts none is = absurd is
+    let line : List ℕ = (x ∷ xs) ++ b.0 in
+    record { left = line ∷ b.1; is = b.2; ends = at_line writer end number line lines b.1 counts (stray_fault (number + 1) line end (is.0, (long_stray line long).0, (long_stray line long).1)) }
 
-pub front_fails : (end : ScheduleFault) (read : List ℕ) (before now : Option (List ℕ)) (r : Run) (bytes kept : List ℕ) → SoFar read before now r → HasNoFeed bytes → IsTooLong (r.lines + 1) (r.begun.items ++ bytes) end → kept ≡ string_bytes r.text
-    → (others : List ℕ) → Ended end ((read ++ bytes) ++ others) before now kept
-front_fails end read before now r bytes kept so none is same others =
-    let long = long_ends end r.lines (r.begun.items ++ bytes) others so.lines so.counts (both_no_feed r.begun.items bytes so.no_feed none) is in
+pub front_fails : (writer : StreamFault → Type 0) (end : ScheduleFault) (read : List ℕ) (before now : Option (List ℕ)) (r : Run) (bytes kept : List ℕ) → SoFar read before now r → HasNoFeed bytes → IsTooLong (r.lines + 1) (r.begun.items ++ bytes) end → kept ≡ string_bytes r.text
+    → (others : List ℕ) → Ended writer end ((read ++ bytes) ++ others) before now kept
+front_fails writer end read before now r bytes kept so none is same others =
+    let long = long_ends writer end r.lines (r.begun.items ++ bytes) others so.lines so.counts (both_no_feed r.begun.items bytes so.no_feed none) is in
     record {
       lines = so.lines;
       left = long.left;
@@ -188,48 +191,55 @@ parted text kept more count =
     ∙ append_assoc (text ++ take count kept) (drop count kept) more ∙ ap (λ (x : List ℕ). x ++ (drop count kept ++ more)) (sym (append-nil (text ++ take count kept)))
 
 -- after some lines a part of what was kept is written, and next a stream fails
-pub writing_fails : (f : StreamFault) (input : List ℕ) (lines left : List (List ℕ)) (before now after : Option (List ℕ)) (text kept more : List ℕ) (count : ℕ) → lines_of input ≡ lines ++ left → Prints lines ((text ++ kept) ++ more) → Appends before now text
-    → Appends now after (take count kept) → Ended (of_stream f) input before after []
-writing_fails f input lines left before now after text kept more count all prints written appends = record {
+pub writing_fails : (writer : StreamFault → Type 0) (f : StreamFault) → writer f → (input : List ℕ) (lines left : List (List ℕ)) (before now after : Option (List ℕ)) (text kept more : List ℕ) (count : ℕ) → lines_of input ≡ lines ++ left → Prints lines ((text ++ kept) ++ more) → Appends before now text
+    → Appends now after (take count kept) → Ended writer (of_stream f) input before after []
+writing_fails writer f fails input lines left before now after text kept more count all prints written appends = record {
   lines = lines;
   left = left;
   more = drop count kept ++ more;
   all = all;
-  ends = outside f lines left (drop count kept ++ more);
+  ends = inr (f, fails, refl);
   text = text ++ take count kept;
   prints = prints_as lines ((text ++ kept) ++ more) (((text ++ take count kept) ++ []) ++ (drop count kept ++ more)) (parted text kept more count) prints;
   written = Appends-trans before now after text (take count kept) written appends;
 }
 
-pub write_fails : (f : StreamFault) (read : List ℕ) (before now after : Option (List ℕ)) (r : Run) (count : ℕ) → SoFar read before now r → Appends now after (take count (string_bytes r.text)) → (others : List ℕ) → Ended (of_stream f) (read ++ others) before after []
-write_fails f read before now after r count so appends others =
-    writing_fails f (read ++ others) so.lines (lines_of (r.begun.items ++ others)) before now after so.text (string_bytes r.text) [] count (so.splits others)
+pub write_fails : (writer : StreamFault → Type 0) (f : StreamFault) → writer f → (read : List ℕ) (before now after : Option (List ℕ)) (r : Run) (count : ℕ) → SoFar read before now r → Appends now after (take count (string_bytes r.text)) → (others : List ℕ) → Ended writer (of_stream f) (read ++ others) before after []
+write_fails writer f fails read before now after r count so appends others =
+    writing_fails writer f fails (read ++ others) so.lines (lines_of (r.begun.items ++ others)) before now after so.text (string_bytes r.text) [] count (so.splits others)
     (prints_as so.lines (so.text ++ string_bytes r.text) ((so.text ++ string_bytes r.text) ++ []) (alone so.text (string_bytes r.text)) (record { start = so.start; starts = so.starts; end = so.here; runs = so.runs })) so.written appends
 
--- what was kept at an end is written
-pub wrote_end : (end : ScheduleFault) (input : List ℕ) (before now after : Option (List ℕ)) (kept : List ℕ) → Ended end input before now kept → Appends now after kept → Ended end input before after []
-wrote_end end input before now after kept e appends = record {
+-- a writer that failed has failed later on
+within_later : (earlier writer : StreamFault → Type 0) (end : ScheduleFault) (lines left : List (List ℕ)) (more : List ℕ) → ((f : StreamFault) → earlier f → writer f) → EndsWithin earlier end lines left more → EndsWithin writer end lines left more
+within_later earlier writer end lines left more stays (inl at) = inl at
+within_later earlier writer end lines left more stays (inr of) = inr (of.0, stays of.0 of.1, of.2)
+
+-- what was kept at an end is written, and the writer failed in no other way
+pub wrote_end : (earlier writer : StreamFault → Type 0) (end : ScheduleFault) (input : List ℕ) (before now after : Option (List ℕ)) (kept : List ℕ) → ((f : StreamFault) → earlier f → writer f) → Ended earlier end input before now kept
+    → Appends now after kept → Ended writer end input before after []
+wrote_end earlier writer end input before now after kept stays e appends = record {
   lines = e.lines;
   left = e.left;
   more = e.more;
   all = e.all;
-  ends = e.ends;
+  ends = within_later earlier writer end e.lines e.left e.more stays e.ends;
   text = e.text ++ kept;
   prints = prints_as e.lines ((e.text ++ kept) ++ e.more) (((e.text ++ kept) ++ []) ++ e.more) (ap (λ (x : List ℕ). x ++ e.more) (alone e.text kept)) e.prints;
   written = Appends-trans before now after e.text kept e.written appends;
 }
 
-pub write_end_fails : (end : ScheduleFault) (next : StreamFault) (input : List ℕ) (before now after : Option (List ℕ)) (kept : List ℕ) (count : ℕ) → Ended end input before now kept → Appends now after (take count kept) → Ended (of_stream next) input before after []
-write_end_fails end next input before now after kept count e appends =
-    writing_fails next input e.lines e.left before now after e.text kept e.more count e.all e.prints e.written appends
+pub write_end_fails : (earlier writer : StreamFault → Type 0) (end : ScheduleFault) (next : StreamFault) → writer next → (input : List ℕ) (before now after : Option (List ℕ)) (kept : List ℕ) (count : ℕ) → Ended earlier end input before now kept
+    → Appends now after (take count kept) → Ended writer (of_stream next) input before after []
+write_end_fails earlier writer end next fails input before now after kept count e appends =
+    writing_fails writer next fails input e.lines e.left before now after e.text kept e.more count e.all e.prints e.written appends
 
 pub wrote_whole : (input : List ℕ) (before now after : Option (List ℕ)) (kept : List ℕ) → Whole input before now kept → Appends now after kept → Whole input before after []
 wrote_whole input before now after kept w appends =
     record { lines = w.lines; all = w.all; text = w.text ++ kept; prints = prints_as w.lines (w.text ++ kept) ((w.text ++ kept) ++ []) (alone w.text kept) w.prints; written = Appends-trans before now after w.text kept w.written appends }
 
-pub write_whole_fails : (f : StreamFault) (input : List ℕ) (before now after : Option (List ℕ)) (kept : List ℕ) (count : ℕ) → Whole input before now kept → Appends now after (take count kept) → Ended (of_stream f) input before after []
-write_whole_fails f input before now after kept count w appends =
-    writing_fails f input w.lines [] before now after w.text kept [] count (w.all ∙ sym (append-nil w.lines)) (prints_as w.lines (w.text ++ kept) ((w.text ++ kept) ++ []) (alone w.text kept) w.prints) w.written appends
+pub write_whole_fails : (writer : StreamFault → Type 0) (f : StreamFault) → writer f → (input : List ℕ) (before now after : Option (List ℕ)) (kept : List ℕ) (count : ℕ) → Whole input before now kept → Appends now after (take count kept) → Ended writer (of_stream f) input before after []
+write_whole_fails writer f fails input before now after kept count w appends =
+    writing_fails writer f fails input w.lines [] before now after w.text kept [] count (w.all ∙ sym (append-nil w.lines)) (prints_as w.lines (w.text ++ kept) ((w.text ++ kept) ++ []) (alone w.text kept) w.prints) w.written appends
 
 -- ---- the end of the input
 
@@ -261,13 +271,13 @@ ends_within read before now r s so some ran =
       written = so.written;
     }
 
-pub last_fails : (end : ScheduleFault) (read : List ℕ) (before now : Option (List ℕ)) (r : Run) (kept : List ℕ) → SoFar read before now r → r.begun.items ≢ [] → IsFaultOf (r.lines + 1) (r.begun.items ++ []) end → kept ≡ string_bytes r.text → Ended end read before now kept
-last_fails end read before now r kept so some is same = record {
+pub last_fails : (writer : StreamFault → Type 0) (end : ScheduleFault) (read : List ℕ) (before now : Option (List ℕ)) (r : Run) (kept : List ℕ) → SoFar read before now r → r.begun.items ≢ [] → IsFaultOf (r.lines + 1) (r.begun.items ++ []) end → kept ≡ string_bytes r.text → Ended writer end read before now kept
+last_fails writer end read before now r kept so some is same = record {
   lines = so.lines;
   left = (r.begun.items ++ []) ∷ [];
   more = [];
   all = last_line read r.begun.items so.lines so.splits so.no_feed some;
-  ends = stray end r.lines (r.begun.items ++ []) so.lines [] so.counts is;
+  ends = at_line writer end r.lines (r.begun.items ++ []) so.lines [] so.counts is;
   text = so.text;
   prints = prints_as so.lines (so.text ++ string_bytes r.text) ((so.text ++ kept) ++ []) (ap (λ (x : List ℕ). so.text ++ x) (sym same) ∙ alone so.text kept) (record { start = so.start; starts = so.starts; end = so.here; runs = so.runs });
   written = so.written;
@@ -290,8 +300,9 @@ lines_known : (o : Option (List ℕ)) (input : List ℕ) (ls : List (List ℕ)) 
 lines_known None input ls k e = tt
 lines_known (Some bytes) input ls k e = ap lines_of k ∙ e
 
-pub until : (end : ScheduleFault) (o : Option (List ℕ)) (input : List ℕ) (before after : Option (List ℕ)) → IfSome o (λ bytes. bytes ≡ input) → Ended end input before after [] → RunsUntil end o before after
-until end o input before after k e = record {
+pub until : (reader writer : StreamFault → Type 0) (unread : Type 0) (end : ScheduleFault) (o : Option (List ℕ)) (input : List ℕ) (before after : Option (List ℕ)) → IfSome o (λ bytes. bytes ≡ input) → Ended writer end input before after []
+    → RunsUntil reader writer unread end o before after
+until reader writer unread end o input before after k e = record {
   lines = e.lines;
   left = e.left;
   all = lines_known o input (e.lines ++ e.left) k e.all;
@@ -299,7 +310,21 @@ until end o input before after k e = record {
   more = e.more;
   prints = prints_as e.lines ((e.text ++ []) ++ e.more) (e.text ++ e.more) (ap (λ (x : List ℕ). x ++ e.more) (append-nil e.text)) e.prints;
   written = e.written;
-  ends = e.ends;
+  ends = inl e.ends;
+}
+
+-- the reader failed behind lines that ran, whose text is all written
+pub unread_left : (reader writer : StreamFault → Type 0) (unread : Type 0) (f : StreamFault) → reader f → (o : Option (List ℕ)) (read others : List ℕ) (before now : Option (List ℕ)) (r : Run) → IfSome o (λ bytes. bytes ≡ read ++ others)
+    → SoFar read before now r → string_bytes r.text ≡ [] → RunsUntil reader writer unread (of_stream f) o before now
+unread_left reader writer unread f fails o read others before now r k so none = record {
+  lines = so.lines;
+  left = lines_of (r.begun.items ++ others);
+  all = lines_known o (read ++ others) (so.lines ++ lines_of (r.begun.items ++ others)) k (so.splits others);
+  text = so.text;
+  more = [];
+  prints = prints_as so.lines (so.text ++ string_bytes r.text) (so.text ++ []) (ap (λ (x : List ℕ). so.text ++ x) none) (record { start = so.start; starts = so.starts; end = so.here; runs = so.runs });
+  written = so.written;
+  ends = inr (refl, inl (f, fails, refl));
 }
 
 pub all_ran : (o : Option (List ℕ)) (input : List ℕ) (before after : Option (List ℕ)) → IfSome o (λ bytes. bytes ≡ input) → Whole input before after [] → RunsAll o before after

@@ -1,5 +1,6 @@
 -- What a fault of a part ends a schedule with.
-use Rattle.std.specs.Prelude.{Option, None, Some}
+use Rattle.std.specs.Prelude.{◌≡◌, ◌⊎◌, ◌<◌, Option, None, Some}
+use Rattle.fe_disk.specs.Memory.{MemoryState}
 use Rattle.fe_keeper.specs.declared.fault.Fault.TheVariants as store
 use Rattle.fe_desk.specs.declared.fault.DeskFault.{DeskFault}
 use Rattle.fe_desk.specs.declared.fault.DeskFault.TheVariants as desk
@@ -25,3 +26,23 @@ of_machine machine.Device = fault.Device
 abbrev pub of_stream : StreamFault → ScheduleFault
 of_stream stream.Input = fault.Input
 of_stream stream.Memory = fault.Memory
+
+-- the device is told exactly where a call of the disk failed
+abbrev pub TellsDisk : MemoryState → MachineFault → Type 0
+TellsDisk disk machine.Memory = disk.failures ≡ 0
+TellsDisk disk machine.Device = 0 < disk.failures
+
+-- the same of a schedule's fault
+abbrev pub TellsOfDisk : MemoryState → ScheduleFault → Type 0
+TellsOfDisk disk (fault.Line number) = disk.failures ≡ 0
+TellsOfDisk disk fault.Input = disk.failures ≡ 0
+TellsOfDisk disk fault.Memory = disk.failures ≡ 0
+TellsOfDisk disk fault.Device = 0 < disk.failures
+
+-- a stream failed, and this is told of it
+abbrev pub IsOfStream : (StreamFault → Type 0) → ScheduleFault → Type 0
+IsOfStream fails end = (f : StreamFault) × fails f × (end ≡ of_stream f)
+
+-- the same, unless a writer failed that could not take what was printed
+abbrev pub TellsDiskOrWriter : MemoryState → (StreamFault → Type 0) → ScheduleFault → Type 0
+TellsDiskOrWriter disk writer end = TellsOfDisk disk end ⊎ IsOfStream writer end

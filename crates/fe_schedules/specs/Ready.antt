@@ -1,17 +1,19 @@
 -- A desk over a store in memory between two steps.
-use Rattle.std.specs.Prelude.{◌≡◌, false, List, length}
+use Rattle.std.specs.Prelude.{◌≡◌, false, List, [], ◌∷◌, length}
 use Rattle.fe_disk.specs.Memory.{MemoryState, IsHonest, LeavesNow, synced_image}
 use Rattle.fe_state.specs.State.{ServerState}
 use Rattle.fe_keeper.specs.Stands.{StandsFor, EachStandsFor}
 use Rattle.fe_desk.specs.Crash.{DeskState, IsFrom, disk_of}
+use Rattle.fe_desk.specs.Checks.{Checks}
 use Rattle.fe_desk.specs.Quiet.{AreWritten}
 use Rattle.fe_desk.specs.Steps.{DeskRun}
 use Rattle.fe_desk.specs.declared.step.Step.{Step}
 
--- The store works, and is that of a run from some state; each image that a stop may leave stands for what the keeper has; all
--- groups are stored, and all mails are written.
+-- The store works, no call of its disk failed, and it is that of a run from some state; each image that a stop may leave stands
+-- for what the keeper has; all groups are stored, and all mails are written.
 pub record IsReady (d : DeskState MemoryState) : Type 0 where
   pub works : d.keeper.store.has_failed ≡ false
+  pub calm : (disk_of d).failures ≡ 0
   pub honest : IsHonest (disk_of d)
   pub begun : ServerState
   pub from : IsFrom begun d
@@ -24,7 +26,13 @@ pub record IsReady (d : DeskState MemoryState) : Type 0 where
 abbrev pub StandsSynced : MemoryState → ServerState → Type 0
 StandsSynced disk s = StandsFor (synced_image disk.image disk.events) s
 
+-- the steps did to the store what each of them says, one after the other
+abbrev pub ChecksEach : DeskState MemoryState → List Step → DeskState MemoryState → Type 0
+ChecksEach d [] e = e ≡ d
+ChecksEach d (step ∷ steps) e = (mid : DeskState MemoryState) × Checks step d mid × ChecksEach mid steps e
+
 -- The desk took these steps, over the store that it had.
 pub record Moves (d : DeskState MemoryState) (steps : List Step) (e : DeskState MemoryState) : Type 0 where
   pub runs : DeskRun d.standing steps e.standing
   pub from : (begun : ServerState) → IsFrom begun d → IsFrom begun e
+  pub checks : ChecksEach d steps e

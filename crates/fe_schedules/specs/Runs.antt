@@ -1,8 +1,8 @@
 -- What is always true of a run, and what its parts do.
-use Rattle.std.specs.Prelude.{◌≡◌, ◌≢◌, ℕ, ◌+◌, ◌-◌, ◌^◌, ◌<◌, ◌≤◌, List, [], ◌∷◌, ◌++◌, length, map, take, Option, None, Some, string_bytes}
+use Rattle.std.specs.Prelude.{◌≡◌, ◌≢◌, ℕ, ◌+◌, ◌-◌, ◌^◌, ◌<◌, ◌≤◌, List, [], ◌∷◌, ◌++◌, length, map, take, Option, None, Some, string_bytes, vec_capacity}
 use Rattle.std.specs.Io.KnownBytes.{Appends}
 use Rattle.fe_disk.specs.Memory.{MemoryState}
-use Rattle.fe_desk.specs.Crash.{DeskState, IsFrom}
+use Rattle.fe_desk.specs.Crash.{DeskState, IsFrom, disk_of}
 use Rattle.fe_desk.specs.Frames.{AreReplies}
 use Rattle.fe_desk.specs.Messages.{outputs}
 use Rattle.fe_desk.specs.Standing.{Standing, IsFirstStanding}
@@ -11,8 +11,9 @@ use Rattle.fe_wire.specs.declared.server_message.ServerMessage.{ServerMessage}
 use Rattle.fe_schedules.specs.Ready.{IsReady, Moves}
 use Rattle.fe_text.specs.Line.{parsed}
 use Rattle.fe_text.specs.Lines.{lines_of, HasNoFeed}
-use Rattle.fe_schedules.specs.Schedule.{Stage, AreStepsOf, holds_after, endings, writings, RunsBytes, Prints, RunsLines, IsStart, EndsAt}
+use Rattle.fe_schedules.specs.Schedule.{Stage, AreStepsOf, holds_after, endings, writings, RunsBytes, Prints, RunsLines, IsStart, EndsWithin}
 use Rattle.fe_schedules.specs.Told.{PrintsSince, IsTold, told_to}
+use Rattle.fe_text.specs.declared.fault.StreamFault.{StreamFault}
 use Rattle.fe_schedules.specs.declared.fault.ScheduleFault.{ScheduleFault}
 use Rattle.fe_schedules.specs.declared.fault.ScheduleFault.TheVariants as fault
 use Rattle.fe_text.specs.declared.line.Line.{Line}
@@ -52,9 +53,18 @@ pub record PrintsMore (counts : List ℕ) (s : Standing) (before after : List �
 
 -- ---- a machine
 
+-- the disk of a store that could not be opened, or else that of the desk
+abbrev pub last_of : Option MemoryState → MemoryState → MemoryState
+last_of None disk = disk
+last_of (Some lost) disk = lost
+
+abbrev pub last_disk : Machine → MemoryState
+last_disk m = last_of m.lost (disk_of m.desk)
+
 -- the desk is between two steps, and what is printed is a front of what it wrote
 pub record IsMachine (m : Machine) : Type 0 where
   pub ready : IsReady m.desk
+  pub lost : m.lost ≡ None
   pub printed : ArePrinted m.printed.items (writings m.desk.standing)
 
 -- where the steps of a line begin
@@ -77,11 +87,12 @@ pub record ActsOn (m : Machine) (l : Line) (n : Machine) : Type 0 where
 
 -- ---- a run
 
--- All that was written is printed, and the line that has begun may still be one of the syntax.
+-- All that was written is printed. The line that has begun may still be one of the syntax, and there is room for all of it.
 pub record IsRun (r : Run) : Type 0 where
   pub machine : IsMachine r.machine
   pub printed : r.machine.printed.items ≡ lengths r.machine.desk.standing
   pub few : length r.begun.items ≤ 99
+  pub room : 99 ≤ vec_capacity r.begun
   pub count : r.lines < 2 ^ 64 - 1
 
 -- a line does what it says, and then what is pending is stored and posted; what is told is printed
@@ -115,16 +126,21 @@ abbrev pub SaysLine : List ℕ → Option Line → Type 0
 SaysLine bytes None = bytes ≡ []
 SaysLine bytes (Some said) = (bytes ≢ []) × (parsed bytes ≡ Some said)
 
--- a fault names the line of these bytes, by its number, only where it is outside the syntax
-abbrev pub IsFaultOf : ℕ → List ℕ → ScheduleFault → Type 0
-IsFaultOf number bytes (fault.Line told) = (told ≡ number) × (bytes ≢ []) × (parsed bytes ≡ None)
-IsFaultOf number bytes other = Unit {0}
+-- the line of these bytes is outside the syntax, and its number is told
+abbrev pub IsStray : ℕ → List ℕ → ScheduleFault → Type 0
+IsStray number bytes end = (end ≡ fault.Line number) × (bytes ≢ []) × (parsed bytes ≡ None)
 
 -- the same of a line that is longer than any of the syntax
 abbrev pub IsTooLong : ℕ → List ℕ → ScheduleFault → Type 0
-IsTooLong number bytes (fault.Line told) = (told ≡ number) × (99 < length bytes)
-IsTooLong number bytes fault.Memory = Unit {0}
-IsTooLong number bytes other = ⊥
+IsTooLong number bytes end = (end ≡ fault.Line number) × (99 < length bytes)
+
+-- What a fault says of the line of these bytes with this number: it is outside the syntax; or it says something, which found no
+-- memory or a disk that failed; or no line after it can be counted.
+abbrev pub IsFaultOf : ℕ → List ℕ → ScheduleFault → Type 0
+IsFaultOf number bytes (fault.Line told) = (told ≡ number) × (bytes ≢ []) × (parsed bytes ≡ None)
+IsFaultOf number bytes fault.Memory = (bytes ≢ []) × (l : Line) × (parsed bytes ≡ Some l)
+IsFaultOf number bytes fault.Device = (bytes ≢ []) × (l : Line) × (parsed bytes ≡ Some l)
+IsFaultOf number bytes fault.Input = number ≡ 2 ^ 64 - 1
 
 -- ---- pieces
 
@@ -150,13 +166,13 @@ pub record Whole (input : List ℕ) (before now : Option (List ℕ)) (kept : Lis
   pub prints : Prints lines (text ++ kept)
   pub written : Appends before now text
 
--- A run over these bytes ended at a fault. Of what its lines print this text is not written, and perhaps more behind it.
-pub record Ended (end : ScheduleFault) (input : List ℕ) (before now : Option (List ℕ)) (kept : List ℕ) : Type 0 where
+-- A run over these bytes ended at a fault. Of what its lines print this text is kept, and where the writer failed, more is lost.
+pub record Ended (writer : StreamFault → Type 0) (end : ScheduleFault) (input : List ℕ) (before now : Option (List ℕ)) (kept : List ℕ) : Type 0 where
   pub lines : List (List ℕ)
   pub left : List (List ℕ)
   pub more : List ℕ
   pub all : lines_of input ≡ lines ++ left
-  pub ends : EndsAt end lines left more
+  pub ends : EndsWithin writer end lines left more
   pub text : List ℕ
   pub prints : Prints lines ((text ++ kept) ++ more)
   pub written : Appends before now text

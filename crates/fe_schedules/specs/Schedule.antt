@@ -1,5 +1,5 @@
 -- What a schedule does, line for line, and what it prints.
-use Rattle.std.specs.Prelude.{◌≡◌, ◌≢◌, ℕ, ◌+◌, Bool, true, false, List, [], ◌∷◌, ◌++◌, length, map, Option, Some, None, IfSome}
+use Rattle.std.specs.Prelude.{◌≡◌, ◌≢◌, ◌⊎◌, ℕ, ◌+◌, ◌-◌, ◌^◌, Bool, true, false, List, [], ◌∷◌, ◌++◌, length, map, Option, Some, None, IfSome}
 use Rattle.std.specs.Io.KnownBytes.{Appends}
 use Rattle.fe_state.specs.State.{ServerState, first_state}
 use Rattle.fe_state.specs.History.{after_groups}
@@ -12,6 +12,9 @@ use Rattle.fe_desk.specs.declared.step.Step.{Step}
 use Rattle.fe_desk.specs.declared.step.Step.TheVariants as step
 use Rattle.fe_text.specs.Line.{parsed}
 use Rattle.fe_text.specs.Lines.{lines_of}
+use Rattle.fe_text.specs.declared.fault.StreamFault.{StreamFault}
+use Rattle.fe_text.specs.declared.fault.StreamFault.TheVariants as stream
+use Rattle.fe_schedules.specs.Fault.{IsOfStream}
 use Rattle.fe_schedules.specs.Told.{PrintsSince}
 use Rattle.fe_schedules.specs.declared.fault.ScheduleFault.{ScheduleFault}
 use Rattle.fe_schedules.specs.declared.fault.ScheduleFault.TheVariants as fault
@@ -99,10 +102,46 @@ pub record Prints (lines : List (List ℕ)) (text : List ℕ) : Type 0 where
   pub end : Stage
   pub runs : RunsLines start lines end text
 
+-- ---- where a run ends before the end of its input
+
 -- a line that is outside the syntax is the first of these
 abbrev pub StartsStray : List (List ℕ) → Type 0
 StartsStray [] = ⊥
 StartsStray (bytes ∷ others) = (bytes ≢ []) × (parsed bytes ≡ None)
+
+-- a line that says something is the first of these
+abbrev pub StartsSaid : List (List ℕ) → Type 0
+StartsSaid [] = ⊥
+StartsSaid (bytes ∷ others) = (bytes ≢ []) × (l : Line) × (parsed bytes ≡ Some l)
+
+-- What is told of the line that comes next. Its number, counted from 1, where it is outside the syntax. Of a line that says
+-- something, that there was no memory for it or that the disk failed. And `Input` once the lines can't be counted.
+abbrev pub EndsAtLine : ScheduleFault → List (List ℕ) → List (List ℕ) → Type 0
+EndsAtLine (fault.Line number) lines left = (number ≡ length lines + 1) × StartsStray left
+EndsAtLine fault.Memory lines left = StartsSaid left
+EndsAtLine fault.Device lines left = StartsSaid left
+EndsAtLine fault.Input lines left = length lines ≡ 2 ^ 64 - 2
+
+-- what is told of memory or of the disk
+abbrev pub IsOfStore : ScheduleFault → Type 0
+IsOfStore end = (end ≡ fault.Memory) ⊎ (end ≡ fault.Device)
+
+-- Over what was read a run ends at the next line, with all written that is printed; or the writer failed.
+abbrev pub EndsWithin : (StreamFault → Type 0) → ScheduleFault → List (List ℕ) → List (List ℕ) → List ℕ → Type 0
+EndsWithin writer end lines left more = ((more ≡ []) × EndsAtLine end lines left) ⊎ IsOfStream writer end
+
+-- Else the reader failed; or there was no memory to begin, or no disk, and nothing was read.
+abbrev pub EndsAt : (StreamFault → Type 0) → (StreamFault → Type 0) → Type 0 → ScheduleFault → List (List ℕ) → List (List ℕ) → List ℕ → Type 0
+EndsAt reader writer unread end lines left more =
+    EndsWithin writer end lines left more ⊎ ((more ≡ []) × (IsOfStream reader end ⊎ ((lines ≡ []) × IsOfStore end × unread)))
+
+-- so many more reads were made
+abbrev pub IsReadMore : {R : Type 0} → (R → ℕ → Type 0) → R → R → ℕ → Type 0
+IsReadMore was_read old new more = (count : ℕ) → was_read old count → was_read new (count + more)
+
+-- a read failed so, or there were 2^40 of them
+abbrev pub ReaderFails : {R : Type 0} → (R → StreamFault → Type 0) → (R → ℕ → Type 0) → R → R → StreamFault → Type 0
+ReaderFails has_failed was_read old new f = has_failed new f ⊎ ((f ≡ stream.Input) × IsReadMore was_read old new (2 ^ 40))
 
 -- ---- a whole run
 
@@ -114,14 +153,8 @@ pub record RunsAll (input before after : Option (List ℕ)) : Type 0 where
   pub prints : Prints lines text
   pub written : Appends before after text
 
--- What a fault tells of the lines that ran, of those that are left, and of what was printed and not written. The line of that
--- number, counted from 1, is the first outside the syntax; all before it ran, and what they print is written.
-abbrev pub EndsAt : ScheduleFault → List (List ℕ) → List (List ℕ) → List ℕ → Type 0
-EndsAt (fault.Line number) lines left more = (number ≡ length lines + 1) × StartsStray left × (more ≡ [])
-EndsAt other lines left more = Unit {0}
-
--- Lines at the front of the input ran, and what is written is a front of what they print.
-pub record RunsUntil (end : ScheduleFault) (input before after : Option (List ℕ)) : Type 0 where
+-- Lines at the front of the input ran, and what they print is written, but for what a writer that failed did not take.
+pub record RunsUntil (reader writer : StreamFault → Type 0) (unread : Type 0) (end : ScheduleFault) (input before after : Option (List ℕ)) : Type 0 where
   pub lines : List (List ℕ)
   pub left : List (List ℕ)
   pub all : IfSome input (λ bytes. lines_of bytes ≡ lines ++ left)
@@ -129,4 +162,4 @@ pub record RunsUntil (end : ScheduleFault) (input before after : Option (List �
   pub more : List ℕ
   pub prints : Prints lines (text ++ more)
   pub written : Appends before after text
-  pub ends : EndsAt end lines left more
+  pub ends : EndsAt reader writer unread end lines left more

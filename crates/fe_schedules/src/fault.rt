@@ -41,6 +41,11 @@ impl MachineFault {
 }
 
 impl From<AllocError> for MachineFault {
+    ghost use Rattle.std.specs.Prelude.{◌≡◌};
+    ghost use Rattle.fe_schedules.specs.declared.fault.MachineFault.TheVariants as machine;
+
+    ghost from_gives = { λ _ fault. fault ≡ machine.Memory };
+
     fn from(_: AllocError) -> MachineFault {
         MachineFault::Memory
     }

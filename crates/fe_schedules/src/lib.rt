@@ -8,7 +8,10 @@ mod reading;
 mod run;
 mod schedule;
 mod serving;
+mod streams;
 mod told;
 
 pub use fault::ScheduleFault;
 pub use schedule::run_schedule;
+pub use serving::STORE;
+pub use streams::{Sink, Source};

@@ -1,18 +1,21 @@
 //! What a schedule runs on: a desk over a store in memory, and what of its output is printed.
 
-ghost use Rattle.std.specs.Prelude.{◌≡◌, [], ◌∷◌, string_bytes, OnOk, IfOk};
+ghost use Rattle.std.specs.Prelude.{◌≡◌, [], ◌∷◌, Some, length, string_bytes, OnOk, IfOk, IfErr};
+ghost use Rattle.fe_disk.specs.Memory.{IsHonest};
+ghost use Rattle.fe_journal.specs.Layout.{device_bytes};
 ghost use Rattle.fe_wire.specs.Spelling.{Fits};
 ghost use Rattle.fe_desk.specs.Standing.{IsFirstStanding};
 ghost use Rattle.fe_desk.specs.Crash.{IsFrom, disk_of};
 ghost use Rattle.fe_state.specs.State.{first_state};
 ghost use Rattle.fe_text.specs.Line.{LineFits};
+ghost use Rattle.fe_schedules.specs.Fault.{TellsDisk};
 ghost use Rattle.fe_schedules.specs.Ready.{Moves, StandsSynced};
 ghost use Rattle.fe_schedules.specs.Schedule.{endings};
-ghost use Rattle.fe_schedules.specs.Runs.{IsMachine, ActsOn, PrintsMore, lengths};
+ghost use Rattle.fe_schedules.specs.Runs.{IsMachine, ActsOn, PrintsMore, last_disk, lengths};
 
 use crate::fault::MachineFault;
 use crate::reading::{mark_all, read_all};
-use crate::serving::{new_desk, stopped, take};
+use crate::serving::{STORE, new_desk, stopped, take};
 use crate::told::{Told, print_told, sort};
 use fe_desk::{Desk, Step};
 use fe_disk::MemoryDisk;
@@ -25,6 +28,8 @@ use std::mem;
 #[derive(Drop)]
 pub(crate) struct Machine {
     desk: Desk<MemoryDisk>,
+    /// The disk of a store that could not be opened.
+    lost: Option<MemoryDisk>,
     /// How many of the bytes written to each connection number are printed. Numbers behind these are new.
     printed: Vec<usize>,
     /// The frame of the message at hand.
@@ -33,20 +38,39 @@ pub(crate) struct Machine {
 }
 
 impl Machine {
-    /// A machine with a new store and no connection.
-    pub fn new(alloc: Global) -> Result<Machine, MachineFault>
+    /// A machine with a new store on the disk and no connection.
+    pub fn new(alloc: Global, disk: MemoryDisk) -> Result<Machine, (MachineFault, MemoryDisk)>
+        requires size { length disk.image ≡ device_bytes }
+        requires honest { IsHonest disk }
+        requires calm { disk.failures ≡ 0 }
         ensures machine { IfOk result IsMachine }
         ensures first { IfOk result (λ machine. IsFirstStanding first_state machine.desk.standing) }
         ensures from { IfOk result (λ machine. IsFrom first_state machine.desk) }
         ensures printed { IfOk result (λ machine. machine.printed.items ≡ []) }
+        ensures fault { IfErr result (λ e. TellsDisk e.1 e.0) }
     {
-        let desk = new_desk(alloc)?;
+        let desk = new_desk(alloc, disk)?;
         Ok(Machine {
             desk,
+            lost: None,
             printed: Vec::new(alloc),
             frame: Vec::new(alloc),
             alloc,
         })
+    }
+
+    /// The disk of a store that could not be opened, or else that of the desk.
+    pub fn into_disk(self) -> MemoryDisk
+        ensures { result ≡ last_disk self }
+    {
+        let Machine { desk, lost, .. } = self;
+        match lost {
+            Some(disk) => {
+                drop(desk);
+                disk
+            }
+            None => desk.into_disk(),
+        }
     }
 
     /// Does what a line says. What is pending stays so.
@@ -55,6 +79,7 @@ impl Machine {
         requires fits { LineFits line.now }
         ensures machine { OnOk result (IsMachine self.new) }
         ensures acts { OnOk result (ActsOn self.old line.now self.new) }
+        ensures fault { IfErr result (TellsDisk (last_disk self.new)) }
     {
         match line {
             Line::Message { conn, message } => self.receive(*conn, message),
@@ -71,6 +96,7 @@ impl Machine {
         requires fits { Fits message.now }
         ensures machine { OnOk result (IsMachine self.new) }
         ensures acts { OnOk result (ActsOn self.old (Line.Message conn message.now) self.new) }
+        ensures fault { IfErr result (TellsDisk (last_disk self.new)) }
     {
         self.step(&Step::Connect { conn })?;
         let mut piece = mem::replace(&mut self.frame, Vec::new(self.alloc));
@@ -89,6 +115,7 @@ impl Machine {
         requires { IsMachine self.old }
         ensures machine { OnOk result (IsMachine self.new) }
         ensures acts { OnOk result (ActsOn self.old (Line.Gone conn) self.new) }
+        ensures fault { IfErr result (TellsDisk (last_disk self.new)) }
     {
         self.step(&Step::Gone { conn })
     }
@@ -98,6 +125,7 @@ impl Machine {
         requires { IsMachine self.old }
         ensures machine { OnOk result (IsMachine self.new) }
         ensures moved { OnOk result (Moves self.old.desk (endings is_holding) self.new.desk) }
+        ensures fault { IfErr result (TellsDisk (last_disk self.new)) }
         ensures printed { self.new.printed.items ≡ self.old.printed.items }
     {
         if is_holding {
@@ -113,6 +141,7 @@ impl Machine {
         requires { IsMachine self.old }
         ensures machine { OnOk result (IsMachine self.new) }
         ensures acts { OnOk result (ActsOn self.old Line.Check self.new) }
+        ensures fault { IfErr result (TellsDisk (last_disk self.new)) }
     {
         self.step(&Step::CheckBegin)?;
         self.step(&Step::CheckFinish)
@@ -126,14 +155,31 @@ impl Machine {
         ensures synced { OnOk result (StandsSynced (disk_of self.old.desk) self.new.desk.keeper.state) }
         ensures kept { OnOk result (self.new.desk.keeper.state ≡ self.old.desk.keeper.state) }
         ensures acts { OnOk result (ActsOn self.old Line.Stop self.new) }
+        ensures fault { IfErr result (TellsDisk (last_disk self.new)) }
     {
         // A desk of its own stands there until the store is opened.
-        let between = new_desk(self.alloc)?;
+        let disk = MemoryDisk::new(self.alloc, STORE)?;
+        let between = match new_desk(self.alloc, disk) {
+            Ok(desk) => desk,
+            Err((fault, disk)) => return Err(self.lose(fault, disk)),
+        };
         let desk = mem::replace(&mut self.desk, between);
         self.printed.clear();
-        let opened = stopped(self.alloc, desk)?;
+        let opened = match stopped(self.alloc, desk) {
+            Ok(desk) => desk,
+            Err((fault, disk)) => return Err(self.lose(fault, disk)),
+        };
         drop(mem::replace(&mut self.desk, opened));
         Ok(())
+    }
+
+    /// Keeps the disk of a store that could not be opened, and says why it could not.
+    fn lose(&mut self, fault: MachineFault, disk: MemoryDisk) -> MachineFault
+        ensures same { result ≡ fault }
+        ensures disk { last_disk self.new ≡ disk }
+    {
+        self.lost = Some(disk);
+        fault
     }
 
     /// Prints what each connection was told since the last time.
@@ -141,6 +187,7 @@ impl Machine {
         requires { IsMachine self.old }
         ensures machine { OnOk result (IsMachine self.new) }
         ensures desk { self.new.desk ≡ self.old.desk }
+        ensures lost { self.new.lost ≡ self.old.lost }
         ensures printed { OnOk result (self.new.printed.items ≡ lengths self.old.desk.standing) }
         ensures text { OnOk result (PrintsMore self.old.printed.items self.old.desk.standing (string_bytes text.old) (string_bytes text.new)) }
     {
@@ -156,6 +203,7 @@ impl Machine {
         requires { IsMachine self.old }
         ensures machine { OnOk result (IsMachine self.new) }
         ensures moved { OnOk result (Moves self.old.desk (step.now ∷ []) self.new.desk) }
+        ensures fault { IfErr result (TellsDisk (last_disk self.new)) }
         ensures printed { self.new.printed.items ≡ self.old.printed.items }
     {
         take(&mut self.desk, step)

@@ -1,20 +1,24 @@
 //! A run of a schedule: its lines as they come in pieces, and what they print.
 
-ghost use Rattle.std.specs.Prelude.{◌≡◌, ◌+◌, ◌++◌, ℕ, List, Option, [], ◌∷◌, string_bytes, IfOk, IfErr, IfSome, OnOk, OnErr, MatchResult};
+ghost use Rattle.std.specs.Prelude.{◌≡◌, ◌+◌, ◌++◌, ℕ, List, Option, [], ◌∷◌, length, string_bytes, IfOk, IfErr, IfSome, OnOk, OnErr, MatchResult};
+ghost use Rattle.fe_disk.specs.Memory.{IsHonest};
+ghost use Rattle.fe_journal.specs.Layout.{device_bytes};
 ghost use Rattle.fe_text.specs.Line.{LineFits};
 ghost use Rattle.fe_text.specs.Lines.{HasNoFeed};
+ghost use Rattle.fe_schedules.specs.Fault.{TellsDisk, TellsOfDisk, TellsDiskOrWriter};
 ghost use Rattle.fe_schedules.specs.Schedule.{IsStart, Stage};
-ghost use Rattle.fe_schedules.specs.Runs.{IsRun, IsAt, RanLine, RanBytes, SaysLine, IsFaultOf, IsTooLong, SoFar, Whole, Ended};
+ghost use Rattle.fe_schedules.specs.Runs.{IsRun, IsAt, RanLine, RanBytes, SaysLine, IsStray, IsFaultOf, IsTooLong, SoFar, Whole, Ended, last_disk};
 
 use crate::fault::{MachineFault, ScheduleFault};
 use crate::line::{holds_after, line_in};
 use crate::machine::Machine;
+use crate::streams::Sink;
 use crate::told::Told;
+use fe_disk::MemoryDisk;
 use fe_state::Request;
-use fe_text::{LONGEST, Line, first_line, stream_fault, write_out};
+use fe_text::{LONGEST, Line, first_line};
 use fe_wire::ClientMessage;
 use std::alloc::Global;
-use std::io::Write;
 
 /// How many bytes are printed at least before they are written within a piece.
 const FULL: usize = 65536;
@@ -37,64 +41,76 @@ pub(crate) struct Run {
 }
 
 impl Run {
-    /// A run before its first line.
-    pub fn new(alloc: Global) -> Result<Run, MachineFault>
+    /// A run before its first line, over a new store on the disk.
+    pub fn new(alloc: Global, disk: MemoryDisk) -> Result<Run, (MachineFault, MemoryDisk)>
+        requires size { length disk.image ≡ device_bytes }
+        requires honest { IsHonest disk }
+        requires calm { disk.failures ≡ 0 }
         ensures run { IfOk result IsRun }
         ensures start { IfOk result (λ run. (at : Stage) × IsStart at × IsAt run at) }
         ensures lines { IfOk result (λ run. run.lines ≡ 0) }
         ensures begun { IfOk result (λ run. run.begun.items ≡ []) }
         ensures text { IfOk result (λ run. string_bytes run.text ≡ []) }
+        ensures fault { IfErr result (λ e. TellsDisk e.1 e.0) }
     {
-        let machine = Machine::new(alloc)?;
+        let Ok(begun) = Vec::with_capacity(alloc, LONGEST) else {
+            return Err((MachineFault::Memory, disk));
+        };
+        let machine = Machine::new(alloc, disk)?;
         Ok(Run {
             machine,
             is_holding: false,
             lines: 0,
-            begun: Vec::new(alloc),
+            begun,
             text: String::new(alloc),
             line: String::new(alloc),
             told: Vec::new(alloc),
         })
     }
 
+    /// The disk of a store that could not be opened, or else that of the store.
+    pub fn into_disk(self) -> MemoryDisk
+        ensures { result ≡ last_disk self.machine }
+    {
+        let Run { machine, .. } = self;
+        machine.into_disk()
+    }
+
     /// Runs each line that this piece ends, and writes what they print.
-    pub fn take_piece<W: Write>(
-        &mut self,
-        piece: &[u8],
-        writer: &mut W,
-    ) -> Result<(), ScheduleFault>
+    pub fn take_piece<W: Sink>(&mut self, piece: &[u8], writer: &mut W) -> Result<(), ScheduleFault>
         requires { IsRun self.old }
         ensures run { OnOk result (IsRun self.new) }
+        ensures none_kept { string_bytes self.new.text ≡ [] }
+        ensures disk { IfErr result (TellsDiskOrWriter (last_disk self.new.machine) (W.has_failed writer.new)) }
         ensures taken { (read : List ℕ) (before : Option (List ℕ)) → SoFar read before (W.contents writer.old) self.old
             → MatchResult result (λ _. SoFar (read ++ piece.now) before (W.contents writer.new) self.new)
-            (λ end. (others : List ℕ) → Ended end ((read ++ piece.now) ++ others) before (W.contents writer.new) []) }
+            (λ end. (others : List ℕ) → Ended (W.has_failed writer.new) end ((read ++ piece.now) ++ others) before (W.contents writer.new) []) }
     {
         let ended = self.run_lines(piece, writer);
-        write_out(&mut self.text, writer)?;
+        writer.write_whole(&mut self.text)?;
         ended
     }
 
     /// Runs a last line without a line feed, and writes what it prints.
-    pub fn finish<W: Write>(&mut self, writer: &mut W) -> Result<(), ScheduleFault>
+    pub fn finish<W: Sink>(&mut self, writer: &mut W) -> Result<(), ScheduleFault>
         requires { IsRun self.old }
-        ensures { (read : List ℕ) (before : Option (List ℕ)) → SoFar read before (W.contents writer.old) self.old
-            → MatchResult result (λ _. Whole read before (W.contents writer.new) []) (λ end. Ended end read before (W.contents writer.new) []) }
+        ensures disk { IfErr result (TellsDiskOrWriter (last_disk self.new.machine) (W.has_failed writer.new)) }
+        ensures ended { (read : List ℕ) (before : Option (List ℕ)) → SoFar read before (W.contents writer.old) self.old
+            → MatchResult result (λ _. Whole read before (W.contents writer.new) []) (λ end. Ended (W.has_failed writer.new) end read before (W.contents writer.new) []) }
     {
         let ended = self.end_last();
-        write_out(&mut self.text, writer)?;
+        writer.write_whole(&mut self.text)?;
         ended?;
-        match writer.flush() {
-            Ok(()) => Ok(()),
-            Err(error) => Err(ScheduleFault::from(stream_fault(error))),
-        }
+        Ok(writer.hand_on()?)
     }
 
-    fn run_lines<W: Write>(&mut self, piece: &[u8], writer: &mut W) -> Result<(), ScheduleFault>
+    fn run_lines<W: Sink>(&mut self, piece: &[u8], writer: &mut W) -> Result<(), ScheduleFault>
         requires { IsRun self.old }
         ensures run { OnOk result (IsRun self.new) }
+        ensures disk { IfErr result (TellsDiskOrWriter (last_disk self.new.machine) (W.has_failed writer.new)) }
         ensures taken { (read : List ℕ) (before : Option (List ℕ)) → SoFar read before (W.contents writer.old) self.old
             → MatchResult result (λ _. SoFar (read ++ piece.now) before (W.contents writer.new) self.new)
-            (λ end. (others : List ℕ) → Ended end ((read ++ piece.now) ++ others) before (W.contents writer.new) (string_bytes self.new.text)) }
+            (λ end. (others : List ℕ) → Ended (W.has_failed writer.new) end ((read ++ piece.now) ++ others) before (W.contents writer.new) (string_bytes self.new.text)) }
     {
         let mut rest = piece;
         while let Some((line, behind)) = first_line(rest) {
@@ -105,21 +121,22 @@ impl Run {
     }
 
     /// Runs the line that ends with these bytes and a line feed, and writes what is printed where that is much.
-    fn run_whole<W: Write>(&mut self, bytes: &[u8], writer: &mut W) -> Result<(), ScheduleFault>
+    fn run_whole<W: Sink>(&mut self, bytes: &[u8], writer: &mut W) -> Result<(), ScheduleFault>
         requires { IsRun self.old }
         ensures run { OnOk result (IsRun self.new) }
+        ensures disk { IfErr result (TellsDiskOrWriter (last_disk self.new.machine) (W.has_failed writer.new)) }
         ensures taken { (read : List ℕ) (before : Option (List ℕ)) → SoFar read before (W.contents writer.old) self.old → HasNoFeed bytes.now
             → MatchResult result (λ _. SoFar (read ++ (bytes.now ++ 10 ∷ [])) before (W.contents writer.new) self.new)
-            (λ end. (others : List ℕ) → Ended end ((read ++ (bytes.now ++ 10 ∷ [])) ++ others) before (W.contents writer.new) (string_bytes self.new.text)) }
+            (λ end. (others : List ℕ) → Ended (W.has_failed writer.new) end ((read ++ (bytes.now ++ 10 ∷ [])) ++ others) before (W.contents writer.new) (string_bytes self.new.text)) }
     {
         self.end_line(bytes)?;
         if self.text.len() < FULL {
             return Ok(());
         }
-        Ok(write_out(&mut self.text, writer)?)
+        Ok(writer.write_whole(&mut self.text)?)
     }
 
-    /// Adds to the line that has not come whole. It is outside the syntax where it is too long.
+    /// Adds to the line that has not come whole, for which there is room. It is outside the syntax where it is too long.
     fn begin_line(&mut self, bytes: &[u8]) -> Result<(), ScheduleFault>
         requires { IsRun self.old }
         ensures run { OnOk result (IsRun self.new) }
@@ -132,15 +149,16 @@ impl Run {
         }
         match self.begun.extend_from_slice(bytes) {
             Ok(()) => Ok(()),
-            Err(_) => Err(ScheduleFault::Memory),
+            Err(_) => unreachable!(),
         }
     }
 
     /// Runs the line that has begun, if there is one.
     fn end_last(&mut self) -> Result<(), ScheduleFault>
         requires { IsRun self.old }
-        ensures { (read : List ℕ) (before now : Option (List ℕ)) → SoFar read before now self.old
-            → MatchResult result (λ _. Whole read before now (string_bytes self.new.text)) (λ end. Ended end read before now (string_bytes self.new.text)) }
+        ensures disk { IfErr result (TellsOfDisk (last_disk self.new.machine)) }
+        ensures ended { (read : List ℕ) (before now : Option (List ℕ)) → SoFar read before now self.old
+            → MatchResult result (λ _. Whole read before now (string_bytes self.new.text)) (λ end. Ended (λ _. ⊥) end read before now (string_bytes self.new.text)) }
     {
         let begun = self.begun.as_slice();
         if begun.is_empty() {
@@ -155,7 +173,8 @@ impl Run {
         ensures run { OnOk result (IsRun self.new) }
         ensures ran { OnOk result (RanBytes self.old (self.old.begun.items ++ bytes.now) self.new) }
         ensures text { OnErr result (string_bytes self.new.text ≡ string_bytes self.old.text) }
-        // A fault that names a line has its number, and is of a line outside the syntax.
+        ensures disk { IfErr result (TellsOfDisk (last_disk self.new.machine)) }
+        // A line outside the syntax is told by its number, and another fault is of one that says something.
         ensures err { IfErr result (IsFaultOf (self.old.lines + 1) (self.old.begun.items ++ bytes.now)) }
     {
         let _named: (Option<Request>, Option<ClientMessage>) = (None, None);
@@ -178,7 +197,7 @@ impl Run {
         ensures begun { OnOk result (self.new.begun.items ≡ []) }
         ensures said { IfOk result (SaysLine (self.old.begun.items ++ bytes.now)) }
         ensures fits { IfOk result (λ line. IfSome line LineFits) }
-        ensures err { IfErr result (IsFaultOf (self.old.lines + 1) (self.old.begun.items ++ bytes.now)) }
+        ensures err { IfErr result (IsStray (self.old.lines + 1) (self.old.begun.items ++ bytes.now)) }
     {
         let _named: (Option<Request>, Option<ClientMessage>) = (None, None);
         let stray = ScheduleFault::Line(self.lines + 1);
@@ -199,6 +218,7 @@ impl Run {
         ensures ran { OnOk result (RanLine self.old line.now self.new) }
         ensures lines { self.new.lines ≡ self.old.lines }
         ensures begun { self.new.begun ≡ self.old.begun }
+        ensures fault { IfErr result (TellsDisk (last_disk self.new.machine)) }
         ensures text { OnErr result (string_bytes self.new.text ≡ string_bytes self.old.text) }
     {
         self.machine.act(line)?;

@@ -1,39 +1,55 @@
 //! Runs a schedule (`docs/schedules.md`).
 
-ghost use Rattle.std.specs.Prelude.{◌<◌, [], length, IfErr, OnOk};
-ghost use Rattle.fe_schedules.specs.Schedule.{RunsAll, RunsUntil};
-ghost use Rattle.fe_schedules.specs.Runs.{IsRun, SoFar};
+ghost use Rattle.std.specs.Prelude.{◌≡◌, ◌<◌, [], length, string_bytes, IfErr, OnOk};
+ghost use Rattle.fe_schedules.specs.Schedule.{RunsAll, RunsUntil, ReaderFails};
+ghost use Rattle.fe_schedules.specs.Fault.{TellsDiskOrWriter};
+ghost use Rattle.fe_schedules.specs.Runs.{IsRun, SoFar, last_disk};
+ghost use Rattle.fe_disk.specs.Memory.{IsHonest};
+ghost use Rattle.fe_journal.specs.Layout.{device_bytes};
 
 use crate::fault::ScheduleFault;
 use crate::run::Run;
-use fe_text::{PIECE, READS, buffer, read_once};
+use crate::streams::{Sink, Source};
+use fe_disk::MemoryDisk;
+use fe_text::{PIECE, READS, buffer};
 use std::alloc::Global;
-use std::io::{Read, Write};
 
-/// Runs the lines that the reader gives, and writes what the replies to them say. What the lines of one read print is
-/// written before the next read. `Line` at the first line outside the syntax, counted from 1 with the empty lines, which
-/// say nothing. `Input` where the reader or the writer fails, or was called 2^40 times. What earlier lines printed is
-/// written then.
-pub fn run_schedule<R: Read, W: Write>(
+/// Makes a new store on the disk, runs the lines that the reader gives, and writes what the replies to them say. What the lines of
+/// one read print is written before the next read. `Line` at the first line outside the syntax, counted from 1 with the empty lines,
+/// which say nothing. `Input` where the reader or the writer fails, or was called 2^40 times. What earlier lines printed is written
+/// then. The disk comes back as it was at the end, or in its place that of a store that a `stop` could not open again.
+pub fn run_schedule<R: Source, W: Sink>(
     alloc: Global,
+    disk: MemoryDisk,
     reader: &mut R,
     writer: &mut W,
-) -> Result<(), ScheduleFault>
+) -> (Result<(), ScheduleFault>, MemoryDisk)
+    requires size { length disk.image ≡ device_bytes }
+    requires honest { IsHonest disk }
+    requires calm { disk.failures ≡ 0 }
     // Every line of the input ran, and what is written is what they print.
-    ensures ok { OnOk result (RunsAll (R.remaining reader.old) (W.contents writer.old) (W.contents writer.new)) }
-    // At a fault what is written is a front of what lines at the front of the input print.
-    ensures fault { IfErr result (λ end. RunsUntil end (R.remaining reader.old) (W.contents writer.old) (W.contents writer.new)) }
+    ensures ok { OnOk result.0 (RunsAll (R.remaining reader.old) (W.contents writer.old) (W.contents writer.new)) }
+    // At a fault lines at the front of the input ran. What ended them is told, and what they print is written unless the writer failed.
+    ensures fault { IfErr result.0 (λ end. RunsUntil (ReaderFails R.has_failed R.was_read reader.old reader.new) (W.has_failed writer.new)
+        (reader.new ≡ reader.old) end (R.remaining reader.old) (W.contents writer.old) (W.contents writer.new)) }
+    // The device is told exactly where a call of the disk failed, unless the writer failed as well.
+    ensures disk { IfErr result.0 (TellsDiskOrWriter result.1 (W.has_failed writer.new)) }
 {
-    let mut piece = buffer(alloc, PIECE)?;
-    let mut run = Run::new(alloc)?;
+    let mut piece = match buffer(alloc, PIECE) {
+        Ok(piece) => piece,
+        Err(fault) => return (Err(ScheduleFault::from(fault)), disk),
+    };
+    let mut run = match Run::new(alloc, disk) {
+        Ok(run) => run,
+        Err((fault, disk)) => return (Err(ScheduleFault::from(fault)), disk),
+    };
     let ended = run_all(&mut run, piece.as_mut_slice(), reader, writer);
-    drop(run);
     drop(piece);
-    ended
+    (ended, run.into_disk())
 }
 
 /// Runs the lines that the reader gives to its end.
-fn run_all<R: Read, W: Write>(
+fn run_all<R: Source, W: Sink>(
     run: &mut Run,
     piece: &mut [u8],
     reader: &mut R,
@@ -41,12 +57,15 @@ fn run_all<R: Read, W: Write>(
 ) -> Result<(), ScheduleFault>
     requires run { IsRun run.old }
     requires begins { SoFar [] (W.contents writer.old) (W.contents writer.old) run.old }
+    requires none_kept { string_bytes run.old.text ≡ [] }
     requires room { 0 < length piece.old }
     ensures ok { OnOk result (RunsAll (R.remaining reader.old) (W.contents writer.old) (W.contents writer.new)) }
-    ensures fault { IfErr result (λ end. RunsUntil end (R.remaining reader.old) (W.contents writer.old) (W.contents writer.new)) }
+    ensures disk { IfErr result (TellsDiskOrWriter (last_disk run.new.machine) (W.has_failed writer.new)) }
+    ensures fault { IfErr result (λ end. RunsUntil (ReaderFails R.has_failed R.was_read reader.old reader.new) (W.has_failed writer.new)
+        (reader.new ≡ reader.old) end (R.remaining reader.old) (W.contents writer.old) (W.contents writer.new)) }
 {
-    for _ in 0..READS {
-        match read_once(reader, piece)? {
+    for turn in 0..READS {
+        match reader.read_piece(piece)? {
             Some(0) => return run.finish(writer),
             Some(count) => run.take_piece(&piece[..count], writer)?,
             None => {}

@@ -1,9 +1,12 @@
 //! What lines have a desk over a store in memory do.
 
-ghost use Rattle.std.specs.Prelude.{◌≡◌, [], ◌∷◌, IfOk, OnOk};
+ghost use Rattle.std.specs.Prelude.{◌≡◌, [], ◌∷◌, length, IfOk, IfErr, OnOk};
+ghost use Rattle.fe_disk.specs.Memory.{IsHonest};
+ghost use Rattle.fe_journal.specs.Layout.{device_bytes};
 ghost use Rattle.fe_state.specs.State.{first_state};
 ghost use Rattle.fe_desk.specs.Crash.{IsFrom, disk_of};
 ghost use Rattle.fe_desk.specs.Standing.{IsFirstStanding};
+ghost use Rattle.fe_schedules.specs.Fault.{TellsDisk};
 ghost use Rattle.fe_schedules.specs.Ready.{IsReady, Moves, StandsSynced};
 
 use crate::fault::MachineFault;
@@ -13,20 +16,24 @@ use fe_keeper::images_stand_for_one;
 use std::alloc::Global;
 
 /// How many bytes a store has (`docs/formats.md`, "Device").
-const STORE: usize = 4_202_496;
+pub const STORE: usize = 4_202_496;
 
-/// A desk over a new store, with no connection.
-pub(crate) fn new_desk(alloc: Global) -> Result<Desk<MemoryDisk>, MachineFault>
+/// A desk over a new store on the disk, with no connection.
+pub(crate) fn new_desk(
+    alloc: Global,
+    disk: MemoryDisk,
+) -> Result<Desk<MemoryDisk>, (MachineFault, MemoryDisk)>
+    requires size { length disk.image ≡ device_bytes }
+    requires honest { IsHonest disk }
+    requires calm { disk.failures ≡ 0 }
     ensures ready { IfOk result IsReady }
     ensures first { IfOk result (λ desk. IsFirstStanding first_state desk.standing) }
     ensures from { IfOk result (IsFrom first_state) }
+    ensures fault { IfErr result (λ e. TellsDisk e.1 e.0) }
 {
-    let Ok(disk) = MemoryDisk::new(alloc, STORE) else {
-        return Err(MachineFault::Memory);
-    };
     match Desk::format(alloc, disk) {
         Ok(desk) => Ok(desk),
-        Err((fault, _)) => Err(MachineFault::of_desk(fault)),
+        Err((fault, disk)) => Err((MachineFault::of_desk(fault), disk)),
     }
 }
 
@@ -35,6 +42,7 @@ pub(crate) fn take(desk: &mut Desk<MemoryDisk>, step: &Step) -> Result<(), Machi
     requires { IsReady desk.old }
     ensures ready { OnOk result (IsReady desk.new) }
     ensures moved { OnOk result (Moves desk.old (step.now ∷ []) desk.new) }
+    ensures fault { IfErr result (TellsDisk (disk_of desk.new)) }
 {
     match desk.step(step) {
         Ok(()) => Ok(()),
@@ -46,7 +54,7 @@ pub(crate) fn take(desk: &mut Desk<MemoryDisk>, step: &Step) -> Result<(), Machi
 pub(crate) fn stopped(
     alloc: Global,
     desk: Desk<MemoryDisk>,
-) -> Result<Desk<MemoryDisk>, MachineFault>
+) -> Result<Desk<MemoryDisk>, (MachineFault, MemoryDisk)>
     requires { IsReady desk }
     ensures ready { IfOk result IsReady }
     // It has what the store held at its last sync, which is all that was stored.
@@ -54,13 +62,16 @@ pub(crate) fn stopped(
     ensures kept { IfOk result (λ again. again.keeper.state ≡ desk.keeper.state) }
     ensures first { IfOk result (λ again. IsFirstStanding desk.keeper.state again.standing) }
     ensures from { IfOk result (IsFrom desk.keeper.state) }
+    ensures fault { IfErr result (λ e. TellsDisk e.1 e.0) }
 {
     images_stand_for_one();
-    let Ok(left) = desk.into_disk().stopped(Torn::Lost) else {
-        return Err(MachineFault::Memory);
+    let disk = desk.into_disk();
+    let Ok(left) = disk.stopped(Torn::Lost) else {
+        return Err((MachineFault::Memory, disk));
     };
+    drop(disk);
     match Desk::open(alloc, left) {
         Ok(again) => Ok(again),
-        Err((fault, _)) => Err(MachineFault::of_desk(fault)),
+        Err((fault, left)) => Err((MachineFault::of_desk(fault), left)),
     }
 }

@@ -16,17 +16,18 @@ use crate::fault::Fault;
 use clap::Error;
 use clap::error::ErrorKind;
 use fe_client::call;
+use fe_disk::MemoryDisk;
 use fe_front::Books;
 use fe_hall::Open;
 use fe_look::look;
 use fe_options::{Invocation, Settings, arguments, not_text, read_settings};
-use fe_schedules::run_schedule;
+use fe_schedules::{STORE, run_schedule};
 use fe_server::{books_text, serve};
 use fe_text::{StreamFault, write_out};
 use libc::net as c;
 use std::alloc::Global;
 use std::fs::File;
-use std::io::Write;
+use std::io::{Read, Write};
 use std::net::Net;
 use std::process::ExitCode;
 use std::rt::{Env, Files, Runtime};
@@ -74,7 +75,7 @@ fn start<R: Runtime + Files<File = File> + Net + Threads + Wait + Sync + AllocGl
     match asked {
         Invocation::Run => {
             let mut reader = rt.reader();
-            run_schedule(rt.alloc(), &mut reader, &mut writer)?;
+            run_by(rt.alloc(), &mut reader, &mut writer)?;
         }
         Invocation::Look { store } => look(rt, rt.alloc(), store, &mut writer)?,
         Invocation::Serve { settings } => serve_by(rt, settings, &mut writer)?,
@@ -84,6 +85,16 @@ fn start<R: Runtime + Files<File = File> + Net + Threads + Wait + Sync + AllocGl
         }
     }
     Ok(())
+}
+
+/// Runs the schedule that the reader gives, over a disk in memory.
+fn run_by<R: Read, W: Write>(alloc: Global, reader: &mut R, writer: &mut W) -> Result<(), Fault> {
+    let Ok(disk) = MemoryDisk::new(alloc, STORE) else {
+        return Err(Fault::Memory);
+    };
+    let (ended, disk) = run_schedule(alloc, disk, reader, writer);
+    drop(disk);
+    Ok(ended?)
 }
 
 /// Serves by the settings in a file, and writes the books at the end.

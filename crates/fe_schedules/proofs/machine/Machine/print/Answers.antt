@@ -33,6 +33,7 @@ returns-clause-machine c =
     then_ok c.mark_all.result
     (λ marked. record {
       ready = c.requires.ready;
+      lost = c.requires.lost;
       printed = subst (λ (counts : List ℕ). ArePrinted counts (writings d.standing)) (sym (marked ∙ ap (λ (ws : List (List ℕ)). map {B = ℕ} (λ (w : List ℕ). length w) ws) written)) (all_marked ns d.standing c.read_all.new.told.items c.requires.printed told);
     })
     c.mark_all.ensures

@@ -2,8 +2,9 @@ use Rattle.std.proofs.Common.{List, ℕ, [], ◌∷◌, ◌++◌, refl, ap, ◌�
 use Rattle.fe_wire.specs.Spelling.{spelling}
 use Rattle.fe_desk.specs.declared.step.Step.{Step}
 use Rattle.fe_desk.specs.declared.step.Step.TheVariants as step
-use Rattle.fe_text.proofs.Results.{then_ok}
-use Rattle.fe_schedules.proofs.Moving.{moves_both}
+use Rattle.fe_text.proofs.Results.{then_ok, failed}
+use Rattle.fe_schedules.specs.declared.fault.MachineFault.TheVariants as machine
+use Rattle.fe_schedules.proofs.Moving.{moves_both, calm_disk}
 use Rattle.fe_schedules.proofs.machine.Machine.receive.Goals as goal
 
 pub returns-in-Bytes-clause-acts : goal.returns-in-Bytes-clause-acts
@@ -20,3 +21,7 @@ returns-in-Bytes-clause-acts c =
       printed = search rules;
     })
     c.step-outcome.ensures.moved
+
+pub returns-in_err-put_message-clause-fault : goal.returns-in_err-put_message-clause-fault
+returns-in_err-put_message-clause-fault c =
+    rw (failed c.from_residual-in_err-put_message.result machine.Memory c.from_residual-in_err-put_message.ensures.1) (calm_disk c.step.new.self c.in_ok-step.ensures.machine)

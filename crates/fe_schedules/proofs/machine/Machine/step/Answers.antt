@@ -9,5 +9,5 @@ returns-clause-machine c =
     let old = c.args.self.now in
     let new = c.take.new.desk in
     then_ok c.take.result
-    (λ both. record { ready = both.0; printed = printed_over old.printed.items old.desk new (c.args.step.now ∷ []) c.requires.ready both.1 c.requires.printed })
+    (λ both. record { ready = both.0; lost = c.requires.lost; printed = printed_over old.printed.items old.desk new (c.args.step.now ∷ []) c.requires.ready both.1 c.requires.printed })
     (ok_both c.take.result (IsReady new) (Moves old.desk (c.args.step.now ∷ []) new) c.take.ensures.ready c.take.ensures.moved)

@@ -4,22 +4,24 @@ use Rattle.fe_desk.specs.Standing.{IsFirstStanding}
 use Rattle.fe_schedules.specs.Ready.{IsReady}
 use Rattle.fe_schedules.specs.Runs.{ArePrinted}
 use Rattle.fe_schedules.specs.Schedule.{writings}
-use Rattle.fe_schedules.proofs.Moving.{moves_none}
+use Rattle.fe_schedules.specs.declared.fault.MachineFault.TheVariants as machine
+use Rattle.fe_text.proofs.Results.{failed}
+use Rattle.fe_schedules.proofs.Moving.{moves_none, calm_disk}
 use Rattle.fe_schedules.proofs.machine.Machine.stop.Goals as goal
 
 pub returns-clause-machine : goal.returns-clause-machine
 returns-clause-machine c =
     let is = sym c.replace.ensures.after in
     let printed : ArePrinted [] (writings c.replace.new.dest.standing) = tt in
-    record { ready = subst IsReady is c.in_ok-opened.ensures.ready; printed = subst (λ (ns : List ℕ). ArePrinted ns (writings c.replace.new.dest.standing)) (sym c.clear.ensures.items) printed }
+    record { ready = subst IsReady is c.in-Ok-stopped.ensures.ready; lost = c.requires.lost; printed = subst (λ (ns : List ℕ). ArePrinted ns (writings c.replace.new.dest.standing)) (sym c.clear.ensures.items) printed }
 
 pub returns-clause-acts : goal.returns-clause-acts
 returns-clause-acts c =
     let d = c.args.self.now.desk in
     let e = c.replace.new.dest in
     let is = sym c.replace.ensures.after in
-    let first : IsFirstStanding d.keeper.state c.in_ok-opened.opened.standing = search rules in
-    let from : IsFrom d.keeper.state c.in_ok-opened.opened = search rules in
+    let first : IsFirstStanding d.keeper.state c.in-Ok-stopped.desk.standing = search rules in
+    let from : IsFrom d.keeper.state c.in-Ok-stopped.desk = search rules in
     record {
       mid = e;
       begins = (subst (λ d2. IsFirstStanding d.keeper.state d2.standing) is first, subst (IsFrom d.keeper.state) is from);
@@ -28,3 +30,6 @@ returns-clause-acts c =
       moves = moves_none e;
       printed = c.clear.ensures.items;
     }
+
+pub returns-in_err-disk-clause-fault : goal.returns-in_err-disk-clause-fault
+returns-in_err-disk-clause-fault c = rw (failed c.from_residual.result machine.Memory c.from_residual.ensures.1) (calm_disk c.args.self.now c.requires)

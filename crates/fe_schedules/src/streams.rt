@@ -1,0 +1,84 @@
+//! The streams of a schedule: any reader and any writer of `std`.
+
+ghost use Rattle.std.specs.Prelude.{ℕ, ◌≡◌, ◌+◌, List, Option, [], length, string_bytes, take, IfOk, IfErr, OnOk};
+ghost use Rattle.std.specs.Io.KnownBytes.{Appends, Keeps};
+ghost use Rattle.fe_text.specs.Lines.{ReadsSome};
+ghost use Rattle.fe_text.specs.declared.fault.StreamFault.{StreamFault as Fault};
+
+use fe_text::{StreamFault, read_once, stream_fault, write_out};
+use std::io::{Read, Write};
+
+/// What a schedule is read from.
+pub trait Source {
+    /// The bytes that reads will give from here on, where they are known.
+    ghost remaining: { Self → Option (List ℕ) };
+
+    /// It was read so many times.
+    ghost was_read: { Self → ℕ → Type 0 };
+
+    /// A read of it failed so.
+    ghost has_failed: { Self → Fault → Type 0 };
+
+    /// Reads once, and says how many bytes that gave, 0 at the end. `None` where it was interrupted.
+    fn read_piece(&mut self, piece: &mut [u8]) -> Result<Option<usize>, StreamFault>
+        ensures reads { IfOk result (ReadsSome (remaining self.old) (remaining self.new) piece.new) }
+        ensures len { length piece.new ≡ length piece.old }
+        ensures stays { IfErr result (λ _. Keeps (remaining self.old) (remaining self.new)) }
+        ensures counts { (count : ℕ) → was_read self.old count → was_read self.new (count + 1) }
+        ensures fails { IfErr result (has_failed self.new) };
+}
+
+impl<R: Read> Source for R {
+    ghost use Rattle.std.specs.Prelude.{⊤};
+
+    ghost remaining = { R.remaining };
+
+    ghost was_read = { λ _ _. ⊤ };
+
+    ghost has_failed = { λ _ _. ⊤ };
+
+    fn read_piece(&mut self, piece: &mut [u8]) -> Result<Option<usize>, StreamFault> {
+        read_once(self, piece)
+    }
+}
+
+/// What the output of a schedule is written to.
+pub trait Sink {
+    /// The bytes that it holds, where they are known.
+    ghost contents: { Self → Option (List ℕ) };
+
+    /// A text was not written whole: a write of it failed or took no byte, or 2^40 writes were not enough. Or a flush failed.
+    ghost has_failed: { Self → Fault → Type 0 };
+
+    /// Writes the text, and empties it. Where the writer fails, a front of it is written.
+    fn write_whole(&mut self, text: &mut String) -> Result<(), StreamFault>
+        ensures ok { OnOk result (Appends (contents self.old) (contents self.new) (string_bytes text.old)) }
+        ensures front { (count : ℕ) × Appends (contents self.old) (contents self.new) (take count (string_bytes text.old)) }
+        ensures cleared { string_bytes text.new ≡ [] }
+        ensures fails { IfErr result (has_failed self.new) }
+        ensures stays { (fault : Fault) → has_failed self.old fault → has_failed self.new fault };
+
+    /// Hands on what is written.
+    fn hand_on(&mut self) -> Result<(), StreamFault>
+        ensures keeps { Keeps (contents self.old) (contents self.new) }
+        ensures fails { IfErr result (has_failed self.new) };
+}
+
+impl<W: Write> Sink for W {
+    ghost use Rattle.std.specs.Prelude.{⊤};
+
+    ghost contents = { W.contents };
+
+    ghost has_failed = { λ _ _. ⊤ };
+
+    fn write_whole(&mut self, text: &mut String) -> Result<(), StreamFault> {
+        write_out(text, self)
+    }
+
+    fn hand_on(&mut self) -> Result<(), StreamFault> {
+        match self.flush() {
+            Ok(()) => Ok(()),
+            Err(error) => Err(stream_fault(error)),
+        }
+    }
+}
