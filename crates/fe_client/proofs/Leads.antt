@@ -48,7 +48,7 @@ exchange_received m reply =
     let answer : List Event = received (reply_spelling reply) ++ seen in
     let none : received_in seen ≡ [] = flat_map-append received_byte (written (reply_text reply)) (Event.Flushed ∷ []) ∙ ap (λ (t : List ℕ). t ++ []) (none_of received_byte Event.Written (λ b. refl) (reply_text reply)) in
     let all : received_in answer ≡ reply_spelling reply =
-        flat_map-append received_byte (received (reply_spelling reply)) seen
-        ∙ ap (λ (t : List ℕ). t ++ received_in seen) (same_of received_byte Event.Received (λ b. refl) (reply_spelling reply))
-        ∙ ap (λ (t : List ℕ). reply_spelling reply ++ t) none ∙ append-nil (reply_spelling reply) in
+    flat_map-append received_byte (received (reply_spelling reply)) seen
+    ∙ ap (λ (t : List ℕ). t ++ received_in seen) (same_of received_byte Event.Received (λ b. refl) (reply_spelling reply))
+    ∙ ap (λ (t : List ℕ). reply_spelling reply ++ t) none ∙ append-nil (reply_spelling reply) in
     flat_map-append received_byte (sent (spelling m)) answer ∙ ap (λ (t : List ℕ). t ++ received_in answer) (none_of received_byte Event.Sent (λ b. refl) (spelling m)) ∙ all

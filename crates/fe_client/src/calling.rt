@@ -28,10 +28,14 @@ pub fn call<N: Net, R: Read, W: Write>(
     reader: &mut R,
     writer: &mut W,
 ) -> Result<(), CallFault>
-    // A conversation was held: each message of the lines had a reply, and the replies are printed.
-    ensures ok { OnOk result (TalksAll Flows (over_socket (R.remaining reader.old) (W.contents writer.old)) (over_socket (R.remaining reader.new) (W.contents writer.new))) }
+    // A conversation was held over what the reader gave, and what is written is what it wrote.
+    ensures ok { OnOk result (TalksAll Flows
+        (over_socket (R.remaining reader.old) (W.contents writer.old))
+        (over_socket (R.remaining reader.new) (W.contents writer.new))) }
     // At a fault the messages of lines at the front had theirs.
-    ensures fault { IfErr result (λ end. CallsUntil end (over_socket (R.remaining reader.old) (W.contents writer.old)) (over_socket (R.remaining reader.new) (W.contents writer.new))) }
+    ensures fault { IfErr result (λ end. CallsUntil end
+        (over_socket (R.remaining reader.old) (W.contents writer.old))
+        (over_socket (R.remaining reader.new) (W.contents writer.new))) }
 {
     match UnixStream::connect(rt, path) {
         Ok(mut stream) => call_over(alloc, &mut stream, reader, writer),
@@ -39,7 +43,8 @@ pub fn call<N: Net, R: Read, W: Write>(
     }
 }
 
-/// The same over a connection.
+/// The same over a connection. The reader, the connection and the writer are three objects, and no clause can say in which
+/// order they were called: these say what the conversation's events do to each. The order is that of `converse`.
 pub fn call_over<C: Connection, R: Read, W: Write>(
     alloc: Global,
     connection: &mut C,
@@ -61,7 +66,7 @@ pub fn call_over<C: Connection, R: Read, W: Write>(
     converse(alloc, &mut streams)
 }
 
-/// The same over streams whose events have one order.
+/// Holds a conversation over streams whose events have one order.
 pub fn converse<E: Streams>(alloc: Global, streams: &mut E) -> Result<(), CallFault>
     // The input is read only once each line that was read had its exchange, the last reply written and flushed.
     ensures ok { OnOk result (TalksAll E.leads streams.old streams.new) }

@@ -74,7 +74,8 @@ impl Input {
             (TakesFed E.leads streams.old streams.new (kept_of self.old) (kept_of self.new) self.new.line.items)
             (TakesLast E.leads streams.old streams.new (kept_of self.old) self.new.line.items)) }
         ensures number { OnOk result (self.new.number ≡ self.old.number + 1) }
-        ensures err { IfErr result (λ end. NotTaken E.leads end (self.old.number + 1) streams.old streams.new (kept_of self.old)) }
+        ensures err { IfErr result (λ end.
+            NotTaken E.leads end (self.old.number + 1) streams.old streams.new (kept_of self.old)) }
     {
         if self.number == u64::MAX {
             return Err(CallFault::Input);
@@ -121,7 +122,8 @@ impl Input {
     /// Reads the next piece, where all of the one before is taken. Whether the input has not ended.
     fn fill<E: Streams>(&mut self, streams: &mut E) -> Result<bool, StreamFault>
         requires { kept_of self.old ≡ [] }
-        ensures read { IfOk result (λ more. (events : List Event) × Fills more (kept_of self.new) events × E.leads streams.old events streams.new) }
+        ensures read { IfOk result (λ more. (events : List Event) × Fills more (kept_of self.new) events
+            × E.leads streams.old events streams.new) }
         ensures err { OnErr result (E.leads streams.old [] streams.new) }
         ensures line { self.new.line ≡ self.old.line }
         ensures number { self.new.number ≡ self.old.number }

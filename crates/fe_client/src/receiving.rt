@@ -97,7 +97,8 @@ pub(crate) fn receive_reply<E: Streams>(
     reads: &mut u64,
 ) -> Result<ServerMessage, CallFault>
     requires room { length room.old ≡ 262149 }
-    ensures reply { IfOk result (λ reply. ReplyFits reply × E.leads streams.old (received (reply_spelling reply)) streams.new) }
+    ensures reply { IfOk result (λ reply. ReplyFits reply
+        × E.leads streams.old (received (reply_spelling reply)) streams.new) }
     ensures room { length room.new ≡ 262149 }
     ensures reads { IfOk result (λ reply. reads.new ≤ reads.old + length (reply_spelling reply)) }
     ensures err { IfErr result (λ end. (bytes : List ℕ) × E.leads streams.old (received bytes) streams.new

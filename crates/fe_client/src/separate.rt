@@ -1,7 +1,5 @@
 //! Streams that are three objects.
 
-ghost use Rattle.std.specs.Prelude.{◌≡◌};
-
 use crate::connection::{Broken, Connection};
 use crate::streams::Streams;
 use fe_text::{StreamFault, read_once, stream_fault, write_text};
@@ -21,19 +19,34 @@ impl<R: Read, C: Connection, W: Write> Streams for Separate<'_, '_, '_, R, C, W>
     ghost use Rattle.fe_client.specs.Streams.{known, Flows, flows_none, flows_both};
 
     ghost leads = { λ s events t.
-        Flows (known (R.remaining s.reader.now) (C.sent s.connection.now) (C.received s.connection.now) (W.contents s.writer.now)) events
-            (known (R.remaining t.reader.now) (C.sent t.connection.now) (C.received t.connection.now) (W.contents t.writer.now))
-        × (t.reader.ghost_name ≡ s.reader.ghost_name) × (t.connection.ghost_name ≡ s.connection.ghost_name) × (t.writer.ghost_name ≡ s.writer.ghost_name) };
+        Flows
+        (known (R.remaining s.reader.now) (C.sent s.connection.now) (C.received s.connection.now) (W.contents s.writer.now))
+        events
+        (known (R.remaining t.reader.now) (C.sent t.connection.now) (C.received t.connection.now) (W.contents t.writer.now))
+        × (t.reader.ghost_name ≡ s.reader.ghost_name)
+        × (t.connection.ghost_name ≡ s.connection.ghost_name)
+        × (t.writer.ghost_name ≡ s.writer.ghost_name) };
 
     ghost is_over = { λ s. C.is_over s.connection.now };
 
-    ghost stays = { λ s. (flows_none (known (R.remaining s.reader.now) (C.sent s.connection.now) (C.received s.connection.now) (W.contents s.writer.now)), refl, refl, refl) };
+    ghost stays = { λ s. (
+      flows_none
+          (known (R.remaining s.reader.now) (C.sent s.connection.now) (C.received s.connection.now) (W.contents s.writer.now)),
+      refl,
+      refl,
+      refl,
+    ) };
 
-    ghost joins = { λ s t u a b p q.
-        (flows_both (known (R.remaining s.reader.now) (C.sent s.connection.now) (C.received s.connection.now) (W.contents s.writer.now))
-            (known (R.remaining t.reader.now) (C.sent t.connection.now) (C.received t.connection.now) (W.contents t.writer.now))
-            (known (R.remaining u.reader.now) (C.sent u.connection.now) (C.received u.connection.now) (W.contents u.writer.now)) a b p.0 q.0,
-        q.1 ∙ p.1, q.2 ∙ p.2, q.3 ∙ p.3) };
+    ghost joins = { λ s t u a b p q. (
+      flows_both
+          (known (R.remaining s.reader.now) (C.sent s.connection.now) (C.received s.connection.now) (W.contents s.writer.now))
+          (known (R.remaining t.reader.now) (C.sent t.connection.now) (C.received t.connection.now) (W.contents t.writer.now))
+          (known (R.remaining u.reader.now) (C.sent u.connection.now) (C.received u.connection.now) (W.contents u.writer.now))
+          a b p.0 q.0,
+      q.1 ∙ p.1,
+      q.2 ∙ p.2,
+      q.3 ∙ p.3,
+    ) };
 
     fn read(&mut self, buffer: &mut [u8]) -> Result<Option<usize>, StreamFault> {
         read_once(self.reader, buffer)

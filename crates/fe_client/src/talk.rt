@@ -1,4 +1,4 @@
-//! A talk with a server: an exchange after the other.
+//! A conversation with a server: an exchange after the other.
 
 ghost use Rattle.std.specs.Prelude.{◌≡◌, ◌+◌, ◌≤◌, ◌∷◌, ◌++◌, [], ℕ, List, length, IfOk, IfErr, OnOk, OnErr};
 ghost use Rattle.fe_wire.specs.Spelling.{spelling, reply_spelling, ReplyFits};
@@ -14,7 +14,7 @@ use fe_text::{StreamFault, buffer, print_reply};
 use fe_wire::{ClientMessage, ServerMessage, put_message};
 use std::alloc::Global;
 
-/// What the exchanges of a talk need.
+/// What the exchanges of a conversation need.
 #[derive(Drop)]
 pub(crate) struct Talk {
     alloc: Global,
@@ -30,7 +30,7 @@ pub(crate) struct Talk {
 }
 
 impl Talk {
-    /// A talk before its first exchange.
+    /// A conversation before its first exchange.
     pub fn new(alloc: Global) -> Result<Talk, CallFault>
         ensures reads { IfOk result (λ talk. talk.reads ≡ 0) }
         ensures err { IfErr result (λ fault. fault ≡ CallFault.Memory) }
@@ -53,7 +53,8 @@ impl Talk {
         streams: &mut E,
     ) -> Result<(), CallFault>
         ensures ok { OnOk result (DoesLine E.leads line.now self.old.reads self.new.reads streams.old streams.new) }
-        ensures err { IfErr result (λ end. DoesPart E.leads streams.old streams.new (LineEnds end (E.is_over streams.new) number self.old.reads line.now)) }
+        ensures err { IfErr result (λ end. DoesPart E.leads streams.old streams.new
+            (LineEnds end (E.is_over streams.new) number self.old.reads line.now)) }
     {
         if line.is_empty() {
             return Ok(());
@@ -71,7 +72,8 @@ impl Talk {
         streams: &mut E,
     ) -> Result<(), CallFault>
         ensures ok { OnOk result (Exchanged E.leads message.now self.old.reads self.new.reads streams.old streams.new) }
-        ensures err { IfErr result (λ end. DoesPart E.leads streams.old streams.new (ExchangeEnds end (E.is_over streams.new) self.old.reads message.now)) }
+        ensures err { IfErr result (λ end. DoesPart E.leads streams.old streams.new
+            (ExchangeEnds end (E.is_over streams.new) self.old.reads message.now)) }
     {
         self.send(message, streams)?;
         let reply = self.receive(streams)?;
@@ -85,7 +87,8 @@ impl Talk {
         streams: &mut E,
     ) -> Result<(), CallFault>
         ensures ok { OnOk result (E.leads streams.old (sent (spelling message.now)) streams.new) }
-        ensures front { (front : List ℕ) × IsFrontOf front (spelling message.now) × E.leads streams.old (sent front) streams.new }
+        ensures front { (front : List ℕ) × IsFrontOf front (spelling message.now)
+            × E.leads streams.old (sent front) streams.new }
         ensures reads { self.new.reads ≡ self.old.reads }
         ensures err { IfErr result (λ end. Unsent end (E.is_over streams.new)) }
     {
@@ -97,7 +100,8 @@ impl Talk {
     }
 
     fn receive<E: Streams>(&mut self, streams: &mut E) -> Result<ServerMessage, CallFault>
-        ensures reply { IfOk result (λ reply. ReplyFits reply × E.leads streams.old (received (reply_spelling reply)) streams.new) }
+        ensures reply { IfOk result (λ reply. ReplyFits reply
+            × E.leads streams.old (received (reply_spelling reply)) streams.new) }
         ensures reads { IfOk result (λ reply. self.new.reads ≤ self.old.reads + length (reply_spelling reply)) }
         ensures err { IfErr result (λ end. (bytes : List ℕ) × E.leads streams.old (received bytes) streams.new
             × Unanswered end (E.is_over streams.new) self.old.reads bytes) }
@@ -111,9 +115,14 @@ impl Talk {
     }
 
     /// Prints a reply, so that it can be seen before the next message is sent.
-    fn print<E: Streams>(&mut self, reply: &ServerMessage, streams: &mut E) -> Result<(), StreamFault>
+    fn print<E: Streams>(
+        &mut self,
+        reply: &ServerMessage,
+        streams: &mut E,
+    ) -> Result<(), StreamFault>
         ensures ok { OnOk result (E.leads streams.old (written (reply_text reply.now) ++ Event.Flushed ∷ []) streams.new) }
-        ensures err { OnErr result ((front : List ℕ) × IsFrontOf front (reply_text reply.now) × E.leads streams.old (written front) streams.new) }
+        ensures err { OnErr result ((front : List ℕ) × IsFrontOf front (reply_text reply.now)
+            × E.leads streams.old (written front) streams.new) }
         ensures reads { self.new.reads ≡ self.old.reads }
     {
         self.text.clear();
