@@ -1,5 +1,6 @@
+pub mod Leads
+pub mod Separates
 pub mod Fronts
-pub mod Known
 pub mod Taken
 pub mod Frames
 pub mod Talks

@@ -1,15 +1,16 @@
--- How a talk with a server ends before the input does.
-use Rattle.std.specs.Prelude.{◌≡◌, ◌≢◌, ◌⊎◌, ℕ, ◌+◌, ◌^◌, ◌<◌, ◌≤◌, List, [], ◌++◌, length, take, Option, None, IfSome, ⊤}
-use Rattle.std.specs.Io.KnownBytes.{Keeps}
+-- How a conversation ends before its input does.
+use Rattle.std.specs.Prelude.{◌≡◌, ◌≢◌, ◌⊎◌, ℕ, ◌+◌, ◌^◌, ◌<◌, ◌≤◌, List, [], ◌∷◌, ◌++◌, length, take, Option, None, Some, ⊤}
 use Rattle.fe_wire.specs.Spelling.{spelling, reply_spelling, ReplyFits}
 use Rattle.fe_wire.specs.declared.client_message.ClientMessage.{ClientMessage}
 use Rattle.fe_wire.specs.declared.server_message.ServerMessage.{ServerMessage}
-use Rattle.fe_text.specs.Lines.{lines_of}
+use Rattle.fe_text.specs.Lines.{HasNoFeed}
 use Rattle.fe_client.specs.declared.fault.CallFault.{CallFault}
 use Rattle.fe_client.specs.declared.fault.CallFault.TheVariants as fault
 use Rattle.fe_client.specs.Fault.{IsOfStream}
-use Rattle.fe_client.specs.Asking.{StartsStray, StartsAsking}
-use Rattle.fe_client.specs.Exchanges.{Exchange, Traffic, no_traffic, joined, traffic_of, Streams, streams, Grows, AreAsked, reply_text}
+use Rattle.fe_client.specs.Asking.{asked}
+use Rattle.fe_client.specs.Events.{Event, sent, received, written, reply_text, received_in}
+use Rattle.fe_client.specs.Conversation.{Conversation}
+use Rattle.fe_client.specs.Streams.{Known, known, Flows}
 
 -- as many bytes of the front
 abbrev pub IsFrontOf : List ℕ → List ℕ → Type 0
@@ -19,11 +20,15 @@ IsFrontOf front bytes = (count : ℕ) × (front ≡ take count bytes)
 abbrev pub BeginsNoReply : List ℕ → Type 0
 BeginsNoReply bytes = (reply : ServerMessage) (more : List ℕ) → ReplyFits reply → bytes ++ more ≢ reply_spelling reply
 
+-- the first line of these bytes is longer than any of the syntax, however it goes on
+abbrev pub BeginsLong : List ℕ → Type 0
+BeginsLong bytes = (front behind : List ℕ) × HasNoFeed front × (bytes ≡ front ++ behind) × (94 < length front)
+
 -- ---- why
 
--- why no line is taken: the next one, which has that number, is outside the syntax, or the input or memory is at fault
-pub data Unread (end : CallFault) (number : ℕ) (left : List (List ℕ)) : Type 0 where
-  Stray : end ≡ fault.Line number → StartsStray left → Unread end number left
+-- why no line is taken of these bytes: the next one, which has that number, is too long, or the input or memory is at fault
+pub data Unread (end : CallFault) (number : ℕ) (left : List ℕ) : Type 0 where
+  Long : end ≡ fault.Line number → BeginsLong left → Unread end number left
   Failed : IsOfStream end → Unread end number left
 
 -- the line of that number is longer than any of the syntax, or memory is at fault
@@ -46,54 +51,59 @@ pub data Unanswered (end : CallFault) (over : Type 0) (earlier : ℕ) (bytes : L
 
 -- ---- how far the last exchange came
 
-pub record WhileSending (end : CallFault) (over : Type 0) (message : ClientMessage) (part : Traffic) : Type 0 where
+pub record WhileSending (end : CallFault) (over : Type 0) (message : ClientMessage) (part : List Event) : Type 0 where
   pub why : Unsent end over
-  pub sent : IsFrontOf part.sent (spelling message)
-  pub received : part.received ≡ []
-  pub printed : part.printed ≡ []
+  pub front : List ℕ
+  pub is_front : IsFrontOf front (spelling message)
+  pub part_is : part ≡ sent front
 
-pub record WhileReceiving (end : CallFault) (over : Type 0) (earlier : ℕ) (message : ClientMessage) (part : Traffic) : Type 0 where
-  pub why : Unanswered end over earlier part.received
-  pub sent : part.sent ≡ spelling message
-  pub printed : part.printed ≡ []
+pub record WhileReceiving (end : CallFault) (over : Type 0) (earlier : ℕ) (message : ClientMessage) (part : List Event) : Type 0 where
+  pub bytes : List ℕ
+  pub why : Unanswered end over earlier bytes
+  pub part_is : part ≡ sent (spelling message) ++ received bytes
 
-pub record WhilePrinting (end : CallFault) (message : ClientMessage) (part : Traffic) : Type 0 where
+pub record WhilePrinting (end : CallFault) (message : ClientMessage) (part : List Event) : Type 0 where
   pub why : IsOfStream end
   pub reply : ServerMessage
   pub fits : ReplyFits reply
-  pub sent : part.sent ≡ spelling message
-  pub received : part.received ≡ reply_spelling reply
-  pub printed : IsFrontOf part.printed (reply_text reply)
+  pub front : List ℕ
+  pub is_front : IsFrontOf front (reply_text reply)
+  pub part_is : part ≡ sent (spelling message) ++ (received (reply_spelling reply) ++ written front)
 
 -- What an exchange that broke off came to, where so many bytes were received before it.
-pub data ExchangeEnds (end : CallFault) (over : Type 0) (earlier : ℕ) (message : ClientMessage) (part : Traffic) : Type 0 where
+pub data ExchangeEnds (end : CallFault) (over : Type 0) (earlier : ℕ) (message : ClientMessage) (part : List Event) : Type 0 where
   Sending : WhileSending end over message part → ExchangeEnds end over earlier message part
   Receiving : WhileReceiving end over earlier message part → ExchangeEnds end over earlier message part
   Printing : WhilePrinting end message part → ExchangeEnds end over earlier message part
 
--- What came of the first of these lines, which has that number.
-pub data BreaksOff (end : CallFault) (over : Type 0) (number earlier : ℕ) (left : List (List ℕ)) (part : Traffic) : Type 0 where
-  Before : Unread end number left → part ≡ no_traffic → BreaksOff end over number earlier left part
-  Within : (message : ClientMessage) → StartsAsking message left → ExchangeEnds end over earlier message part → BreaksOff end over number earlier left part
+-- What came of a line that was taken, which has that number.
+pub data LineEnds (end : CallFault) (over : Type 0) (number earlier : ℕ) (line : List ℕ) (part : List Event) : Type 0 where
+  Stray : end ≡ fault.Line number → line ≢ [] → asked line ≡ None → part ≡ [] → LineEnds end over number earlier line part
+  Within : (message : ClientMessage) → asked line ≡ Some message → ExchangeEnds end over earlier message part → LineEnds end over number earlier line part
 
--- ---- a whole talk
+-- What came of the next line, which has that number, where these bytes were read and are not taken.
+pub data BreaksOff (end : CallFault) (over : Type 0) (number earlier : ℕ) (left : List ℕ) (part : List Event) : Type 0 where
+  Reading : Unread end number left → part ≡ [] → BreaksOff end over number earlier left part
+  Fed : (line behind : List ℕ) → left ≡ line ++ 10 ∷ behind → HasNoFeed line → LineEnds end over number earlier line part → BreaksOff end over number earlier left part
+  Last : (more : List Event) → HasNoFeed left → part ≡ Event.Read [] ∷ more → LineEnds end over number earlier left more → BreaksOff end over number earlier left part
 
--- Lines at the front of the input had their exchanges, and that of the next one broke off.
-pub record TalksUntil (end : CallFault) (over : Type 0) (input : Option (List ℕ)) (before after : Streams) : Type 0 where
-  pub lines : List (List ℕ)
-  pub left : List (List ℕ)
-  pub all : IfSome input (λ bytes. lines_of bytes ≡ lines ++ left)
-  pub exchanges : List Exchange
-  pub asked : AreAsked lines exchanges
-  pub part : Traffic
-  pub breaks : BreaksOff end over (length lines + 1) (length (traffic_of exchanges).received) left part
-  pub grows : Grows before after (joined (traffic_of exchanges) part)
+-- ---- a whole conversation
 
--- what is known where the connection is a socket: what is printed alone
-abbrev pub over_socket : Option (List ℕ) → Streams
-over_socket printed = streams None None printed
+-- From the one state to the other a conversation is held until the next line breaks off.
+pub record TalksUntil {S : Type 0} (leads : S → List Event → S → Type 0) (end : CallFault) (over : Type 0) (before after : S) : Type 0 where
+  pub lines : ℕ
+  pub so : List Event
+  pub left : List ℕ
+  pub talk : Conversation [] lines so left
+  pub part : List Event
+  pub breaks : BreaksOff end over (lines + 1) (length (received_in so)) left part
+  pub happened : leads before (so ++ part) after
 
--- There is no server at the socket, or a talk with it ends so. A socket may be over at any time.
-pub data CallsUntil (end : CallFault) (input before after : Option (List ℕ)) : Type 0 where
-  Unconnected : end ≡ fault.Socket → Keeps before after → CallsUntil end input before after
-  BrokeOff : TalksUntil end ⊤ input (over_socket before) (over_socket after) → CallsUntil end input before after
+-- what is known where the connection is a socket: what is left of the input, and what is written
+abbrev pub over_socket : Option (List ℕ) → Option (List ℕ) → Known
+over_socket left written = known left None None written
+
+-- There is no server at the socket, or a conversation with it ends so. A socket may be over at any time.
+pub data CallsUntil (end : CallFault) (before after : Known) : Type 0 where
+  Unconnected : end ≡ fault.Socket → Flows before [] after → CallsUntil end before after
+  BrokeOff : TalksUntil Flows end ⊤ before after → CallsUntil end before after

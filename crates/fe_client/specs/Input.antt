@@ -1,8 +1,9 @@
 -- What is read of an input, and taken of it line by line.
-use Rattle.std.specs.Prelude.{◌≡◌, ℕ, ◌-◌, List, [], ◌∷◌, take, drop, Option, None, Some, IfSome, ⊤}
-use Rattle.std.specs.Io.KnownBytes.{prepend_known}
-use Rattle.fe_text.specs.Lines.{lines_of}
+use Rattle.std.specs.Prelude.{◌≡◌, ◌≢◌, ◌⊎◌, ℕ, ◌-◌, Bool, true, false, List, [], ◌∷◌, ◌++◌, take, drop}
+use Rattle.fe_text.specs.Lines.{HasNoFeed}
 use Rattle.fe_client.specs.declared.fault.CallFault.{CallFault}
+use Rattle.fe_client.specs.Events.{Event}
+use Rattle.fe_client.specs.Conversation.{Conversation}
 use Rattle.fe_client.specs.Ends.{Unread}
 use Rattle.fe_client.specs.declared.input.Input.{Input}
 
@@ -10,25 +11,30 @@ use Rattle.fe_client.specs.declared.input.Input.{Input}
 abbrev pub kept_of : Input → List ℕ
 kept_of i = take (i.end - i.next) (drop i.next i.piece.items)
 
--- what is left of the input, where it is known what the reader has left
-abbrev pub left_in : Input → Option (List ℕ) → Option (List ℕ)
-left_in i remaining = prepend_known (kept_of i) remaining
+-- what one read does, where nothing was kept: it was interrupted, or these bytes are kept now, or the input has ended
+abbrev pub Fills : Bool → List ℕ → List Event → Type 0
+Fills true kept events = ((kept ≡ []) × (events ≡ [])) ⊎ ((kept ≢ []) × (events ≡ Event.Read kept ∷ []))
+Fills false kept events = events ≡ Event.Read [] ∷ []
 
--- this line, which a line feed ends, is the first of what was left
-abbrev pub TakesLine : Option (List ℕ) → Option (List ℕ) → List ℕ → Type 0
-TakesLine None new line = ⊤
-TakesLine (Some bytes) None line = ⊥
-TakesLine (Some bytes) (Some others) line = lines_of bytes ≡ line ∷ lines_of others
+-- This line, which a line feed ends, is the first of what was read and not taken, the second bytes are behind it, and no
+-- line was taken meanwhile.
+pub record TakesFed {S : Type 0} (leads : S → List Event → S → Type 0) (before after : S) (kept left line : List ℕ) : Type 0 where
+  pub so : List Event
+  pub talk : Conversation kept 0 so (line ++ 10 ∷ left)
+  pub no_feed : HasNoFeed line
+  pub happened : leads before so after
 
--- the lines of bytes without a line feed: they are one line, unless there are none
-abbrev pub last_lines : List ℕ → List (List ℕ)
-last_lines [] = []
-last_lines (byte ∷ bytes) = (byte ∷ bytes) ∷ []
+-- This is all that was left, and has no line feed.
+pub record TakesLast {S : Type 0} (leads : S → List Event → S → Type 0) (before after : S) (kept line : List ℕ) : Type 0 where
+  pub so : List Event
+  pub talk : Conversation kept 0 so line
+  pub no_feed : HasNoFeed line
+  pub happened : leads before (so ++ (Event.Read [] ∷ [])) after
 
--- this is all that was left, and has no line feed
-abbrev pub TakesLast : Option (List ℕ) → List ℕ → Type 0
-TakesLast known line = IfSome known (λ bytes. lines_of bytes ≡ last_lines line)
-
--- these lines were left, and the first of them, which has that number, is not taken
-abbrev pub NotTaken : CallFault → ℕ → Option (List ℕ) → Type 0
-NotTaken end number known = (left : List (List ℕ)) × IfSome known (λ bytes. lines_of bytes ≡ left) × Unread end number left
+-- The first line, which has that number, is not taken.
+pub record NotTaken {S : Type 0} (leads : S → List Event → S → Type 0) (end : CallFault) (number : ℕ) (before after : S) (kept : List ℕ) : Type 0 where
+  pub so : List Event
+  pub left : List ℕ
+  pub talk : Conversation kept 0 so left
+  pub why : Unread end number left
+  pub happened : leads before so after

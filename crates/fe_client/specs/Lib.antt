@@ -1,6 +1,8 @@
 pub mod Fault
 pub mod Asking
-pub mod Exchanges
+pub mod Events
+pub mod Conversation
+pub mod Streams
 pub mod Ends
 pub mod Input
 pub mod Talk

@@ -1,12 +1,15 @@
 //! Calls a server.
 
 ghost use Rattle.std.specs.Prelude.{IfErr, OnOk};
-ghost use Rattle.fe_client.specs.Exchanges.{streams, TalksAll};
+ghost use Rattle.fe_client.specs.Streams.{known, Flows};
+ghost use Rattle.fe_client.specs.Conversation.{TalksAll};
 ghost use Rattle.fe_client.specs.Ends.{over_socket, CallsUntil, TalksUntil};
 
 use crate::connection::Connection;
 use crate::fault::CallFault;
 use crate::input::Input;
+use crate::separate::Separate;
+use crate::streams::Streams;
 use crate::talk::Talk;
 use std::alloc::Global;
 use std::io::{Read, Write};
@@ -25,10 +28,14 @@ pub fn call<N: Net, R: Read, W: Write>(
     reader: &mut R,
     writer: &mut W,
 ) -> Result<(), CallFault>
-    // Each message of the lines had a reply, and the replies are printed.
-    ensures ok { OnOk result (TalksAll (R.remaining reader.old) (over_socket (W.contents writer.old)) (over_socket (W.contents writer.new))) }
+    // A conversation was held over what the reader gave, and what is written is what it wrote.
+    ensures ok { OnOk result (TalksAll Flows
+        (over_socket (R.remaining reader.old) (W.contents writer.old))
+        (over_socket (R.remaining reader.new) (W.contents writer.new))) }
     // At a fault the messages of lines at the front had theirs.
-    ensures fault { IfErr result (λ end. CallsUntil end (R.remaining reader.old) (W.contents writer.old) (W.contents writer.new)) }
+    ensures fault { IfErr result (λ end. CallsUntil end
+        (over_socket (R.remaining reader.old) (W.contents writer.old))
+        (over_socket (R.remaining reader.new) (W.contents writer.new))) }
 {
     match UnixStream::connect(rt, path) {
         Ok(mut stream) => call_over(alloc, &mut stream, reader, writer),
@@ -36,26 +43,40 @@ pub fn call<N: Net, R: Read, W: Write>(
     }
 }
 
-/// The same over a connection.
+/// The same over a connection. The reader, the connection and the writer are three objects, and no clause can say in which
+/// order they were called: these say what the conversation's events do to each. The order is that of `converse`.
 pub fn call_over<C: Connection, R: Read, W: Write>(
     alloc: Global,
     connection: &mut C,
     reader: &mut R,
     writer: &mut W,
 ) -> Result<(), CallFault>
-    // Of each message of the lines, in their order, the frame was sent, then the frame of a reply received and its text
-    // printed, and nothing else was.
-    ensures ok { OnOk result (TalksAll (R.remaining reader.old)
-        (streams (C.sent connection.old) (C.received connection.old) (W.contents writer.old)) (streams (C.sent connection.new) (C.received connection.new) (W.contents writer.new))) }
-    // At a fault that was so for lines at the front, and the next line came as far as the fault tells: no message of it was
-    // sent before the replies to those before were printed.
-    ensures fault { IfErr result (λ end. TalksUntil end (C.is_over connection.new) (R.remaining reader.old)
-        (streams (C.sent connection.old) (C.received connection.old) (W.contents writer.old)) (streams (C.sent connection.new) (C.received connection.new) (W.contents writer.new))) }
+    ensures ok { OnOk result (TalksAll Flows
+        (known (R.remaining reader.old) (C.sent connection.old) (C.received connection.old) (W.contents writer.old))
+        (known (R.remaining reader.new) (C.sent connection.new) (C.received connection.new) (W.contents writer.new))) }
+    ensures fault { IfErr result (λ end. TalksUntil Flows end (C.is_over connection.new)
+        (known (R.remaining reader.old) (C.sent connection.old) (C.received connection.old) (W.contents writer.old))
+        (known (R.remaining reader.new) (C.sent connection.new) (C.received connection.new) (W.contents writer.new))) }
+{
+    let mut streams = Separate {
+        reader,
+        connection,
+        writer,
+    };
+    converse(alloc, &mut streams)
+}
+
+/// Holds a conversation over streams whose events have one order.
+pub fn converse<E: Streams>(alloc: Global, streams: &mut E) -> Result<(), CallFault>
+    // The input is read only once each line that was read had its exchange, the last reply written and flushed.
+    ensures ok { OnOk result (TalksAll E.leads streams.old streams.new) }
+    // At a fault that was so for lines at the front, and the next line came as far as the fault tells.
+    ensures fault { IfErr result (λ end. TalksUntil E.leads end (E.is_over streams.new) streams.old streams.new) }
 {
     let mut input = Input::new(alloc)?;
     let mut talk = Talk::new(alloc)?;
-    while input.next_line(reader)? {
-        talk.take_line(input.number(), input.line(), connection, writer)?;
+    while input.next_line(streams)? {
+        talk.take_line(input.number(), input.line(), streams)?;
     }
-    talk.take_line(input.number(), input.line(), connection, writer)
+    talk.take_line(input.number(), input.line(), streams)
 }

@@ -5,11 +5,11 @@ ghost use Rattle.fe_client.specs.Ends.{IsTooLong};
 
 use crate::asking::LONGEST;
 use crate::fault::CallFault;
-use fe_text::{PIECE, READS, StreamFault, buffer, first_line, read_once};
+use crate::streams::Streams;
+use fe_text::{PIECE, READS, StreamFault, buffer, first_line};
 use std::alloc::Global;
-use std::io::Read;
 
-/// The lines of a reader, one after the other.
+/// The lines of an input, one after the other.
 #[derive(Drop)]
 pub(crate) struct Input {
     /// What the last read gave, up to `end`. Before `next` it is taken.
@@ -20,7 +20,7 @@ pub(crate) struct Input {
     line: Vec<u8>,
     /// Its number, from 1; 0 before the first.
     number: u64,
-    /// How often the reader was read.
+    /// How often the input was read.
     reads: u64,
     ghost order: { next ≤ end },
     ghost within: { end ≤ length piece.items },
@@ -29,10 +29,10 @@ pub(crate) struct Input {
 }
 
 impl Input {
-    ghost use Rattle.std.specs.Prelude.{◌≡◌, ◌+◌, ◌++◌, [], ◌∷◌, ℕ, List, ⊤, IfOk, IfErr, OnOk, MatchBool};
-    ghost use Rattle.std.specs.Io.KnownBytes.{Keeps, IsAtEnd};
+    ghost use Rattle.std.specs.Prelude.{◌≡◌, ◌+◌, ◌++◌, [], ◌∷◌, ℕ, List, IfOk, IfErr, OnOk, OnErr, MatchBool};
     ghost use Rattle.fe_text.specs.Lines.{HasNoFeed};
-    ghost use Rattle.fe_client.specs.Input.{kept_of, left_in, TakesLine, TakesLast, NotTaken};
+    ghost use Rattle.fe_client.specs.Events.{Event};
+    ghost use Rattle.fe_client.specs.Input.{kept_of, Fills, TakesFed, TakesLast, NotTaken};
     ghost use Rattle.fe_client.specs.Ends.{IsTooLong};
 
     /// No line is taken.
@@ -67,13 +67,15 @@ impl Input {
     }
 
     /// Takes the next line, and says whether a line feed ends it. What stands behind the last line feed, which may be
-    /// nothing, is taken at the end of the input. `Line` as soon as it is longer than any of the syntax.
-    pub fn next_line<R: Read>(&mut self, reader: &mut R) -> Result<bool, CallFault>
+    /// nothing, is taken at the end of the input. `Line` as soon as it is longer than any of the syntax. The input is read
+    /// only while no line feed is left of what was read before.
+    pub fn next_line<E: Streams>(&mut self, streams: &mut E) -> Result<bool, CallFault>
         ensures taken { IfOk result (λ fed. MatchBool fed
-            (TakesLine (left_in self.old (R.remaining reader.old)) (left_in self.new (R.remaining reader.new)) self.new.line.items)
-            (TakesLast (left_in self.old (R.remaining reader.old)) self.new.line.items)) }
+            (TakesFed E.leads streams.old streams.new (kept_of self.old) (kept_of self.new) self.new.line.items)
+            (TakesLast E.leads streams.old streams.new (kept_of self.old) self.new.line.items)) }
         ensures number { OnOk result (self.new.number ≡ self.old.number + 1) }
-        ensures err { IfErr result (λ end. NotTaken end (self.old.number + 1) (left_in self.old (R.remaining reader.old))) }
+        ensures err { IfErr result (λ end.
+            NotTaken E.leads end (self.old.number + 1) streams.old streams.new (kept_of self.old)) }
     {
         if self.number == u64::MAX {
             return Err(CallFault::Input);
@@ -85,7 +87,7 @@ impl Input {
                 return Ok(true);
             }
             self.reads += 1;
-            if !self.fill(reader)? {
+            if !self.fill(streams)? {
                 return Ok(false);
             }
         }
@@ -118,15 +120,16 @@ impl Input {
     }
 
     /// Reads the next piece, where all of the one before is taken. Whether the input has not ended.
-    fn fill<R: Read>(&mut self, reader: &mut R) -> Result<bool, StreamFault>
+    fn fill<E: Streams>(&mut self, streams: &mut E) -> Result<bool, StreamFault>
         requires { kept_of self.old ≡ [] }
-        ensures read { IfOk result (λ more. Keeps (left_in self.old (R.remaining reader.old)) (left_in self.new (R.remaining reader.new))) }
-        ensures end { IfOk result (λ more. MatchBool more ⊤ (IsAtEnd (left_in self.new (R.remaining reader.new)))) }
+        ensures read { IfOk result (λ more. (events : List Event) × Fills more (kept_of self.new) events
+            × E.leads streams.old events streams.new) }
+        ensures err { OnErr result (E.leads streams.old [] streams.new) }
         ensures line { self.new.line ≡ self.old.line }
         ensures number { self.new.number ≡ self.old.number }
         ensures reads { self.new.reads ≡ self.old.reads }
     {
-        match read_once(reader, self.piece.as_mut_slice())? {
+        match streams.read(self.piece.as_mut_slice())? {
             Some(0) => Ok(false),
             Some(count) => {
                 self.next = 0;

@@ -8,9 +8,12 @@ mod fault;
 mod input;
 mod memory;
 mod receiving;
+mod separate;
+mod streams;
 mod talk;
 
-pub use calling::{call, call_over};
+pub use calling::{call, call_over, converse};
 pub use connection::{Broken, Connection};
 pub use fault::CallFault;
 pub use memory::MemoryConnection;
+pub use streams::Streams;

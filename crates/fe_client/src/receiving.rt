@@ -1,13 +1,13 @@
 //! Bytes over a connection: all of some are sent, and frames of replies are received.
 
 ghost use Rattle.std.specs.Prelude.{◌≡◌, ◌+◌, ◌≤◌, ℕ, List, length, take, IfOk, IfErr, OnOk};
-ghost use Rattle.std.specs.Io.KnownBytes.{Appends, Keeps};
 ghost use Rattle.fe_wire.specs.Spelling.{reply_spelling, ReplyFits};
 ghost use Rattle.fe_wire.specs.Stream.{length_field};
+ghost use Rattle.fe_client.specs.Events.{sent, received};
 ghost use Rattle.fe_client.specs.Ends.{IsFrontOf, Unanswered, Unreceived, Unsent};
 
-use crate::connection::Connection;
 use crate::fault::CallFault;
+use crate::streams::Streams;
 use byteorder::{BigEndian, ByteOrder};
 use fe_text::READS;
 use fe_wire::{ServerMessage, read_reply};
@@ -23,15 +23,14 @@ const LONGEST: usize = 262_145;
 pub(crate) const FRAME_BYTES: usize = LENGTH_BYTES + LONGEST;
 
 /// Sends all of these bytes.
-pub(crate) fn send_all<C: Connection>(connection: &mut C, bytes: &[u8]) -> Result<(), CallFault>
-    ensures ok { OnOk result (Appends (C.sent connection.old) (C.sent connection.new) bytes.now) }
-    ensures front { (front : List ℕ) × IsFrontOf front bytes.now × Appends (C.sent connection.old) (C.sent connection.new) front }
-    ensures received { Keeps (C.received connection.old) (C.received connection.new) }
-    ensures err { IfErr result (λ end. Unsent end (C.is_over connection.new)) }
+pub(crate) fn send_all<E: Streams>(streams: &mut E, bytes: &[u8]) -> Result<(), CallFault>
+    ensures ok { OnOk result (E.leads streams.old (sent bytes.now) streams.new) }
+    ensures front { (front : List ℕ) × IsFrontOf front bytes.now × E.leads streams.old (sent front) streams.new }
+    ensures err { IfErr result (λ end. Unsent end (E.is_over streams.new)) }
 {
     let mut done = 0;
     while done < bytes.len() {
-        match connection.send(&bytes[done..]) {
+        match streams.send(&bytes[done..]) {
             Ok(count) => done += count,
             Err(_) => return Err(CallFault::Socket),
         }
@@ -40,18 +39,17 @@ pub(crate) fn send_all<C: Connection>(connection: &mut C, bytes: &[u8]) -> Resul
 }
 
 /// Receives bytes until the buffer is full. `reads` counts the reads of the connection.
-fn receive_all<C: Connection>(
-    connection: &mut C,
+fn receive_all<E: Streams>(
+    streams: &mut E,
     buffer: &mut [u8],
     reads: &mut u64,
 ) -> Result<(), CallFault>
-    ensures ok { OnOk result (Appends (C.received connection.old) (C.received connection.new) buffer.new) }
+    ensures ok { OnOk result (E.leads streams.old (received buffer.new) streams.new) }
     ensures len { length buffer.new ≡ length buffer.old }
     // Each read brings a byte at least.
     ensures reads { OnOk result (reads.new ≤ reads.old + length buffer.new) }
-    ensures sent { Keeps (C.sent connection.old) (C.sent connection.new) }
-    ensures err { IfErr result (λ end. (bytes : List ℕ) × Appends (C.received connection.old) (C.received connection.new) bytes
-        × Unreceived end (C.is_over connection.new) reads.old bytes) }
+    ensures err { IfErr result (λ end. (bytes : List ℕ) × E.leads streams.old (received bytes) streams.new
+        × Unreceived end (E.is_over streams.new) reads.old bytes) }
 {
     let mut done = 0;
     while done < buffer.len() {
@@ -59,7 +57,7 @@ fn receive_all<C: Connection>(
             return Err(CallFault::Input);
         }
         *reads += 1;
-        match connection.receive(&mut buffer[done..]) {
+        match streams.receive(&mut buffer[done..]) {
             Ok(count) => done += count,
             Err(_) => return Err(CallFault::Socket),
         }
@@ -68,22 +66,21 @@ fn receive_all<C: Connection>(
 }
 
 /// Receives the length of a frame, which a frame from the server may have.
-fn receive_length<C: Connection>(
-    connection: &mut C,
+fn receive_length<E: Streams>(
+    streams: &mut E,
     head: &mut [u8],
     reads: &mut u64,
 ) -> Result<usize, CallFault>
     requires head { length head.old ≡ 4 }
-    ensures ok { OnOk result (Appends (C.received connection.old) (C.received connection.new) head.new) }
+    ensures ok { OnOk result (E.leads streams.old (received head.new) streams.new) }
     ensures head { length head.new ≡ 4 }
     ensures length { IfOk result (λ count. count ≡ length_field head.new) }
     ensures few { IfOk result (λ count. count ≤ 262145) }
     ensures reads { OnOk result (reads.new ≤ reads.old + 4) }
-    ensures sent { Keeps (C.sent connection.old) (C.sent connection.new) }
-    ensures err { IfErr result (λ end. (bytes : List ℕ) × Appends (C.received connection.old) (C.received connection.new) bytes
-        × Unanswered end (C.is_over connection.new) reads.old bytes) }
+    ensures err { IfErr result (λ end. (bytes : List ℕ) × E.leads streams.old (received bytes) streams.new
+        × Unanswered end (E.is_over streams.new) reads.old bytes) }
 {
-    receive_all(connection, head, reads)?;
+    receive_all(streams, head, reads)?;
     let count = BigEndian::read_u32(head) as usize;
     if count == 0 || count > LONGEST {
         return Err(CallFault::Socket);
@@ -93,23 +90,23 @@ fn receive_length<C: Connection>(
 
 /// Receives the next reply, whose frame goes to the front of the room. A frame is bad as soon as its length is there and no
 /// reply has it.
-pub(crate) fn receive_reply<C: Connection>(
+pub(crate) fn receive_reply<E: Streams>(
     alloc: Global,
-    connection: &mut C,
+    streams: &mut E,
     room: &mut [u8],
     reads: &mut u64,
 ) -> Result<ServerMessage, CallFault>
     requires room { length room.old ≡ 262149 }
-    ensures reply { IfOk result (λ reply. ReplyFits reply × Appends (C.received connection.old) (C.received connection.new) (reply_spelling reply)) }
+    ensures reply { IfOk result (λ reply. ReplyFits reply
+        × E.leads streams.old (received (reply_spelling reply)) streams.new) }
     ensures room { length room.new ≡ 262149 }
     ensures reads { IfOk result (λ reply. reads.new ≤ reads.old + length (reply_spelling reply)) }
-    ensures sent { Keeps (C.sent connection.old) (C.sent connection.new) }
-    ensures err { IfErr result (λ end. (bytes : List ℕ) × Appends (C.received connection.old) (C.received connection.new) bytes
-        × Unanswered end (C.is_over connection.new) reads.old bytes) }
+    ensures err { IfErr result (λ end. (bytes : List ℕ) × E.leads streams.old (received bytes) streams.new
+        × Unanswered end (E.is_over streams.new) reads.old bytes) }
 {
-    let count = receive_length(connection, &mut room[..LENGTH_BYTES], reads)?;
+    let count = receive_length(streams, &mut room[..LENGTH_BYTES], reads)?;
     let end = LENGTH_BYTES + count;
-    receive_all(connection, &mut room[LENGTH_BYTES..end], reads)?;
+    receive_all(streams, &mut room[LENGTH_BYTES..end], reads)?;
     match read_reply(alloc, &room[..end]) {
         Ok(Some(reply)) => Ok(reply),
         Ok(None) => Err(CallFault::Socket),

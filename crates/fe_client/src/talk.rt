@@ -1,22 +1,20 @@
-//! A talk with a server: an exchange after the other.
+//! A conversation with a server: an exchange after the other.
 
-ghost use Rattle.std.specs.Prelude.{◌≡◌, ◌+◌, ◌≤◌, ◌∷◌, [], ℕ, List, length, IfOk, IfErr, OnOk};
-ghost use Rattle.std.specs.Io.KnownBytes.{Appends, Keeps};
+ghost use Rattle.std.specs.Prelude.{◌≡◌, ◌+◌, ◌≤◌, ◌∷◌, ◌++◌, [], ℕ, List, length, IfOk, IfErr, OnOk, OnErr};
 ghost use Rattle.fe_wire.specs.Spelling.{spelling, reply_spelling, ReplyFits};
-ghost use Rattle.fe_client.specs.Exchanges.{streams, reply_text};
-ghost use Rattle.fe_client.specs.Ends.{BreaksOff, ExchangeEnds, IsFrontOf, Unanswered, Unsent};
+ghost use Rattle.fe_client.specs.Events.{Event, sent, received, written, reply_text};
+ghost use Rattle.fe_client.specs.Ends.{ExchangeEnds, IsFrontOf, LineEnds, Unanswered, Unsent};
 ghost use Rattle.fe_client.specs.Talk.{DoesLine, DoesPart, Exchanged};
 
 use crate::asking::asked;
-use crate::connection::Connection;
 use crate::fault::CallFault;
 use crate::receiving::{FRAME_BYTES, receive_reply, send_all};
-use fe_text::{StreamFault, buffer, print_reply, stream_fault, write_out};
+use crate::streams::Streams;
+use fe_text::{StreamFault, buffer, print_reply};
 use fe_wire::{ClientMessage, ServerMessage, put_message};
 use std::alloc::Global;
-use std::io::Write;
 
-/// What the exchanges of a talk need.
+/// What the exchanges of a conversation need.
 #[derive(Drop)]
 pub(crate) struct Talk {
     alloc: Global,
@@ -32,7 +30,7 @@ pub(crate) struct Talk {
 }
 
 impl Talk {
-    /// A talk before its first exchange.
+    /// A conversation before its first exchange.
     pub fn new(alloc: Global) -> Result<Talk, CallFault>
         ensures reads { IfOk result (λ talk. talk.reads ≡ 0) }
         ensures err { IfErr result (λ fault. fault ≡ CallFault.Memory) }
@@ -48,94 +46,90 @@ impl Talk {
     }
 
     /// Does what the line of that number asks: sends its message, and prints the reply. An empty line asks nothing.
-    pub fn take_line<C: Connection, W: Write>(
+    pub fn take_line<E: Streams>(
         &mut self,
         number: u64,
         line: &[u8],
-        connection: &mut C,
-        writer: &mut W,
+        streams: &mut E,
     ) -> Result<(), CallFault>
-        ensures ok { OnOk result (DoesLine line.now self.old.reads self.new.reads
-            (streams (C.sent connection.old) (C.received connection.old) (W.contents writer.old)) (streams (C.sent connection.new) (C.received connection.new) (W.contents writer.new))) }
-        ensures err { IfErr result (λ end. DoesPart
-            (streams (C.sent connection.old) (C.received connection.old) (W.contents writer.old)) (streams (C.sent connection.new) (C.received connection.new) (W.contents writer.new))
-            (BreaksOff end (C.is_over connection.new) number self.old.reads (line.now ∷ []))) }
+        ensures ok { OnOk result (DoesLine E.leads line.now self.old.reads self.new.reads streams.old streams.new) }
+        ensures err { IfErr result (λ end. DoesPart E.leads streams.old streams.new
+            (LineEnds end (E.is_over streams.new) number self.old.reads line.now)) }
     {
         if line.is_empty() {
             return Ok(());
         }
         match asked(line) {
-            Some(message) => self.exchange(&message, connection, writer),
+            Some(message) => self.exchange(&message, streams),
             None => Err(CallFault::Line(number)),
         }
     }
 
     /// Sends a message, and prints the reply to it.
-    fn exchange<C: Connection, W: Write>(
+    fn exchange<E: Streams>(
         &mut self,
         message: &ClientMessage,
-        connection: &mut C,
-        writer: &mut W,
+        streams: &mut E,
     ) -> Result<(), CallFault>
-        ensures ok { OnOk result (Exchanged message.now self.old.reads self.new.reads
-            (streams (C.sent connection.old) (C.received connection.old) (W.contents writer.old)) (streams (C.sent connection.new) (C.received connection.new) (W.contents writer.new))) }
-        ensures err { IfErr result (λ end. DoesPart
-            (streams (C.sent connection.old) (C.received connection.old) (W.contents writer.old)) (streams (C.sent connection.new) (C.received connection.new) (W.contents writer.new))
-            (ExchangeEnds end (C.is_over connection.new) self.old.reads message.now)) }
+        ensures ok { OnOk result (Exchanged E.leads message.now self.old.reads self.new.reads streams.old streams.new) }
+        ensures err { IfErr result (λ end. DoesPart E.leads streams.old streams.new
+            (ExchangeEnds end (E.is_over streams.new) self.old.reads message.now)) }
     {
-        self.send(message, connection)?;
-        let reply = self.receive(connection)?;
-        self.print(&reply, writer)?;
+        self.send(message, streams)?;
+        let reply = self.receive(streams)?;
+        self.print(&reply, streams)?;
         Ok(())
     }
 
-    fn send<C: Connection>(
+    fn send<E: Streams>(
         &mut self,
         message: &ClientMessage,
-        connection: &mut C,
+        streams: &mut E,
     ) -> Result<(), CallFault>
-        ensures ok { OnOk result (Appends (C.sent connection.old) (C.sent connection.new) (spelling message.now)) }
-        ensures front { (front : List ℕ) × IsFrontOf front (spelling message.now) × Appends (C.sent connection.old) (C.sent connection.new) front }
-        ensures received { Keeps (C.received connection.old) (C.received connection.new) }
+        ensures ok { OnOk result (E.leads streams.old (sent (spelling message.now)) streams.new) }
+        ensures front { (front : List ℕ) × IsFrontOf front (spelling message.now)
+            × E.leads streams.old (sent front) streams.new }
         ensures reads { self.new.reads ≡ self.old.reads }
-        ensures err { IfErr result (λ end. Unsent end (C.is_over connection.new)) }
+        ensures err { IfErr result (λ end. Unsent end (E.is_over streams.new)) }
     {
         self.message.clear();
         if put_message(&mut self.message, message).is_err() {
             return Err(CallFault::Memory);
         }
-        send_all(connection, self.message.as_slice())
+        send_all(streams, self.message.as_slice())
     }
 
-    fn receive<C: Connection>(&mut self, connection: &mut C) -> Result<ServerMessage, CallFault>
-        ensures reply { IfOk result (λ reply. ReplyFits reply × Appends (C.received connection.old) (C.received connection.new) (reply_spelling reply)) }
+    fn receive<E: Streams>(&mut self, streams: &mut E) -> Result<ServerMessage, CallFault>
+        ensures reply { IfOk result (λ reply. ReplyFits reply
+            × E.leads streams.old (received (reply_spelling reply)) streams.new) }
         ensures reads { IfOk result (λ reply. self.new.reads ≤ self.old.reads + length (reply_spelling reply)) }
-        ensures sent { Keeps (C.sent connection.old) (C.sent connection.new) }
-        ensures err { IfErr result (λ end. (bytes : List ℕ) × Appends (C.received connection.old) (C.received connection.new) bytes
-            × Unanswered end (C.is_over connection.new) self.old.reads bytes) }
+        ensures err { IfErr result (λ end. (bytes : List ℕ) × E.leads streams.old (received bytes) streams.new
+            × Unanswered end (E.is_over streams.new) self.old.reads bytes) }
     {
         receive_reply(
             self.alloc,
-            connection,
+            streams,
             self.frame.as_mut_slice(),
             &mut self.reads,
         )
     }
 
     /// Prints a reply, so that it can be seen before the next message is sent.
-    fn print<W: Write>(&mut self, reply: &ServerMessage, writer: &mut W) -> Result<(), StreamFault>
-        ensures ok { OnOk result (Appends (W.contents writer.old) (W.contents writer.new) (reply_text reply.now)) }
-        ensures front { (front : List ℕ) × IsFrontOf front (reply_text reply.now) × Appends (W.contents writer.old) (W.contents writer.new) front }
+    fn print<E: Streams>(
+        &mut self,
+        reply: &ServerMessage,
+        streams: &mut E,
+    ) -> Result<(), StreamFault>
+        ensures ok { OnOk result (E.leads streams.old (written (reply_text reply.now) ++ Event.Flushed ∷ []) streams.new) }
+        ensures err { OnErr result ((front : List ℕ) × IsFrontOf front (reply_text reply.now)
+            × E.leads streams.old (written front) streams.new) }
         ensures reads { self.new.reads ≡ self.old.reads }
     {
         self.text.clear();
         if print_reply(&mut self.text, None, reply).is_err() {
             return Err(StreamFault::Memory);
         }
-        write_out(&mut self.text, writer)?;
-        match writer.flush() {
-            Ok(()) => Ok(()),
-            Err(error) => Err(stream_fault(error)),
-        }
+        streams.write(self.text.as_bytes())?;
+        streams.flush()
     }
 }

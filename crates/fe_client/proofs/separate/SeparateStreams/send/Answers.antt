@@ -1,0 +1,12 @@
+use Rattle.std.proofs.Common.{refl}
+use Rattle.fe_client.proofs.Separates.{and_names, send_flows}
+use Rattle.fe_client.proofs.separate.SeparateStreams.send.Goals as goal
+
+pub returns-clause-happened : goal.returns-clause-happened
+returns-clause-happened g c =
+    let s = c.args.self.now in
+    let sent = g.C.Connection.sent in
+    let received = g.C.Connection.received in
+    and_names c.send.result _ refl refl refl
+    (send_flows c.send.result (g.R.Read.remaining s.reader.now) (sent s.connection.now) (sent c.send.new.self) (received s.connection.now) (received c.send.new.self) (g.W.Write.contents s.writer.now)
+    c.args.bytes.now c.send.ensures.sent c.send.ensures.received)

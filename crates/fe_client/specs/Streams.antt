@@ -1,0 +1,88 @@
+-- What events do to an input, a connection and an output whose bytes may be known.
+use Rattle.std.specs.Prelude.{◌≡◌, ◌⊎◌, ℕ, List, [], ◌∷◌, ◌++◌, Option, None, Some, IfSome}
+use Rattle.std.proofs.Common.{sym, subst, inl, inr, ◌∙◌}
+use Rattle.std.specs.Io.KnownBytes.{Appends, Consumes, IsAtEnd}
+use Rattle.std.proofs.KnownBytes.{Appends-trans, Appends-nil, Consumes-trans, Consumes-nil}
+use Rattle.std.proofs.lemmas.List.Concat.{flat_map-append}
+use Rattle.fe_client.specs.Events.{Event, read_bytes, sent_byte, received_byte, written_byte, read_in, sent_in, received_in, written_in}
+
+-- what the input has left, and what was sent, received and written, where that is known
+pub record Known : Type 0 where
+  pub left : Option (List ℕ)
+  pub sent : Option (List ℕ)
+  pub received : Option (List ℕ)
+  pub written : Option (List ℕ)
+
+abbrev pub known : Option (List ℕ) → Option (List ℕ) → Option (List ℕ) → Option (List ℕ) → Known
+known left sent received written = record { left = left; sent = sent; received = received; written = written }
+
+-- the end of the input was read
+abbrev pub HasEnded : List Event → Type 0
+HasEnded [] = ⊥
+HasEnded (Event.Read [] ∷ events) = Unit {0}
+HasEnded (Event.Read (byte ∷ bytes) ∷ events) = HasEnded events
+HasEnded (Event.Sent byte ∷ events) = HasEnded events
+HasEnded (Event.Received byte ∷ events) = HasEnded events
+HasEnded (Event.Written byte ∷ events) = HasEnded events
+HasEnded (Event.Flushed ∷ events) = HasEnded events
+
+-- by these events, in their order, the one becomes the other
+pub record Flows (before : Known) (events : List Event) (after : Known) : Type 0 where
+  pub read : Consumes before.left after.left (read_in events)
+  pub ended : HasEnded events → IfSome before.left (λ bytes. IsAtEnd after.left)
+  pub sent : Appends before.sent after.sent (sent_in events)
+  pub received : Appends before.received after.received (received_in events)
+  pub written : Appends before.written after.written (written_in events)
+
+-- ---- laws
+
+pub flows_none : (s : Known) → Flows s [] s
+flows_none s = record {
+  read = Consumes-nil s.left;
+  ended = λ never. absurd never;
+  sent = Appends-nil s.sent;
+  received = Appends-nil s.received;
+  written = Appends-nil s.written;
+}
+
+ended_in : (a b : List Event) → HasEnded (a ++ b) → HasEnded a ⊎ HasEnded b
+ended_in [] b h = inr h
+ended_in (Event.Read [] ∷ a) b h = inl tt
+ended_in (Event.Read (byte ∷ bytes) ∷ a) b h = ended_in a b h
+ended_in (Event.Sent byte ∷ a) b h = ended_in a b h
+ended_in (Event.Received byte ∷ a) b h = ended_in a b h
+ended_in (Event.Written byte ∷ a) b h = ended_in a b h
+ended_in (Event.Flushed ∷ a) b h = ended_in a b h
+
+abbrev IsNil : List ℕ → Type 0
+IsNil [] = Unit {0}
+IsNil (x ∷ xs) = ⊥
+
+-- nothing is read behind the end
+nothing_behind : (xs ys zs : List ℕ) → xs ≡ ys ++ zs → xs ≡ [] → zs ≡ []
+nothing_behind xs [] zs e none = sym e ∙ none
+nothing_behind xs (y ∷ ys) zs e none = absurd (subst IsNil (sym none ∙ e) tt)
+
+stays_ended : (a b c : Option (List ℕ)) (bytes more : List ℕ) → Consumes a b bytes → Consumes b c more → IfSome a (λ _. IsAtEnd b) → IfSome a (λ _. IsAtEnd c)
+stays_ended None b c bytes more p q e = tt
+stays_ended (Some x) None c bytes more p q e = absurd p
+stays_ended (Some x) (Some y) None bytes more p q e = absurd q
+stays_ended (Some x) (Some y) (Some z) bytes more p q e = nothing_behind y more z q e
+
+ends_then : (a b c : Option (List ℕ)) (bytes : List ℕ) → Consumes a b bytes → IfSome b (λ _. IsAtEnd c) → IfSome a (λ _. IsAtEnd c)
+ends_then None b c bytes p e = tt
+ends_then (Some x) None c bytes p e = absurd p
+ends_then (Some x) (Some y) c bytes p e = e
+
+pub flows_both : (s t u : Known) (a b : List Event) → Flows s a t → Flows t b u → Flows s (a ++ b) u
+flows_both s t u a b p q = record {
+  read = subst (λ (x : List ℕ). Consumes s.left u.left x) (sym (flat_map-append read_bytes a b)) (Consumes-trans s.left t.left u.left (read_in a) (read_in b) p.read q.read);
+  ended = λ h. either (ended_in a b h);
+  sent = subst (λ (x : List ℕ). Appends s.sent u.sent x) (sym (flat_map-append sent_byte a b)) (Appends-trans s.sent t.sent u.sent (sent_in a) (sent_in b) p.sent q.sent);
+  received = subst (λ (x : List ℕ). Appends s.received u.received x) (sym (flat_map-append received_byte a b)) (Appends-trans s.received t.received u.received (received_in a) (received_in b) p.received q.received);
+  written = subst (λ (x : List ℕ). Appends s.written u.written x) (sym (flat_map-append written_byte a b)) (Appends-trans s.written t.written u.written (written_in a) (written_in b) p.written q.written);
+}
+  where
+    either : HasEnded a ⊎ HasEnded b → IfSome s.left (λ _. IsAtEnd u.left)
+    either (inl h) = stays_ended s.left t.left u.left (read_in a) (read_in b) p.read q.read (p.ended h)
+    either (inr h) = ends_then s.left t.left u.left (read_in a) p.read (q.ended h)

@@ -1,0 +1,58 @@
+//! The streams of a conversation.
+
+ghost use Rattle.std.specs.Prelude.{ℕ, List, [], ◌∷◌, ◌++◌, ◌<◌, ◌≤◌, take, length, IfOk, IfSome, OnOk, OnErr};
+ghost use Rattle.fe_client.specs.Events.{Event, sent, received, written, read_of};
+
+use crate::connection::Broken;
+use fe_text::StreamFault;
+
+/// An input, a connection to a server and an output as one object, so that what happens to them has one order.
+pub trait Streams {
+    /// From the one state to the other these events happen, in their order.
+    ghost leads: { Self → List Event → Self → Type 0 };
+
+    /// A call of the connection failed, or its other end has closed it.
+    ghost is_over: { Self → Type 0 };
+
+    /// Reads some bytes of the input into the front of the buffer, and says how many; none only where the input has ended.
+    /// `None` where the read was interrupted.
+    fn read(&mut self, buffer: &mut [u8]) -> Result<Option<usize>, StreamFault>
+        requires { 0 < length buffer.old }
+        ensures fits { IfOk result (λ given. IfSome given (λ count. count ≤ length buffer.old)) }
+        ensures happened { IfOk result (λ given. leads self.old (read_of given buffer.new) self.new) }
+        ensures err { OnErr result (leads self.old [] self.new) };
+
+    /// Sends some bytes from the front to the server, at least one, and says how many.
+    fn send(&mut self, bytes: &[u8]) -> Result<usize, Broken>
+        requires { 0 < length bytes.now }
+        ensures some { IfOk result (λ count. 0 < count) }
+        ensures fits { IfOk result (λ count. count ≤ length bytes.now) }
+        ensures happened { IfOk result (λ count. leads self.old (sent (take count bytes.now)) self.new) }
+        ensures err { OnErr result (leads self.old [] self.new) }
+        ensures over { OnErr result (is_over self.new) };
+
+    /// Receives some bytes from the server into the front of the buffer, at least one, and says how many.
+    fn receive(&mut self, buffer: &mut [u8]) -> Result<usize, Broken>
+        requires { 0 < length buffer.old }
+        ensures some { IfOk result (λ count. 0 < count) }
+        ensures fits { IfOk result (λ count. count ≤ length buffer.old) }
+        ensures happened { IfOk result (λ count. leads self.old (received (take count buffer.new)) self.new) }
+        ensures err { OnErr result (leads self.old [] self.new) }
+        ensures over { OnErr result (is_over self.new) };
+
+    /// Writes the text to the output, or where that fails, a front of it.
+    fn write(&mut self, text: &[u8]) -> Result<(), StreamFault>
+        ensures ok { OnOk result (leads self.old (written text.now) self.new) }
+        ensures err { OnErr result ((count : ℕ) × leads self.old (written (take count text.now)) self.new) };
+
+    /// Lets what was written be seen.
+    fn flush(&mut self) -> Result<(), StreamFault>
+        ensures ok { OnOk result (leads self.old (Event.Flushed ∷ []) self.new) }
+        ensures err { OnErr result (leads self.old [] self.new) };
+
+    /// Nothing happens in between.
+    ghost stays: { (s : Self) → leads s [] s };
+
+    /// What happens first stands first.
+    ghost joins: { (s t u : Self) (a b : List Event) → leads s a t → leads t b u → leads s (a ++ b) u };
+}
