@@ -66,7 +66,7 @@ impl Input {
         self.number
     }
 
-    /// Takes the next line, and says whether a line feed ends it. What stands behind the last line feed, which may be
+    /// Takes the next line, and says whether a line feed ends it. What follows the last line feed, which may be
     /// nothing, is taken at the end of the input. `Line` as soon as it is longer than any of the syntax. The input is read
     /// only while no line feed is left of what was read before.
     pub fn next_line<E: Streams>(&mut self, streams: &mut E) -> Result<bool, CallFault>

@@ -26,7 +26,7 @@ pub struct Closing<D: Disk> {
 }
 
 /// Why a hall is not closed as it should be. The hall and the keeper are dropped then.
-#[derive(Clone, Copy, Debug, PartialEq, Eq)]
+#[derive(Clone, Copy, PartialEq, Eq)]
 pub enum Unclosed {
     /// The seats are not those of all connections that were made.
     SeatMissing,

@@ -58,13 +58,13 @@ pub(crate) struct Floor<C: Tally, M: Tally> {
 }
 
 /// That a hall is stopped and all that was made in it is durable. Only a cut makes one.
-#[derive(Clone, Copy, Debug)]
+#[derive(Clone, Copy)]
 pub(crate) struct AllDurable {
     place: u64,
 }
 
 /// That a batch was posted. Only a post makes one.
-#[derive(Clone, Copy, Debug)]
+#[derive(Clone, Copy)]
 pub(crate) struct Posted {
     /// The place behind its entries.
     durable: u64,
@@ -79,7 +79,7 @@ pub(crate) enum Cutting {
 }
 
 /// Why no connection was made.
-#[derive(Clone, Copy, Debug, PartialEq, Eq)]
+#[derive(Clone, Copy, PartialEq, Eq)]
 pub enum Unconnected {
     /// A connection of that number is there.
     InUse,
@@ -243,12 +243,12 @@ impl<C: Tally, M: Tally> Floor<C, M> {
         self.stopped = true;
     }
 
-    /// Whether a connection is told nothing any more: it is gone, or the hall is stopped.
+    /// Whether a connection gets nothing more: it is gone, or the hall is stopped.
     pub(crate) fn is_over(&self, conn: u64) -> bool {
         self.stopped || !self.front.connected(conn)
     }
 
-    /// The place behind all that was made so far.
+    /// The place after all entries made so far.
     pub(crate) fn place(&self) -> u64
         ensures { result ≡ self.now.front.service.state.place }
     {

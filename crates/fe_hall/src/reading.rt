@@ -25,7 +25,7 @@ const LISTED: usize = 1024;
 /// and then to the hall, which may let it wait for room. `turns` bounds the reads; where it is absent nothing does.
 ///
 /// It gives the seat back, with the first 1,024 attaches and calls that were handled. At `Closed` and `Turns` it waits until the
-/// write side has taken what comes of the messages that were handled, but for what waits. Every end makes the connection gone,
+/// write side has taken what comes of the messages that were handled, except what waits. Every end makes the connection gone,
 /// unless the hall is stopped.
 pub fn read_side<C: Tally, M: Tally, H: ReadHalf, G: Gate, R: Wait>(
     rt: &R,

@@ -1,5 +1,5 @@
 /// How a side of a connection stood when the hall last answered it.
-#[derive(Clone, Copy, Debug, PartialEq, Eq)]
+#[derive(Clone, Copy, PartialEq, Eq)]
 pub enum Standing {
     /// It was served, or nothing was asked for it yet.
     Served,

@@ -19,7 +19,7 @@ use fe_messages::Reply;
 use std::alloc::{AllocError, Global};
 use std::sync::Wait;
 
-/// How many bytes are spelled at least before they are written, where so many mails are there.
+/// The least number of bytes that are spelled before they are written, if there are enough mails.
 const BATCH_BYTES: usize = 65536;
 
 /// How many receipts a side keeps at most.

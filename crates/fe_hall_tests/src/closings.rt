@@ -23,7 +23,7 @@ use std::sync::ledger::Blank;
 use std::thread::Threads;
 use std::time::Clock;
 
-/// A hall with connections, of which the first one's seats are handed in, what that one is told to have sent, a receipt, and
+/// A hall with connections, whose first one hands in its seats; what that one is said to have sent; a receipt, and
 /// how the hall is closed.
 struct Case {
     connections: u64,

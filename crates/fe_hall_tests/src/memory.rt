@@ -1,6 +1,6 @@
 //! Groups that are stored one by one, until a checkpoint is made.
 //!
-//! `scripts/refuse_test` takes each allocation away in turn: what could not be done for want of it is done when it is tried
+//! `scripts/refuse_test` takes each allocation away in turn: what failed for lack of memory succeeds when it is tried
 //! again, a read side whose stream or list found none says so, and the committing side goes on where a checkpoint can't be begun.
 
 ghost use Rattle.std.specs.Prelude.{◌≡◌, ◌+◌};
@@ -23,7 +23,7 @@ use std::sync::ledger::Blank;
 /// The bytes of a store.
 const DEVICE_BYTES: usize = 4_202_496;
 
-/// The bytes of a new store, but for those that are zero: slot 0 has generation 1 and the image of the first state
+/// The bytes of a new store, except those that are zero: slot 0 has generation 1 and the image of the first state
 /// (`docs/formats.md`, "Device").
 const STORE: [(usize, &'static [u8]); 4] = [
     (0, b"FEMEMST2"),
@@ -33,11 +33,11 @@ const STORE: [(usize, &'static [u8]); 4] = [
 ];
 
 /// How many entries a group has, of 80 bytes each. With the fourth group a checkpoint is due, and the seventh has no room but
-/// behind it.
+/// after it.
 const ENTRIES: usize = 2000;
 
-/// What the journal has behind the checkpoint: a group of all that came since it was begun, and the seventh. It has one group's
-/// entries fewer where it could be begun only behind the fifth, for memory that was refused.
+/// What the journal has after the checkpoint: a group of all that came since it was begun, and the seventh. It has one group's
+/// entries fewer if it could begin only after the fifth, because memory was refused.
 const USED: u32 = 480_010;
 
 const USED_LATER: u32 = 320_010;

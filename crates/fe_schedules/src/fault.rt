@@ -7,7 +7,7 @@ use fe_text::StreamFault;
 use std::alloc::AllocError;
 
 /// Why a schedule ended before its end.
-#[derive(Clone, Copy, Debug, PartialEq, Eq)]
+#[derive(Clone, Copy, PartialEq, Eq)]
 pub enum ScheduleFault {
     /// The line of that number, counted from 1, isn't in the syntax.
     Line(u64),

@@ -30,7 +30,7 @@ pub(crate) struct Machine {
     desk: Desk<MemoryDisk>,
     /// The disk of a store that could not be opened.
     lost: Option<MemoryDisk>,
-    /// How many of the bytes written to each connection number are printed. Numbers behind these are new.
+    /// How many of the bytes written to each connection number are printed. Numbers beyond these are new.
     printed: Vec<usize>,
     /// The frame of the message at hand.
     frame: Vec<u8>,

@@ -23,7 +23,7 @@ use std::alloc::Global;
 /// How many bytes are printed at least before they are written within a piece.
 const FULL: usize = 65536;
 
-/// Where a run stands.
+/// The state of a run.
 #[derive(Drop)]
 pub(crate) struct Run {
     machine: Machine,

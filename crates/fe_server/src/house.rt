@@ -21,7 +21,7 @@ const PLACE_WAIT: u64 = 1000;
 /// For how many milliseconds the write sides may write what was told, once nothing is stored any more.
 const LAST_WAIT: u64 = 400;
 
-/// What the threads of a server share: the hall, and the register beside it.
+/// What the threads of a server share: the hall and the register.
 #[derive(Drop)]
 pub(crate) struct House<C: Tally, M: Tally> {
     pub(crate) hall: Hall<C, M>,

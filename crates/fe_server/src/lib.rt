@@ -1,4 +1,4 @@
-//! The server: a hall behind a Unix socket, over the store in a file.
+//! The server: a hall served at a Unix socket, over the store in a file.
 //!
 //! Each connection has two threads, and one thread stores. What they share lies under two locks: that of the hall, and that of
 //! the register of what the connections that ended did.

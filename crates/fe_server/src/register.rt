@@ -96,7 +96,7 @@ impl<C: Tally, M: Tally> Register<C, M> {
         self.newcomers.pop()
     }
 
-    /// Whether one connection more may come, of so many at once.
+    /// Whether one more connection may come, with at most this many at once.
     pub(crate) fn has_place(&self, most: u64) -> bool
         ensures { result ≡ nat_lt self.now.present most }
     {

@@ -134,7 +134,7 @@ fn show_books<W: Write>(alloc: Global, books: &Books, writer: &mut W) -> Result<
     }
 }
 
-/// The status of a command, whose fault is told on standard error.
+/// The status of a command, whose fault is printed on standard error.
 fn ended_with(rt: &impl Eprint, ended: Result<(), Fault>) -> u8
     ensures { result ≡ command_status ended }
 {
