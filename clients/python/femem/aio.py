@@ -249,7 +249,7 @@ class AsyncClient:
         seconds = self._seconds(timeout)
         self._check_loop()
         futures = [self._future(ticket) for ticket in tickets]
-        self._core.take(tickets, self._now(), seconds)
+        self._core.take(tickets, seconds, self._now())
         self._move()
         found: List[Any] = await asyncio.gather(*futures, return_exceptions=True)
         return found
@@ -291,7 +291,7 @@ class AsyncClient:
         seconds = self._seconds(timeout)
         self._check_loop()
         future = self._future(ticket)
-        self._core.take((ticket,), self._now(), seconds)
+        self._core.take((ticket,), seconds, self._now())
         self._move()
         return future
 
@@ -394,7 +394,7 @@ class AsyncClient:
             asked: Ticket[Any] = Ticket(ticket.request)
             asked.finished = partial(self._has_come_back, side, ticket, asked)
             self._core.moved_to(ticket, partial(side._take_back_for, asked))
-            side._core.take((asked,), self._now())
+            side._core.take((asked,), None, self._now())
             side._move()
 
     def _take_back_for(self, ticket: Ticket[Any], why: errors.Withdrawn) -> None:

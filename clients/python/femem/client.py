@@ -19,7 +19,7 @@ from collections import deque
 from concurrent.futures import Future
 from functools import partial
 from types import TracebackType
-from typing import Any, Callable, Deque, Iterable, List, NamedTuple, Optional, Sequence, Type, TypeVar, Union
+from typing import TYPE_CHECKING, Any, Callable, Deque, Iterable, List, NamedTuple, Optional, Sequence, Type, TypeVar, Union
 
 from . import errors, requests
 from .core import Core, Phase
@@ -375,15 +375,18 @@ class Client:
         ticket: Ticket[T] = Ticket(request_of(request)) if key is None else self._keyed(key, request)
         future = self._future(ticket)
         seconds = self._seconds(timeout)
-        self._ask(lambda now: self._core.take((ticket,), now, seconds))
+        self._ask(partial(self._core.take, (ticket,), seconds))
         return future
 
     def submit_many(self, asked: Iterable[Request[Any]], *, timeout: Timeout = DEFAULT) -> List[Any]:
         """Asks all of them in one step, and waits for all. The answers, in their order; an error stands for itself."""
-        tickets: List[Ticket[Any]] = [Ticket(request_of(request)) for request in asked]
+        return self._ask_all([request_of(request) for request in asked], timeout)
+
+    def _ask_all(self, asked: Sequence[Request[Any]], timeout: Timeout) -> List[Any]:
+        tickets: List[Ticket[Any]] = [Ticket(request) for request in asked]
         seconds = self._seconds(timeout)
         if tickets:
-            self._wait_for(tickets, lambda now: self._core.take(tickets, now, seconds))
+            self._wait_for(tickets, partial(self._core.take, tickets, seconds))
         return [ticket.result if ticket.error is None else ticket.error for ticket in tickets]
 
     def pipeline(self) -> Pipeline:
@@ -412,7 +415,7 @@ class Client:
         """
         ticket = self._keyed(key, request)
         seconds = self._seconds(timeout)
-        self._wait_for((ticket,), lambda now: self._core.take((ticket,), now, seconds))
+        self._wait_for((ticket,), partial(self._core.take, (ticket,), seconds))
         return _result(ticket)
 
     def forget(self, key: Key) -> None:
@@ -443,7 +446,7 @@ class Client:
             gate = _new_gate()
             gate.acquire()
             ticket.finished = gate.release
-            self._ask(partial(self._core.take_one, ticket, seconds))
+            self._ask(partial(self._core.take, (ticket,), seconds))
             gate.acquire()
         except BaseException:
             self._ask(lambda now: self._core.withdraw(ticket, now))
@@ -476,16 +479,17 @@ class Client:
         try:
             gate = threading.Lock()
             gate.acquire()
-            left = len(tickets)
+            left = iter(tickets)
 
             def finished() -> None:
-                nonlocal left
-                left -= 1
-                if not left:
-                    gate.release()
+                """The next one that is not done goes on from here."""
+                for ticket in left:
+                    if not ticket.done:
+                        ticket.finished = finished
+                        return
+                gate.release()
 
-            for ticket in tickets:
-                ticket.finished = finished
+            next(left).finished = finished
             self._ask(ask)
             gate.acquire()
         except BaseException:
@@ -536,12 +540,12 @@ class Client:
 
     def _do_what_is_asked(self) -> None:
         asked = self._asked
+        self._something_happens()
         while asked:
             try:
                 what = asked.popleft()
             except IndexError:
                 break
-            self._something_happens()
             what(self._now)
         self._move()
 
@@ -589,7 +593,7 @@ class Client:
             back = partial(self._has_come_back, side, ticket, asked)
             asked.finished = partial(self._ask, back)
             self._core.moved_to(ticket, partial(side._take_back, asked))
-            side._ask(partial(side._core.take_one, asked, None))
+            side._ask(partial(side._core.take, (asked,), None))
 
     def _take_back(self, ticket: Ticket[Any], why: errors.Withdrawn) -> None:
         self._ask(lambda now: self._core.withdraw(ticket, now, why))
@@ -805,16 +809,14 @@ class Pipeline:
         self._requests.append(request_of(request))
         return self
 
-    def __getattr__(self, name: str) -> Callable[..., Pipeline]:
-        if name not in _OPERATIONS:
-            raise AttributeError(name)
-        make: Callable[..., Request[Any]] = getattr(requests, name)
-        return lambda *words, **more: self.add(make(*words, **more))
+    if TYPE_CHECKING:
+
+        def __getattr__(self, name: str) -> Callable[..., Pipeline]: ...
 
     def run(self, *, timeout: Timeout = DEFAULT) -> List[Any]:
         """Asks what was put in since the last time; the answers."""
         asked, self._requests = self._requests, []
-        self.results = self._client.submit_many(asked, timeout=timeout)
+        self.results = self._client._ask_all(asked, timeout)
         return self.results
 
     def __enter__(self) -> Pipeline:
@@ -830,7 +832,17 @@ class Pipeline:
             self.run()
 
 
-_OPERATIONS = ("create", "find", "remove", *(what for what, _, _ in requests.OPERATIONS.values()))
+def _adder(make: Callable[..., Request[Any]]) -> Callable[..., Pipeline]:
+    def add(pipeline: Pipeline, *words: Any, **more: Any) -> Pipeline:
+        pipeline._requests.append(make(*words, **more))
+        return pipeline
+
+    return add
+
+
+# A pipeline has a method for each function that makes a request.
+for _name in ("create", "find", "remove", *(what for what, _, _ in requests.OPERATIONS.values())):
+    setattr(Pipeline, _name, _adder(getattr(requests, _name)))
 
 
 # What makes the lock at which a caller waits for its answer.
