@@ -1,15 +1,18 @@
 """At most once over the client's own restarts: a client with a session file is killed at each point, and goes on."""
 
 import asyncio
+import itertools
 import os
 import random
 import signal
+import stat
 import struct
 import threading
 import time
 
 import paths  # noqa: F401
 from serving import WithFolder
+from test_unspoilt import interrupted
 
 import femem
 from femem import Client, aio, requests, sessionfile
@@ -306,6 +309,97 @@ class Files(WithFolder):
             file.write(whole[: first + 12] + b"\xff" + whole[first + 13 :])
         with self.assertRaises(femem.SessionFileError):
             SessionFile(self.file)
+
+    def test_each_bit_that_is_flipped_before_the_last_entry_is_told(self):
+        self.server()
+        with Client(self.path, session_file=self.file) as client:
+            word = client.create("word", 1, full=True)
+            for _ in range(4):
+                client.int_fetch_add(word, 0, 1)
+        with open(self.file, "rb") as file:
+            whole = file.read()
+        last = at = 8
+        while at < len(whole):
+            last, at = at, at + 8 + struct.unpack_from(">I", whole, at)[0]
+        self.assertGreater(last, 200)
+        for at, bit in itertools.product(range(last), (0x01, 0x10, 0x80)):
+            damaged = whole[:at] + bytes([whole[at] ^ bit]) + whole[at + 1 :]
+            with open(self.file, "wb") as file:
+                file.write(damaged)
+            with self.subTest(at=at, bit=bit), self.assertRaises(femem.SessionFileError):
+                SessionFile(self.file).abandon()
+            with open(self.file, "rb") as file:
+                self.assertEqual(file.read(), damaged)
+
+    def test_what_is_no_plain_file_is_refused_and_not_touched(self):
+        os.mkfifo(self.file)
+        os.mkdir(self.path + ".folder")
+        for path in (self.file, self.path + ".folder"):
+            told = []
+            opening = threading.Thread(target=lambda: told.append(self.error_of(path)), daemon=True)
+            opening.start()
+            opening.join(60)
+            self.assertEqual(told, ["SessionFileError"])
+        self.assertTrue(stat.S_ISFIFO(os.stat(self.file).st_mode))
+
+    @staticmethod
+    def error_of(path):
+        try:
+            SessionFile(path).abandon()
+        except femem.SessionFileError:
+            return "SessionFileError"
+
+    def test_a_program_that_changes_its_folder_keeps_its_file(self):
+        self.server()
+        folders = [self.path + "1", self.path + "2"]
+        for folder in folders:
+            os.mkdir(folder)
+        os.symlink("there", os.path.join(folders[0], "link"))
+        self.addCleanup(os.chdir, os.getcwd())
+        os.chdir(folders[0])
+        with Client(self.path, session_file="link") as client:
+            os.chdir(folders[1])
+            client._core.file.compact()
+            word = client.create("word", 1, full=True)
+            self.assertEqual(client.once("key", requests.int_fetch_add(word, 0, 1)), 0)
+        os.chdir(folders[0])
+        self.assertEqual((sorted(os.listdir(".")), os.listdir(folders[1])), (["link", "there"], []))
+        for name in ("link", "there"):
+            with Client(self.path, session_file=name) as client:
+                self.assertEqual(client.once("key", requests.int_fetch_add(word, 0, 1)), 0)
+
+    def test_a_client_that_is_not_made_leaves_the_file_free(self):
+        """The constructor is broken off at bytecodes all over it, by an exception out of a signal's handler."""
+        server = self.server()
+        broken = 0
+        for at in itertools.count(1, 23):
+            made = []
+            if not interrupted(lambda: made.append(Client(self.path, session_file=self.file)), at):
+                made[0].close()
+                break
+            broken += 1
+            with self.subTest(bytecode=at), Client(self.path, session_file=self.file) as client:
+                self.assertEqual(list(server.model.stored.sessions), [client.session])
+        self.assertGreater(broken, 20)
+
+    def test_what_a_full_disk_kept_out_is_not_written_later(self):
+        """A client whose request is refused by the disk ends; the next process does not ask that request."""
+        server = self.server()
+        with Client(self.path, session_file=self.file) as client:
+            word = client.create("word", 1, full=True)
+            file, write = client._core.file, SessionFile._write
+
+            def full(*words):
+                file._write = write
+                raise OSError(28, "no space is left")
+
+            file._write = full
+            with self.assertRaises(femem.SessionFileError):
+                client.int_fetch_add(word, 0, 1)
+        with Client(self.path, session_file=self.file) as client:
+            self.assertNotIn(f"int_fetch_add {word.id} 0", [each.what for each in client.recovered])
+            self.assertEqual(client.readff(word, 0), 0)
+        self.assertEqual(server.model.stored.arrays[word.id][1][0][0], 0)
 
     def test_a_file_that_cannot_be_written_stops_the_client_before_it_sends(self):
         server = self.server()
