@@ -21,7 +21,7 @@ from typing import Any, Awaitable, Iterable, List, Optional, Sequence, Type, Typ
 
 from . import errors, requests
 from .client import DEFAULT, FIRST_PAUSE, LONGEST_PAUSE, Key, Path, Recovered, Timeout
-from .client import choose_session, key_bytes, pause_of, request_of, seconds_of
+from .client import choose_session, key_bytes, pause_of, request_of, seconds_of, ticket_of
 from .core import Core, Phase
 from .jobs import Job
 from .errors import FememError
@@ -247,9 +247,7 @@ class AsyncClient:
 
     def withdraw(self, future: asyncio.Future[Any]) -> None:
         """As `Client.withdraw`: the future of `submit` ends with `Withdrawn`, or with its answer."""
-        ticket: Any = getattr(future, "ticket", None)
-        if ticket is not None:
-            self._take_back((ticket,), False)
+        self._take_back((ticket_of(future, self),), False)
 
     async def submit_many(self, asked: Iterable[Request[Any]], *, timeout: Timeout = DEFAULT) -> List[Any]:
         """As `Client.submit_many`. A task that is cancelled takes all of them back, and gets the answers where one had
@@ -296,6 +294,8 @@ class AsyncClient:
             raise errors.Closed("a client is of the process that made it")
         if self._connecting is None:
             raise self.failure or RuntimeError("the client is not open: use `async with`, or await its `open`")
+        if self._connecting.get_loop() is not asyncio.get_running_loop():
+            raise RuntimeError("the client is of another event loop")
 
     def _submit(self, ticket: Ticket[T], timeout: Timeout) -> asyncio.Future[T]:
         seconds = self._seconds(timeout)
@@ -362,7 +362,7 @@ class AsyncClient:
 
         ticket.finished = finished
         future.add_done_callback(cancelled)
-        future.ticket = ticket  # type: ignore[attr-defined]
+        future.asked = (self, ticket)  # type: ignore[attr-defined]
         return future
 
     def _move(self) -> None:

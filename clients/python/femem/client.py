@@ -121,6 +121,16 @@ def request_of(request: object) -> Request[Any]:
     return request
 
 
+def ticket_of(future: object, client: object) -> Ticket[Any]:
+    """What the client asked when it made this future."""
+    owner, ticket = getattr(future, "asked", (None, None))
+    if not isinstance(ticket, Ticket):
+        raise TypeError(f"not a future of submit: {future!r}")
+    if owner is not client:
+        raise ValueError(f"a future of another client: {future!r}")
+    return ticket
+
+
 class SessionChoice(NamedTuple):
     """Which session a client has: its number, the file that holds it, and whether it ends with the client."""
 
@@ -418,9 +428,8 @@ class Client:
 
     def withdraw(self, future: Future[Any]) -> None:
         """Takes back a request that waits. Its future ends with `Withdrawn`, or with its answer if it has happened."""
-        ticket: Any = getattr(future, "ticket", None)
-        if ticket is not None:
-            self._ask(lambda now: self._core.withdraw(ticket, now))
+        ticket = ticket_of(future, self)
+        self._ask(lambda now: self._core.withdraw(ticket, now))
 
     def report(self) -> Report:
         """What waits now, of all sessions. Never waits, and changes nothing. Errors: `NoMemory`."""
@@ -540,8 +549,7 @@ class Client:
             with self._ending:
                 self._do_what_is_asked()
 
-    @staticmethod
-    def _future(ticket: Ticket[T]) -> Future[T]:
+    def _future(self, ticket: Ticket[T]) -> Future[T]:
         """The future of a ticket."""
         future: Future[Any] = Future()
         future.set_running_or_notify_cancel()
@@ -553,7 +561,7 @@ class Client:
                 future.set_result(ticket.result)
 
         ticket.finished = finished
-        future.ticket = ticket  # type: ignore[attr-defined]
+        future.asked = (self, ticket)  # type: ignore[attr-defined]
         return future
 
     def _ring(self) -> None:

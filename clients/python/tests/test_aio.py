@@ -124,6 +124,25 @@ class Asyncio(WithFolder):
 
         asyncio.run(main())
 
+    def test_a_client_is_of_one_event_loop(self):
+        self.server()
+        client = AsyncClient(self.path, 8)
+
+        async def use():
+            with self.assertRaises(RuntimeError):
+                await asyncio.wait_for(client.find("word"), 10)
+            async with AsyncClient(self.path, 9) as own, AsyncClient(self.path, 10) as other:
+                word = await own.create("word", 1)
+                future = own.submit(requests.readfe(word, 0))
+                self.assertRaises(ValueError, other.withdraw, future)
+                self.assertRaises(TypeError, other.withdraw, None)
+                own.withdraw(future)
+                with self.assertRaises(femem.Withdrawn):
+                    await future
+
+        asyncio.run(client.open())
+        asyncio.run(use())
+
     def test_a_close_that_is_cancelled_closes(self):
         server = self.server()
 

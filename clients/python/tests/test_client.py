@@ -4,6 +4,7 @@ import resource
 import threading
 import time
 import unittest
+from concurrent.futures import Future
 
 import paths  # noqa: F401
 from serving import WithFolder
@@ -87,6 +88,22 @@ class Operations(WithFolder):
             future = client.submit(requests.readff(word, 0))
             self.assertEqual(future.result(30), 5)
             client.withdraw(future)
+
+    def test_what_another_client_asked_is_not_taken_back(self):
+        self.server()
+        with Client(self.path, 7) as one, Client(self.path, 8) as other:
+            words = one.create("words", 40)
+            for client in (one, other):
+                client.futures = [client.submit(requests.readfe(words, index)) for index in range(40)]
+            for future in one.futures:
+                self.assertRaises(ValueError, other.withdraw, future)
+            for wrong in (None, 5, Future()):
+                self.assertRaises(TypeError, other.withdraw, wrong)
+            one.submit_many([requests.writexf(words, index, index) for index in range(40)])
+            for index in range(40):
+                one.writeef(words, index, index, timeout=60)
+            for client in (one, other):
+                self.assertEqual([future.result(60) for future in client.futures], list(range(40)))
 
     def test_threads(self):
         self.server()

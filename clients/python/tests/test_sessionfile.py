@@ -11,14 +11,15 @@ import threading
 import time
 
 import paths  # noqa: F401
+from model import Model
 from serving import WithFolder
 from test_unspoilt import interrupted
 
 import femem
-from femem import Client, aio, requests, sessionfile
+from femem import Client, aio, frames, requests, sessionfile
 from femem.aio import AsyncClient
 from femem.core import Core
-from femem.sessionfile import SessionFile
+from femem.sessionfile import Asked, SessionFile
 
 POINTS = {
     "before the write": (SessionFile, "commit", "before"),
@@ -331,6 +332,52 @@ class Files(WithFolder):
             with open(self.file, "rb") as file:
                 self.assertEqual(file.read(), damaged)
 
+    def any_step(self, chance, file, out):
+        """One thing that may happen to a session, drawn by lot. `out` is what has no end yet."""
+        drawn = chance.random()
+        if drawn < 0.35 and file.next < file.asked_floor + 32:
+            number, key = file.next, chance.choice([None, b"one", b"two", b"three"])
+            taken = {file.unanswered[each].key for each in out} | set(file.keyed)
+            file.asked(number, Asked(b"frame %d" % number, None if key in taken else key, drawn < 0.05))
+            out.append(number)
+        elif drawn < 0.6 and out:
+            number = out.pop(chance.randrange(len(out)))
+            if chance.random() < 0.7:
+                file.answered(frames.Answer(number, 1, chance.randrange(100), 0))
+            else:
+                file.has_ended(number)
+        elif drawn < 0.7 and file.asked_floor == file.floor < min(out, default=file.next):
+            file.settling(min([*out, file.next, file.floor + 31]))
+        elif drawn < 0.8:
+            file.settled(file.asked_floor)
+        elif drawn < 0.9 and file.keyed:
+            file.forget(chance.choice(sorted(file.keyed)))
+        elif file.must_sync:
+            file.commit()
+
+    @staticmethod
+    def says(file):
+        keyed = {key: (frame, answer._replace(number=0)) for key, (frame, answer) in file.keyed.items()}
+        numbers = (file.session, file.floor, file.asked_floor, file.next)
+        return numbers, file.unanswered, file.answers, sorted(file.ended), keyed
+
+    def test_what_is_read_is_what_was_kept(self):
+        """Whatever happens to a session, and however often the file is written anew, the next process reads it."""
+        self.addCleanup(setattr, sessionfile, "_SHORT", sessionfile._SHORT)
+        for seed in range(60):
+            chance = random.Random(seed)
+            sessionfile._SHORT = chance.choice([200, 65536])
+            file = SessionFile(self.file)
+            file.begin(33)
+            out = []
+            for _ in range(chance.randrange(1, 120)):
+                self.any_step(chance, file, out)
+            said = self.says(file)
+            file.close()
+            file = SessionFile(self.file)
+            self.assertEqual(self.says(file), said, seed)
+            file.remove()
+
     def test_what_is_no_plain_file_is_refused_and_not_touched(self):
         os.mkfifo(self.file)
         os.mkdir(self.path + ".folder")
@@ -445,6 +492,21 @@ class Files(WithFolder):
         with self.assertRaises(femem.TakenOver):
             Client(self.path, session_file=self.file)
         self.assertEqual(word.length, 1)
+
+    def test_a_file_whose_session_is_lost_is_removed_to_begin_anew(self):
+        """A server with another store does not have the session, and the file goes on to say so until it is removed."""
+        server = self.server()
+        Client(self.path, session_file=self.file).close()
+        server.kill()
+        server.model = Model(0)
+        server.start()
+        for _ in range(2):
+            with self.assertRaises(femem.SessionLost):
+                Client(self.path, session_file=self.file)
+        os.unlink(self.file)
+        with Client(self.path, session_file=self.file) as client:
+            self.assertEqual(client.recovered, [])
+            client.create("word", 1)
 
     def test_bye_ends_the_file_too(self):
         server = self.server()
