@@ -460,7 +460,18 @@ class AsyncClient:
         self._move()
 
     async def _keep_connected(self) -> None:
-        """Connects, and again once the connection broke, until the client ends."""
+        """Connects, and again once the connection broke, until the client ends, or its event loop."""
+        try:
+            await self._connect_on()
+        except asyncio.CancelledError:
+            self._core.close()
+            self._move()
+            self._core.close_file()
+            raise
+        self._move()
+        await self._close_sides()
+
+    async def _connect_on(self) -> None:
         pause = FIRST_PAUSE
         while self._core.failure is None:
             connection = _Connection(self)
@@ -476,15 +487,15 @@ class AsyncClient:
                 pause = FIRST_PAUSE
             await self._sleep(pause)
             pause = min(2 * pause, LONGEST_PAUSE)
-        self._move()
-        await self._close_sides()
 
     async def _until_lost(self, connection: _Connection) -> None:
-        while self._core.failure is None and not connection.is_lost:
-            await self._changed.wait()
-            self._changed.clear()
-        self._transport = None
-        connection.close()
+        try:
+            while self._core.failure is None and not connection.is_lost:
+                await self._changed.wait()
+                self._changed.clear()
+        finally:
+            self._transport = None
+            connection.close()
         self._core.disconnected(self._now())
         self._move()
 

@@ -101,11 +101,12 @@ class SessionFile:
 
     def remove(self) -> None:
         """The session is ended: nothing is left to be held."""
-        try:
-            os.unlink(self.path)
-        except OSError:
-            pass  # the next process finds that it was being ended
-        self.abandon()
+        if self._file >= 0:
+            try:
+                os.unlink(self.path)
+            except OSError:
+                pass  # the next process finds that it was being ended
+            self.abandon()
 
     def abandon(self) -> None:
         """Closes it as it is, as a child does of its parent's."""
@@ -115,7 +116,8 @@ class SessionFile:
 
     def __del__(self) -> None:
         """A client that was not made whole has nobody who closes it."""
-        self.abandon()
+        if self._file >= 0:
+            os.close(self._file)
 
     def start_over(self) -> None:
         """Another session, after the end of this one."""

@@ -2,12 +2,13 @@
 
 import asyncio
 import gc
+import time
 
 import paths  # noqa: F401
 from serving import WithFolder
 
 import femem
-from femem import requests
+from femem import Client, requests
 from femem import aio
 from femem.aio import AsyncClient
 
@@ -142,6 +143,24 @@ class Asyncio(WithFolder):
 
         asyncio.run(client.open())
         asyncio.run(use())
+
+    def test_a_client_whose_event_loop_ends_is_closed(self):
+        server = self.server()
+        file = self.path + ".session"
+
+        async def main():
+            client = AsyncClient(self.path, session_file=file)
+            await client.open()
+            return client, client.submit(requests.readfe(await client.create("word", 1), 0))
+
+        client, waiting = asyncio.run(main())
+        self.assertIsInstance(waiting.exception(), femem.Closed)
+        end = time.monotonic() + 60
+        while server.model.boxes and time.monotonic() < end:
+            time.sleep(0.01)
+        self.assertEqual((server.model.boxes, type(client.failure)), ({}, femem.Closed))
+        with Client(self.path, session_file=file) as other:
+            self.assertEqual(other.session, client.session)
 
     def test_a_close_that_is_cancelled_closes(self):
         server = self.server()

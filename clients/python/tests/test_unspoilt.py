@@ -137,7 +137,8 @@ def interrupted(work, at):
 
     def trace(frame, event, _):
         nonlocal count
-        if not frame.f_code.co_filename.startswith(os.path.dirname(femem.__file__)):
+        # (what is raised out of a `__del__` nobody hears)
+        if not frame.f_code.co_filename.startswith(os.path.dirname(femem.__file__)) or frame.f_code.co_name == "__del__":
             return None
         frame.f_trace = trace
         frame.f_trace_opcodes = True
