@@ -284,6 +284,7 @@ class SessionFile:
             self._pending += b"X" + _spelled(key)
 
     def ending(self) -> None:
+        self.is_ending = True
         self._pending += b"Z"
         self.must_sync = True
 

@@ -528,6 +528,16 @@ class Files(WithFolder):
             self.assertNotEqual(client.session, first)
             self.assertEqual(list(server.model.stored.sessions), [client.session])
 
+    def test_a_bye_that_is_broken_off_stays_one_where_the_file_is_written_anew(self):
+        file = SessionFile(self.file)
+        file._limit = 0
+        file.ending()
+        file.commit()
+        file.abandon()
+        file = SessionFile(self.file)
+        self.assertTrue(file.is_ending)
+        file.remove()
+
     def test_a_bye_that_is_broken_off_is_said_again_in_asyncio(self):
         server = self.server()
         former = Client(self.path, session_file=self.file)
