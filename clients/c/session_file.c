@@ -439,12 +439,13 @@ bool session_file_begin(session_file *file) {
 /* Opens and locks what is at the path; a file that another process replaced meanwhile is looked for again. */
 static femem_error open_locked(session_file *file, const char *path) {
   for (int tries = 0; tries < 100; tries++) {
-    file->descriptor = open(path, O_RDWR | O_CREAT | O_CLOEXEC, 0600);
+    file->descriptor = open(path, O_RDWR | O_CREAT | O_CLOEXEC | O_NOCTTY, 0600);
     if (file->descriptor < 0) return FEMEM_FILE_FAULT;
-    if (flock(file->descriptor, LOCK_EX | LOCK_NB) != 0)
-      return errno == EWOULDBLOCK ? FEMEM_FILE_IN_USE : FEMEM_FILE_FAULT;
     struct stat own, there;
     if (fstat(file->descriptor, &own) != 0) return FEMEM_FILE_FAULT;
+    if (!S_ISREG(own.st_mode)) return errno = EINVAL, FEMEM_FILE_FAULT;
+    if (flock(file->descriptor, LOCK_EX | LOCK_NB) != 0)
+      return errno == EWOULDBLOCK ? FEMEM_FILE_IN_USE : FEMEM_FILE_FAULT;
     if (stat(path, &there) == 0 && own.st_dev == there.st_dev && own.st_ino == there.st_ino) return FEMEM_OK;
     close(file->descriptor);
     file->descriptor = -1;

@@ -106,6 +106,20 @@ static void keeps(void) {
   session_file_close(kept);
 }
 
+/* What is no plain file is refused, and stays what it is. */
+static void no_plain_file(void) {
+  test = "no plain file";
+  fresh();
+  struct stat there;
+  CHECK(mkfifo(kept_at, 0600) == 0);
+  CHECK(OPEN_FILE(FEMEM_FILE_FAULT) == NULL && errno == EINVAL);
+  CHECK(stat(kept_at, &there) == 0 && S_ISFIFO(there.st_mode));
+  fresh();
+  CHECK(mkdir(kept_at, 0700) == 0);
+  CHECK(OPEN_FILE(FEMEM_FILE_FAULT) == NULL && errno == EISDIR);
+  CHECK(rmdir(kept_at) == 0);
+}
+
 /* A file does not grow with what is over. */
 static void compaction(void) {
   test = "a file that is written anew";
@@ -814,7 +828,7 @@ int main(void) {
   snprintf(path, sizeof path, "%s/socket", folder);
   snprintf(kept_at, sizeof kept_at, "%s/session", folder);
   snprintf(kept_new, sizeof kept_new, "%s/session.new", folder);
-  void (*const tests[])(void) = {keeps, compaction, damage, any_records,
+  void (*const tests[])(void) = {keeps, no_plain_file, compaction, damage, any_records,
                                  batch, many, many_keys, earlier, keys, file_fault,
                                  leaving, strange_session, left_answers, crowded, copied,
                                  arguments};

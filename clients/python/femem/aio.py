@@ -17,11 +17,11 @@ import os
 import weakref
 from functools import partial
 from types import TracebackType
-from typing import Any, Awaitable, Iterable, List, Optional, Type, TypeVar, Union, cast
+from typing import Any, Awaitable, Iterable, List, Optional, Sequence, Type, TypeVar, Union, cast
 
 from . import errors, requests
 from .client import DEFAULT, FIRST_PAUSE, LONGEST_PAUSE, Key, Path, Recovered, Timeout
-from .client import choose_session, key_bytes, request_of, seconds_of
+from .client import choose_session, key_bytes, pause_of, request_of, seconds_of, ticket_of
 from .core import Core, Phase
 from .jobs import Job
 from .errors import FememError
@@ -53,15 +53,15 @@ class AsyncClient:
     ) -> None:
         self.timeout = seconds_of(timeout)
         patience = seconds_of(reconnect_timeout, "reconnect_timeout")
-        pause = seconds_of(probe_interval, "probe_interval")
+        pause = pause_of(probe_interval)
         choice = choose_session(path, session, session_file, sessions)
         self.path = os.fsdecode(path)
         self.session = choice.session
         self._is_temporary = choice.is_temporary
         self._patience = patience
         self._process = os.getpid()
-        self._pause = 3600.0 if pause is None else pause
-        self._core = Core(choice.session, patience, self._pause, choice.file, self._now, choice.sessions > 1)
+        self._pause = pause
+        self._core = Core(choice.session, patience, pause, choice.file, self._now, choice.sessions > 1)
         self._count = choice.sessions
         self._sides: Sides[AsyncClient] = Sides(())
         self._transport: Optional[asyncio.Transport] = None
@@ -79,6 +79,8 @@ class AsyncClient:
 
     async def open(self) -> None:
         """Connects and attaches. The errors are those of `Client`."""
+        if self._connecting is not None and self.failure is None:
+            raise RuntimeError("the client was opened before")
         self._changed = asyncio.Event()
         file = self._core.file
         if file is not None and file.is_ending:
@@ -153,17 +155,21 @@ class AsyncClient:
 
     async def close(self) -> None:
         """As `Client.close`."""
-        if self._is_temporary:
-            self._is_temporary = False
+        try:
+            if self._is_temporary and self._connecting is not None:
+                self._is_temporary = False
+                try:
+                    await self._leave(True)
+                except FememError:
+                    pass
+        finally:
+            self._core.close()
             try:
-                await self._leave(True)
-            except FememError:
-                pass
-        self._core.close()
-        self._move()
-        if self._connecting is not None:
-            await self._connecting
-        self._core.close_file()
+                if self._connecting is not None:
+                    self._move()
+                    await asyncio.shield(self._connecting)
+            finally:
+                self._core.close_file()
 
     async def bye(self) -> None:
         """As `Client.bye`."""
@@ -172,6 +178,7 @@ class AsyncClient:
         await self.close()
 
     async def _leave(self, at_any_rate: bool) -> None:
+        self._check_use()
         ticket: Ticket[None] = Ticket(None)
         future = self._future(ticket)
         self._core.leave(self._now(), ticket, at_any_rate)
@@ -223,6 +230,7 @@ class AsyncClient:
 
     async def report(self) -> Report:
         """As `Client.report`."""
+        self._check_use()
         ticket: Ticket[Report] = Ticket(None)
         future = self._future(ticket)
         self._core.report(self._now(), ticket)
@@ -239,25 +247,23 @@ class AsyncClient:
 
     def withdraw(self, future: asyncio.Future[Any]) -> None:
         """As `Client.withdraw`: the future of `submit` ends with `Withdrawn`, or with its answer."""
-        ticket: Any = getattr(future, "ticket", None)
-        if ticket is not None:
-            self._take_back(ticket, False)
+        self._take_back((ticket_of(future, self),), False)
 
     async def submit_many(self, asked: Iterable[Request[Any]], *, timeout: Timeout = DEFAULT) -> List[Any]:
-        """As `Client.submit_many`."""
+        """As `Client.submit_many`. A task that is cancelled takes all of them back, and gets the answers where one had
+        happened."""
         tickets: List[Ticket[Any]] = [Ticket(request_of(request)) for request in asked]
         seconds = self._seconds(timeout)
-        self._check_loop()
+        self._check_use()
         futures = [self._future(ticket) for ticket in tickets]
-        self._core.take(tickets, self._now(), seconds)
+        self._core.take(tickets, seconds, self._now())
         self._move()
-        found: List[Any] = await asyncio.gather(*futures, return_exceptions=True)
-        return found
+        return await self._told(tickets, asyncio.gather(*futures, return_exceptions=True))
 
     async def once(self, key: Key, request: Request[T], *, timeout: Timeout = DEFAULT) -> T:
         """As `Client.once`."""
         ticket = self._keyed(key, request)
-        return await self._told(ticket, self._submit(ticket, timeout))
+        return await self._told((ticket,), self._submit(ticket, timeout))
 
     def forget(self, key: Key) -> None:
         """As `Client.forget`."""
@@ -283,52 +289,60 @@ class AsyncClient:
     def _seconds(self, timeout: Timeout) -> Optional[float]:
         return self.timeout if timeout is DEFAULT else seconds_of(timeout)
 
-    def _check_loop(self) -> None:
+    def _check_use(self) -> None:
         if self._process != os.getpid():
             raise errors.Closed("a client is of the process that made it")
+        if self._connecting is None:
+            raise self.failure or RuntimeError("the client is not open: use `async with`, or await its `open`")
+        if self._connecting.get_loop() is not asyncio.get_running_loop():
+            raise RuntimeError("the client is of another event loop")
 
     def _submit(self, ticket: Ticket[T], timeout: Timeout) -> asyncio.Future[T]:
         seconds = self._seconds(timeout)
-        self._check_loop()
+        self._check_use()
         future = self._future(ticket)
-        self._core.take((ticket,), self._now(), seconds)
+        self._core.take((ticket,), seconds, self._now())
         self._move()
         return future
 
     async def _call(self, request: Request[T], timeout: Timeout) -> T:
         ticket = Ticket(request)
-        return await self._told(ticket, self._submit(ticket, timeout))
+        return await self._told((ticket,), self._submit(ticket, timeout))
 
     async def _run_job(self, job: Job[T]) -> T:
         """Runs an operation of several steps. A task that is cancelled takes it back, and learns where it is done."""
-        self._check_loop()
+        self._check_use()
         future = self._future(job)
         self._core.start(job, self._now())
         self._move()
-        return await self._told(job, future)
+        return await self._told((job,), future)
 
-    async def _told(self, ticket: Ticket[T], future: asyncio.Future[T]) -> T:
+    async def _told(self, tickets: Sequence[Ticket[Any]], future: asyncio.Future[T]) -> T:
+        """What the future of the tickets says. A task that is cancelled gets it too, unless nothing happened."""
         try:
             return await asyncio.shield(future)
         except asyncio.CancelledError:
             if future.cancelled():
                 raise
-            self._take_back(ticket, False)
+            future.add_done_callback(_is_seen)
+            self._take_back(tickets, False)
             try:
-                return await asyncio.shield(future)
-            except errors.Withdrawn:
-                raise asyncio.CancelledError from None
+                await asyncio.wait([future])
             except asyncio.CancelledError:
                 # Cancelled once more: nobody waits for the server's word.
-                self._take_back(ticket, True)
+                self._take_back(tickets, True)
                 future.cancel()
                 raise
+            if all(isinstance(ticket.error, errors.Withdrawn) for ticket in tickets):
+                raise
+            return future.result()
 
-    def _take_back(self, ticket: Ticket[Any], is_abandoned: bool) -> None:
-        if isinstance(ticket, Job):
-            (self._core.abandon if is_abandoned else self._core.interrupt)(ticket, self._now())
-        else:
-            self._core.withdraw(ticket, self._now())
+    def _take_back(self, tickets: Sequence[Ticket[Any]], is_abandoned: bool) -> None:
+        for ticket in tickets:
+            if isinstance(ticket, Job):
+                (self._core.abandon if is_abandoned else self._core.interrupt)(ticket, self._now())
+            else:
+                self._core.withdraw(ticket, self._now())
         self._move()
 
     def _future(self, ticket: Ticket[T]) -> asyncio.Future[T]:
@@ -344,11 +358,11 @@ class AsyncClient:
 
         def cancelled(future: asyncio.Future[Any]) -> None:
             if future.cancelled() and not ticket.done:
-                self._take_back(ticket, True)
+                self._take_back((ticket,), True)
 
         ticket.finished = finished
         future.add_done_callback(cancelled)
-        future.ticket = ticket  # type: ignore[attr-defined]
+        future.asked = (self, ticket)  # type: ignore[attr-defined]
         return future
 
     def _move(self) -> None:
@@ -394,7 +408,7 @@ class AsyncClient:
             asked: Ticket[Any] = Ticket(ticket.request)
             asked.finished = partial(self._has_come_back, side, ticket, asked)
             self._core.moved_to(ticket, partial(side._take_back_for, asked))
-            side._core.take((asked,), self._now())
+            side._core.take((asked,), None, self._now())
             side._move()
 
     def _take_back_for(self, ticket: Ticket[Any], why: errors.Withdrawn) -> None:
@@ -446,7 +460,18 @@ class AsyncClient:
         self._move()
 
     async def _keep_connected(self) -> None:
-        """Connects, and again once the connection broke, until the client ends."""
+        """Connects, and again once the connection broke, until the client ends, or its event loop."""
+        try:
+            await self._connect_on()
+        except asyncio.CancelledError:
+            self._core.close()
+            self._move()
+            self._core.close_file()
+            raise
+        self._move()
+        await self._close_sides()
+
+    async def _connect_on(self) -> None:
         pause = FIRST_PAUSE
         while self._core.failure is None:
             connection = _Connection(self)
@@ -462,15 +487,15 @@ class AsyncClient:
                 pause = FIRST_PAUSE
             await self._sleep(pause)
             pause = min(2 * pause, LONGEST_PAUSE)
-        self._move()
-        await self._close_sides()
 
     async def _until_lost(self, connection: _Connection) -> None:
-        while self._core.failure is None and not connection.is_lost:
-            await self._changed.wait()
-            self._changed.clear()
-        self._transport = None
-        connection.close()
+        try:
+            while self._core.failure is None and not connection.is_lost:
+                await self._changed.wait()
+                self._changed.clear()
+        finally:
+            self._transport = None
+            connection.close()
         self._core.disconnected(self._now())
         self._move()
 
@@ -480,6 +505,12 @@ class AsyncClient:
         except asyncio.TimeoutError:
             pass
         self._changed.clear()
+
+
+def _is_seen(future: asyncio.Future[Any]) -> None:
+    """Its error is not logged, though nobody awaits it."""
+    if not future.cancelled():
+        future.exception()
 
 
 class _Connection(asyncio.Protocol):

@@ -18,8 +18,9 @@ import weakref
 from collections import deque
 from concurrent.futures import Future
 from functools import partial
+from threading import get_ident
 from types import TracebackType
-from typing import Any, Callable, Deque, Iterable, List, NamedTuple, Optional, Sequence, Type, TypeVar, Union
+from typing import TYPE_CHECKING, Any, Callable, Deque, Iterable, List, NamedTuple, Optional, Sequence, Type, TypeVar, Union
 
 from . import errors, requests
 from .core import Core, Phase
@@ -42,6 +43,9 @@ LONGEST_PAUSE = 0.25
 _CONNECT_TIME = 1.0
 
 _READ_BYTES = 65536
+
+# How long a client sleeps at most, in seconds.
+_LONGEST_SLEEP = 3600.0
 
 # How long the thread waits at its bell after the last answer, in seconds, before it looks at the connection again. A bell
 # is a lock, the cheapest thing to be woken at, and whoever calls in a row calls again soon.
@@ -84,9 +88,21 @@ def seconds_of(timeout: object, what: str = "timeout") -> Optional[float]:
         return None
     if isinstance(timeout, bool) or not isinstance(timeout, (int, float)):
         raise TypeError(f"{what} is not a number of seconds: {timeout!r}")
-    if math.isnan(timeout):
+    try:
+        seconds = float(timeout)
+    except OverflowError:
+        seconds = math.nan
+    if math.isnan(seconds):
         raise ValueError(f"{what} is not a number of seconds: {timeout!r}")
-    return None if timeout == math.inf else float(timeout)
+    return None if seconds == math.inf else seconds
+
+
+def pause_of(probe_interval: object) -> float:
+    """A pause between two looks at the clock, in seconds, which is more than none."""
+    seconds = seconds_of(probe_interval, "probe_interval")
+    if seconds is not None and seconds <= 0.0:
+        raise ValueError(f"probe_interval is more than 0: {probe_interval!r}")
+    return _LONGEST_SLEEP if seconds is None else min(seconds, _LONGEST_SLEEP)
 
 
 def key_bytes(key: Key) -> bytes:
@@ -103,6 +119,16 @@ def request_of(request: object) -> Request[Any]:
     if not isinstance(request, Request):
         raise TypeError(f"not a request of femem.requests: {request!r}")
     return request
+
+
+def ticket_of(future: object, client: object) -> Ticket[Any]:
+    """What the client asked when it made this future."""
+    owner, ticket = getattr(future, "asked", (None, None))
+    if not isinstance(ticket, Ticket):
+        raise TypeError(f"not a future of submit: {future!r}")
+    if owner is not client:
+        raise ValueError(f"a future of another client: {future!r}")
+    return ticket
 
 
 class SessionChoice(NamedTuple):
@@ -164,24 +190,28 @@ class Client:
         """
         self.timeout = seconds_of(timeout)
         patience = seconds_of(reconnect_timeout, "reconnect_timeout")
-        pause = seconds_of(probe_interval, "probe_interval")
+        pause = pause_of(probe_interval)
         choice = choose_session(path, session, session_file, sessions)
-        self.path = os.fsdecode(path)
-        if choice.file is not None and choice.file.is_ending:
-            self._end_session(choice.file, patience)
-            choice = choice._replace(session=choice.file.session)
+        try:
+            self.path = os.fsdecode(path)
+            if choice.file is not None and choice.file.is_ending:
+                self._end_session(choice.file, patience)
+                choice = choice._replace(session=choice.file.session)
+            self._prepare(choice, patience, pause)
+            self._begin()
+            self._open_sides(choice.sessions, patience, pause)
+        except BaseException:
+            if choice.file is not None:
+                choice.file.close()
+            raise
+
+    def _prepare(self, choice: SessionChoice, patience: Optional[float], pause: float) -> None:
         self.session = choice.session
         self._is_temporary = choice.is_temporary
-        self._core = Core(
-            choice.session,
-            patience,
-            3600.0 if pause is None else pause,
-            choice.file,
-            moves_waits=choice.sessions > 1,
-        )
+        self._core = Core(choice.session, patience, pause, choice.file, moves_waits=choice.sessions > 1)
         self._sides: Sides[Client] = Sides(())
         self._process = os.getpid()
-        self._longest_sleep = 3600.0 if pause is None else pause
+        self._longest_sleep = pause
         # What is asked, in its order: each is called with the time by the thread.
         self._asked: Deque[Callable[[float], object]] = deque()
         # Where the thread sleeps, so that whoever asks knows what wakes it.
@@ -190,6 +220,8 @@ class Client:
         self._bell = threading.Lock()
         self._bell.acquire()
         self._is_over = False
+        # The thread's number while it runs.
+        self._own_thread = 0
         # The time when the thread saw it last, and when it looks what is due next.
         self._now = time.monotonic()
         self._look_at = 0.0
@@ -200,6 +232,11 @@ class Client:
         self._waker.setblocking(False)
         self._woken.setblocking(False)
         self._woken_number = self._woken.fileno()
+        self._poll = select.poll()
+        self._thread = threading.Thread(target=self._run, name=f"femem session {self.session}", daemon=True)
+
+    def _begin(self) -> None:
+        """Starts the thread, and waits until the session is attached."""
         opening = self._future(self._core.open(time.monotonic()))
         # What the former process with this session file had no answer for.
         self.recovered: List[Recovered] = [
@@ -207,31 +244,26 @@ class Client:
             for ticket in self._core.recovered
             if ticket.request is not None
         ]
-        self._poll = select.poll()
-        self._thread = threading.Thread(target=self._run, name=f"femem session {self.session}", daemon=True)
-        _clients.add(self)
-        self._thread.start()
         try:
+            _clients.add(self)
+            self._thread.start()
             opening.result()
         except BaseException:
             self._is_temporary = False
             self.close()
             raise
-        try:
-            self._open_sides(choice.sessions, patience, pause)
-        except BaseException:
-            self.close()
-            raise
 
-    def _open_sides(self, count: int, patience: Optional[float], pause: Optional[float]) -> None:
+    def _open_sides(self, count: int, patience: Optional[float], pause: float) -> None:
         sides: List[Client] = []
         try:
             for number in numbers(self.session, count):
-                wait = math.inf if pause is None else pause
-                sides.append(Client(self.path, number, reconnect_timeout=patience, probe_interval=wait))
+                sides.append(Client(self.path, number, reconnect_timeout=patience, probe_interval=pause))
                 sides[-1]._is_temporary = True
-        finally:
             self._sides = Sides(sides)
+        except BaseException:
+            self._sides = Sides(sides)
+            self.close()
+            raise
 
     def _end_session(self, file: SessionFile, patience: Optional[float]) -> None:
         """Its former process was ending the session: that is done first, and the file begins with another one."""
@@ -279,7 +311,7 @@ class Client:
             except errors.FememError:
                 pass
         self._ask(lambda now: self._core.close())
-        if threading.current_thread() is not self._thread and self._process == os.getpid():
+        if self._thread.is_alive() and threading.current_thread() is not self._thread and self._process == os.getpid():
             self._thread.join()
 
     def bye(self) -> None:
@@ -292,6 +324,7 @@ class Client:
         self.close()
 
     def _leave(self, at_any_rate: bool) -> None:
+        self._check_thread()
         ticket: Ticket[None] = Ticket(None)
         future = self._future(ticket)
         self._ask(lambda now: self._core.leave(now, ticket, at_any_rate))
@@ -375,15 +408,18 @@ class Client:
         ticket: Ticket[T] = Ticket(request_of(request)) if key is None else self._keyed(key, request)
         future = self._future(ticket)
         seconds = self._seconds(timeout)
-        self._ask(lambda now: self._core.take((ticket,), now, seconds))
+        self._ask(partial(self._core.take, (ticket,), seconds))
         return future
 
     def submit_many(self, asked: Iterable[Request[Any]], *, timeout: Timeout = DEFAULT) -> List[Any]:
         """Asks all of them in one step, and waits for all. The answers, in their order; an error stands for itself."""
-        tickets: List[Ticket[Any]] = [Ticket(request_of(request)) for request in asked]
+        return self._ask_all([request_of(request) for request in asked], timeout)
+
+    def _ask_all(self, asked: Sequence[Request[Any]], timeout: Timeout) -> List[Any]:
+        tickets: List[Ticket[Any]] = [Ticket(request) for request in asked]
         seconds = self._seconds(timeout)
         if tickets:
-            self._wait_for(tickets, lambda now: self._core.take(tickets, now, seconds))
+            self._wait_for(tickets, partial(self._core.take, tickets, seconds))
         return [ticket.result if ticket.error is None else ticket.error for ticket in tickets]
 
     def pipeline(self) -> Pipeline:
@@ -392,9 +428,8 @@ class Client:
 
     def withdraw(self, future: Future[Any]) -> None:
         """Takes back a request that waits. Its future ends with `Withdrawn`, or with its answer if it has happened."""
-        ticket: Any = getattr(future, "ticket", None)
-        if ticket is not None:
-            self._ask(lambda now: self._core.withdraw(ticket, now))
+        ticket = ticket_of(future, self)
+        self._ask(lambda now: self._core.withdraw(ticket, now))
 
     def report(self) -> Report:
         """What waits now, of all sessions. Never waits, and changes nothing. Errors: `NoMemory`."""
@@ -412,7 +447,7 @@ class Client:
         """
         ticket = self._keyed(key, request)
         seconds = self._seconds(timeout)
-        self._wait_for((ticket,), lambda now: self._core.take((ticket,), now, seconds))
+        self._wait_for((ticket,), partial(self._core.take, (ticket,), seconds))
         return _result(ticket)
 
     def forget(self, key: Key) -> None:
@@ -433,17 +468,24 @@ class Client:
 
     # What stands behind these.
 
+    def _check_thread(self) -> None:
+        """The client's own thread, which calls what futures were given, would wait for itself."""
+        if get_ident() == self._own_thread:
+            raise RuntimeError("a callback can't wait for its own client: use submit")
+
     def _seconds(self, timeout: Timeout) -> Optional[float]:
         return self.timeout if isinstance(timeout, _Default) else seconds_of(timeout)
 
     def _call(self, request: Request[T], timeout: Timeout) -> T:
         ticket: Ticket[T] = Ticket(request)
         seconds = self.timeout if timeout is DEFAULT else self._seconds(timeout)
+        if get_ident() == self._own_thread:
+            self._check_thread()
         try:
             gate = _new_gate()
             gate.acquire()
             ticket.finished = gate.release
-            self._ask(partial(self._core.take_one, ticket, seconds))
+            self._ask(partial(self._core.take, (ticket,), seconds))
             gate.acquire()
         except BaseException:
             self._ask(lambda now: self._core.withdraw(ticket, now))
@@ -454,6 +496,7 @@ class Client:
 
     def _run_job(self, job: Job[T]) -> T:
         """Runs an operation of several steps. Where this thread is interrupted, it is taken back and undone."""
+        self._check_thread()
         try:
             gate = threading.Lock()
             gate.acquire()
@@ -473,19 +516,21 @@ class Client:
 
     def _wait_for(self, tickets: Sequence[Ticket[Any]], ask: Callable[[float], object]) -> None:
         """Asks, and waits until all are done. Where this thread is interrupted, they are taken back."""
+        self._check_thread()
         try:
             gate = threading.Lock()
             gate.acquire()
-            left = len(tickets)
+            left = iter(tickets)
 
             def finished() -> None:
-                nonlocal left
-                left -= 1
-                if not left:
-                    gate.release()
+                """The next one that is not done goes on from here."""
+                for ticket in left:
+                    if not ticket.done:
+                        ticket.finished = finished
+                        return
+                gate.release()
 
-            for ticket in tickets:
-                ticket.finished = finished
+            next(left).finished = finished
             self._ask(ask)
             gate.acquire()
         except BaseException:
@@ -504,8 +549,7 @@ class Client:
             with self._ending:
                 self._do_what_is_asked()
 
-    @staticmethod
-    def _future(ticket: Ticket[T]) -> Future[T]:
+    def _future(self, ticket: Ticket[T]) -> Future[T]:
         """The future of a ticket."""
         future: Future[Any] = Future()
         future.set_running_or_notify_cancel()
@@ -517,7 +561,7 @@ class Client:
                 future.set_result(ticket.result)
 
         ticket.finished = finished
-        future.ticket = ticket  # type: ignore[attr-defined]
+        future.asked = (self, ticket)  # type: ignore[attr-defined]
         return future
 
     def _ring(self) -> None:
@@ -536,12 +580,12 @@ class Client:
 
     def _do_what_is_asked(self) -> None:
         asked = self._asked
+        self._something_happens()
         while asked:
             try:
                 what = asked.popleft()
             except IndexError:
                 break
-            self._something_happens()
             what(self._now)
         self._move()
 
@@ -589,7 +633,7 @@ class Client:
             back = partial(self._has_come_back, side, ticket, asked)
             asked.finished = partial(self._ask, back)
             self._core.moved_to(ticket, partial(side._take_back, asked))
-            side._ask(partial(side._core.take_one, asked, None))
+            side._ask(partial(side._core.take, (asked,), None))
 
     def _take_back(self, ticket: Ticket[Any], why: errors.Withdrawn) -> None:
         self._ask(lambda now: self._core.withdraw(ticket, now, why))
@@ -619,11 +663,12 @@ class Client:
         failed: Optional[BaseException] = None
         try:
             Client(self.path, session).close()
-        except errors.FememError as error:
+        except (errors.FememError, OSError) as error:
             failed = error
         self._ask(lambda now: self._core.fenced(ticket, failed))
 
     def _run(self) -> None:
+        self._own_thread = get_ident()
         pause = FIRST_PAUSE
         try:
             self._poll.register(self._woken, select.POLLIN)
@@ -647,21 +692,24 @@ class Client:
             self._core.close_file()
         with self._ending:
             self._is_over = True
+            self._own_thread = 0
             self._do_what_is_asked()
         self._close_sides()
         self._waker.close()
         self._woken.close()
 
     def _connect(self) -> Optional[socket.socket]:
-        connection = socket.socket(socket.AF_UNIX, socket.SOCK_STREAM)
-        connection.settimeout(_CONNECT_TIME)
+        connection: Optional[socket.socket] = None
         try:
+            connection = socket.socket(socket.AF_UNIX, socket.SOCK_STREAM)
+            connection.settimeout(_CONNECT_TIME)
             connection.connect(self.path)
+            connection.setblocking(False)
         except OSError as error:
             self._core.trouble = f"{self.path}: {error.strerror or error}"
-            connection.close()
+            if connection is not None:
+                connection.close()
             return None
-        connection.setblocking(False)
         return connection
 
     def _sleep(self, seconds: float) -> None:
@@ -774,6 +822,7 @@ class Client:
         self._core.phase = Phase.ENDED
         self._core.to_send = bytearray()  # the thread may have been sending the other one
         self._is_over = True
+        self._own_thread = 0
         self._ending = threading.RLock()
         self._is_temporary = False
         self._asked.clear()
@@ -805,16 +854,14 @@ class Pipeline:
         self._requests.append(request_of(request))
         return self
 
-    def __getattr__(self, name: str) -> Callable[..., Pipeline]:
-        if name not in _OPERATIONS:
-            raise AttributeError(name)
-        make: Callable[..., Request[Any]] = getattr(requests, name)
-        return lambda *words, **more: self.add(make(*words, **more))
+    if TYPE_CHECKING:
+
+        def __getattr__(self, name: str) -> Callable[..., Pipeline]: ...
 
     def run(self, *, timeout: Timeout = DEFAULT) -> List[Any]:
         """Asks what was put in since the last time; the answers."""
         asked, self._requests = self._requests, []
-        self.results = self._client.submit_many(asked, timeout=timeout)
+        self.results = self._client._ask_all(asked, timeout)
         return self.results
 
     def __enter__(self) -> Pipeline:
@@ -830,7 +877,17 @@ class Pipeline:
             self.run()
 
 
-_OPERATIONS = ("create", "find", "remove", *(what for what, _, _ in requests.OPERATIONS.values()))
+def _adder(make: Callable[..., Request[Any]]) -> Callable[..., Pipeline]:
+    def add(pipeline: Pipeline, *words: Any, **more: Any) -> Pipeline:
+        pipeline._requests.append(make(*words, **more))
+        return pipeline
+
+    return add
+
+
+# A pipeline has a method for each function that makes a request.
+for _name in ("create", "find", "remove", *(what for what, _, _ in requests.OPERATIONS.values())):
+    setattr(Pipeline, _name, _adder(getattr(requests, _name)))
 
 
 # What makes the lock at which a caller waits for its answer.

@@ -135,7 +135,7 @@ class Core:
     def open(self, now: float) -> Ticket[None]:
         """A ticket that is done once the session is attached for the first time."""
         self._opening = Ticket(None)
-        self._admit(self._opening, now)
+        self._admit((self._opening,), now)
         self._asked_at = now
         return self._opening
 
@@ -151,31 +151,22 @@ class Core:
         """A request, sent as soon as the window has room. It is taken back once `timeout` seconds are over."""
         ticket = Ticket(request)
         self._check()
-        self.take([ticket], now, timeout)
+        self.take((ticket,), timeout, now)
         return ticket
 
-    def take(self, tickets: Sequence[Ticket[Any]], now: float, timeout: Optional[float] = None) -> None:
+    def take(self, tickets: Sequence[Ticket[Any]], timeout: Optional[float], now: float) -> None:
         """As `submit`, for tickets that somebody made. Where nothing can be asked any more they end with the error."""
-        for ticket in tickets:
-            if self._admit(ticket, now):
-                if timeout is not None:
-                    self.is_urgent = True
-                    self._timeouts.add(now + timeout, ticket)
-                self._flow.add(ticket)
-        self._pump(now)
-
-    def take_one(self, ticket: Ticket[Any], timeout: Optional[float], now: float) -> None:
-        """As `take`, for one."""
-        if self._admit(ticket, now):
-            if timeout is not None:
-                self.is_urgent = True
+        admitted = self._admit(tickets, now)
+        if timeout is not None:
+            self.is_urgent = True
+            for ticket in admitted:
                 self._timeouts.add(now + timeout, ticket)
-            self._flow.add(ticket)
-            self._pump(now)
+        self._flow.add(admitted)
+        self._pump(now)
 
     def report(self, now: float, ticket: Optional[Ticket[reports.Report]] = None) -> Ticket[reports.Report]:
         asked: Ticket[reports.Report] = ticket or Ticket(None)
-        if self._admit(asked, now):
+        if self._admit((asked,), now):
             self._reports.append(asked)
             self._pump(now)
         return asked
@@ -190,7 +181,7 @@ class Core:
             if ticket is None:
                 raise error
             self._end(ticket, error=error)
-        elif self._admit(asked, now):
+        elif self._admit((asked,), now):
             self._leaving = asked
             if self.file is not None:
                 self.file.ending()
@@ -298,14 +289,16 @@ class Core:
         if self.phase is _DOWN or self.phase is _ENDED:
             return
         try:
+            is_heard = False
             for reply in self._decoder.feed(piece):
                 if type(reply) is Answer and self.phase is _READY:
-                    if self._flow.answered(reply):
-                        self._heard(now)
+                    is_heard = self._flow.answered(reply) or is_heard
                 else:
                     self._take(reply, now)
                     if self.failure is not None:
                         return
+            if is_heard:
+                self._heard(now)
         except errors.FememError as failure:
             self.fail(failure)
         else:
@@ -392,21 +385,24 @@ class Core:
         if self._leaving is not None:
             raise errors.Closed("the session is being ended")
 
-    def _admit(self, ticket: Ticket[Any], now: float) -> bool:
-        """Whether the ticket may be asked. Else it ends, or has ended before it came here."""
-        if ticket.done or ticket.taken:
-            return False
-        ticket.taken = True
+    def _admit(self, tickets: Sequence[Ticket[Any]], now: float) -> Sequence[Ticket[Any]]:
+        """Those of the tickets that may be asked. Any other one ends, or has ended before it came here."""
+        admitted: List[Ticket[Any]] = []
+        for ticket in tickets:
+            if not ticket.done and not ticket.taken:
+                ticket.taken = True
+                admitted.append(ticket)
         if self.failure is not None or self._leaving is not None:
-            try:
-                self._check()
-            except errors.FememError as error:
-                self._end(ticket, error=error)
-                return False
+            for ticket in admitted:
+                try:
+                    self._check()
+                except errors.FememError as error:
+                    self._end(ticket, error=error)
+            return ()
         if self.is_idle or not self.is_busy():
             self._asked_at = now
         self.is_idle = False
-        return True
+        return admitted
 
     def _failure_again(self) -> errors.FememError:
         """A new one for each ticket, since an error that two threads raise gets the traces of both."""
@@ -420,7 +416,7 @@ class Core:
     # Jobs: operations of several steps.
 
     def start(self, job: Job[Any], now: float) -> None:
-        if self._admit(job, now):
+        if self._admit((job,), now):
             self._advance(job, lambda: next(job.steps))
 
     def abandon(self, job: Job[Any], now: float) -> None:
@@ -495,7 +491,7 @@ class Core:
             ticket.finished = finished
         job.asked = tickets
         if isinstance(step, (Batch, Wait)):
-            self.take(tickets, now, step.seconds if isinstance(step, Wait) else None)
+            self.take(tickets, step.seconds if isinstance(step, Wait) else None, now)
         elif isinstance(step, Look):
             self.report(now, tickets[0])
         elif isinstance(step, Pause):
@@ -524,7 +520,7 @@ class Core:
             self._presence = Ticket(readff(step.array, 0))
             self._presence.is_presence = True
             self._presence.ends_with_process = True
-            self.take([self._presence], now)
+            self.take((self._presence,), None, now)
 
     def fenced(self, ticket: Ticket[None], error: Optional[BaseException]) -> None:
         """Whoever connects has done what `fences` says, or could not."""

@@ -3,7 +3,7 @@
 from __future__ import annotations
 
 from collections import deque
-from typing import Any, Deque, Dict, List, Optional, Set
+from typing import Any, Deque, Dict, List, Optional, Sequence, Set
 
 from . import errors, frames
 from .errors import AnswerError, ProtocolError
@@ -71,13 +71,14 @@ class Flow:
         self.window = Window.of_file(file.floor, file.asked_floor, file.next, tickets, file.answers, file.ended)
         return [ticket for ticket in tickets.values() if ticket.taken_back is None]
 
-    def add(self, ticket: Ticket[Any]) -> None:
-        if ticket.key is None or not self._is_known(ticket, ticket.key):
-            if self._moved is not None:
-                may_wait = ticket.request is not None and ticket.request.may_wait
-                # Reports show under which session a client is there.
-                ticket.asks_first = may_wait and not ticket.is_presence
-            self._queue.append(ticket)
+    def add(self, tickets: Sequence[Ticket[Any]]) -> None:
+        for ticket in tickets:
+            if ticket.key is None or not self._is_known(ticket, ticket.key):
+                if self._moved is not None:
+                    may_wait = ticket.request is not None and ticket.request.may_wait
+                    # Reports show under which session a client is there.
+                    ticket.asks_first = may_wait and not ticket.is_presence
+                self._queue.append(ticket)
 
     def _is_known(self, ticket: Ticket[Any], key: bytes) -> bool:
         """Whether somebody asked under the key before: then the ticket ends as that one did, or does."""
@@ -147,7 +148,9 @@ class Flow:
 
     def _send_queue(self, window: Window[Ticket[Any]], now: float) -> None:
         queue = self._queue
-        while queue and window.has_room():
+        room = window.room()
+        while queue and room:
+            room -= 1
             ticket = queue.popleft()
             ticket.number = window.give(ticket)
             if self._file is not None:

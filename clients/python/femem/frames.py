@@ -49,12 +49,12 @@ def remove(number: int, array: int) -> bytes:
 
 
 # Length, kind, number, code, array, index and operand.
-_ACCESS = struct.Struct(">IBQBQIQ")
+pack_access = struct.Struct(">IBQBQIQ").pack
 
 
 def access(number: int, code: int, array: int, index: int, operand: int, nowait: bool) -> bytes:
     """`struct.error` where an argument is no whole number or has too many bits."""
-    return _ACCESS.pack(30, 11 if nowait else 5, number, code, array, index, operand)
+    return pack_access(30, 11 if nowait else 5, number, code, array, index, operand)
 
 
 _NUMBER = struct.Struct(">Q")
@@ -135,17 +135,18 @@ _new_tuple = tuple.__new__
 _unpack_answer = struct.Struct(">IBQBQI").unpack_from
 
 
-def _read_plain_answers(piece: bytes, replies: List[Reply]) -> int:
-    """Appends the answers at the head of a piece that are *value* or *done*, as most are. How many bytes they took.
+def _read_plain_answers(stream: Union[bytes, bytearray], at: int, replies: List[Reply]) -> int:
+    """Appends the answers that are *value* or *done*, as most are, from `at` on. Where they end.
 
     At anything else it stops, right or wrong, and leaves it to the reader of each kind.
     """
-    for at in range(0, len(piece) - 25, 26):
-        size, kind, number, code, value, length = _unpack_answer(piece, at)
+    end = at + (len(stream) - at) // 26 * 26
+    for here in range(at, end, 26):
+        size, kind, number, code, value, length = _unpack_answer(stream, here)
         if size != 22 or kind != 66 or length or code != VALUE and (code != DONE or value):
-            return at
+            return here
         replies.append(_new_tuple(Answer, (number, code, value, 0)))
-    return len(piece) // 26 * 26
+    return end
 
 
 class ReplyDecoder:
@@ -164,38 +165,38 @@ class ReplyDecoder:
         `ProtocolError` names the offset of the first frame that no server sends; of that piece nothing is handed out.
         """
         replies: List[Reply] = []
-        at = 0
-        if not self._rest:
-            at = _read_plain_answers(piece, replies)
-            self._offset += at
-            if at == len(piece):
-                return replies
-        self._rest += memoryview(piece)[at:]
-        at = 0
-        while True:
-            end = self._end_of_frame(at)
+        stream: Union[bytes, bytearray] = piece
+        if self._rest:
+            stream = self._rest
+            stream += piece
+        at = _read_plain_answers(stream, 0, replies)
+        while at < len(stream):
+            end = self._end_of_frame(stream, at)
             if end == 0:
                 break
-            replies.append(self._reply(at, end))
-            at = end
-        del self._rest[:at]
+            replies.append(self._reply(stream, at, end))
+            at = _read_plain_answers(stream, end, replies)
+        if stream is not piece:
+            del self._rest[:at]
+        elif at < len(piece):
+            self._rest += piece[at:]
         self._offset += at
         return replies
 
     def _bad(self, at: int, what: str) -> ProtocolError:
         return ProtocolError(f"bad frame at offset {self._offset + at}: {what}")
 
-    def _end_of_frame(self, at: int) -> int:
+    def _end_of_frame(self, stream: Union[bytes, bytearray], at: int) -> int:
         """Where the frame at `at` ends, or 0 where it is not whole. It is refused as soon as its head is wrong."""
-        have = len(self._rest) - at
+        have = len(stream) - at
         if have < 4:
             return 0
-        length = int.from_bytes(self._rest[at : at + 4], "big")
+        length = int.from_bytes(stream[at : at + 4], "big")
         if not 1 <= length <= 1 + LONGEST_REPORT:
             raise self._bad(at, f"length {length}")
         if have < 5:
             return 0
-        kind = self._rest[at + 4]
+        kind = stream[at + 4]
         if kind == _REPORT:
             right = length >= 2
         else:
@@ -204,9 +205,9 @@ class ReplyDecoder:
             raise self._bad(at, f"kind {kind} of length {length}")
         return at + 4 + length if have >= 4 + length else 0
 
-    def _reply(self, at: int, end: int) -> Reply:
-        kind = self._rest[at + 4]
-        body = bytes(self._rest[at + 5 : end])
+    def _reply(self, stream: Union[bytes, bytearray], at: int, end: int) -> Reply:
+        kind = stream[at + 4]
+        body = bytes(stream[at + 5 : end])
         if kind == 66:
             return self._answer(at, body)
         if kind == 65:

@@ -12,7 +12,7 @@ from typing import Any, Callable, Dict, Generic, SupportsIndex, Tuple, TypeVar, 
 
 from . import frames
 from .errors import ANSWER_ERRORS, BadLength, BadName, ProtocolError
-from .frames import VALUE, access
+from .frames import VALUE, pack_access
 
 T = TypeVar("T")
 
@@ -127,7 +127,7 @@ def _access(
         nowait = _flag(nowait, "nowait")
     try:
         id: Any = array.id if isinstance(array, Array) else array
-        frame = access(0, code, id, index, operand, nowait)
+        frame = pack_access(30, 11 if nowait else 5, 0, code, id, index, operand)
     except (struct.error, TypeError):
         # One of them is wrong: this says which.
         at, value = number_of_bits(index, 32, "index"), number_of_bits(operand, 64, "value")

@@ -12,6 +12,7 @@ from __future__ import annotations
 import fcntl
 import os
 import secrets
+import stat
 import struct
 import zlib
 from typing import Dict, List, NamedTuple, Optional, Tuple
@@ -45,7 +46,9 @@ class SessionFile:
 
     def __init__(self, path: str) -> None:
         """`SessionInUse` where another client has it, `SessionFileError` where it is no session file."""
-        self.path = path
+        # Whole, and that of a link's file, since that is what is renamed: the program may change its folder.
+        self.path = os.path.realpath(path)
+        self._file = -1
         self.session = 0
         self.floor: Optional[int] = None
         self.asked_floor = 0
@@ -58,7 +61,6 @@ class SessionFile:
         self.must_sync = False
         self._asked: Dict[int, Asked] = {}
         self._pending = bytearray()
-        self._file = -1
         try:
             self._open()
             self._read()
@@ -72,7 +74,9 @@ class SessionFile:
     def _open(self) -> None:
         """Opens and locks it. The file may be put in another's place in between, so it is looked for again then."""
         while True:
-            self._file = os.open(self.path, os.O_RDWR | os.O_CREAT | os.O_CLOEXEC, 0o600)
+            self._file = os.open(self.path, os.O_RDWR | os.O_CREAT | os.O_CLOEXEC | os.O_NOCTTY, 0o600)
+            if not stat.S_ISREG(os.fstat(self._file).st_mode):
+                raise SessionFileError(f"{self.path} is no plain file")
             try:
                 fcntl.flock(self._file, fcntl.LOCK_EX | fcntl.LOCK_NB)
             except BlockingIOError:
@@ -97,17 +101,23 @@ class SessionFile:
 
     def remove(self) -> None:
         """The session is ended: nothing is left to be held."""
-        try:
-            os.unlink(self.path)
-        except OSError:
-            pass  # the next process finds that it was being ended
-        self.abandon()
+        if self._file >= 0:
+            try:
+                os.unlink(self.path)
+            except OSError:
+                pass  # the next process finds that it was being ended
+            self.abandon()
 
     def abandon(self) -> None:
         """Closes it as it is, as a child does of its parent's."""
         if self._file >= 0:
+            file, self._file = self._file, -1
+            os.close(file)
+
+    def __del__(self) -> None:
+        """A client that was not made whole has nobody who closes it."""
+        if self._file >= 0:
             os.close(self._file)
-            self._file = -1
 
     def start_over(self) -> None:
         """Another session, after the end of this one."""
@@ -154,8 +164,8 @@ class SessionFile:
                 break
             self._take_entries(content[at + _HEAD.size : end])
             at = end
-        if len(content) - at >= _HEAD.size:
-            behind = at + _HEAD.size + _HEAD.unpack_from(content, at)[0]
+        # A whole block behind one that is not means damage.
+        for behind in range(at + 1, len(content) - _HEAD.size):
             if block_end(content, behind) is not None:
                 raise SessionFileError(f"{self.path} is damaged at byte {at}")
         return at
@@ -274,6 +284,7 @@ class SessionFile:
             self._pending += b"X" + _spelled(key)
 
     def ending(self) -> None:
+        self.is_ending = True
         self._pending += b"Z"
         self.must_sync = True
 
@@ -287,6 +298,7 @@ class SessionFile:
             self._write(self._file, block)
             os.fsync(self._file)
         except OSError as error:
+            self._pending.clear()  # its client ends, and nobody may ask what stands there
             raise SessionFileError(f"{self.path}: {error}") from error
         self._size += len(block)
         self._pending.clear()

@@ -56,8 +56,9 @@ class Window(Generic[T]):
             window._answers[number] = _SETTLED_OTHERWISE
         return window
 
-    def has_room(self) -> bool:
-        return self._next < self.asked + _WINDOW
+    def room(self) -> int:
+        """How many requests it has numbers for."""
+        return self.asked + _WINDOW - self._next
 
     def give(self, item: T) -> int:
         """The next number, for this request. There is room."""
@@ -90,14 +91,14 @@ class Window(Generic[T]):
         if self.asked != self.floor or self._next - self.floor < _STEP:
             return None
         floor = min(self.lowest(), self.floor + _LONGEST_STEP, frames.GREATEST_FLOOR)
-        if floor - self.floor < _STEP and (self.has_room() or floor == self.floor):
+        if floor - self.floor < _STEP and (self.room() or floor == self.floor):
             return None
         self.asked = floor
         return floor
 
     def is_stuck(self) -> bool:
         """Whether there is no room, and none comes before the request of the lowest number ends."""
-        return not self.has_room() and self.asked == self.floor == self.lowest()
+        return not self.room() and self.asked == self.floor == self.lowest()
 
     def lower_half(self) -> List[T]:
         """What has no answer among the lower half of the window's numbers."""

@@ -1,12 +1,14 @@
 """The client for asyncio, over the model behind a socket."""
 
 import asyncio
+import gc
+import time
 
 import paths  # noqa: F401
 from serving import WithFolder
 
 import femem
-from femem import requests
+from femem import Client, requests
 from femem import aio
 from femem.aio import AsyncClient
 
@@ -70,6 +72,115 @@ class Asyncio(WithFolder):
             self.assertEqual(await client.readfe(slot, 0), 1)
 
         self.run_with(work)
+
+    def test_a_batch_that_is_cancelled_loses_no_value(self):
+        self.server()
+
+        async def work(client):
+            told = []
+            asyncio.get_running_loop().set_exception_handler(lambda loop, what: told.append(what))
+            words = await client.create("words", 2)
+            batch = [requests.readfe(words, 0), requests.readfe(words, 1)]
+            for turn in range(20):
+                await client.writeef(words, 0, turn)
+                got = await asyncio.wait_for(client.submit_many(batch), 0.05)
+                self.assertEqual(got[0], turn)
+                self.assertIsInstance(got[1], femem.Withdrawn)
+            # Where nothing happened it is cancelled, and nothing of it waits on.
+            with self.assertRaises(asyncio.TimeoutError):
+                await asyncio.wait_for(client.submit_many(batch), 0.05)
+            self.assertEqual((await client.report()).waiters, [])
+            task = asyncio.ensure_future(client.submit_many(batch))
+            await asyncio.sleep(0.05)
+            for _ in range(2):
+                task.cancel()
+                await asyncio.sleep(0)
+            await asyncio.wait([task])
+            self.assertTrue(task.cancelled())
+            await client.report()
+            del task
+            gc.collect()
+            self.assertEqual(told, [])
+
+        self.run_with(work)
+
+    def test_a_client_is_opened_once_and_before_it_is_used(self):
+        self.server()
+
+        async def main():
+            client = AsyncClient(self.path, 8)
+            for use in (client.find("word"), client.report(), client.submit_many([requests.find("word")]), client.bye()):
+                with self.assertRaises(RuntimeError):
+                    await asyncio.wait_for(use, 10)
+            await client.open()
+            with self.assertRaises(RuntimeError):
+                await client.open()
+            await client.create("word", 1)
+            await client.close()
+            unused = AsyncClient(self.path)
+            await asyncio.wait_for(unused.close(), 10)
+            with self.assertRaises(femem.Closed):
+                await unused.find("word")
+            self.assertEqual(len(asyncio.all_tasks()), 1)
+
+        asyncio.run(main())
+
+    def test_a_client_is_of_one_event_loop(self):
+        self.server()
+        client = AsyncClient(self.path, 8)
+
+        async def use():
+            with self.assertRaises(RuntimeError):
+                await asyncio.wait_for(client.find("word"), 10)
+            async with AsyncClient(self.path, 9) as own, AsyncClient(self.path, 10) as other:
+                word = await own.create("word", 1)
+                future = own.submit(requests.readfe(word, 0))
+                self.assertRaises(ValueError, other.withdraw, future)
+                self.assertRaises(TypeError, other.withdraw, None)
+                own.withdraw(future)
+                with self.assertRaises(femem.Withdrawn):
+                    await future
+
+        asyncio.run(client.open())
+        asyncio.run(use())
+
+    def test_a_client_whose_event_loop_ends_is_closed(self):
+        server = self.server()
+        file = self.path + ".session"
+
+        async def main():
+            client = AsyncClient(self.path, session_file=file)
+            await client.open()
+            return client, client.submit(requests.readfe(await client.create("word", 1), 0))
+
+        client, waiting = asyncio.run(main())
+        self.assertIsInstance(waiting.exception(), femem.Closed)
+        end = time.monotonic() + 60
+        while server.model.boxes and time.monotonic() < end:
+            time.sleep(0.01)
+        self.assertEqual((server.model.boxes, type(client.failure)), ({}, femem.Closed))
+        with Client(self.path, session_file=file) as other:
+            self.assertEqual(other.session, client.session)
+
+    def test_a_close_that_is_cancelled_closes(self):
+        server = self.server()
+
+        async def main():
+            for turn in range(4):
+                client = AsyncClient(self.path, 8 if turn % 2 else None, sessions=3)
+                await client.open()
+                closing = asyncio.ensure_future(client.close())
+                for _ in range(1 + turn // 2):
+                    await asyncio.sleep(0)
+                closing.cancel()
+                await asyncio.wait([closing])
+                for _ in range(1000):
+                    if len(asyncio.all_tasks()) == 1 and not server.model.boxes:
+                        break
+                    await asyncio.sleep(0.01)
+                self.assertEqual((len(asyncio.all_tasks()), len(server.model.boxes)), (1, 0))
+
+        asyncio.run(main())
 
     def test_what_is_withdrawn(self):
         self.server()

@@ -1,14 +1,17 @@
 """The client for threads, over the model behind a socket."""
 
+import resource
 import threading
 import time
 import unittest
+from concurrent.futures import Future
 
 import paths  # noqa: F401
 from serving import WithFolder
 
 import femem
 from femem import Array, Client, requests
+from femem.patterns import Lock
 
 
 class Operations(WithFolder):
@@ -85,6 +88,22 @@ class Operations(WithFolder):
             future = client.submit(requests.readff(word, 0))
             self.assertEqual(future.result(30), 5)
             client.withdraw(future)
+
+    def test_what_another_client_asked_is_not_taken_back(self):
+        self.server()
+        with Client(self.path, 7) as one, Client(self.path, 8) as other:
+            words = one.create("words", 40)
+            for client in (one, other):
+                client.futures = [client.submit(requests.readfe(words, index)) for index in range(40)]
+            for future in one.futures:
+                self.assertRaises(ValueError, other.withdraw, future)
+            for wrong in (None, 5, Future()):
+                self.assertRaises(TypeError, other.withdraw, wrong)
+            one.submit_many([requests.writexf(words, index, index) for index in range(40)])
+            for index in range(40):
+                one.writeef(words, index, index, timeout=60)
+            for client in (one, other):
+                self.assertEqual([future.result(60) for future in client.futures], list(range(40)))
 
     def test_threads(self):
         self.server()
@@ -172,6 +191,20 @@ class Stops(WithFolder):
                 server.posts = True
                 server.start()
                 self.assertEqual([f.result(30) for f in futures], list(range(40 * stop, 40 * stop + 40)))
+
+    def test_a_process_that_has_no_descriptor_left_connects_later(self):
+        server = self.server()
+        with Client(self.path, 7) as client:
+            word = client.create("word", 1, full=True)
+            limits = resource.getrlimit(resource.RLIMIT_NOFILE)
+            server.kill()
+            try:
+                resource.setrlimit(resource.RLIMIT_NOFILE, (3, limits[1]))
+                time.sleep(0.6)
+            finally:
+                resource.setrlimit(resource.RLIMIT_NOFILE, limits)
+            server.start()
+            self.assertEqual(client.int_fetch_add(word, 0, 1, timeout=60), 0)
 
     def test_what_waits_goes_on_waiting(self):
         server = self.server()
@@ -300,6 +333,29 @@ class Sessions(WithFolder):
             client.submit(requests.int_fetch_add(word, 0, 1)).add_done_callback(go_on)
             self.assertTrue(done.wait(30))
             self.assertEqual(values, list(range(5)))
+
+    def test_a_callback_that_would_wait_for_its_own_client_is_told(self):
+        self.server()
+        with Client(self.path, 7, sessions=2) as client:
+            word = client.create("word", 1, full=True)
+            told = []
+
+            def go_on(_):
+                for wait in (
+                    lambda: client.readff(word, 0),
+                    lambda: client.submit_many([requests.readff(word, 0)]),
+                    client.report,
+                    client.bye,
+                    lambda: Lock(client, "lock"),
+                ):
+                    try:
+                        wait()
+                    except RuntimeError as error:
+                        told.append(error)
+
+            client.submit(requests.readff(word, 0)).add_done_callback(go_on)
+            self.assertEqual(client.int_fetch_add(word, 0, 1, timeout=60), 0)
+            self.assertEqual(len(told), 5)
 
 
 if __name__ == "__main__":

@@ -156,15 +156,18 @@ class Spoilt(WithFolder):
 
         asyncio.run(main())
 
-    def test_a_batch_costs_one_wake_of_the_thread(self):
-        """32 requests of one batch are answered by one round of the client's thread."""
+    def test_a_batch_is_asked_in_one_step(self):
+        """32 requests of one batch cost the client's thread one step, where 32 calls of `submit` cost it 32."""
         self.server()
         with Client(self.path, 7) as client:
             hits = client.create("hits", 1, full=True)
+            steps = []
+            ask = client._ask
+            client._ask = lambda what: (steps.append(what), ask(what))
             with client.pipeline() as pipe:
                 for _ in range(32):
                     pipe.int_fetch_add(hits, 0, 1)
-            self.assertEqual(pipe.results, list(range(32)))
+            self.assertEqual((pipe.results, len(steps)), (list(range(32)), 1))
 
 
 class Killed(WithFolder):
@@ -172,10 +175,12 @@ class Killed(WithFolder):
 import os, sys
 sys.path.insert(0, sys.argv[1])
 from femem import Client, requests
-path, file, progress = sys.argv[2:5]
+path, file, progress, recovered = sys.argv[2:6]
 done = int(open(progress).read()) if os.path.exists(progress) else 0
 with Client(path, session_file=file, reconnect_timeout=100.0) as client:
     word = client.find("word")
+    with open(recovered, "a") as told:
+        told.write("+" * len(client.recovered))
     print("ready", flush=True)
     while done < 600:
         client.once(done, requests.int_fetch_add(word, 0, 1))
@@ -193,7 +198,8 @@ with Client(path, session_file=file, reconnect_timeout=100.0) as client:
         kills = 0
         with Client(self.path, 7) as client:
             word = client.create("word", 1, full=True)
-            words = [str(ROOT), self.path, self.path + ".session", self.path + ".progress"]
+            files = [self.path + end for end in (".session", ".progress", ".recovered")]
+            words = [str(ROOT), self.path, *files]
             while True:
                 worker = subprocess.Popen([sys.executable, "-c", self.WORKER, *words], stdout=subprocess.PIPE, text=True)
                 with worker.stdout:
@@ -206,6 +212,8 @@ with Client(path, session_file=file, reconnect_timeout=100.0) as client:
             self.assertEqual(worker.returncode, 0)
             self.assertEqual(kills, 12)
             self.assertEqual(client.readff(word, 0), 600)
+        # Some of the kills left a request without an answer.
+        self.assertTrue(pathlib.Path(files[2]).read_text())
 
     def test_a_shell_that_is_ended_leaves_no_session(self):
         server = self.server()

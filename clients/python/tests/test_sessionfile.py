@@ -1,21 +1,25 @@
 """At most once over the client's own restarts: a client with a session file is killed at each point, and goes on."""
 
 import asyncio
+import itertools
 import os
 import random
 import signal
+import stat
 import struct
 import threading
 import time
 
 import paths  # noqa: F401
+from model import Model
 from serving import WithFolder
+from test_unspoilt import interrupted
 
 import femem
-from femem import Client, aio, requests, sessionfile
+from femem import Client, aio, frames, requests, sessionfile
 from femem.aio import AsyncClient
 from femem.core import Core
-from femem.sessionfile import SessionFile
+from femem.sessionfile import Asked, SessionFile
 
 POINTS = {
     "before the write": (SessionFile, "commit", "before"),
@@ -307,6 +311,143 @@ class Files(WithFolder):
         with self.assertRaises(femem.SessionFileError):
             SessionFile(self.file)
 
+    def test_each_bit_that_is_flipped_before_the_last_entry_is_told(self):
+        self.server()
+        with Client(self.path, session_file=self.file) as client:
+            word = client.create("word", 1, full=True)
+            for _ in range(4):
+                client.int_fetch_add(word, 0, 1)
+        with open(self.file, "rb") as file:
+            whole = file.read()
+        last = at = 8
+        while at < len(whole):
+            last, at = at, at + 8 + struct.unpack_from(">I", whole, at)[0]
+        self.assertGreater(last, 200)
+        for at, bit in itertools.product(range(last), (0x01, 0x10, 0x80)):
+            damaged = whole[:at] + bytes([whole[at] ^ bit]) + whole[at + 1 :]
+            with open(self.file, "wb") as file:
+                file.write(damaged)
+            with self.subTest(at=at, bit=bit), self.assertRaises(femem.SessionFileError):
+                SessionFile(self.file).abandon()
+            with open(self.file, "rb") as file:
+                self.assertEqual(file.read(), damaged)
+
+    def any_step(self, chance, file, out):
+        """One thing that may happen to a session, drawn by lot. `out` is what has no end yet."""
+        drawn = chance.random()
+        if drawn < 0.35 and file.next < file.asked_floor + 32:
+            number, key = file.next, chance.choice([None, b"one", b"two", b"three"])
+            taken = {file.unanswered[each].key for each in out} | set(file.keyed)
+            file.asked(number, Asked(b"frame %d" % number, None if key in taken else key, drawn < 0.05))
+            out.append(number)
+        elif drawn < 0.6 and out:
+            number = out.pop(chance.randrange(len(out)))
+            if chance.random() < 0.7:
+                file.answered(frames.Answer(number, 1, chance.randrange(100), 0))
+            else:
+                file.has_ended(number)
+        elif drawn < 0.7 and file.asked_floor == file.floor < min(out, default=file.next):
+            file.settling(min([*out, file.next, file.floor + 31]))
+        elif drawn < 0.8:
+            file.settled(file.asked_floor)
+        elif drawn < 0.9 and file.keyed:
+            file.forget(chance.choice(sorted(file.keyed)))
+        elif file.must_sync:
+            file.commit()
+
+    @staticmethod
+    def says(file):
+        keyed = {key: (frame, answer._replace(number=0)) for key, (frame, answer) in file.keyed.items()}
+        numbers = (file.session, file.floor, file.asked_floor, file.next)
+        return numbers, file.unanswered, file.answers, sorted(file.ended), keyed
+
+    def test_what_is_read_is_what_was_kept(self):
+        """Whatever happens to a session, and however often the file is written anew, the next process reads it."""
+        self.addCleanup(setattr, sessionfile, "_SHORT", sessionfile._SHORT)
+        for seed in range(60):
+            chance = random.Random(seed)
+            sessionfile._SHORT = chance.choice([200, 65536])
+            file = SessionFile(self.file)
+            file.begin(33)
+            out = []
+            for _ in range(chance.randrange(1, 120)):
+                self.any_step(chance, file, out)
+            said = self.says(file)
+            file.close()
+            file = SessionFile(self.file)
+            self.assertEqual(self.says(file), said, seed)
+            file.remove()
+
+    def test_what_is_no_plain_file_is_refused_and_not_touched(self):
+        os.mkfifo(self.file)
+        os.mkdir(self.path + ".folder")
+        for path in (self.file, self.path + ".folder"):
+            told = []
+            opening = threading.Thread(target=lambda: told.append(self.error_of(path)), daemon=True)
+            opening.start()
+            opening.join(60)
+            self.assertEqual(told, ["SessionFileError"])
+        self.assertTrue(stat.S_ISFIFO(os.stat(self.file).st_mode))
+
+    @staticmethod
+    def error_of(path):
+        try:
+            SessionFile(path).abandon()
+        except femem.SessionFileError:
+            return "SessionFileError"
+
+    def test_a_program_that_changes_its_folder_keeps_its_file(self):
+        self.server()
+        folders = [self.path + "1", self.path + "2"]
+        for folder in folders:
+            os.mkdir(folder)
+        os.symlink("there", os.path.join(folders[0], "link"))
+        self.addCleanup(os.chdir, os.getcwd())
+        os.chdir(folders[0])
+        with Client(self.path, session_file="link") as client:
+            os.chdir(folders[1])
+            client._core.file.compact()
+            word = client.create("word", 1, full=True)
+            self.assertEqual(client.once("key", requests.int_fetch_add(word, 0, 1)), 0)
+        os.chdir(folders[0])
+        self.assertEqual((sorted(os.listdir(".")), os.listdir(folders[1])), (["link", "there"], []))
+        for name in ("link", "there"):
+            with Client(self.path, session_file=name) as client:
+                self.assertEqual(client.once("key", requests.int_fetch_add(word, 0, 1)), 0)
+
+    def test_a_client_that_is_not_made_leaves_the_file_free(self):
+        """The constructor is broken off at bytecodes all over it, by an exception out of a signal's handler."""
+        server = self.server()
+        broken = 0
+        for at in itertools.count(1, 23):
+            made = []
+            if not interrupted(lambda: made.append(Client(self.path, session_file=self.file)), at):
+                made[0].close()
+                break
+            broken += 1
+            with self.subTest(bytecode=at), Client(self.path, session_file=self.file) as client:
+                self.assertEqual(list(server.model.stored.sessions), [client.session])
+        self.assertGreater(broken, 20)
+
+    def test_what_a_full_disk_kept_out_is_not_written_later(self):
+        """A client whose request is refused by the disk ends; the next process does not ask that request."""
+        server = self.server()
+        with Client(self.path, session_file=self.file) as client:
+            word = client.create("word", 1, full=True)
+            file, write = client._core.file, SessionFile._write
+
+            def full(*words):
+                file._write = write
+                raise OSError(28, "no space is left")
+
+            file._write = full
+            with self.assertRaises(femem.SessionFileError):
+                client.int_fetch_add(word, 0, 1)
+        with Client(self.path, session_file=self.file) as client:
+            self.assertNotIn(f"int_fetch_add {word.id} 0", [each.what for each in client.recovered])
+            self.assertEqual(client.readff(word, 0), 0)
+        self.assertEqual(server.model.stored.arrays[word.id][1][0][0], 0)
+
     def test_a_file_that_cannot_be_written_stops_the_client_before_it_sends(self):
         server = self.server()
         with Client(self.path, session_file=self.file) as client:
@@ -352,6 +493,21 @@ class Files(WithFolder):
             Client(self.path, session_file=self.file)
         self.assertEqual(word.length, 1)
 
+    def test_a_file_whose_session_is_lost_is_removed_to_begin_anew(self):
+        """A server with another store does not have the session, and the file goes on to say so until it is removed."""
+        server = self.server()
+        Client(self.path, session_file=self.file).close()
+        server.kill()
+        server.model = Model(0)
+        server.start()
+        for _ in range(2):
+            with self.assertRaises(femem.SessionLost):
+                Client(self.path, session_file=self.file)
+        os.unlink(self.file)
+        with Client(self.path, session_file=self.file) as client:
+            self.assertEqual(client.recovered, [])
+            client.create("word", 1)
+
     def test_bye_ends_the_file_too(self):
         server = self.server()
         client = Client(self.path, session_file=self.file)
@@ -371,6 +527,16 @@ class Files(WithFolder):
         with Client(self.path, session_file=self.file) as client:
             self.assertNotEqual(client.session, first)
             self.assertEqual(list(server.model.stored.sessions), [client.session])
+
+    def test_a_bye_that_is_broken_off_stays_one_where_the_file_is_written_anew(self):
+        file = SessionFile(self.file)
+        file._limit = 0
+        file.ending()
+        file.commit()
+        file.abandon()
+        file = SessionFile(self.file)
+        self.assertTrue(file.is_ending)
+        file.remove()
 
     def test_a_bye_that_is_broken_off_is_said_again_in_asyncio(self):
         server = self.server()

@@ -88,6 +88,17 @@ class Arguments(WithFolder):
                 for make in (Client, AsyncClient):
                     with self.assertRaises((TypeError, ValueError)):
                         make(self.path, 7, **{name: wrong})
+        for make in (Client, AsyncClient):
+            for more in ({"timeout": 10**400}, {"probe_interval": 0}, {"probe_interval": -1.0}):
+                with self.assertRaises(ValueError):
+                    make(self.path, 7, **more)
+
+    def test_times_that_no_clock_reaches(self):
+        self.server()
+        for more in ({"probe_interval": 1e9}, {"timeout": 1e300}, {"reconnect_timeout": 1e300}):
+            with Client(self.path, 7, **more) as client:
+                time.sleep(0.02)
+                self.assertRaises(femem.NoArray, client.find, "word")
 
     def test_a_counter_that_is_given_a_fraction(self):
         self.server()
@@ -126,7 +137,8 @@ def interrupted(work, at):
 
     def trace(frame, event, _):
         nonlocal count
-        if not frame.f_code.co_filename.startswith(os.path.dirname(femem.__file__)):
+        # (what is raised out of a `__del__` nobody hears)
+        if not frame.f_code.co_filename.startswith(os.path.dirname(femem.__file__)) or frame.f_code.co_name == "__del__":
             return None
         frame.f_trace = trace
         frame.f_trace_opcodes = True
