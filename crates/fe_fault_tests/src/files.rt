@@ -62,7 +62,9 @@ fn file_as_memory(rt: HostRuntime) -> Result<(), Fail> {
     let folder = env::temp_dir(&rt)?;
     let id = process::id(rt.process());
     let path = format!(in rt.alloc(); "{}/fe_file_{id}", folder.as_str())?;
-    let file = FileDisk::create(&rt, path.as_str(), DEVICE_BYTES)?;
+    let file = FileDisk::create(&rt, path.as_str(), DEVICE_BYTES)
+        .ok()
+        .ok_or("a file")?;
     let in_file = written(&rt, rt.alloc(), file);
     fs::remove_file(&rt, path.as_str())?;
     let in_memory = written(&rt, rt.alloc(), MemoryDisk::new(rt.alloc(), DEVICE_BYTES)?);

@@ -6,6 +6,11 @@ mod memory;
 use fe_disk::{DeviceFault, Disk};
 use std::process::Abort;
 
+// What a call gave. A test ends with the text where it failed.
+fn done<T, E: Copy>(given: Result<T, E>) -> Result<T, &'static str> {
+    given.ok().ok_or("a call of a disk failed")
+}
+
 // Writes in the bytes of a disk that has them.
 fn write<D: Disk>(
     rt: &impl Abort,

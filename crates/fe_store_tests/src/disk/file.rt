@@ -1,4 +1,4 @@
-use super::{read, write};
+use super::{done, read, write};
 use fe_disk::{Disk, FileDisk, FileFault, add_name, remove_name};
 use std::fs::{File, OpenOptions};
 use std::os::unix::fs::MetadataExt;
@@ -17,7 +17,7 @@ fn path_of<R: Env + AllocGlobal>(rt: &R, id: u32, name: &str) -> Result<String, 
 
 fn check_bytes<D: Disk>(rt: &impl Abort, disk: &mut D, want: [u8; 5]) -> Result<(), Fail> {
     let mut found = [7; 5];
-    read(rt, disk, 10, &mut found)?;
+    done(read(rt, disk, 10, &mut found))?;
     assert!(rt; found == want);
     Ok(())
 }
@@ -31,8 +31,8 @@ fn check_new<R: Files<File = File> + Abort, D: Disk>(
     assert!(rt; disk.size() == SIZE);
     assert!(rt; fs::metadata(rt, path)?.mode() & 0o777 == 0o600);
     check_bytes(rt, disk, [0; 5])?;
-    write(rt, disk, 11, &[1, 2, 3])?;
-    disk.sync()?;
+    done(write(rt, disk, 11, &[1, 2, 3]))?;
+    done(disk.sync())?;
     assert!(rt; disk.failures() == 0);
     assert!(rt; FileDisk::at(rt, path, SIZE).err() == Some(FileFault::Device));
     assert!(rt; FileDisk::create(rt, path, SIZE).err() == Some(FileFault::Device));
@@ -41,7 +41,7 @@ fn check_new<R: Files<File = File> + Abort, D: Disk>(
 
 // What was written is in the file.
 fn check_again<R: Files<File = File> + Abort>(rt: &R, path: &str) -> Result<(), Fail> {
-    let mut disk = FileDisk::at(rt, path, SIZE)?;
+    let mut disk = done(FileDisk::at(rt, path, SIZE))?;
     let checked = check_bytes(rt, &mut disk, [0, 1, 2, 3, 0]);
     drop(disk);
     checked?;
@@ -60,18 +60,18 @@ fn check_reading<R: Files<File = File> + Abort, D: Disk>(
     check_bytes(rt, disk, [0, 1, 2, 3, 0])?;
     assert!(rt; write(rt, disk, 10, &[9]).is_err());
     assert!(rt; disk.failures() == 1);
-    disk.sync()?;
+    done(disk.sync())?;
     check_bytes(rt, disk, [0, 1, 2, 3, 0])?;
     assert!(rt; disk.failures() == 1);
-    drop(FileDisk::read_only(rt, path, SIZE)?);
-    let other = FileDisk::at(rt, path, SIZE)?;
-    drop(FileDisk::read_only(rt, path, SIZE)?);
+    drop(done(FileDisk::read_only(rt, path, SIZE))?);
+    let other = done(FileDisk::at(rt, path, SIZE))?;
+    drop(done(FileDisk::read_only(rt, path, SIZE))?);
     drop(other);
     Ok(())
 }
 
 fn check_read_only<R: Files<File = File> + Abort>(rt: &R, path: &str) -> Result<(), Fail> {
-    let mut disk = FileDisk::read_only(rt, path, SIZE)?;
+    let mut disk = done(FileDisk::read_only(rt, path, SIZE))?;
     let checked = check_reading(rt, &mut disk, path);
     drop(disk);
     checked?;
@@ -91,7 +91,7 @@ fn check_cut<R: Files<File = File> + Abort, D: Disk>(
     let mut found = [7; 5];
     assert!(rt; read(rt, disk, 6, &mut found).is_err());
     assert!(rt; disk.failures() == 1);
-    write(rt, disk, 10, &[1, 2, 3, 4, 5])?;
+    done(write(rt, disk, 10, &[1, 2, 3, 4, 5]))?;
     check_bytes(rt, disk, [1, 2, 3, 4, 5])?;
     assert!(rt; disk.failures() == 1);
     Ok(())
@@ -103,7 +103,7 @@ fn keeps_a_file(rt: HostRuntime) -> Result<(), Fail> {
     assert!(rt; FileDisk::at(&rt, path.as_str(), SIZE).err() == Some(FileFault::Missing));
     assert!(rt; FileDisk::read_only(&rt, path.as_str(), SIZE).err() == Some(FileFault::Missing));
     assert!(rt; FileDisk::read_only(&rt, "/", SIZE).err() == Some(FileFault::Device));
-    let mut disk = FileDisk::create(&rt, path.as_str(), SIZE)?;
+    let mut disk = done(FileDisk::create(&rt, path.as_str(), SIZE))?;
     let checked = check_new(&rt, &mut disk, path.as_str());
     drop(disk);
     checked?;
@@ -116,7 +116,7 @@ fn keeps_a_file(rt: HostRuntime) -> Result<(), Fail> {
 #[test]
 fn counts_faults_of_a_file(rt: HostRuntime) -> Result<(), Fail> {
     let path = path_of(&rt, process::id(rt.process()), "cut")?;
-    let mut disk = FileDisk::create(&rt, path.as_str(), SIZE)?;
+    let mut disk = done(FileDisk::create(&rt, path.as_str(), SIZE))?;
     let checked = check_cut(&rt, &mut disk, path.as_str());
     drop(disk);
     checked?;
@@ -131,19 +131,19 @@ fn check_watched<R: Files<File = File> + Abort, D: Disk>(
     path: &str,
     other: &str,
 ) -> Result<(), Fail> {
-    disk.sync()?;
+    done(disk.sync())?;
     fs::rename(rt, path, other)?;
     assert!(rt; disk.sync().is_err());
     fs::copy(rt, other, path)?;
     assert!(rt; disk.sync().is_err());
     fs::rename(rt, other, path)?;
-    disk.sync()?;
+    done(disk.sync())?;
     assert!(rt; disk.failures() == 2);
     let file = OpenOptions::new().write(true).open(rt, path)?;
     file.set_len(SIZE as u64 + 1)?;
     assert!(rt; disk.sync().is_err());
     file.set_len(SIZE as u64)?;
-    disk.sync()?;
+    done(disk.sync())?;
     fs::remove_file(rt, path)?;
     assert!(rt; disk.sync().is_err());
     assert!(rt; disk.failures() == 4);
@@ -154,7 +154,7 @@ fn check_watched<R: Files<File = File> + Abort, D: Disk>(
 fn watches_a_file(rt: HostRuntime) -> Result<(), Fail> {
     let path = path_of(&rt, process::id(rt.process()), "watched")?;
     let other = path_of(&rt, process::id(rt.process()), "other")?;
-    let mut disk = FileDisk::create(&rt, path.as_str(), SIZE)?;
+    let mut disk = done(FileDisk::create(&rt, path.as_str(), SIZE))?;
     let checked = check_watched(&rt, &mut disk, path.as_str(), other.as_str());
     drop(disk);
     checked
@@ -165,13 +165,13 @@ fn watches_a_file(rt: HostRuntime) -> Result<(), Fail> {
 fn gives_names(rt: HostRuntime) -> Result<(), Fail> {
     let path = path_of(&rt, process::id(rt.process()), "named")?;
     let name = path_of(&rt, process::id(rt.process()), "name")?;
-    drop(FileDisk::create(&rt, path.as_str(), SIZE)?);
+    drop(done(FileDisk::create(&rt, path.as_str(), SIZE))?);
     assert!(rt; add_name(&rt, path.as_str(), name.as_str())?);
     assert!(rt; !add_name(&rt, path.as_str(), name.as_str())?);
     assert!(rt; fs::metadata(&rt, name.as_str())?.ino() == fs::metadata(&rt, path.as_str())?.ino());
     remove_name(&rt, path.as_str())?;
     assert!(rt; FileDisk::at(&rt, path.as_str(), SIZE).err() == Some(FileFault::Missing));
-    drop(FileDisk::at(&rt, name.as_str(), SIZE)?);
+    drop(done(FileDisk::at(&rt, name.as_str(), SIZE))?);
     remove_name(&rt, name.as_str())?;
     assert!(rt; remove_name(&rt, name.as_str()).is_err());
     Ok(())

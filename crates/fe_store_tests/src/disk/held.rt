@@ -1,3 +1,4 @@
+use super::done;
 use fe_disk::{Disk, Held, Hold, MemoryDisk};
 use std::rt::Clock;
 use std::sync::{Arc, Wait};
@@ -24,7 +25,7 @@ fn holds_a_sync(rt: HostRuntime) -> Result<(), Fail> {
     let hold = Arc::new(rt.alloc(), Hold::new())?;
     let disk = MemoryDisk::new(rt.alloc(), 8)?;
     let mut disk = Held::new(disk, rt, Arc::try_clone(&hold)?);
-    disk.sync()?;
+    done(disk.sync())?;
     hold.hold(&rt);
     let syncing = thread::spawn(&rt, move || {
         let outcome = disk.sync();
@@ -37,7 +38,7 @@ fn holds_a_sync(rt: HostRuntime) -> Result<(), Fail> {
     let (outcome, again) = syncing.join(&rt);
     drop(hold);
     assert!(rt; was_held);
-    outcome?;
-    again?;
+    done(outcome)?;
+    done(again)?;
     Ok(())
 }

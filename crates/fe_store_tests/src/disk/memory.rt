@@ -1,4 +1,4 @@
-use super::{read, write};
+use super::{done, read, write};
 use fe_disk::{Disk, MemoryDisk};
 use std::process::Abort;
 use std::test::Fail;
@@ -9,7 +9,7 @@ fn check_faults(rt: &impl Abort, disk: &mut MemoryDisk) -> Result<(), Fail> {
     let mut found = [0; 2];
     let mut faults = 0;
     for byte in 1..20 {
-        read(rt, disk, 7, &mut found)?;
+        done(read(rt, disk, 7, &mut found))?;
         let before = found;
         let want = match write(rt, disk, 7, &[byte, byte]) {
             Ok(()) => [byte, byte],
@@ -19,7 +19,7 @@ fn check_faults(rt: &impl Abort, disk: &mut MemoryDisk) -> Result<(), Fail> {
             }
         };
         assert!(rt; disk.failures() == faults);
-        read(rt, disk, 7, &mut found)?;
+        done(read(rt, disk, 7, &mut found))?;
         assert!(rt; found == want);
         if disk.sync().is_err() {
             faults = 1;
