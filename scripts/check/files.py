@@ -8,7 +8,7 @@ import struct
 from . import store, wire
 from .crowds import adding
 from .faults import Client, answered, goes_on
-from .harness import Server, holds, same, until, within
+from .harness import Held, Server, holds, same, until
 from .model import State
 from .records import Journal
 from .store import GATE, SIZE, TWO
@@ -62,11 +62,11 @@ def files_in(folder):
     return found
 
 
-def with_records(device, groups, entry):
-    """A device that has so many groups of one entry, once the next one's records are written and its gate is closed."""
+def with_records(device, groups, entry, gate=b"\0"):
+    """A device that has so many groups of one entry, once the next one's records are written, with this gate."""
     found = bytearray(device)
     _, at, data = Journal(TWO, 0, groups * (5 + TWO.record)).group(entry)[0]
-    found[at : at + len(data)] = data
+    found[at - 1 : at + len(data)] = gate + data
     return bytes(found)
 
 
@@ -80,7 +80,7 @@ def what_is_left(name, before, after):
 
 
 def changed_meanwhile(place):
-    """the file of a server is cut, made longer, removed, renamed or replaced: what comes next is not answered, and the server ends with `femem: store device`"""
+    """a served file is cut, made longer, removed, renamed or replaced: no answer follows, but `femem: store device`"""
     for name, change in CHANGES.items():
         folder = place.path(name.replace(" ", "_"))
         os.mkdir(folder)
@@ -100,6 +100,35 @@ def changed_meanwhile(place):
             os.rename(f"{server.store}.other", server.store)
             goes_on(place, server, client, answered(WORK), "back under its name")
     return f"{len(CHANGES)} changes"
+
+
+def renamed_in_a_group(place):
+    """a served file is renamed within a sync of a group: that is not answered, and has an open gate only where it was the second"""
+    for syncs, gate in ((1, b"\0"), (2, b"\1")):
+        name = f"sync {syncs}"
+        held = Held(place, "fdatasync")
+        server = Server(place, f"s{syncs}").start(held.env)
+        client = Client(server, WORK[:3])
+        holds(client.attempt(), f"{name}: a connection ended")
+        client.work, wanted = WORK, answered(WORK)
+        with server.attached(7) as conn:
+            before = place.read(f"s{syncs}.store")
+            held.next()
+            conn.send(wire.call(4, WORK[3]))
+            held.wait()
+            if syncs == 2:
+                held.next()
+                held.let_go()
+                held.wait()
+            rename(server.store)
+            held.let_go()
+            holds(conn.has_ended(), f"{name}: a reply came")
+        same(server.ended(), (3, "", "femem: store device\n"), name)
+        # (attached twice, and three answers)
+        left = with_records(before, 5, ("finished", 7, 4, WORK[3], wanted[3]), gate)
+        same(place.read(f"s{syncs}.store.other") == left, True, f"{name}: the file that was renamed")
+        os.rename(f"{server.store}.other", server.store)
+        goes_on(place, server, client, wanted, name)
 
 
 def by_other_paths(place):
@@ -221,4 +250,4 @@ def begun_at_once(place):
         same([file for file in os.listdir(place.folder) if file.startswith(f"store{turn}")], [f"store{turn}"])
 
 
-CHECKS = (changed_meanwhile, by_other_paths, kept_bytes, nothing_to_keep, modes, left_over, begun_at_once)
+CHECKS = (changed_meanwhile, renamed_in_a_group, by_other_paths, kept_bytes, nothing_to_keep, modes, left_over, begun_at_once)
