@@ -66,11 +66,11 @@ serve: $(PROGRAM) ## starts a server by examples/femem.toml, whose socket and st
 examples: $(PROGRAM) ## runs every schedule of examples/, and compares what it prints
 	@scripts/run_examples $(PROGRAM)
 
-faults: $(PROGRAM) ## the same, with each allocation refused in turn, and so each test of what stands where memory ends
+faults: $(PROGRAM) ## the same, with each allocation refused in turn, and the tests of what happens when memory ends
 	@scripts/refuse_each $(PROGRAM)
 	@scripts/refuse_test
 
-check-programs: $(PROGRAM) ## real processes: crowds, kills under load, damaged stores, faults, clients, what is installed (10 minutes)
+check-programs: $(PROGRAM) ## real processes: crowds, kills under load, damaged stores, faults, clients, what is installed (4 minutes)
 	@scripts/check_programs $(PROGRAM)
 
 check-deb: $(PROGRAM) ## the package, in a clean Debian with a systemd of its own: installed, killed, removed, purged; needs root (2 minutes)
@@ -90,7 +90,7 @@ client: ## builds the C client, and runs the tests of both clients; needs no too
 bench: $(PROVED) ## measures a long schedule
 	@bench/run $(PROVED)
 
-bench-serve: $(PROVED) ## measures a server, beside Redis where it is installed
+bench-serve: $(PROVED) ## measures a server, and Redis where it is installed
 	@bench/serve/run $(PROVED)
 
 toolchain:

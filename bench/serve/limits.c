@@ -1,8 +1,7 @@
 /* What no server of this shape can be faster than, in one line of JSON:
      limits group FILE RECORDS SECONDS    a group of the journal: a write, fdatasync, its gate's write, fdatasync
      limits sync FILE RECORDS SECONDS     one write and one fdatasync
-     limits path FILE SECONDS             the processor time of one statx of a path, with which a sync ends
-     limits file FILE SECONDS             that of one statx of an open file
+     limits watch FILE SECONDS            the processor time of what ends each sync: the status and the path of an open file
      limits relay SOCKET SECONDS          a frame from a client through a reading, a committing and a writing thread,
                                           and back, with nothing in between */
 #define _GNU_SOURCE
@@ -78,20 +77,23 @@ static uint64_t processor_ns(void) {
   return (uint64_t)time.tv_sec * 1000000000u + (uint64_t)time.tv_nsec;
 }
 
-static void look(const char *path, uint64_t end, bool by_path) {
+static void watch(const char *path, uint64_t end) {
   enum { ROUND = 1000 };
-  int file = make_file(path), folder = by_path ? AT_FDCWD : file, flags = by_path ? 0 : AT_EMPTY_PATH;
-  const char *name = by_path ? path : "";
-  struct statx found;
+  int file = make_file(path);
+  char link[32], found[4096];
+  struct statx status;
+  snprintf(link, sizeof link, "/proc/self/fd/%d", file);
   while (now_ns() < end) {
     uint64_t began = processor_ns();
-    for (int k = 0; k < ROUND; k++)
-      if (statx(folder, name, flags, STATX_BASIC_STATS, &found)) give_up("statx");
+    for (int k = 0; k < ROUND; k++) {
+      if (statx(file, "", AT_EMPTY_PATH, STATX_BASIC_STATS, &status)) give_up("statx");
+      if (readlink(link, found, sizeof found) < 0) give_up("readlink");
+    }
     note_latency(&noted, (processor_ns() - began) / ROUND);
   }
   close(file);
   unlink(path);
-  print(by_path ? "path" : "file", 0);
+  print("watch", 0);
 }
 
 /* ---- the threads ---- */
@@ -179,11 +181,10 @@ int main(int count, char **words) {
   signal(SIGPIPE, SIG_IGN);
   if (count == 5 && !strcmp(words[1], "group")) disk(words[2], atol(words[3]), end, true);
   else if (count == 5 && !strcmp(words[1], "sync")) disk(words[2], atol(words[3]), end, false);
-  else if (count == 4 && !strcmp(words[1], "path")) look(words[2], end, true);
-  else if (count == 4 && !strcmp(words[1], "file")) look(words[2], end, false);
+  else if (count == 4 && !strcmp(words[1], "watch")) watch(words[2], end);
   else if (count == 4 && !strcmp(words[1], "relay")) relay(words[2], end);
   else {
-    fprintf(stderr, "usage: limits group|sync FILE RECORDS SECONDS, limits path|file FILE SECONDS, or limits relay SOCKET SECONDS\n");
+    fprintf(stderr, "usage: limits group|sync FILE RECORDS SECONDS, limits watch FILE SECONDS, or limits relay SOCKET SECONDS\n");
     return 2;
   }
   return 0;

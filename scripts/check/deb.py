@@ -112,7 +112,7 @@ class Clean:
                 with open(f"/proc/{it}/comm", encoding="ascii") as file:
                     if file.read().strip() == "systemd":
                         return int(it)
-            except FileNotFoundError:
+            except (FileNotFoundError, ProcessLookupError):
                 pass
         return None
 

@@ -162,14 +162,10 @@ class Server:
 
     def ends(self):
         """Waits until the server has ended by itself."""
-        deadline = time.monotonic() + 60
-        while self.process.poll() is None and time.monotonic() < deadline:
-            try:
-                self.connect().close()
-            except OSError:
-                pass
-            time.sleep(0.1)
-        holds(self.process.poll() is not None, "the server has not ended")
+        try:
+            self.process.wait(60)
+        except subprocess.TimeoutExpired:
+            raise Wrong("the server has not ended") from None
 
     def is_there(self):
         if self.process.poll() is not None:

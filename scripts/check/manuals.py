@@ -21,8 +21,7 @@ LINES = (
     "femem: strange", "femem: socket", "femem: input", "femem: line N",
 )
 KEYS = ("socket", "store", "connections", "format", "accepts", "turns")
-# (the program's texts stand one behind another, with nothing between them)
-FAULTS = re.compile(rb"femem: (?:(?!femem: )[a-z ])+")
+FAULTS = re.compile(r'^ *#\[error\("(femem: [^"]+)"\)\]$', re.M)
 
 
 def needs_man():
@@ -89,14 +88,10 @@ def told(place):
         holds(it in found["femem"], f"femem(1) does not have: {it}")
     for it in KEYS:
         holds(re.search(rf"\b{it}\b", found["femem.toml"]), f"femem.toml(5) does not have: {it}")
-    # Every fault that the program has among its texts begins as one of the lines does, and most lines are found so.
-    with open(place.program, "rb") as file:
-        texts = {it.decode().strip() for it in FAULTS.findall(file.read())}
-    stems = {re.sub(" (N|KEY)$", "", it).rstrip(":") for it in LINES}
-    for it in texts:
-        holds(any(it.startswith(stem) or stem.startswith(it) for stem in stems), f"the program says what the page does not: {it}")
-    known = [stem for stem in stems if any(it.startswith(stem) for it in texts)]
-    holds(len(known) >= 9, f"the program has few of the faults: {known}")
+    # Each text of a fault in the source is one of the lines, and the other way round.
+    with open(os.path.join(pages.TOP, "crates", "femem", "src", "fault.rt"), encoding="utf-8") as file:
+        texts = {re.sub(r" \{0\}$", "", it) for it in FAULTS.findall(file.read())}
+    same(sorted(texts), sorted({re.sub(r" (N|KEY)$", "", it) for it in LINES}), "the texts of faults")
     return f"{len(texts)} texts of faults"
 
 

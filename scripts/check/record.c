@@ -358,6 +358,17 @@ int statx(int at, const char *path, int flags, unsigned mask, struct statx *to) 
   return result;
 }
 
+/* The path of an open file is the text of a link that its descriptor names. */
+ssize_t readlink(const char *path, char *to, size_t size) {
+  typedef ssize_t (*asker)(const char *, char *, size_t);
+  REAL(asker, "readlink");
+  int file;
+  const char *found = sscanf(path, "/proc/self/fd/%d", &file) == 1 ? named(file) : NULL;
+  ssize_t count = real(path, to, size);
+  if (found) note(NULL, 0, count, "readlink %s", found);
+  return count;
+}
+
 int accept4(int file, struct sockaddr *from, socklen_t *size, int flags) {
   typedef int (*accepter)(int, struct sockaddr *, socklen_t *, int);
   REAL(accepter, "accept4");

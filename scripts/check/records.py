@@ -50,8 +50,8 @@ def wrote(at, data):
     return [("pwrite", at, data)]
 
 
-# Behind each sync the path has to lead to the file, at its size. The first one has the system forget its pages.
-WATCH = [("stat",)]
+# After each sync the file has to have its size, a name and its path. The first one has the system forget its pages.
+WATCH = [("fstat",), ("readlink",)]
 SYNC = [("fdatasync",)] + WATCH
 FIRST_SYNC = [("fdatasync",), ("fadvise", 0, 0, os.POSIX_FADV_DONTNEED)] + WATCH
 
@@ -325,8 +325,8 @@ def with_zeros(calls):
 
 
 def known(name):
-    """The size of a file that was opened, and which file it is, are asked of the file itself."""
-    return [f"fstat {name}"] * 2
+    """The size of a file that was opened, and its path, are asked of the file itself."""
+    return [f"fstat {name}", f"readlink {name}"]
 
 
 def new_file(name):

@@ -4,12 +4,13 @@ ghost use Rattle.fe_disk.specs.declared.file_fault.FileFault.TheVariants.{WrongS
 
 use crate::faults::{count, fault};
 use crate::names::sync_folder;
-use crate::watch::Watch;
+use crate::watch::path_of;
 use crate::{Calls, DeviceFault, Disk, FileFault};
+use libc::PATH_MAX;
 use std::fs::{File, OpenOptions};
 use std::io::{ErrorKind, Write};
 use std::os::fd::AsRawFd;
-use std::os::unix::fs::{FileExt, OpenOptionsExt};
+use std::os::unix::fs::{FileExt, MetadataExt, OpenOptionsExt};
 use std::rt::Files;
 use std::{fs, io};
 
@@ -30,8 +31,8 @@ const MODE: u32 = 0o600;
 /// the device, and would give their bytes to whoever reads the file until it needs the memory.
 ///
 /// A disk that writes has an advisory lock of its file for as long as it lives, and is the only one that writes it meanwhile. Its
-/// syncs succeed only where, behind them, the file still has its size and its path leads to it: what is written into a file that
-/// was cut, renamed, replaced or removed is lost.
+/// syncs succeed only where, behind them, the file still has its size and the path by which it was opened: what is written into a
+/// file that was cut, renamed, replaced or removed is lost.
 ///
 /// Nothing is claimed of what a file gives or keeps, so it is not honest.
 #[derive(Drop)]
@@ -41,8 +42,8 @@ pub struct FileDisk {
     calls: Calls,
     failures: u64,
     is_settled: bool,
-    // Of a disk that writes, the path that has to lead to its file.
-    watch: Option<Watch>,
+    // The path that the file of a disk that writes has to keep.
+    path: Option<[u8; PATH_MAX]>,
 }
 
 impl FileDisk {
@@ -59,7 +60,7 @@ impl FileDisk {
         ensures failures { IfOk result (λ disk. fault_count disk ≡ 0) }
         ensures refused { IfErr result (λ fault. fault ≡ Device) }
     {
-        match FileDisk::over(made(rt, path, size as u64), size, Some(path)) {
+        match FileDisk::over(made(rt, path, size as u64), size, true) {
             Ok(disk) => Ok(disk),
             Err(_) => Err(FileFault::Device),
         }
@@ -72,7 +73,7 @@ impl FileDisk {
         ensures wrong { (found : ℕ) → IsErrOf result (WrongSize found) → found ≢ size }
     {
         match OpenOptions::new().read(true).write(true).open(rt, path) {
-            Ok(file) => FileDisk::over(locked(file), size, Some(path)),
+            Ok(file) => FileDisk::over(locked(file), size, true),
             Err(error) => Err(unopened(&error)),
         }
     }
@@ -95,17 +96,13 @@ impl FileDisk {
             Err(error) => return Err(unopened(&error)),
         }
         match File::open(rt, path) {
-            Ok(file) => FileDisk::over(above_streams(file), size, None),
+            Ok(file) => FileDisk::over(above_streams(file), size, false),
             Err(error) => Err(unopened(&error)),
         }
     }
 
-    // The disk over a file that was opened, with the path to watch.
-    fn over(
-        file: io::Result<File>,
-        size: usize,
-        path: Option<&str>,
-    ) -> Result<FileDisk, FileFault>
+    // The disk over a file that was opened.
+    fn over(file: io::Result<File>, size: usize, is_watched: bool) -> Result<FileDisk, FileFault>
         ensures size { IfOk result (λ disk. file_size disk ≡ size) }
         ensures failures { IfOk result (λ disk. fault_count disk ≡ 0) }
         ensures wrong { (found : ℕ) → IsErrOf result (WrongSize found) → found ≢ size }
@@ -120,28 +117,27 @@ impl FileDisk {
         if found != size as u64 {
             return Err(FileFault::WrongSize { found });
         }
-        let mut watch = None;
-        if let Some(path) = path {
-            watch = Watch::new(path, &file);
-            if watch.is_none() {
-                return Err(FileFault::Device);
-            }
-        }
+        let path = is_watched.then(|| path_of(&file));
         Ok(FileDisk {
             file,
             size,
             calls: Calls::NONE,
             failures: 0,
             is_settled: false,
-            watch,
+            path,
         })
     }
 
-    // The path leads to the file, which has its size; or it is not watched.
+    // The file has its size, a name and its path; or it is not watched.
     fn is_there(&self) -> bool {
-        match &self.watch {
-            Some(watch) => watch.is_met(),
-            None => true,
+        let Some(path) = &self.path else {
+            return true;
+        };
+        match self.file.metadata() {
+            Ok(found) => {
+                found.nlink() > 0 && found.len() == self.size as u64 && *path == path_of(&self.file)
+            }
+            Err(_) => false,
         }
     }
 }

@@ -1,0 +1,221 @@
+"""The documents' blocks of commands: each is known, and those that no other check runs are run here."""
+
+import glob
+import os
+import re
+import shutil
+import subprocess
+
+from .harness import Server, Skipped, compiler, holds, same, within
+from .texts import PAGES, TOP, block, split, text_of, told
+
+# Every block of commands in the documents, by its first line: who runs it, or why no check does. Those of docs/store.md and
+# docs/formats.md are tables of writes and bytes.
+HERE = "here"
+BLOCKS = {
+    "README.md": (
+        ("make run ", "unproved.py, first_lines"),
+        ("femem ", "a picture"),
+    ),
+    "CONTRIBUTING.md": (
+        ("cd crates/fe_wire", "not run: it proves a crate, which the gate does"),
+        ("clause: Decoder::feed reads", HERE),
+    ),
+    "ARCHITECTURE.md": (),
+    "docs/commands.md": (
+        ("femem serve --settings FILE", "manuals.py compares the synopsis with the program"),
+        ("printf 'attach 7", HERE),
+        ("welcome 7 1", HERE),
+    ),
+    "docs/operating.md": (
+        ("femem serve --settings /etc/femem.toml", "deb.py: the unit's line"),
+        ("apt install", "deb.py, in a system of its own; the last line here"),
+        ("place 5", HERE),
+        ("systemctl is-active femem", "the report lines here; deb.py asks systemd"),
+        ("  systemctl stop femem", HERE),
+        ("for at in", HERE),
+        ("  printf 'attach 7", HERE),
+    ),
+    "docs/patterns.md": (("femem run < examples/queue_of_one.txt", "runs.py runs each schedule of examples/"),),
+    "docs/performance.md": (
+        ("make bench-serve", "not run: minutes of measuring, on a quiet machine"),
+        ("bench/serve/profile", "not run: the same, with linux-perf"),
+        ("bench/serve/growth", "not run: the same"),
+        ("bench/clients/run", "not run: the same"),
+    ),
+    "docs/replication.md": (("# on both", "hosts.py does the same; not run here: root and packages"),),
+    "clients/c/README.md": (
+        ("make ", HERE),
+        ("femem *client;", HERE),
+        ("femem_open_file(", HERE),
+    ),
+    "clients/python/README.md": (
+        ("pip install", HERE),
+        ("from femem import", "the client's own test_readme.py"),
+        ("import threading", "test_readme.py"),
+        *[("from femem import", "test_readme.py")] * 3,
+        ("import asyncio", "test_readme.py"),
+        ("from femem", "test_readme.py"),
+        ("python3 -m femem [", HERE),
+        ("python3 -m unittest", "clients.py, tests_in_python and python"),
+    ),
+}
+
+
+def blocks_known(_place):
+    """each block of commands in the documents is known: run here, run by another check, or why not"""
+    missing = []
+    count = 0
+    for name, known in BLOCKS.items():
+        found = split(text_of(name))[1]
+        count += len(found)
+        if len(found) != len(known):
+            missing.append(f"{name} has {len(found)} blocks, and {len(known)} are known")
+        pairs = zip(found, known)
+        missing += [f"{name}: an unknown block: {got.splitlines()[0]}" for got, (first, _) in pairs if not got.startswith(first)]
+    known = {*BLOCKS, "docs/store.md", "docs/formats.md"}
+    missing += [f"{page}: its blocks are not known" for page in PAGES if page not in known and split(text_of(page))[1]]
+    return told(missing, count, 30, "blocks")
+
+
+def targets(_place):
+    """each `make TARGET` that a document names is one of the Makefile, or of the C client's"""
+    made = {it for name in ("Makefile", "clients/c/Makefile") for it in re.findall(r"^([a-z-]+):", text_of(name), re.M)}
+    wanted = {(name, it) for name in PAGES for it in re.findall(r"`make ([a-z-]+)", text_of(name))}
+    return told([f"{name}: make {it}" for name, it in sorted(wanted) if it not in made], len(wanted), 8, "targets")
+
+
+def example_of_commands(place):
+    """the example of docs/commands.md prints what the document says"""
+    server = Server(place).start()
+    words = block("docs/commands.md", "printf 'attach 7").replace("/run/femem/femem.socket", server.socket)
+    words = words.replace("femem call", f"'{place.program}' call")
+    same(shell(place, words), block("docs/commands.md", "welcome 7 1"))
+
+
+FIRST_PATH = b"attach 7\n1 create cells 2 empty\n2 writeef 1 0 42\n3 readfe 1 0\n4 readxx 1 0\n"
+
+
+def page_of_operating(place):
+    """the operator's page: a server listens, reports, is copied while stopped, looked at, has its format, and ends a session"""
+    server = Server(place, "femem").start()
+    moved = {
+        "/run/femem/femem.socket": server.socket,
+        "/var/lib/femem/femem.store": server.store,
+        "/backup/": place.path("copy."),
+        "femem call": f"'{place.program}' call",
+        "femem look": f"'{place.program}' look",
+        "systemctl": ": systemctl",
+    }
+
+    def runs(words, **how):
+        for old, new in moved.items():
+            words = words.replace(old, new)
+        return shell(place, words, **how)
+
+    same(runs(block("docs/operating.md", "apt install").splitlines()[-1]), "it serves\n")
+    same(place.run("call", "--socket", server.socket, given=FIRST_PATH)[::2], (0, b""), "the first path")
+    _, report, observed, *_ = block("docs/operating.md", "systemctl is-active").splitlines()
+    same(runs(report), "waiting 0\n")
+    client = {"PYTHONPATH": os.path.join(TOP, "clients", "python")}
+    holds(runs(observed, env=client).startswith("waiting 0\n"), "what the observer reports")
+    server.stop()
+    shown = runs(block("docs/operating.md", "  systemctl stop femem"))
+    wanted = [re.split("  +", it)[0] for it in block("docs/operating.md", "place 5").splitlines()]
+    same(shown.splitlines(), wanted, "look")
+    same(place.read("copy.femem.store"), place.read("femem.store"), "the copy")
+    magics = re.findall(">([^<]{8})[^<]{8}<", runs(block("docs/operating.md", "for at in")))
+    same(magics, ["FEMEMST2", "." * 8], "the slots' magics")
+    server.start()
+    same(runs(block("docs/operating.md", "  printf 'attach 7")), "welcome 7 1\ngoodbye 7\n")
+
+
+def planted_edit(_place):
+    """the edit that CONTRIBUTING.md shows is one of the crate's"""
+    wanted = block("CONTRIBUTING.md", "clause: Decoder::feed reads").strip()
+    edits = [text_of(it).strip() for it in glob.glob(os.path.join(TOP, "crates", "fe_wire", "must-fail", "*.edit"))]
+    holds(edits and wanted in edits, f"no edit of fe_wire is\n{wanted}")
+
+
+def shell(place, words, seconds=100, env=None):
+    """What commands print that all succeed, run by a shell in the check's folder."""
+    process = place.start(["sh", "-e", "-c", words], "shell", env, group=True)
+    process.wait(seconds * place.options.patience)
+    same(process.returncode, 0, f"{words}\n{place.read('shell.out').decode()}{place.read('shell.err').decode()}")
+    return place.read("shell.out").decode()
+
+
+# The program of which the examples are a part: they leave `step`s to be noted, and the request under each key.
+PROGRAM = """#include <femem.h>
+#include <inttypes.h>
+#include <stdbool.h>
+#include <stdio.h>
+static uint64_t noted;
+static void write_progress(uint64_t step) { noted = step; }
+static uint64_t first(void) {
+FIRST
+  return was;
+}
+static void second(void) {
+  femem *client;
+  femem_settings settings = {.wait = 30000, .reconnect = 30000};
+  uint64_t done = 590;
+  char key[64];
+  femem_request add = {.operation = FEMEM_INT_FETCH_ADD, .array = 1, .index = 0, .operand = 1};
+  femem_answer answer;
+SECOND
+  femem_bye(client);
+  femem_close(client);
+}
+int main(void) {
+  uint64_t was = first();
+  second();
+  printf("was %" PRIu64 ", then %" PRIu64 " more steps\\n", was, noted - 590);
+}
+"""
+
+
+@within(110)
+def page_of_c(place):
+    """the lines of the C client's page build and install it and a program of the page's examples, which runs against a server"""
+    compiler()
+    if not shutil.which("pkg-config"):
+        raise Skipped("there is no pkg-config")
+    server = Server(place).start()
+    shutil.copytree(os.path.join(TOP, "clients", "c"), place.path("c"), ignore=shutil.ignore_patterns("out"))
+    example = block("clients/c/README.md", "femem *client;").replace("/run/femem/femem.socket", server.socket)
+    second = block("clients/c/README.md", "femem_open_file(").replace("/run/femem/femem.socket", server.socket)
+    second = second.replace("/var/lib/worker/session", place.path("session"))
+    place.write("c/program.c", PROGRAM.replace("FIRST", example).replace("SECOND", second).encode())
+    make, install, cc = block("clients/c/README.md", "make ").splitlines()
+    install = install.replace("/usr/local", place.path("usr"))
+    cc = f"{cc} -o program && ./program"
+    env = {"PKG_CONFIG_PATH": place.path("usr/lib/pkgconfig"), "LD_LIBRARY_PATH": place.path("usr/lib"), "MAKEFLAGS": "-j4"}
+    said = shell(place, f"cd c\n{make}\n{install}\n{cc}\n", env=env)
+    same(said.splitlines()[-1], "was 0, then 10 more steps")
+    server.stop()
+    holds("array 1 counter 1" in server.looks().splitlines(), "the example made its array")
+
+
+@within(110)
+def page_of_python(place):
+    """the Python client's page installs it, and its shell does what the page shows, against a server"""
+    words = block("clients/python/README.md", "pip install").strip()
+    pip = ["python3", "-m", "pip", "--version"]
+    if subprocess.run(pip, stdin=subprocess.DEVNULL, capture_output=True, timeout=60, check=False).returncode:
+        raise Skipped("there is no pip")
+    ignored = shutil.ignore_patterns("__pycache__", "build", "*.egg-info")
+    shutil.copytree(os.path.join(TOP, "clients", "python"), place.path("clients/python"), ignore=ignored)
+    shutil.copy(os.path.join(TOP, "LICENSE"), place.folder)
+    made = place.path("site")
+    shell(place, f"python3 -m {words} --quiet --no-index --no-build-isolation --disable-pip-version-check --target '{made}'")
+    server = Server(place).start()
+    env = {"PYTHONPATH": made}
+    lines = re.findall(r"`(create slot 2|writeef slot 0 42|readfe slot 0 nowait)`", text_of("clients/python/README.md"))
+    same(len(lines), 3, "lines of the shell on its page")
+    use = "python3 -m femem '{}' --session 7 {}"
+    said = [shell(place, use.format(server.socket, it), env=env) for it in lines]
+    same([it.split()[-1:] for it in said[2:]], [["42"]], "what the shell reads")
+
+
+CHECKS = (blocks_known, targets, example_of_commands, page_of_operating, planted_edit, page_of_c, page_of_python)

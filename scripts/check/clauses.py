@@ -1,0 +1,97 @@
+"""The functions, laws and clauses that documents cite are those of the crates that they cite."""
+
+import re
+
+from .sources import contracts_of, has, is_function, is_named
+from .texts import NAME, exists, rows_of, split, text_of, told
+
+# A name, and after it in parentheses nothing but names: a function with its clauses.
+CITED = re.compile(r"`([\w:]+)`(?: \(((?:`\w+`(?:, |; | and )?)+)\))?")
+LISTED = re.compile(r"\(((?:`\w+`(?:, |; | and )?)+)\)")
+# The same of a function by its path, as `fe_desk::Desk::step`.
+PATHED = re.compile(r"`(fe_\w+)::([\w:]+)`(?:,? \(?((?:(?:clause )?`\w+`(?:, | and )?)+))?")
+
+
+def of_row(crate, first, calls, row):
+    """What is wrong in a row of a crate's table: each call is a function with one of the clauses, and each clause is a call's."""
+    named = [it for it in NAME.findall(row[1]) if not exists("crates", it)]
+    laws = NAME.findall(row[2]) if first == "laws" else []
+    lost = [f"{crate} has no function {it}" for it in (*calls, *laws) if not is_function(crate, it)]
+    known = calls or [it for it, _ in contracts_of(crate)]
+    lost += [f"{crate}: no clause {it} of {' '.join(calls)}" for it in named if not any(has(crate, call, it) for call in known)]
+    if named:
+        lost += [f"{crate}: {call} has none of these clauses" for call in calls if not any(has(crate, call, it) for it in named)]
+    return len(calls) + len(named) + len(laws), lost
+
+
+def of_prose(crate, line):
+    """The same of a line: names in parentheses are clauses of the functions that their sentence names, or of any function."""
+    count, lost = 0, []
+    for sentence in re.split(r"[.;:] ", line):
+        outside = NAME.findall(LISTED.sub("", sentence))
+        names = [it for it in outside if re.fullmatch(r"[\w:]+", it)]
+        lost += [f"{crate} has no {it}" for it in names if not is_named(crate, it)]
+        calls = [it for it in names if is_function(crate, it)] or [it for it, _ in contracts_of(crate)]
+        named = [name for found in LISTED.findall(sentence) for name in NAME.findall(found)]
+        known = [it for it in named if has(crate, it, "") or any(has(crate, call, it) for call in calls)]
+        lost += [f"{crate}: no clause or law {it}" for it in named if it not in known]
+        count += len(names) + len(named)
+    return count, lost
+
+
+def clauses(_place):
+    """each function, law and clause that docs/proved.md names is one of its crate"""
+    missing = []
+    count = 0
+    crate = None
+    calls = []
+    for number, line in split(text_of("docs/proved.md"))[0]:
+        if line.startswith("## "):
+            crate = None
+        if begin := re.match(r"\*\*`(\w+)`\*\*", line):
+            crate = begin[1]
+        if crate is None or line.startswith(("Tested", "|---", "| call")):
+            continue
+        if line.startswith("|"):
+            row = [cell.strip() for cell in line.strip("|").split("|")]
+            named = NAME.findall(row[0])
+            stem = named[0].rpartition("_")[0] if named else ""
+            calls = [stem + it if it.startswith("_") else it for it in named] or (calls if not row[0] else [])
+            found, lost = of_row(crate, row[0], calls, row)
+        else:
+            found, lost = of_prose(crate, line)
+        count += found
+        missing += [f"docs/proved.md:{number}: {it}" for it in lost]
+    return told(missing, count, 250, "functions and clauses")
+
+
+def cited(_place):
+    """each function with its clauses that the promise's table, the layers and the README name is one of the crate named with it"""
+    missing = []
+    count = 0
+    tables = [("docs/proved.md", "## The promise", 1), ("ARCHITECTURE.md", "## Layers", 2)]
+    for page, heading, column in tables:
+        for number, row in rows_of(text_of(page), heading):
+            crates = [it for it in NAME.findall(row[0]) if exists("crates", it)]
+            for name, listed in CITED.findall(row[column]):
+                if name.startswith("fe_"):
+                    crates = [name.split("::")[0]]
+                found = NAME.findall(listed) or [""]
+                count += len(found)
+                if not crates:
+                    crates = ["fe_desk"]
+                for clause in found:
+                    if not any(has(it, name, clause) or not clause and is_named(it, name) for it in crates):
+                        missing.append(f"{page}:{number}: {' or '.join(crates)}: no {name} {clause}")
+    for page in ("README.md", "docs/headline.md"):
+        for number, line in split(text_of(page))[0]:
+            for crate, path, listed in PATHED.findall(line):
+                names = NAME.findall(listed)
+                count += 1 + len(names)
+                missing += [f"{page}:{number}: {crate} has no {path} {it}" for it in names if not has(crate, path, it)]
+                if not names and not is_function(crate, path):
+                    missing.append(f"{page}:{number}: {crate} has no {path}")
+    return told(missing, count, 70, "functions and clauses")
+
+
+CHECKS = (clauses, cited)

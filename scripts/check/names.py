@@ -1,0 +1,100 @@
+"""The files, functions and definitions that documents name are there."""
+
+import os
+import re
+
+from .sources import below, has_item, source_of
+from .texts import ANY, NAME, PAGES, bases, exists, is_path, split, text_of, told
+
+
+# What comes before the name of a definition in specs.
+KINDS_OF_DEFINITION = "(?:abbrev|unfoldable|pub|record|data)"
+# `NAME`, or several, and after them in parentheses `CRATE/FILE`.
+FILED = re.compile(r"((?:`\w+`(?:, | and )?)+)(?: and (?:its|the) \w+(?: that it names)?)? \((?:[^()`]* )?`(\w+)/(\w+)`")
+# The same in specs and sources.
+DECLARED = "(?:abbrev|unfoldable|pub|pub\\(crate\\)|record|data|enum|struct|trait|fn|ghost)"
+
+
+def is_specs(word):
+    """Whether `CRATE/FILE` names a file of specs."""
+    crate, _, file = word.partition("/")
+    return re.fullmatch(r"fe_[a-z]+/[A-Z][A-Za-z]*", word) is not None and exists("crates", crate, "specs", file + ".antt")
+
+
+def paths(_place):
+    """each path that a document names is there"""
+    missing = []
+    count = 0
+    for page in PAGES:
+        for number, line in split(text_of(page))[0]:
+            # (a link's text is not looked up, but its target)
+            words = NAME.findall(re.sub(r"\[[^\]]*\]\([^)]*\)", "", line))
+            for at, word in enumerate(words):
+                word = ANY.sub("*", word)
+                if not is_path(word) or is_specs(word):
+                    continue
+                count += 1
+                if not any(exists(base, word) for base in bases(page, word, words[:at])):
+                    missing.append(f"{page}:{number}: {word}")
+    return told(missing, count, 150, "paths")
+
+
+def items(_place):
+    """each function or definition that a document names after its file, `FILE` (`NAME`), is in that file"""
+    missing = []
+    count = 0
+    for page in PAGES:
+        for number, line in split(text_of(page))[0]:
+            for found in re.finditer(r"`([\w/.]+\.(?:rt|antt))` \(((?:`\w+`(?:, |; |\)))+)", line):
+                named = NAME.findall(line[: found.start()])
+                path = next((it for base in bases(page, found[1], named) if exists(it := os.path.join(base, found[1]))), None)
+                for name in NAME.findall(found[2]):
+                    count += 1
+                    if path is None or not has_item(path, name):
+                        missing.append(f"{page}:{number}: {found[1]} has no {name}")
+    return told(missing, count, 40, "functions and definitions")
+
+
+def definitions(_place):
+    """each definition that docs/headline.md and docs/images.md cite as `NAME` (`CRATE/FILE`) is in that file"""
+    missing = []
+    count = 0
+    for page in ("docs/headline.md", "docs/images.md"):
+        for number, line in split(text_of(page))[0]:
+            cell = line.split("|")[1] if line.startswith("|") else line
+            for names, crate, file in FILED.findall(cell):
+                path = f"crates/{crate}/specs/{file}.antt"
+                text = text_of(path) if exists(path) else ""
+                for name in NAME.findall(names):
+                    count += 1
+                    if not re.search(rf"^(?:{KINDS_OF_DEFINITION} )*{name}\b", text, re.M):
+                        missing.append(f"{page}:{number}: {path} does not define {name}")
+    return told(missing, count, 70, "definitions")
+
+
+def model(_place):
+    """each definition that docs/model.md names under a crate's heading is one of that crate, or of those below it"""
+    missing = []
+    count = 0
+    text = ""
+    for number, line in split(text_of("docs/model.md"))[0]:
+        if line.startswith("## "):
+            crates = re.findall(r"`(fe_\w+)`", line)
+            crates += [it for crate in crates for it in below(crate) if it not in crates]
+            text = "\n".join(source_of(it, folder) for it in crates for folder in ("specs", "src"))
+            continue
+        if line.startswith("|"):
+            continue
+        for name in re.findall(r"`([A-Z]\w+|\w+_\w+)`", re.sub(r"\(as in [^)]*\)", "", line)):
+            count += 1
+            if name.startswith("fe_"):
+                there = exists("crates", name)
+            else:
+                form = rf"^\s*(?:{DECLARED} )+{name}\b|^\s*(?:pub )?{name}\b(?: :|,|\(| \{{)"
+                there = re.search(form, text, re.M)
+            if not there:
+                missing.append(f"docs/model.md:{number}: no {name} in {crates[0] if crates else 'any crate'} and below")
+    return told(missing, count, 200, "definitions")
+
+
+CHECKS = (paths, items, definitions, model)

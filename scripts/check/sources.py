@@ -1,0 +1,57 @@
+"""The sources as the documents name them: which functions, clauses and definitions a crate has."""
+
+import functools
+import glob
+import os
+import re
+
+from .texts import TOP, exists, text_of
+
+
+@functools.cache
+def source_of(crate, folder):
+    """The files of a crate's `src` or `specs`, as one text."""
+    found = sorted(glob.glob(os.path.join(TOP, "crates", crate, folder, "**", "*.[ar]*"), recursive=True))
+    return "\n".join(text_of(os.path.relpath(it, TOP)) for it in found if it.endswith((".rt", ".antt")))
+
+
+@functools.cache
+def contracts_of(crate):
+    """Each function of a crate with the names of its `ensures` clauses, which is a list, since several may have one name; and with
+    no function those of the ghost items of its types."""
+    found = []
+    for line in source_of(crate, "src").split("\n"):
+        if begin := re.match(r"\s*(?:pub(?:\([a-z]+\))? )?(?:const )?(?:unsafe )?fn (\w+)", line):
+            found.append((begin[1], set()))
+        elif (clause := re.match(r"\s*ensures(?: (\w+))? \{", line)) and found:
+            found[-1][1].add(clause[1] or "")
+        elif ghost := re.match(r"\s*ghost (\w+)(?:: | = )\{", line):
+            found.append(("", {ghost[1]}))
+    return found
+
+
+def has(crate, function, clause):
+    """Whether a function of that name in the crate has a clause of that name. `Type::function` is a function."""
+    return any(name == function.split("::")[-1] and clause in clauses for name, clauses in contracts_of(crate))
+
+
+def has_item(path, name):
+    """Whether a source file has a function or a definition of that name."""
+    kinds = "(?:(?:abbrev|unfoldable|pub|pub\\([a-z]+\\)|record|data|enum|struct|const|trait|fn|ghost) )"
+    return re.search(rf"^\s*{kinds}+{name}\b", text_of(path), re.M) is not None
+
+
+def is_named(crate, name):
+    """Whether the crate's sources have the name, of whatever it is, or it is a crate's."""
+    last = name.split("::")[-1]
+    return exists("crates", name) or re.search(rf"\b{last}\b", source_of(crate, "src")) is not None
+
+
+def is_function(crate, name):
+    return any(it == name.split("::")[-1] for it, _ in contracts_of(crate))
+
+
+def below(crate):
+    """The crates below a crate, by crates.txt."""
+    found = re.search(rf"^{crate}(?: [^:]*)?:(.*)$", text_of("crates.txt"), re.M)
+    return [it for it in found[1].split() if it.startswith("fe_")] if found else []
