@@ -41,15 +41,28 @@ def link_to_another(path):
     os.symlink(f"{path}.other", path)
 
 
+def behind_a_second_name(change):
+    """The file gets another name first, which it keeps."""
+
+    def both(path):
+        os.link(path, f"{path}.second")
+        change(path)
+
+    return both
+
+
+# Each with the name that the server's file has afterwards, where it has one and its size.
 CHANGES = {
-    "cut to nothing": cut_to(0),
-    "cut by a byte": cut_to(SIZE - 1),
-    "longer by a byte": cut_to(SIZE + 1),
-    "removed": os.unlink,
-    "renamed": rename,
-    "folder renamed": rename_folder,
-    "replaced": replace,
-    "a link to another": link_to_another,
+    "cut to nothing": (cut_to(0), None),
+    "cut by a byte": (cut_to(SIZE - 1), None),
+    "longer by a byte": (cut_to(SIZE + 1), None),
+    "removed": (os.unlink, None),
+    "renamed": (rename, "store.other"),
+    "folder renamed": (rename_folder, "store"),
+    "replaced": (replace, None),
+    "a link to another": (link_to_another, None),
+    "removed, but for a second name": (behind_a_second_name(os.unlink), "store.second"),
+    "replaced, but for a second name": (behind_a_second_name(replace), "store.second"),
 }
 
 
@@ -70,19 +83,10 @@ def with_records(device, groups, entry, gate=b"\0"):
     return bytes(found)
 
 
-def what_is_left(name, before, after):
-    """Into a file that is renamed goes one group more, behind a gate that stays closed, and nothing into one that took a path."""
-    if name in ("renamed", "folder renamed"):
-        # (attached, three answers; then the next connection attaches)
-        before = {file: with_records(device, 4, ("attached", 7, 1)) for file, device in before.items()}
-    if name in ("renamed", "folder renamed", "replaced", "a link to another"):
-        same({file: after[file] == device for file, device in before.items()}, dict.fromkeys(after, True), name)
-
-
 def changed_meanwhile(place):
     """a served file is cut, made longer, removed, renamed or replaced: no answer follows, but `femem: store device`"""
-    for name, change in CHANGES.items():
-        folder = place.path(name.replace(" ", "_"))
+    for number, (name, (change, kept)) in enumerate(CHANGES.items()):
+        folder = place.path(f"c{number}")
         os.mkdir(folder)
         server = Server(place, os.path.basename(folder), store=os.path.join(folder, "store")).start()
         client = Client(server, WORK[:3])
@@ -95,7 +99,11 @@ def changed_meanwhile(place):
         holds(client.until_end(), f"{name}: the server goes on, {client.answers}")
         same(len(client.answers), 3, f"{name}: answers")
         same(server.ended(), (3, "", "femem: store device\n"), name)
-        what_is_left(name, left, files_in(there))
+        if kept:
+            # one group more, of which the gate is closed (it is behind attached and three answers)
+            left[kept] = with_records(left[kept], 4, ("attached", 7, 1))
+        if "cut" not in name and "longer" not in name:
+            same(files_in(there) == left, True, f"{name}: what the files have")
         if name == "renamed":
             os.rename(f"{server.store}.other", server.store)
             goes_on(place, server, client, answered(WORK), "back under its name")
