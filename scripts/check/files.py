@@ -8,7 +8,7 @@ import struct
 from . import store, wire
 from .crowds import adding
 from .faults import Client, answered, goes_on
-from .harness import Server, holds, same, until, within
+from .harness import Held, Server, holds, same, until
 from .model import State
 from .records import Journal
 from .store import GATE, SIZE, TWO
@@ -41,15 +41,28 @@ def link_to_another(path):
     os.symlink(f"{path}.other", path)
 
 
+def behind_a_second_name(change):
+    """The file gets another name first, which it keeps."""
+
+    def both(path):
+        os.link(path, f"{path}.second")
+        change(path)
+
+    return both
+
+
+# Each with the name that the server's file has afterwards, where it has one and its size.
 CHANGES = {
-    "cut to nothing": cut_to(0),
-    "cut by a byte": cut_to(SIZE - 1),
-    "longer by a byte": cut_to(SIZE + 1),
-    "removed": os.unlink,
-    "renamed": rename,
-    "folder renamed": rename_folder,
-    "replaced": replace,
-    "a link to another": link_to_another,
+    "cut to nothing": (cut_to(0), None),
+    "cut by a byte": (cut_to(SIZE - 1), None),
+    "longer by a byte": (cut_to(SIZE + 1), None),
+    "removed": (os.unlink, None),
+    "renamed": (rename, "store.other"),
+    "folder renamed": (rename_folder, "store"),
+    "replaced": (replace, None),
+    "a link to another": (link_to_another, None),
+    "removed, but for a second name": (behind_a_second_name(os.unlink), "store.second"),
+    "replaced, but for a second name": (behind_a_second_name(replace), "store.second"),
 }
 
 
@@ -62,27 +75,18 @@ def files_in(folder):
     return found
 
 
-def with_records(device, groups, entry):
-    """A device that has so many groups of one entry, once the next one's records are written and its gate is closed."""
+def with_records(device, groups, entry, gate=b"\0"):
+    """A device that has so many groups of one entry, once the next one's records are written, with this gate."""
     found = bytearray(device)
     _, at, data = Journal(TWO, 0, groups * (5 + TWO.record)).group(entry)[0]
-    found[at : at + len(data)] = data
+    found[at - 1 : at + len(data)] = gate + data
     return bytes(found)
 
 
-def what_is_left(name, before, after):
-    """Into a file that is renamed goes one group more, behind a gate that stays closed, and nothing into one that took a path."""
-    if name in ("renamed", "folder renamed"):
-        # (attached, three answers; then the next connection attaches)
-        before = {file: with_records(device, 4, ("attached", 7, 1)) for file, device in before.items()}
-    if name in ("renamed", "folder renamed", "replaced", "a link to another"):
-        same({file: after[file] == device for file, device in before.items()}, dict.fromkeys(after, True), name)
-
-
 def changed_meanwhile(place):
-    """the file of a server is cut, made longer, removed, renamed or replaced: what comes next is not answered, and the server ends with `femem: store device`"""
-    for name, change in CHANGES.items():
-        folder = place.path(name.replace(" ", "_"))
+    """a served file is cut, made longer, removed, renamed or replaced: no answer follows, but `femem: store device`"""
+    for number, (name, (change, kept)) in enumerate(CHANGES.items()):
+        folder = place.path(f"c{number}")
         os.mkdir(folder)
         server = Server(place, os.path.basename(folder), store=os.path.join(folder, "store")).start()
         client = Client(server, WORK[:3])
@@ -95,11 +99,44 @@ def changed_meanwhile(place):
         holds(client.until_end(), f"{name}: the server goes on, {client.answers}")
         same(len(client.answers), 3, f"{name}: answers")
         same(server.ended(), (3, "", "femem: store device\n"), name)
-        what_is_left(name, left, files_in(there))
+        if kept:
+            # one group more, of which the gate is closed (it is behind attached and three answers)
+            left[kept] = with_records(left[kept], 4, ("attached", 7, 1))
+        if "cut" not in name and "longer" not in name:
+            same(files_in(there) == left, True, f"{name}: what the files have")
         if name == "renamed":
             os.rename(f"{server.store}.other", server.store)
             goes_on(place, server, client, answered(WORK), "back under its name")
     return f"{len(CHANGES)} changes"
+
+
+def renamed_in_a_group(place):
+    """a served file is renamed within a sync of a group: that is not answered, and has an open gate only where it was the second"""
+    for syncs, gate in ((1, b"\0"), (2, b"\1")):
+        name = f"sync {syncs}"
+        held = Held(place, "fdatasync")
+        server = Server(place, f"s{syncs}").start(held.env)
+        client = Client(server, WORK[:3])
+        holds(client.attempt(), f"{name}: a connection ended")
+        client.work, wanted = WORK, answered(WORK)
+        with server.attached(7) as conn:
+            before = place.read(f"s{syncs}.store")
+            held.next()
+            conn.send(wire.call(4, WORK[3]))
+            held.wait()
+            if syncs == 2:
+                held.next()
+                held.let_go()
+                held.wait()
+            rename(server.store)
+            held.let_go()
+            holds(conn.has_ended(), f"{name}: a reply came")
+        same(server.ended(), (3, "", "femem: store device\n"), name)
+        # (attached twice, and three answers)
+        left = with_records(before, 5, ("finished", 7, 4, WORK[3], wanted[3]), gate)
+        same(place.read(f"s{syncs}.store.other") == left, True, f"{name}: the file that was renamed")
+        os.rename(f"{server.store}.other", server.store)
+        goes_on(place, server, client, wanted, name)
 
 
 def by_other_paths(place):
@@ -221,4 +258,4 @@ def begun_at_once(place):
         same([file for file in os.listdir(place.folder) if file.startswith(f"store{turn}")], [f"store{turn}"])
 
 
-CHECKS = (changed_meanwhile, by_other_paths, kept_bytes, nothing_to_keep, modes, left_over, begun_at_once)
+CHECKS = (changed_meanwhile, renamed_in_a_group, by_other_paths, kept_bytes, nothing_to_keep, modes, left_over, begun_at_once)

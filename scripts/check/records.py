@@ -331,7 +331,8 @@ def known(name):
 
 def new_file(name):
     """A file that is not there before is made of zeros, which only its owner may read, and is on the device with its name."""
-    return [f"open {name} {EXCLUSIVE} 600", f"flock {name} {LOCK}", f"write {name} {store.SIZE}", f"fsync {name}", *FOLDER_SYNC, *known(name)]
+    filled = [f"open {name} {EXCLUSIVE} 600", f"flock {name} {LOCK}", f"write {name} {store.SIZE}", f"fsync {name}"]
+    return [*filled, *FOLDER_SYNC, *known(name)]
 
 
 def renamed(old, new):
