@@ -98,12 +98,12 @@ module _ {D : Type 0} (moment : D → ℕ) (left_since : D → ℕ → List ℕ 
   holds_behind begun groups more s is n here [] last holds =
       weaker moment left_since here last (LeavesPrefix s more n) (LeavesPrefix begun (groups ++ more) (length groups + n)) (λ image p. prefix_behind begun groups more s n image is p) holds
   holds_behind begun groups more s is n here (append ∷ appends) last holds = (
-      weaker moment left_since here last (LeavesPrefix s more n) (LeavesPrefix begun (groups ++ more) (length groups + n)) (λ image p. prefix_behind begun groups more s n image is p) holds.0,
-      holds.1,
-      holds.2,
-      holds_as begun (groups ++ more) (length groups + (n + 1)) (length groups + n + 1) append.after.store.disk appends last (omega arith)
-      (holds_behind begun groups more s is (n + 1) append.after.store.disk appends last holds.3),
-    )
+    weaker moment left_since here last (LeavesPrefix s more n) (LeavesPrefix begun (groups ++ more) (length groups + n)) (λ image p. prefix_behind begun groups more s n image is p) holds.0,
+    holds.1,
+    holds.2,
+    holds_as begun (groups ++ more) (length groups + (n + 1)) (length groups + n + 1) append.after.store.disk appends last (omega arith)
+        (holds_behind begun groups more s is (n + 1) append.after.store.disk appends last holds.3),
+  )
 
   -- what holds of the first groups holds while those behind are stored too
   holds_longer : (begun : ServerState) (groups more : List (List Entry)) (n : ℕ) (here mid last : D) → n ≤ length groups → LeavesOnly moment left_since here mid (LeavesPrefix begun groups n)
@@ -119,17 +119,17 @@ module _ {D : Type 0} (moment : D → ℕ) (left_since : D → ℕ → List ℕ 
       → HoldsSince moment left_since begun (groups ++ more) n here (first ++ second) last
   holds_both begun groups more n here [] mid [] last count one two = holds_longer begun groups more n here mid last (omega (arith, count)) one two
   holds_both begun groups more n here [] mid (append ∷ appends) last count one two = (
-      holds_longer begun groups more n here mid last (omega (arith, count)) one two.0,
-      omega (arith, one.later, two.1),
-      two.2,
-      holds_as begun (groups ++ more) (length groups + 1) (n + 1) append.after.store.disk appends last (omega (arith, count)) two.3,
-    )
+    holds_longer begun groups more n here mid last (omega (arith, count)) one two.0,
+    omega (arith, one.later, two.1),
+    two.2,
+    holds_as begun (groups ++ more) (length groups + 1) (n + 1) append.after.store.disk appends last (omega (arith, count)) two.3,
+  )
   holds_both begun groups more n here (append ∷ appends) mid second last count one two = (
-      holds_longer begun groups more n here mid last (omega (arith, count)) one.0 (holds_here begun (groups ++ more) (length groups) mid second last two),
-      one.1,
-      one.2,
-      holds_both begun groups more (n + 1) append.after.store.disk appends mid second last (omega (arith, count)) one.3 two,
-    )
+    holds_longer begun groups more n here mid last (omega (arith, count)) one.0 (holds_here begun (groups ++ more) (length groups) mid second last two),
+    one.1,
+    one.2,
+    holds_both begun groups more (n + 1) append.after.store.disk appends mid second last (omega (arith, count)) one.3 two,
+  )
 
 -- ---- calls of a keeper
 
@@ -170,11 +170,11 @@ module _ {D : Type 0} (honest : D → Type 0) (moment : D → ℕ) (left_since :
     any_moment = λ h works.
         let moments = run h works in (
           weaker moment left_since old.store.disk new.store.disk (StandsForEither old.state (after_all old.state entries)) (LeavesPrefix old.state (entries ∷ []) 0)
-          (λ image two. either old.state entries image two) moments,
+              (λ image two. either old.state entries image two) moments,
           omega arith,
           moments.later,
           started moment left_since new.store.disk (LeavesPrefix old.state (entries ∷ []) 1)
-          (λ image left. leaves_at old.state (entries ∷ []) 1 1 image new.state (omega arith) (omega arith) state (stands (honesty.1 h) (still ∙ works) image (only_now new.store.disk image (honesty.1 h) left))),
+              (λ image left. leaves_at old.state (entries ∷ []) 1 1 image new.state (omega arith) (omega arith) state (stands (honesty.1 h) (still ∙ works) image (only_now new.store.disk image (honesty.1 h) left))),
         );
   }
 

@@ -97,15 +97,7 @@ fn read<C: Tally, M: Tally, G: Gate, R: Wait>(
     requires ledger { C.all ≡ C.parts }
 {
     let mut half = SocketRead::new(stream);
-    let (seat, sent, end) = read_side(
-        rt,
-        alloc,
-        &house.hall,
-        seat,
-        &mut half,
-        gate,
-        Some(turns),
-    );
+    let (seat, sent, end) = read_side(rt, alloc, &house.hall, seat, &mut half, gate, Some(turns));
     if !matches!(end, ReadEnd::Closed | ReadEnd::Turns) {
         let _ = stream.shutdown(Shutdown::Both);
     }

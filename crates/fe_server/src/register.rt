@@ -7,9 +7,7 @@ ghost use Rattle.fe_server.specs.declared.stop_fault.StopFault.TheVariants as fa
 ghost use Rattle.fe_server.specs.Ended.{joined_to};
 
 use crate::stop_fault::StopFault;
-use fe_hall::{
-    Audit, CallSeat, CallSeats, Hall, MailSeat, MailSeats, Receipt, Tally, settle,
-};
+use fe_hall::{Audit, CallSeat, CallSeats, Hall, MailSeat, MailSeats, Receipt, Tally, settle};
 use fe_state::State;
 use fe_wire::ClientMessage;
 use std::alloc::Global;
