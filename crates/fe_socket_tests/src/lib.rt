@@ -1,5 +1,8 @@
-//! What no process can show of the server: its gate, which the program leaves open.
+//! What no process can show of the server: its gate, which the program leaves open; and of a client: that its user sees each
+//! reply before the next line.
 #![tactic(auto)]
 
 #[cfg(test)]
 mod gate;
+#[cfg(test)]
+mod script;
