@@ -2,6 +2,7 @@
 
 use crate::act::{Act, Verb};
 use crate::made::{Made, image_of};
+use crate::shown::{fault_text, format_name};
 use crate::trouble::Trouble;
 use fe_disk::Disk;
 use fe_keeper::{Fault, Keeper};
@@ -153,12 +154,12 @@ pub fn opened<D: Disk>(alloc: Global, disk: D) -> (D, Result<String, Trouble>) {
         Ok(keeper) => {
             let place = keeper.state().place();
             let used = keeper.used();
-            let format = keeper.store_format();
-            let text = format!(in alloc; "place {place} used {used} format {format:?}");
+            let format = format_name(keeper.store_format());
+            let text = format!(in alloc; "place {place} used {used} format {format}");
             (keeper.into_disk(), text.map_err(Trouble::from))
         }
         Err((fault, disk)) => {
-            let text = format!(in alloc; "{fault:?}");
+            let text = fault_text(alloc, &fault);
             (disk, text.map_err(Trouble::from))
         }
     }

@@ -5,6 +5,7 @@ use crate::desks::{store_fault, take_all};
 use crate::keepers::make_all;
 use crate::level::Level;
 use crate::made::image_of;
+use crate::shown::fault_text;
 use crate::trouble::Trouble;
 use crate::words::first_word;
 use fe_desk::Desk;
@@ -137,7 +138,7 @@ fn is_fault(alloc: Global, found: &Result<Vec<u8>, Fault>, wanted: &str) -> Resu
     match found {
         Ok(_) => Ok(false),
         Err(fault) => {
-            let text = format!(in alloc; "{fault:?}")?;
+            let text = fault_text(alloc, fault)?;
             Ok(text.as_str() == wanted)
         }
     }

@@ -1,5 +1,6 @@
 //! What came of calls.
 
+use crate::shown::fault_text;
 use crate::trouble::Trouble;
 use fe_codec::{Format, put_image};
 use fe_keeper::Fault;
@@ -90,6 +91,6 @@ pub fn outcome_text(alloc: Global, made: &Made) -> Result<String, Trouble> {
     }
     match made.fault {
         None => Ok(String::from_str(alloc, "ok")?),
-        Some(fault) => Ok(format!(in alloc; "{fault:?}")?),
+        Some(fault) => Ok(fault_text(alloc, &fault)?),
     }
 }

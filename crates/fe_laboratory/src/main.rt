@@ -18,6 +18,7 @@ mod level;
 mod lies;
 mod made;
 mod names;
+mod shown;
 mod tally;
 mod trial;
 mod trouble;
