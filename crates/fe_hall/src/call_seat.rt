@@ -5,7 +5,6 @@ use crate::standing::Standing;
 use crate::tally::Tally;
 use fe_wire::ClientMessage;
 use std::marker::Model;
-use std::snapshot::Snapshot;
 use std::sync::ledger::{Book, Share};
 
 /// The seat of a connection's read side: contracts see the connection's number, and what the side did.
@@ -18,7 +17,7 @@ pub struct CallSeat<C: Tally> {
     /// How many messages were taken.
     taken: u64,
     /// The last of them.
-    last: Snapshot<Option<ClientMessage>>,
+    last: Option<ClientMessage>,
     standing: Standing,
     /// The side made its connection gone.
     departed: bool,
@@ -30,7 +29,7 @@ impl<C: Tally> Model for CallSeat<C> {
 
     ghost Value = { ReadSeat };
 
-    ghost view = { λ s. record { conn = s.conn; calls = s.share.amount; taken = s.taken; last = s.last.value; standing = s.standing; departed = s.departed } };
+    ghost view = { λ s. record { conn = s.conn; calls = s.share.amount; taken = s.taken; last = s.last; standing = s.standing; departed = s.departed } };
 
     ghost invariant = { λ s. (s.share.parts ≡ 1) × (C.all ≡ most_connections + 1) };
 }
@@ -43,12 +42,11 @@ impl<C: Tally> CallSeat<C> {
         requires all { C.all ≡ most_connections + 1 }
         ensures { result ≡ first_read_seat conn }
     {
-        let none: Option<ClientMessage> = None;
         CallSeat {
             share,
             conn,
             taken: 0,
-            last: Snapshot::of(&none),
+            last: None,
             standing: Standing::Served,
             departed: false,
         }
@@ -76,8 +74,7 @@ impl<C: Tally> CallSeat<C> {
     {
         book.add(&mut self.share, calls_in(message));
         self.taken += 1;
-        let taken = Some(*message);
-        self.last = Snapshot::of(&taken);
+        self.last = Some(*message);
         self.standing = Standing::Served;
     }
 

@@ -130,7 +130,7 @@ fn used_behind<R: Abort + Wait>(rt: &R, alloc: Global, keeper: &mut Keeper<Liar>
             Some(end) => Some(end),
             None => store_group(rt, alloc, keeper),
         };
-        assert!(rt; end == Some(CommitEnd::Stopped), "{end:?}");
+        assert!(rt; end == Some(CommitEnd::Stopped));
     }
     assert!(rt; keeper.state().place() == 14_000);
     keeper.used()
