@@ -1,13 +1,13 @@
 -- How serving a store ends.
-use Rattle.std.specs.Prelude.{◌≡◌, ◌↔◌, ℕ, false, List, Option, Some, None, Result, Ok, Err}
+use Rattle.std.specs.Prelude.{◌≡◌, ◌⊎◌, ◌↔◌, ℕ, false, List, Option, Some, None, Result, Ok, Err}
 use Rattle.fe_keeper.specs.Keeper.{KeeperState}
 use Rattle.fe_keeper.specs.Stands.{EachStandsFor}
 use Rattle.fe_keeper.specs.declared.fault.Fault as keeper
 use Rattle.fe_keeper.specs.declared.fault.Fault.TheVariants as store
+use Rattle.fe_server.specs.declared.served.Served.{Served}
 use Rattle.fe_server.specs.declared.stop_fault.StopFault.{StopFault}
 use Rattle.fe_server.specs.declared.stop_fault.StopFault.TheVariants as fault
 use Rattle.fe_hall.specs.Commits.{Commits, TellsEnd}
-use Rattle.fe_hall.specs.declared.closing.Closing.{Closing}
 use Rattle.fe_hall.specs.declared.commit_end.CommitEnd.{CommitEnd}
 use Rattle.fe_hall.specs.declared.commit_end.CommitEnd.TheVariants.{Stopped, Store, Strange, Spent}
 
@@ -38,19 +38,19 @@ fault_of_end Spent = Some fault.Strange
 
 -- the fault of an answer; none where it has the books
 abbrev pub fault_in : {A B : Type 0} → Result A (StopFault × B) → Option StopFault
-fault_in (Ok closing) = None
+fault_in (Ok served) = None
 fault_in (Err refused) = Some refused.0
 
 -- Where the committing side ended so, a server answers this: its fault; and where it was stopped the books, or that memory was
--- short.
+-- short, or that a receipt or a seat is strange.
 abbrev pub IsAnswerAt : CommitEnd → Option StopFault → Type 0
 IsAnswerAt Stopped None = Unit {0}
-IsAnswerAt Stopped (Some told) = told ≡ fault.Memory
+IsAnswerAt Stopped (Some told) = (told ≡ fault.Memory) ⊎ (told ≡ fault.Strange)
 IsAnswerAt (Store why) answer = answer ≡ fault_of_end (Store why)
 IsAnswerAt Strange answer = answer ≡ fault_of_end Strange
 IsAnswerAt Spent answer = answer ≡ fault_of_end Spent
 
 -- the keeper that comes back
-abbrev pub keeper_in : {D : Type 0} → Result (Closing D) (StopFault × Option (KeeperState D)) → Option (KeeperState D)
-keeper_in (Ok closing) = Some closing.keeper
+abbrev pub keeper_in : {D : Type 0} → Result (Served D) (StopFault × KeeperState D) → KeeperState D
+keeper_in (Ok served) = served.keeper
 keeper_in (Err refused) = refused.1

@@ -103,7 +103,7 @@ fn welcome<
     requires calls { C.all ≡ C.parts }
     requires mails { M.all ≡ M.parts }
 {
-    if !house.has_place(rt, settings.connections) {
+    if !house.has_place(rt) {
         return false;
     }
     let Ok(stream) = Arc::new(alloc, stream) else {

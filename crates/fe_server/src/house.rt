@@ -1,17 +1,22 @@
 //! What the threads of a server share.
 
-ghost use Rattle.std.specs.Prelude.{◌≡◌, false, Some, None, IfOk, IfErr, IfSome};
+ghost use Rattle.std.specs.Prelude.{◌≡◌, ◌+◌, ◌⊎◌, false, All, IfOk, IfErr, nat_lt};
 ghost use Rattle.fe_mail.specs.Books.{AddUp};
+ghost use Rattle.fe_hall.specs.Receipts.{IsBorneOut};
+ghost use Rattle.fe_hall.specs.Seats.{most_connections};
 ghost use Rattle.fe_server.specs.declared.stop_fault.StopFault.TheVariants as fault;
 
 use crate::register::{Newcomer, Register};
 use crate::stop_fault::StopFault;
-use fe_disk::Disk;
-use fe_hall::{CallSeat, Closing, Hall, MailSeat, Receipt, Tally};
-use fe_keeper::Keeper;
+use fe_front::Front;
+use fe_hall::{Audit, CallSeat, Hall, MailSeat, Receipt, Tally};
+use fe_options::Settings;
+use fe_state::State;
 use fe_wire::ClientMessage;
-use std::alloc::Global;
+use std::alloc::{AllocError, Global};
 use std::os::unix::net::UnixStream;
+use std::snapshot::Snapshot;
+use std::sync::ledger::Blank;
 use std::sync::{Condvar, CondvarTimeouts, Mutex, Wait};
 use std::time::{Clock, Duration};
 
@@ -28,26 +33,85 @@ pub(crate) struct House<C: Tally, M: Tally> {
     register: Mutex<Register<C, M>>,
     /// Rung where a connection has ended.
     freed: Condvar,
+    /// How many connections may be there at once.
+    most: u64,
+    /// Whether lists and receipts are kept for the closing.
+    keeps: bool,
 }
 
-impl<C: Tally, M: Tally> House<C, M> {
-    /// A house with no connection. `door` is a handle of its listener, and `keeps` whether lists and receipts are kept for its
-    /// closing.
+/// A house, and the state that its hall's front began with. Threads share the house alone.
+#[derive(Drop)]
+pub(crate) struct Opened<C: Tally, M: Tally> {
+    house: House<C, M>,
+    begun: Snapshot<State>,
+}
+
+/// Shows that a house has ended. Only `House::end` makes it, and a house is not closed without it.
+#[derive(Drop)]
+pub(crate) struct Over(());
+
+impl<C: Tally, M: Tally> Opened<C, M> {
+    /// A house with no connection, whose front begins with a copy of a state. `door` is a handle of its listener.
     pub(crate) fn new(
         alloc: Global,
-        hall: Hall<C, M>,
+        state: &State,
+        calls: Blank,
+        mails: Blank,
         door: UnixStream,
-        keeps: bool,
-    ) -> House<C, M> {
-        House {
-            hall,
-            register: Mutex::new(Register::new(alloc, door, keeps)),
-            freed: Condvar::new(),
+        settings: &Settings,
+    ) -> Result<Opened<C, M>, AllocError>
+        requires calls { (calls.name ≡ C.name) × (calls.parts ≡ C.parts) × (C.all ≡ C.parts) × (C.all ≡ most_connections + 1) }
+        requires mails { (mails.name ≡ M.name) × (mails.parts ≡ M.parts) × (M.all ≡ M.parts) × (M.all ≡ most_connections + 1) }
+        ensures begun { IfOk result (λ opened. opened.begun.value ≡ state.now) }
+        ensures most { IfOk result (λ opened. opened.house.most ≡ settings.now.connections) }
+        ensures keeps { IfOk result (λ opened. opened.house.keeps ≡ nat_lt 0 settings.now.accepts) }
+    {
+        let front = Front::new(alloc, state.copy()?)?;
+        let begun = Snapshot::of(front.state());
+        match Hall::new(alloc, front, calls, mails) {
+            Ok(hall) => {
+                let house = House {
+                    hall,
+                    register: Mutex::new(Register::new(alloc, door)),
+                    freed: Condvar::new(),
+                    most: settings.connections,
+                    keeps: settings.accepts > 0,
+                };
+                Ok(Opened { house, begun })
+            }
+            Err((short, front)) => {
+                drop(front);
+                Err(short)
+            }
         }
     }
 
-    /// Whether one connection more may come, of so many at once. Where all are there it waits for one that is about to end.
-    pub(crate) fn has_place<R: Clock + Wait>(&self, rt: &R, most: u64) -> bool {
+    pub(crate) fn house(&self) -> &House<C, M>
+        ensures { result.now ≡ self.now.house }
+    {
+        &self.house
+    }
+
+    /// Closes the hall with what is in the register. `state` is what is stored.
+    pub(crate) fn close(self, over: Over, state: &State) -> Result<Audit, StopFault>
+        requires calls { C.all ≡ C.parts }
+        requires mails { M.all ≡ M.parts }
+        ensures add_up { IfOk result (λ audit. AddUp audit.books) }
+        ensures unspent { IfOk result (λ audit. audit.books.spent ≡ false) }
+        ensures borne_out { IfOk result (λ audit. All (IsBorneOut state.now audit.sent) audit.receipts) }
+        ensures faults { IfErr result (λ told. (told ≡ fault.Memory) ⊎ (told ≡ fault.Strange)) }
+    {
+        drop(over);
+        let Opened { house, .. } = self;
+        let House { hall, register, .. } = house;
+        register.into_inner().close(hall, state)
+    }
+}
+
+impl<C: Tally, M: Tally> House<C, M> {
+    /// Whether one connection more may come. Where all are there it waits for one that is about to end.
+    pub(crate) fn has_place<R: Clock + Wait>(&self, rt: &R) -> bool {
+        let most = self.most;
         let register = self.register.lock(rt);
         let waited = self.freed.wait_timeout_while(
             rt,
@@ -79,7 +143,7 @@ impl<C: Tally, M: Tally> House<C, M> {
 
     /// Nothing is stored any more: no connection comes any more, and those that are there end. A write side ends its stream once it
     /// wrote what was told; where its client does not take that for so long, the stream is ended here.
-    pub(crate) fn end<R: Clock + Wait>(&self, rt: &R) {
+    pub(crate) fn end<R: Clock + Wait>(&self, rt: &R) -> Over {
         let mut register = self.register.lock(rt);
         register.end();
         let waited = self.freed.wait_timeout_while(
@@ -89,6 +153,7 @@ impl<C: Tally, M: Tally> House<C, M> {
             |register| !register.is_empty(),
         );
         waited.0.shut_all();
+        Over(())
     }
 
     /// No connection is taken any more.
@@ -114,29 +179,12 @@ impl<C: Tally, M: Tally> House<C, M> {
     pub(crate) fn add_calls<R: Wait>(&self, rt: &R, seat: CallSeat<C>, sent: Vec<ClientMessage>)
         requires ledger { C.all ≡ C.parts }
     {
-        self.register.lock(rt).add_calls(seat, sent);
+        self.register.lock(rt).add_calls(seat, sent, self.keeps);
     }
 
     pub(crate) fn add_mails<R: Wait>(&self, rt: &R, seat: MailSeat<M>, receipts: Vec<Receipt>)
         requires ledger { M.all ≡ M.parts }
     {
-        self.register.lock(rt).add_mails(seat, receipts);
-    }
-
-    /// Closes the hall with what is in the register.
-    pub(crate) fn close<D: Disk + Drop>(
-        self,
-        keeper: Keeper<D>,
-    ) -> Result<Closing<D>, (StopFault, Option<Keeper<D>>)>
-        requires calls { C.all ≡ C.parts }
-        requires mails { M.all ≡ M.parts }
-        ensures keeper { IfOk result (λ closing. closing.keeper ≡ keeper) }
-        ensures add_up { IfOk result (λ closing. AddUp closing.books) }
-        ensures unspent { IfOk result (λ closing. closing.books.spent ≡ false) }
-        ensures short { IfErr result (λ e. IfSome e.1 (λ back. (e.0 ≡ fault.Memory) × (back ≡ keeper))) }
-        ensures refused { IfErr result (λ e. e.1 ≡ None → e.0 ≡ fault.Strange) }
-    {
-        let House { hall, register, .. } = self;
-        register.into_inner().close(hall, keeper)
+        self.register.lock(rt).add_mails(seat, receipts, self.keeps);
     }
 }

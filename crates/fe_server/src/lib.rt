@@ -11,12 +11,14 @@ mod connection;
 mod house;
 mod register;
 mod serve_fault;
+mod served;
 mod server;
 mod socket;
 mod stop_fault;
 
 pub use books::books_text;
 pub use serve_fault::ServeFault;
+pub use served::Served;
 pub use server::{serve, serve_store};
 pub use socket::{SocketRead, SocketWrite};
 pub use stop_fault::StopFault;

@@ -1,15 +1,14 @@
 //! What the connections of a server that ended did, and how many are there.
 
-ghost use Rattle.std.specs.Prelude.{◌≡◌, ◌∷◌, ◌++◌, [], false, IsTrue, All, None, IfOk, IfErr, IfSome, IsOk, IsSome, map, nat_lt};
+ghost use Rattle.std.specs.Prelude.{◌≡◌, ◌⊎◌, ◌∷◌, ◌++◌, [], false, IsTrue, All, IfOk, IfErr, IfSome, IsOk, IsSome, map, nat_lt};
 ghost use Rattle.fe_mail.specs.Books.{AddUp};
 ghost use Rattle.fe_hall.specs.Receipts.{IsBorneOut};
 ghost use Rattle.fe_server.specs.declared.stop_fault.StopFault.TheVariants as fault;
 ghost use Rattle.fe_server.specs.Ended.{joined_to};
 
 use crate::stop_fault::StopFault;
-use fe_disk::Disk;
-use fe_hall::{CallSeat, Closing, Hall, MailSeat, Receipt, Tally, close};
-use fe_keeper::Keeper;
+use fe_hall::{Audit, CallSeat, Hall, MailSeat, Receipt, Tally, settle};
+use fe_state::State;
 use fe_wire::ClientMessage;
 use std::alloc::Global;
 use std::io::Write;
@@ -39,8 +38,6 @@ pub(crate) struct Register<C: Tally, M: Tally> {
     door: Option<UnixStream>,
     /// Nothing is stored any more.
     over: bool,
-    /// Whether lists and receipts are kept.
-    keeps: bool,
     /// There was no memory for something that the closing needs.
     pub(crate) short: bool,
     /// A book of the hall is full.
@@ -55,14 +52,13 @@ pub(crate) struct Register<C: Tally, M: Tally> {
 
 impl<C: Tally, M: Tally> Register<C, M> {
     /// No connection came.
-    pub(crate) fn new(alloc: Global, door: UnixStream, keeps: bool) -> Register<C, M> {
+    pub(crate) fn new(alloc: Global, door: UnixStream) -> Register<C, M> {
         Register {
             newcomers: Vec::new(alloc),
             present: 0,
             sockets: Vec::new(alloc),
             door: Some(door),
             over: false,
-            keeps,
             short: false,
             spent: false,
             calls: None,
@@ -145,13 +141,13 @@ impl<C: Tally, M: Tally> Register<C, M> {
         self.over
     }
 
-    /// Adds what the read side of a connection did.
-    pub(crate) fn add_calls(&mut self, seat: CallSeat<C>, sent: Vec<ClientMessage>)
+    /// Adds what the read side of a connection did; its list only where `keeps`.
+    pub(crate) fn add_calls(&mut self, seat: CallSeat<C>, sent: Vec<ClientMessage>, keeps: bool)
         requires ledger { C.all ≡ C.parts }
         ensures joined { self.new.calls ≡ joined_to self.old.calls seat }
         // A list that is to be kept is kept, or memory is told to be short.
-        ensures sent { IsTrue self.old.keeps → self.new.short ≡ false → self.new.sent.items ≡ self.old.sent.items ++ sent ∷ [] }
-        ensures none { self.old.keeps ≡ false → self.new.sent.items ≡ self.old.sent.items }
+        ensures sent { IsTrue keeps → self.new.short ≡ false → self.new.sent.items ≡ self.old.sent.items ++ sent ∷ [] }
+        ensures none { keeps ≡ false → self.new.sent.items ≡ self.old.sent.items }
         ensures short { IsTrue self.old.short → IsTrue self.new.short }
         ensures mails { self.new.mails ≡ self.old.mails }
         ensures receipts { self.new.receipts.items ≡ self.old.receipts.items }
@@ -160,17 +156,17 @@ impl<C: Tally, M: Tally> Register<C, M> {
             Some(calls) => calls.join(seat),
             None => self.calls = Some(seat),
         }
-        if self.keeps && self.sent.push(sent).is_err() {
+        if keeps && self.sent.push(sent).is_err() {
             self.short = true;
         }
     }
 
-    /// Adds what the write side of a connection did.
-    pub(crate) fn add_mails(&mut self, seat: MailSeat<M>, receipts: Vec<Receipt>)
+    /// Adds what the write side of a connection did; its receipts only where `keeps`.
+    pub(crate) fn add_mails(&mut self, seat: MailSeat<M>, receipts: Vec<Receipt>, keeps: bool)
         requires ledger { M.all ≡ M.parts }
         ensures joined { self.new.mails ≡ joined_to self.old.mails seat }
-        ensures receipts { IsTrue self.old.keeps → self.new.short ≡ false → self.new.receipts.items ≡ self.old.receipts.items ++ receipts.items }
-        ensures none { self.old.keeps ≡ false → self.new.receipts.items ≡ self.old.receipts.items }
+        ensures receipts { IsTrue keeps → self.new.short ≡ false → self.new.receipts.items ≡ self.old.receipts.items ++ receipts.items }
+        ensures none { keeps ≡ false → self.new.receipts.items ≡ self.old.receipts.items }
         ensures short { IsTrue self.old.short → IsTrue self.new.short }
         ensures calls { self.new.calls ≡ self.old.calls }
         ensures sent { self.new.sent.items ≡ self.old.sent.items }
@@ -179,7 +175,7 @@ impl<C: Tally, M: Tally> Register<C, M> {
             Some(mails) => mails.join(seat),
             None => self.mails = Some(seat),
         }
-        if self.keeps
+        if keeps
             && self
                 .receipts
                 .extend_from_slice(receipts.as_slice())
@@ -189,35 +185,30 @@ impl<C: Tally, M: Tally> Register<C, M> {
         }
     }
 
-    /// Closes a hall with what its connections did. `Memory` where not all of that could be kept; `Strange` where a book is full,
-    /// a seat is missing or a receipt is strange, and the keeper doesn't come back then.
-    pub(crate) fn close<D: Disk + Drop>(
-        self,
-        hall: Hall<C, M>,
-        keeper: Keeper<D>,
-    ) -> Result<Closing<D>, (StopFault, Option<Keeper<D>>)>
+    /// Closes a hall with what its connections did. `state` is what is stored. `Memory` where not all of that could be kept; `Strange`
+    /// where a book is full, a seat is missing or a receipt is strange.
+    pub(crate) fn close(self, hall: Hall<C, M>, state: &State) -> Result<Audit, StopFault>
         requires calls { C.all ≡ C.parts }
         requires mails { M.all ≡ M.parts }
-        ensures calls { IfOk result (λ closing. IfSome self.calls (λ seat. closing.books.calls ≡ seat.amount)) }
-        ensures mails { IfOk result (λ closing. IfSome self.mails (λ seat. closing.books.taken ≡ seat.amount)) }
-        ensures receipts { IfOk result (λ closing. All (IsBorneOut keeper.state (map (λ v. v.items) self.sent.items)) self.receipts.items) }
+        ensures calls { IfOk result (λ audit. IfSome self.calls (λ seat. audit.books.calls ≡ seat.amount)) }
+        ensures mails { IfOk result (λ audit. IfSome self.mails (λ seat. audit.books.taken ≡ seat.amount)) }
+        ensures sent { IfOk result (λ audit. audit.sent ≡ map (λ v. v.items) self.sent.items) }
+        ensures receipts { IfOk result (λ audit. audit.receipts ≡ self.receipts.items) }
+        ensures borne_out { IfOk result (λ audit. All (IsBorneOut state.now audit.sent) audit.receipts) }
         ensures whole { IsOk result → (self.short ≡ false) × ((self.spent ≡ false) × (IsSome self.calls × IsSome self.mails)) }
-        ensures keeper { IfOk result (λ closing. closing.keeper ≡ keeper) }
-        ensures add_up { IfOk result (λ closing. AddUp closing.books) }
-        ensures unspent { IfOk result (λ closing. closing.books.spent ≡ false) }
-        ensures short { IfErr result (λ e. IfSome e.1 (λ back. (e.0 ≡ fault.Memory) × (back ≡ keeper))) }
-        ensures refused { IfErr result (λ e. e.1 ≡ None → e.0 ≡ fault.Strange) }
+        ensures add_up { IfOk result (λ audit. AddUp audit.books) }
+        ensures unspent { IfOk result (λ audit. audit.books.spent ≡ false) }
+        ensures faults { IfErr result (λ told. ((told ≡ fault.Memory) × IsTrue self.short) ⊎ ((told ≡ fault.Strange) × (self.short ≡ false))) }
     {
         if self.short {
             drop(self);
             drop(hall);
-            return Err((StopFault::Memory, Some(keeper)));
+            return Err(StopFault::Memory);
         }
         if self.spent {
             drop(self);
             drop(hall);
-            drop(keeper);
-            return Err((StopFault::Strange, None));
+            return Err(StopFault::Strange);
         }
         let Register {
             newcomers,
@@ -236,12 +227,11 @@ impl<C: Tally, M: Tally> Register<C, M> {
             drop(sent);
             drop(receipts);
             drop(hall);
-            drop(keeper);
-            return Err((StopFault::Strange, None));
+            return Err(StopFault::Strange);
         };
-        match close(hall, calls, mails, sent, receipts, keeper) {
-            Ok(closing) => Ok(closing),
-            Err(_) => Err((StopFault::Strange, None)),
+        match settle(hall, calls, mails, sent, receipts, state) {
+            Ok(audit) => Ok(audit),
+            Err(_) => Err(StopFault::Strange),
         }
     }
 }

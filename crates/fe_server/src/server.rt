@@ -1,7 +1,8 @@
 //! A store is served.
 
-ghost use Rattle.std.specs.Prelude.{◌≡◌, ◌≢◌, ◌+◌, ℕ, false, Some, None, IfOk, IfSome, IsErrOf};
+ghost use Rattle.std.specs.Prelude.{◌≡◌, ◌≢◌, ◌+◌, ℕ, false, All, IfOk, IsErrOf, nat_lt};
 ghost use Rattle.fe_mail.specs.Books.{AddUp};
+ghost use Rattle.fe_hall.specs.Receipts.{IsBorneOut};
 ghost use Rattle.fe_hall.specs.Seats.{most_connections};
 ghost use Rattle.fe_hall.specs.declared.commit_end.CommitEnd.{CommitEnd as Ended};
 ghost use Rattle.fe_hall.specs.declared.commit_end.CommitEnd.TheVariants as hall;
@@ -9,21 +10,19 @@ ghost use Rattle.fe_journal.specs.Layout.{device_bytes};
 ghost use Rattle.fe_store.specs.declared.fault.OpenFault.TheVariants as store;
 ghost use Rattle.fe_server.specs.Serving.{HasCommitted, IsAnswerAt, fault_in, fault_of_end, keeper_in};
 ghost use Rattle.fe_server.specs.declared.serve_fault.ServeFault.TheVariants as fault;
-ghost use Rattle.fe_server.specs.declared.stop_fault.StopFault.TheVariants as stop;
 
 use crate::accepting::serve_clients;
 use crate::binding::bind;
-use crate::house::House;
+use crate::house::{House, Opened, Over};
 use crate::serve_fault::ServeFault;
+use crate::served::Served;
 use crate::stop_fault::StopFault;
 use fe_disk::Disk;
-use fe_front::{Books, Front};
-use fe_hall::{Closing, CommitEnd, Gate, Hall, Tally, commit_side};
+use fe_hall::{Audit, CommitEnd, Gate, Tally, commit_side};
 use fe_keeper::Keeper;
 use fe_options::Settings;
-use fe_state::State;
 use fe_store::open_store;
-use std::alloc::{AllocError, Global};
+use std::alloc::Global;
 use std::fs::File;
 use std::marker::Brand;
 use std::net::Net;
@@ -47,9 +46,9 @@ pub fn serve<R: Files<File = File> + Net + Clock + Threads + Wait + Sync, G: Gat
     alloc: Global,
     settings: &Settings,
     gate: &G,
-) -> Result<Books, ServeFault>
-    ensures add_up { IfOk result (λ books. AddUp books) }
-    ensures unspent { IfOk result (λ books. books.spent ≡ false) }
+) -> Result<Audit, ServeFault>
+    ensures add_up { IfOk result (λ audit. AddUp audit.books) }
+    ensures unspent { IfOk result (λ audit. audit.books.spent ≡ false) }
     // The file is told to have another size only where it has, and to be unformatted only where no store was asked for.
     ensures wrong_size { (found : ℕ) → IsErrOf result (fault.Store (store.Size found)) → found ≢ device_bytes }
     ensures unformatted { IsErrOf result (fault.Store store.Unformatted) → settings.now.format ≡ false }
@@ -60,9 +59,9 @@ pub fn serve<R: Files<File = File> + Net + Clock + Threads + Wait + Sync, G: Gat
         return Err(ServeFault::Socket);
     };
     match serve_store(rt, alloc, listener, settings, keeper, gate) {
-        Ok(Closing { books, keeper }) => {
+        Ok(Served { audit, keeper }) => {
             drop(keeper);
-            Ok(books)
+            Ok(audit)
         }
         Err((fault, keeper)) => {
             drop(keeper);
@@ -79,15 +78,15 @@ pub fn serve_store<D: Disk + Drop + Send, G: Gate + Sync, R: Clock + Threads + W
     settings: &Settings,
     keeper: Keeper<D>,
     gate: &G,
-) -> Result<Closing<D>, (StopFault, Option<Keeper<D>>)>
-    // Whatever the end, the keeper that comes back is the one before with what was stored since; and the answer is that of the
+) -> Result<Served<D>, (StopFault, Keeper<D>)>
+    // Whatever the end, the keeper comes back: it is the one before with what was stored since; and the answer is that of the
     // committing side's end.
-    ensures committed { IfSome (keeper_in result) (λ after. (end : Ended) × HasCommitted D.honest D.moment D.left_since D.may_leave D.failures keeper after end × IsAnswerAt end (fault_in result)) }
-    // Only of receipts or seats that are strange no keeper comes back.
-    ensures dropped { keeper_in result ≡ None → fault_in result ≡ Some stop.Strange }
+    ensures committed { (end : Ended) × HasCommitted D.honest D.moment D.left_since D.may_leave D.failures keeper (keeper_in result) end × IsAnswerAt end (fault_in result) }
     // The books of a server that ended by itself: each call and each mail stands in one column.
-    ensures add_up { IfOk result (λ closing. AddUp closing.books) }
-    ensures unspent { IfOk result (λ closing. closing.books.spent ≡ false) }
+    ensures add_up { IfOk result (λ served. AddUp served.audit.books) }
+    ensures unspent { IfOk result (λ served. served.audit.books.spent ≡ false) }
+    // What its clients were told is stored.
+    ensures borne_out { IfOk result (λ served. All (IsBorneOut served.keeper.state served.audit.sent) served.audit.receipts) }
 {
     serve_as::<Brand, Brand, D, G, R>(
         rt,
@@ -116,30 +115,31 @@ fn serve_as<
     gate: &G,
     calls: Blank,
     mails: Blank,
-) -> Result<Closing<D>, (StopFault, Option<Keeper<D>>)>
+) -> Result<Served<D>, (StopFault, Keeper<D>)>
     requires calls { (calls.name ≡ C.name) × (calls.parts ≡ C.parts) × (C.all ≡ C.parts) × (C.all ≡ most_connections + 1) }
     requires mails { (mails.name ≡ M.name) × (mails.parts ≡ M.parts) × (M.all ≡ M.parts) × (M.all ≡ most_connections + 1) }
-    ensures committed { IfSome (keeper_in result) (λ after. (end : Ended) × HasCommitted D.honest D.moment D.left_since D.may_leave D.failures keeper after end × IsAnswerAt end (fault_in result)) }
-    ensures dropped { keeper_in result ≡ None → fault_in result ≡ Some stop.Strange }
-    ensures add_up { IfOk result (λ closing. AddUp closing.books) }
-    ensures unspent { IfOk result (λ closing. closing.books.spent ≡ false) }
+    ensures committed { (end : Ended) × HasCommitted D.honest D.moment D.left_since D.may_leave D.failures keeper (keeper_in result) end × IsAnswerAt end (fault_in result) }
+    ensures add_up { IfOk result (λ served. AddUp served.audit.books) }
+    ensures unspent { IfOk result (λ served. served.audit.books.spent ≡ false) }
+    ensures borne_out { IfOk result (λ served. All (IsBorneOut served.keeper.state served.audit.sent) served.audit.receipts) }
 {
     let Ok(door) = listener.try_clone() else {
-        return Err((StopFault::Memory, Some(unserved(keeper))));
-    };
-    let Ok(hall) = hall_over::<C, M>(alloc, keeper.state(), calls, mails) else {
-        return Err((StopFault::Memory, Some(unserved(keeper))));
+        return Err((StopFault::Memory, unserved(keeper)));
     };
     // The system ends an `accept` whose listener is shut, which only a stream can do here.
     let door = UnixStream::from(OwnedFd::from(door));
-    let house = House::new(alloc, hall, door, settings.accepts > 0);
-    let (keeper, end) = run(rt, alloc, &house, listener, settings, keeper, gate);
-    match fault_of_end(end) {
-        Some(fault) => {
-            drop(house);
-            Err((fault, Some(keeper)))
-        }
-        None => house.close(keeper),
+    let Ok(opened) = Opened::<C, M>::new(alloc, keeper.state(), calls, mails, door, settings) else {
+        return Err((StopFault::Memory, unserved(keeper)));
+    };
+    let (keeper, end, over) = run(rt, alloc, &opened, listener, settings, keeper, gate);
+    if let Some(fault) = fault_of_end(end) {
+        drop(opened);
+        drop(over);
+        return Err((fault, keeper));
+    }
+    match opened.close(over, keeper.state()) {
+        Ok(audit) => Ok(Served { audit, keeper }),
+        Err(fault) => Err((fault, keeper)),
     }
 }
 
@@ -153,33 +153,13 @@ fn unserved<D: Disk>(keeper: Keeper<D>) -> Keeper<D>
     keeper
 }
 
-/// A hall round a front over a copy of a state.
-fn hall_over<C: Tally, M: Tally>(
-    alloc: Global,
-    state: &State,
-    calls: Blank,
-    mails: Blank,
-) -> Result<Hall<C, M>, AllocError>
-    requires calls { (calls.name ≡ C.name) × (calls.parts ≡ C.parts) × (C.all ≡ C.parts) × (C.all ≡ most_connections + 1) }
-    requires mails { (mails.name ≡ M.name) × (mails.parts ≡ M.parts) × (M.all ≡ M.parts) × (M.all ≡ most_connections + 1) }
-{
-    let front = Front::new(alloc, state.copy()?)?;
-    match Hall::new(alloc, front, calls, mails) {
-        Ok(hall) => Ok(hall),
-        Err((short, front)) => {
-            drop(front);
-            Err(short)
-        }
-    }
-}
-
 /// What the committing thread gives back.
 #[derive(Drop)]
 struct Committed<D: Disk + Drop> {
     before: Snapshot<Keeper<D>>,
 }
 
-impl<D: Disk + Drop> Promise<(Keeper<D>, CommitEnd)> for Committed<D> {
+impl<D: Disk + Drop> Promise<(Keeper<D>, CommitEnd, Over)> for Committed<D> {
     ghost use Rattle.fe_server.specs.Serving.{HasCommitted};
 
     ghost kept_by = { λ p r. HasCommitted D.honest D.moment D.left_since D.may_leave D.failures p.before.value r.0 r.1 };
@@ -195,20 +175,24 @@ fn run<
 >(
     rt: &R,
     alloc: Global,
-    house: &House<C, M>,
+    opened: &Opened<C, M>,
     listener: UnixListener,
     settings: &Settings,
     keeper: Keeper<D>,
     gate: &G,
-) -> (Keeper<D>, CommitEnd)
+) -> (Keeper<D>, CommitEnd, Over)
     requires calls { C.all ≡ C.parts }
     requires mails { M.all ≡ M.parts }
+    requires begun { opened.now.begun.value ≡ keeper.state }
+    requires most { opened.now.house.most ≡ settings.now.connections }
+    requires keeps { opened.now.house.keeps ≡ nat_lt 0 settings.now.accepts }
     ensures { HasCommitted D.honest D.moment D.left_since D.may_leave D.failures keeper result.0 result.1 }
 {
+    let house = opened.house();
     thread::scope(
         thread::scope_env(),
         rt,
-        move |scope| -> (Keeper<D>, CommitEnd)
+        move |scope| -> (Keeper<D>, CommitEnd, Over)
             requires { (C.all ≡ C.parts) × (M.all ≡ M.parts) }
             ensures { HasCommitted D.honest D.moment D.left_since D.may_leave D.failures keeper result.0 result.1 }
         { run_in(rt, alloc, scope, house, listener, settings, keeper, gate) },
@@ -233,7 +217,7 @@ fn run_in<
     settings: &Settings,
     keeper: Keeper<D>,
     gate: &G,
-) -> (Keeper<D>, CommitEnd)
+) -> (Keeper<D>, CommitEnd, Over)
     requires calls { C.all ≡ C.parts }
     requires mails { M.all ≡ M.parts }
     ensures { HasCommitted D.honest D.moment D.left_since D.may_leave D.failures keeper result.0 result.1 }
@@ -243,7 +227,7 @@ fn run_in<
     };
     let committing = scope.spawn_with(
         promise,
-        move || -> (Keeper<D>, CommitEnd)
+        move || -> (Keeper<D>, CommitEnd, Over)
             ensures { HasCommitted D.honest D.moment D.left_since D.may_leave D.failures keeper result.0 result.1 }
         { commit(rt, house, keeper) },
     );
@@ -266,13 +250,13 @@ fn commit<C: Tally, M: Tally, D: Disk, R: Clock + Wait>(
     rt: &R,
     house: &House<C, M>,
     keeper: Keeper<D>,
-) -> (Keeper<D>, CommitEnd)
+) -> (Keeper<D>, CommitEnd, Over)
     ensures { HasCommitted D.honest D.moment D.left_since D.may_leave D.failures keeper result.0 result.1 }
 {
     let mut keeper = keeper;
     let end = commit_side(rt, &house.hall, &mut keeper);
-    house.end(rt);
-    (keeper, end)
+    let over = house.end(rt);
+    (keeper, end, over)
 }
 
 /// The fault that a server ends with whose committing side ended so.

@@ -23,6 +23,9 @@ const PATIENCE: u64 = 60;
 const BOOKS: &str =
     "calls 3 completed 3 waiting 0 withdrawn 0 repeated 0 refused 0\nmails 5 taken 5 dropped 0 left 0\n";
 
+/// How many answers the two clients get.
+const ANSWERS: usize = 3;
+
 /// Lets the messages of the first connection wait while they are held.
 #[derive(Drop)]
 struct Barrier {
@@ -122,14 +125,14 @@ fn gate_holds_one(rt: HostRuntime) {
         .ok()
         .expect(&rt, "settings");
     let gate = Barrier { hold: Hold::new() };
-    let (books, _) = thread::join(
+    let (audit, _) = thread::join(
         &rt,
         || serve(&rt, rt.alloc(), &settings, &gate),
         || two_calls(&rt, socket.as_str(), &gate.hold),
     );
-    let books = books.ok().expect(&rt, "the server ended by itself");
-    let found = books_text(rt.alloc(), &books).ok().expect(&rt, "a text");
-    assert!(&rt; found.as_str() == BOOKS);
+    let audit = audit.ok().expect(&rt, "the server ended by itself");
+    let found = books_text(rt.alloc(), &audit.books()).ok().expect(&rt, "a text");
+    assert!(&rt; found.as_str() == BOOKS && audit.receipts().len() == ANSWERS);
     assert!(&rt;
         fs::remove_file(&rt, socket.as_str()).is_ok()
             && fs::remove_file(&rt, store.as_str()).is_ok()
