@@ -131,9 +131,8 @@ fn gate_holds_one(rt: HostRuntime) {
         || two_calls(&rt, socket.as_str(), &gate.hold),
     );
     let audit = audit.ok().expect(&rt, "the server ended by itself");
-    let found = books_text(rt.alloc(), &audit.books())
-        .ok()
-        .expect(&rt, "a text");
+    let books = audit.books();
+    let found = books_text(rt.alloc(), &books).ok().expect(&rt, "a text");
     assert!(&rt; found.as_str() == BOOKS && audit.receipts().len() == ANSWERS);
     assert!(&rt;
         fs::remove_file(&rt, socket.as_str()).is_ok()

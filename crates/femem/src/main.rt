@@ -106,7 +106,8 @@ fn serve_by<R: Files<File = File> + Net + Clock + Threads + Wait + Sync + AllocG
     ensures { OnOk result (WritesBooks (W.contents writer.old) (W.contents writer.new)) }
 {
     let settings = settings_at(rt, path)?;
-    let books = serve(rt, rt.alloc(), &settings, &Open)?.books();
+    let audit = serve(rt, rt.alloc(), &settings, &Open)?;
+    let books = audit.books();
     show_books(rt.alloc(), &books, writer)?;
     Ok(())
 }
