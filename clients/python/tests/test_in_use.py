@@ -268,5 +268,5 @@ class Seen(WithFolder):
     def test_what_a_client_can_not_tell_is_said(self):
         """The README says that a session which another client ended and began anew is not noticed."""
         promise = re.search(r"\*\*At most once\.\*\*.*?\n\n(.*?)\n\n", (ROOT / "README.md").read_text(), re.DOTALL)[1]
-        self.assertIn("a second time without a word", promise)
+        self.assertIn("a second time, unnoticed", promise)
         self.assertIn("a session belongs to one client", promise)

@@ -10,7 +10,7 @@ use std::os::fd::AsRawFd;
 /// Below this folder Linux has a link for each open file of a process, named by its descriptor (`proc(5)`).
 const FOLDER: &[u8; 14] = b"/proc/self/fd/";
 
-/// A path with zeros behind it, the last of which the C library asks for.
+/// A path padded with zeros. The C library needs the last one.
 type CPath = [u8; PATH_MAX];
 
 /// The path that the system has for an open file: another one once the file or a folder above it was renamed, and one that ends

@@ -169,8 +169,8 @@ fn frames_for(rt: &impl Abort, alloc: Global, path: &Path, conn: u64) -> Vec<u8>
     frames
 }
 
-// How long what was written to the connection is, without what was refused it where there was no memory. Where it is told
-// nothing, nothing was.
+// What was written to the connection, apart from refusals for lack of memory. Where no frames are expected, nothing was
+// written.
 fn check_written(rt: &impl Abort, desk: &Desk<Liar>, conn: u64, frames: &[u8]) {
     let written = written_to(desk, conn);
     assert!(rt; !frames.is_empty() || written.is_empty());

@@ -78,7 +78,7 @@ impl<C: Tally> CallSeat<C> {
         self.standing = Standing::Served;
     }
 
-    /// The side is told how it stands.
+    /// Records what the hall answered the side last.
     pub(crate) fn tell(&mut self, _book: &Book<C>, standing: Standing)
         ensures { self.new ≡ record self.old { standing = standing } }
     {

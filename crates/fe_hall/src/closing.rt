@@ -34,8 +34,8 @@ pub enum Unclosed {
     StrangeReceipt { place: u64 },
 }
 
-/// What was told of a hall that was closed: its books, the lists of its read sides, and the receipts, all of which were compared. Only
-/// `settle` makes it, so the books are those under the lock.
+/// The result of closing a hall: its books, the lists of its read sides, and the receipts, each of them compared. Only `settle`
+/// makes it, so the books are those under the lock.
 #[derive(Drop)]
 pub struct Audit {
     books: Books,

@@ -161,7 +161,7 @@ impl<C: Tally, M: Tally> Floor<C, M> {
         take_message(alloc, &mut self.front, conn, message);
     }
 
-    /// Takes a message of a connection where there is room for it; else nothing, and `None`. Its seat is told how it stands.
+    /// Takes a message of a connection if there is room for it; otherwise does nothing and returns `None`. Its seat records the answer.
     pub(crate) fn handle(
         &mut self,
         alloc: Global,

@@ -72,7 +72,7 @@ impl<M: Tally> MailSeat<M> {
         self.standing = Standing::Served;
     }
 
-    /// The side is told how it stands.
+    /// Records what the hall answered the side last.
     pub(crate) fn tell(&mut self, _book: &Book<M>, standing: Standing)
         ensures { self.new ≡ record self.old { standing = standing } }
     {
