@@ -1,4 +1,4 @@
--- A whole conversation: lines that are taken of the input, one behind the other, and what they ask.
+-- A whole conversation: lines taken from the input, one after the other, and what they ask.
 use Rattle.std.proofs.Common.{◌≡◌, ℕ, ◌+◌, ◌≤◌, List, [], ◌∷◌, ◌++◌, length, refl, sym, ap, ◌∙◌, subst, append_assoc, append-nil, add-zero, arith, inl, inr}
 use Rattle.std.proofs.lemmas.List.{length-append}
 use Rattle.std.proofs.lemmas.List.Concat.{flat_map-append}

@@ -63,7 +63,7 @@ bad_whole bytes four whole none m more fits e =
 
 -- ---- a frame that comes in two parts, its length and what follows
 
--- both parts stand at the front of the room
+-- both parts are at the front of the room
 pub parts_at_front : (head body behind : List ℕ) (count room : ℕ) → length head ≡ 4 → length body ≡ count → take (4 + count) (put_mid 4 room (head ++ behind) body) ≡ head ++ body
 parts_at_front head body behind count room four all =
     let within : 4 ≤ length (head ++ behind) = omega (arith, four, length-append head behind) in

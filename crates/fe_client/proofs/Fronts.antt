@@ -25,7 +25,7 @@ copied items copy rest next count sized is =
     take_further next count items
     ∙ ap (λ t. take next items ++ t) (sym (take-append-le count copy rest (omega (arith, sized)) ∙ take_all count copy (omega (arith, sized)) ∙ is ∙ ap (λ k. take k (drop next items)) same))
 
--- what came into a buffer behind its front
+-- what came into a buffer after its front
 pub came_behind : (done count room : ℕ) (buffer new : List ℕ) → done ≤ length buffer → count ≤ length new → take (done + count) (put_mid done room buffer new) ≡ take done buffer ++ take count new
 came_behind done count room buffer new within fits =
     let all = put_mid done room buffer new in

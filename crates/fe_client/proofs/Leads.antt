@@ -1,4 +1,4 @@
--- What events lead to, one behind the other.
+-- What events lead to, one after the other.
 use Rattle.std.proofs.Common.{◌≡◌, ℕ, ◌+◌, ◌-◌, ◌≤◌, List, [], ◌∷◌, ◌++◌, map, length, take, drop, refl, sym, ap, ◌∙◌, subst, append-nil, arith}
 use Rattle.std.specs.List.{flat_map}
 use Rattle.std.proofs.lemmas.List.{map-append, take-take, take-append-drop, drop-take}
@@ -8,14 +8,14 @@ use Rattle.fe_wire.specs.declared.client_message.ClientMessage.{ClientMessage}
 use Rattle.fe_wire.specs.declared.server_message.ServerMessage.{ServerMessage}
 use Rattle.fe_client.specs.Events.{Event, sent, received, written, exchange, reply_text, received_byte, received_in}
 
--- what happens first stands first
+-- what happens first comes first
 abbrev pub Joins : {S : Type 0} → (S → List Event → S → Type 0) → Type 0
 Joins {S} leads = (s t u : S) (a b : List Event) → leads s a t → leads t b u → leads s (a ++ b) u
 
 pub then_nothing : {S : Type 0} (leads : S → List Event → S → Type 0) → Joins leads → (s t u : S) (a : List Event) → leads s a t → leads t [] u → leads s a u
 then_nothing leads joins s t u a p q = subst (λ (es : List Event). leads s es u) (append-nil a) (joins s t u a [] p q)
 
--- bytes of one kind, and others behind them
+-- bytes of one kind, followed by others
 pub then_bytes : {S : Type 0} (leads : S → List Event → S → Type 0) → Joins leads → (f : ℕ → Event) (s t u : S) (xs ys : List ℕ) → leads s (map f xs) t → leads t (map f ys) u → leads s (map f (xs ++ ys)) u
 then_bytes leads joins f s t u xs ys p q = subst (λ (es : List Event). leads s es u) (sym (map-append f xs ys)) (joins s t u (map f xs) (map f ys) p q)
 

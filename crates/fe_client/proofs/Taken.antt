@@ -14,7 +14,7 @@ use Rattle.fe_client.proofs.Leads.{Joins, then_nothing}
 
 -- ---- bytes
 
--- what is kept behind a line feed
+-- what is kept after a line feed
 pub kept_behind : (piece front behind : List ℕ) (next end count : ℕ) → length front ≡ count → take (end - next) (drop next piece) ≡ front ++ 10 ∷ behind
     → take (end - (next + (count + 1))) (drop (next + (count + 1)) piece) ≡ behind
 kept_behind piece front behind next end count size is =
@@ -46,7 +46,7 @@ unfed_front kept front rest fed = when_false (kept ≡ front ++ 10 ∷ rest) ((k
 
 -- ---- a line that is being taken
 
--- A front of the line is taken, and these bytes were read behind it.
+-- A front of the line is taken, and these bytes were read after it.
 pub record Taking {S : Type 0} (leads : S → List Event → S → Type 0) (before now : S) (kept line rest : List ℕ) : Type 0 where
   pub so : List Event
   pub talk : Conversation kept 0 so (line ++ rest)

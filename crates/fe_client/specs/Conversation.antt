@@ -22,7 +22,7 @@ pub data Conversation (start : List ℕ) : ℕ → List Event → List ℕ → T
   Takes : (lines : ℕ) (so done : List Event) (line left : List ℕ) → Conversation start lines so (line ++ 10 ∷ left) → HasNoFeed line → Does line done
       → Conversation start (lines + 1) (so ++ done) left
 
--- From the one state to the other a conversation is held to its end: the input ends behind the last line.
+-- From the one state to the other a conversation is held to its end: the input ends after the last line.
 pub record TalksAll {S : Type 0} (leads : S → List Event → S → Type 0) (before after : S) : Type 0 where
   pub lines : ℕ
   pub so : List Event

@@ -39,7 +39,7 @@ IsTooLong end number line = ((end ≡ fault.Line number) × (94 < length line)) 
 abbrev pub Unsent : CallFault → Type 0 → Type 0
 Unsent end over = ((end ≡ fault.Socket) × over) ⊎ (end ≡ fault.Memory)
 
--- why no more bytes come than these, and so many before: the connection may be over, and is read 2^40 times at most
+-- Why no more bytes come than these after the earlier ones: the connection may be over, or it was read 2^40 times.
 abbrev pub Unreceived : CallFault → Type 0 → ℕ → List ℕ → Type 0
 Unreceived end over earlier bytes = ((end ≡ fault.Socket) × over) ⊎ ((end ≡ fault.Input) × (2 ^ 40 ≤ earlier + length bytes))
 
@@ -70,7 +70,7 @@ pub record WhilePrinting (end : CallFault) (message : ClientMessage) (part : Lis
   pub is_front : IsFrontOf front (reply_text reply)
   pub part_is : part ≡ sent (spelling message) ++ (received (reply_spelling reply) ++ written front)
 
--- What an exchange that broke off came to, where so many bytes were received before it.
+-- What a broken-off exchange came to, given the number of bytes received before it.
 pub data ExchangeEnds (end : CallFault) (over : Type 0) (earlier : ℕ) (message : ClientMessage) (part : List Event) : Type 0 where
   Sending : WhileSending end over message part → ExchangeEnds end over earlier message part
   Receiving : WhileReceiving end over earlier message part → ExchangeEnds end over earlier message part

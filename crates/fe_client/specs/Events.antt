@@ -1,4 +1,4 @@
--- What happens in a conversation, one event behind the other.
+-- What happens in a conversation, as a list of events in order.
 use Rattle.std.specs.Prelude.{ℕ, List, [], ◌∷◌, ◌++◌, map, take, Option, None, Some}
 use Rattle.std.specs.List.{flat_map}
 use Rattle.fe_wire.specs.Spelling.{spelling, reply_spelling}
@@ -27,7 +27,7 @@ received bytes = map Event.Received bytes
 abbrev pub written : List ℕ → List Event
 written bytes = map Event.Written bytes
 
--- a read that gave so many bytes of a buffer, or was interrupted
+-- a read that gave this many bytes of a buffer, or was interrupted
 abbrev pub read_of : Option ℕ → List ℕ → List Event
 read_of None buffer = []
 read_of (Some count) buffer = Event.Read (take count buffer) ∷ []

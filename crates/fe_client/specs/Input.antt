@@ -16,7 +16,7 @@ abbrev pub Fills : Bool → List ℕ → List Event → Type 0
 Fills true kept events = ((kept ≡ []) × (events ≡ [])) ⊎ ((kept ≢ []) × (events ≡ Event.Read kept ∷ []))
 Fills false kept events = events ≡ Event.Read [] ∷ []
 
--- This line, which a line feed ends, is the first of what was read and not taken, the second bytes are behind it, and no
+-- This line, which a line feed ends, is the first of what was read and not taken, the second bytes follow it, and no
 -- line was taken meanwhile.
 pub record TakesFed {S : Type 0} (leads : S → List Event → S → Type 0) (before after : S) (kept left line : List ℕ) : Type 0 where
   pub so : List Event

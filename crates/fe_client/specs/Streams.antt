@@ -58,7 +58,7 @@ abbrev IsNil : List ℕ → Type 0
 IsNil [] = Unit {0}
 IsNil (x ∷ xs) = ⊥
 
--- nothing is read behind the end
+-- nothing is read after the end
 nothing_behind : (xs ys zs : List ℕ) → xs ≡ ys ++ zs → xs ≡ [] → zs ≡ []
 nothing_behind xs [] zs e none = sym e ∙ none
 nothing_behind xs (y ∷ ys) zs e none = absurd (subst IsNil (sym none ∙ e) tt)

@@ -53,6 +53,6 @@ pub trait Streams {
     /// Nothing happens in between.
     ghost stays: { (s : Self) → leads s [] s };
 
-    /// What happens first stands first.
+    /// In order: what happens first comes first.
     ghost joins: { (s t u : Self) (a b : List Event) → leads s a t → leads t b u → leads s (a ++ b) u };
 }

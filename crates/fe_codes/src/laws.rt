@@ -1,4 +1,4 @@
-//! Each code is read as what it encodes, and as nothing else.
+//! Each code is read as exactly what it encodes.
 
 ghost use Rattle.fe_codes.specs.Laws.{TagsAreTheirCodes, OpsAreTheirCodes, AnswersAreTheirCodes};
 

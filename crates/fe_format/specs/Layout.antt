@@ -23,7 +23,7 @@ abbrev pub group_records : Format → ℕ
 group_records One = 16383
 group_records Two = 13107
 
--- the longest payload: so many whole records
+-- the longest payload: this many whole records
 abbrev pub longest_payload : Format → ℕ
 longest_payload One = 1048512
 longest_payload Two = 1048560

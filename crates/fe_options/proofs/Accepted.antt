@@ -175,7 +175,7 @@ look_built = leaf (codes "look") (codes "store")
 abbrev help_built : Shape
 help_built = built_leaf help_shape
 
--- the first of the commands, or one behind it
+-- the first of the commands, or a later one
 in_front : (name : Text) (s : Shape) (others : List Shape) (P : Option Shape → Type 0) → (answers_to name (label_of s) ≡ true → P (Some s))
     → P (find (λ k. answers_to name (label_of k)) others) → P (find (λ k. answers_to name (label_of k)) (s ∷ others))
 in_front name s others P here behind = cond_both (answers_to name (label_of s)) (Some s) (find (λ k. answers_to name (label_of k)) others) P here (λ other. behind)

@@ -70,7 +70,7 @@ abbrev pub place_before : ℕ → Option ℕ
 place_before zero = None
 place_before (suc place) = Some place
 
--- the node one below each of the first so many
+-- for each of the first nodes, the node one below
 abbrev pub before_each : ℕ → List (Option ℕ)
 before_each zero = []
 before_each (suc place) = before_each place ++ place_before place ∷ []

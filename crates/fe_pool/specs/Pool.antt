@@ -35,11 +35,11 @@ abbrev pub list_from : List (List ℕ) → Option ℕ → List ℕ
 list_from lists None = []
 list_from lists (Some first) = slice_index_or lists first []
 
--- the node stands on one of the lists
+-- the node is on one of the lists
 abbrev pub IsOnOne : List (List ℕ) → ℕ → Type 0
 IsOnOne lists node = (first : Option ℕ) × Contains (list_from lists first) node
 
--- the lists of a family: each node has a place for one, a list stands at its first node and has no
+-- the lists of a family: each node has a place for one, a list is kept at its first node and has no
 -- node twice, no two have a node in common, and a node on a list has an item
 pub record AreSound {T : Type 0} (items : List (Option T)) (lists : List (List ℕ)) : Type 0 where
   pub sized : length lists ≡ length items
@@ -84,11 +84,11 @@ module _ {T : Type 0} where
     pub last : chain.last ≡ last_or None (list_of p family chain)
     pub counted : chain.length ≡ length (list_of p family chain)
 
-  -- the node stands on a list of the family
+  -- the node is on a list of the family
   abbrev pub IsOn : Contents T → Family → ℕ → Type 0
   IsOn p family node = IsOnOne (lists_of p family) node
 
-  -- the node stands on no list of the family
+  -- the node is on no list of the family
   abbrev pub IsOff : Contents T → Family → ℕ → Type 0
   IsOff p family node = ¬ (IsOn p family node)
 
@@ -96,7 +96,7 @@ module _ {T : Type 0} where
   abbrev pub KeepsOtherChains : Contents T → Contents T → Family → Chain → Type 0
   KeepsOtherChains old new family chain = (other : Chain) → IsApart other chain → IsChain old family other → IsChain new family other × (list_of new family other ≡ list_of old family other)
 
-  -- each other node stands on a list of the family exactly where it did
+  -- each other node is on a list of the family exactly if it was
   abbrev pub KeepsOtherNodes : Contents T → Contents T → Family → ℕ → Type 0
   KeepsOtherNodes old new family node = (other : ℕ) → other ≢ node → IsOn old family other ↔ IsOn new family other
 
@@ -104,7 +104,7 @@ module _ {T : Type 0} where
   abbrev pub KeepsOtherFamily : Contents T → Contents T → Family → Type 0
   KeepsOtherFamily old new family = (other : Family) → other ≢ family → lists_of new other ≡ lists_of old other
 
-  -- what `next` gives at a node: the one behind it on each list on which it stands
+  -- what `next` gives at a node: its successor on each list that it is on
   abbrev pub IsNext : Contents T → Family → ℕ → Option ℕ → Type 0
   IsNext p family node next = (first : Option ℕ) (before after : List ℕ) → list_from (lists_of p family) first ≡ before ++ node ∷ after → next ≡ first_or None after
 

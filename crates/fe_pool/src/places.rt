@@ -143,7 +143,7 @@ impl<T: Drop> Places<T> {
         }
     }
 
-    // Makes `next` the one behind the node `at`, where there is such a node.
+    // Makes `next` the successor of the node `at`, if there is such a node.
     pub(crate) fn set_next(&mut self, family: Family, at: Option<Node>, next: Option<Node>)
         requires { ForSome at (IsLinked self.old family) }
         ensures { self.new ≡ with_links self.old family (with_next (links_of self.old family) at next) }

@@ -29,13 +29,13 @@ pub record IsFirstBad (format : Format) (payload : List ℕ) (old : ServerState)
   pub offset_is : offset ≡ length (group_spelling format front)
   pub bad : NoneFollows format rest (after_all old front)
 
--- bytes that begin with the record of an entry that may come next, with these behind it
+-- bytes that begin with the record of an entry that may come next, followed by these
 pub record Begins (format : Format) (bytes : List ℕ) (s : ServerState) (entry : Entry) (behind : List ℕ) : Type 0 where
   pub fits : FitsRecord format entry
   pub spelled : bytes ≡ entry_spelling format entry ++ behind
   pub legal : IsLegal s entry
 
--- the first record of bytes leads from the old state to the new, and these are behind it
+-- the first record of bytes leads from the old state to the new, and these follow it
 pub record Steps (format : Format) (bytes : List ℕ) (old : ServerState) (behind : List ℕ) (new : ServerState) : Type 0 where
   pub entry : Entry
   pub begins : Begins format bytes old entry behind

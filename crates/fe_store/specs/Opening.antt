@@ -12,7 +12,7 @@ use Rattle.fe_store.specs.declared.fault.OpenFault.TheVariants as fault
 abbrev pub IsToFormat : List ℕ → Bool → Type 0
 IsToFormat image format = IsUnformatted image × (format ≡ true)
 
--- The image stands for the state; or a store is made on it, and the state is the first one.
+-- The image stands for the state; or a new store is made on it, with the first state.
 abbrev pub Opens : List ℕ → Bool → ServerState → Type 0
 Opens image format s = StandsFor image s ⊎ (IsToFormat image format × (s ≡ first_state))
 

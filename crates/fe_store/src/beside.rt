@@ -24,7 +24,7 @@ const NEW: &str = ".new";
 
 const KEPT: &str = ".before-format";
 
-/// Makes a new store that appears under the path whole or not at all: it is formatted under a name beside it, and then given the
+/// Makes a new store that appears under the path whole or not at all: it is formatted under a temporary name in the same folder, and then given the
 /// path. Where a file has the path by then, that stays as it is.
 pub(crate) fn make<R: Files<File = File>>(
     rt: &R,
@@ -78,7 +78,7 @@ pub(crate) fn keep<R: Files<File = File>>(
 }
 
 /// Removes `PATH.new` where it is what a start that was broken off left: a second name of the store or of the bytes that were kept,
-/// or a file of its own, which nobody has locked and nobody misses a byte of. One that is none of these stays.
+/// or a file of its own, which is not locked and holds only bytes that may be overwritten. Any other file stays.
 pub(crate) fn tidy<R: Files<File = File>>(rt: &R, alloc: Global, path: &str) {
     if let Ok(new) = beside(alloc, path, NEW) {
         let _ = clear(rt, alloc, path, new.as_str(), &[]);
@@ -159,7 +159,7 @@ fn copy<R: Files<File = File>>(
     }
 }
 
-/// Whether a file keeps these bytes, except those that nobody misses.
+/// Whether a file keeps these bytes, apart from those that may be overwritten.
 fn compare<R: Files<File = File>>(
     rt: &R,
     alloc: Global,

@@ -1,4 +1,4 @@
-//! Bytes that nobody misses.
+//! Bytes that may be overwritten.
 
 /// The header of slot 0 in a new store: its magic, generation 1, and the length of the empty image (`docs/formats.md`, "Device").
 const HEADER: [u8; 20] = [

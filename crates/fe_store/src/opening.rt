@@ -19,7 +19,7 @@ pub fn open_existing<D: Disk>(alloc: Global, disk: D) -> Result<Keeper<D>, (Open
     // The keeper has the state that the disk stands for, and so does each image that a stop may leave.
     ensures opened { D.honest disk → IfOk result (λ keeper. StandsFor (D.seen disk) keeper.state) }
     ensures stands { D.honest disk → IfOk result (λ keeper. EachStandsFor D.may_leave keeper.store.disk keeper.state) }
-    // A store that stands for a state is refused only for its device or for memory, and what is told of one is so.
+    // A valid store is refused only if the device fails or memory runs out, and a reported fault is the store's.
     ensures refused { D.honest disk → (s : ServerState) → StandsFor (D.seen disk) s → IfErr result (λ e. (e.0 ≡ fault.Device) ⊎ (e.0 ≡ fault.Memory)) }
     ensures told { D.honest disk → IfErr result (λ e. TellsImage e.0 (D.seen disk)) }
     // No stop leaves what could not be left before, and what is read stays the same.
@@ -41,11 +41,11 @@ pub fn open_existing<D: Disk>(alloc: Global, disk: D) -> Result<Keeper<D>, (Open
 
 /// Opens the store on a disk. One that is unformatted is formatted where that is asked for, and else refused.
 pub fn open_on<D: Disk>(alloc: Global, disk: D, format: bool) -> Result<Keeper<D>, (OpenFault, D)>
-    // The keeper has the state that the disk stands for, or that of a new store where there was none and one was asked for;
+    // The keeper has the state that the disk stands for, or that of a new store if there was none and one was asked for;
     // and so does each image that a stop may leave.
     ensures opened { D.honest disk → IfOk result (λ keeper. Opens (D.seen disk) format keeper.state) }
     ensures stands { D.honest disk → IfOk result (λ keeper. EachStandsFor D.may_leave keeper.store.disk keeper.state) }
-    // A store that stands for a state is refused only for its device or for memory, and what is told of one is so.
+    // A valid store is refused only if the device fails or memory runs out, and a reported fault is the store's.
     ensures refused { D.honest disk → (s : ServerState) → StandsFor (D.seen disk) s → IfErr result (λ e. (e.0 ≡ fault.Device) ⊎ (e.0 ≡ fault.Memory)) }
     ensures told { D.honest disk → IfErr result (λ e. TellsImage e.0 (D.seen disk)) }
     // Where no store is made, no stop leaves what could not be left before, and what is read stays the same.
@@ -54,7 +54,7 @@ pub fn open_on<D: Disk>(alloc: Global, disk: D, format: bool) -> Result<Keeper<D
     ensures works { IfOk result (λ keeper. keeper.store.has_failed ≡ false) }
     ensures none_under_way { IfOk result (λ keeper. keeper.store.checkpoint ≡ None) }
     ensures sized { IfErr result (λ e. (found : ℕ) → e.0 ≢ fault.Size found) }
-    // A disk of a store's size is told to be unformatted only where no store was asked for.
+    // A disk of a store's size is reported as unformatted only if no format was asked for.
     ensures unformatted { D.size disk ≡ device_bytes → IfErr result (λ e. e.0 ≡ fault.Unformatted → format ≡ false) }
     ensures honesty { D.honest (disk_after result) ↔ D.honest disk }
     ensures size { D.size (disk_after result) ≡ D.size disk }

@@ -1,4 +1,4 @@
--- The lines of bytes, one behind the other.
+-- The lines of bytes, one after the other.
 use Rattle.std.proofs.Common.{◌≡◌, ℕ, zero, suc, ◌+◌, ◌-◌, ◌<◌, Bool, true, false, List, [], ◌∷◌, ◌++◌, None, Some, length, take, take_all, drop, get_or, refl, sym, ap, subst, ◌∙◌, eqb, ltb, cond, arith, if◌then◌else◌}
 use Rattle.std.specs.Prelude.{position}
 use Rattle.std.specs.List.{position_or_len}
@@ -44,11 +44,11 @@ pub both_no_feed : (xs ys : List ℕ) → HasNoFeed xs → HasNoFeed ys → HasN
 both_no_feed [] ys p q = q
 both_no_feed (x ∷ xs) ys p q = (p.0, both_no_feed xs ys p.1 q)
 
--- a byte that is no line feed stands at the front of the first line
+-- a byte that is no line feed begins the first line
 first_byte : (x : ℕ) (ls more : List (List ℕ)) → eqb x 10 ≡ false → (if eqb x 10 then more else before_first x ls) ≡ before_first x ls
 first_byte x ls more other = ap (λ (b : Bool). if b then more else before_first x ls) other
 
--- what stands before a line feed is a line
+-- what precedes a line feed is a line
 pub fed : (xs others : List ℕ) → HasNoFeed xs → lines_of (xs ++ 10 ∷ others) ≡ xs ∷ lines_of others
 fed [] others none = refl
 fed (x ∷ xs) others none = first_byte x (lines_of (xs ++ 10 ∷ others)) ([] ∷ lines_of (xs ++ 10 ∷ others)) none.0 ∙ ap (before_first x) (fed xs others none.1)
@@ -58,7 +58,7 @@ pub unfed : (x : ℕ) (xs : List ℕ) → HasNoFeed (x ∷ xs) → lines_of (x �
 unfed x [] none = first_byte x [] ([] ∷ []) none.0
 unfed x (y ∷ xs) none = first_byte x (lines_of (y ∷ xs)) ([] ∷ lines_of (y ∷ xs)) none.0 ∙ ap (before_first x) (unfed y xs none.1)
 
--- the first line begins with what stands before the first line feed
+-- the first line begins with what precedes the first line feed
 pub begins : (x : ℕ) (xs others : List ℕ) → HasNoFeed (x ∷ xs) → (more : List ℕ) × (left : List (List ℕ)) × (lines_of ((x ∷ xs) ++ others) ≡ ((x ∷ xs) ++ more) ∷ left)
 begins x [] others none = at (lines_of others) refl
   where

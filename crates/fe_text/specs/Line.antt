@@ -66,7 +66,7 @@ message_of conn words = do
   told ← message_in words
   Some (Message conn told)
 
--- what stands behind the name of a connection
+-- what follows the name of a connection
 unfoldable pub told_in : ℕ → List ℕ → Option Line
 told_in conn words = if bytes_eq words (codes "gone") then Some (Gone conn) else message_of conn words
 

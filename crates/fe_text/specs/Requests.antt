@@ -60,11 +60,11 @@ remove_in words = do
   array ← number_of words
   Some (Remove array)
 
--- what stands before the word nowait
+-- what precedes the word nowait
 abbrev flagged_in : List ℕ → List ℕ → Option (List ℕ × Bool)
 flagged_in word flag = if bytes_eq flag (codes "nowait") then Some (word, true) else None
 
--- the last word without the word nowait behind it, and whether that is there
+-- the last word without a following nowait, and whether there is one
 unfoldable pub last_in : List ℕ → Option (List ℕ × Bool)
 last_in words = option_map_or (λ parts. flagged_in parts.0 parts.1) (words_at words) (Some (words, false))
 

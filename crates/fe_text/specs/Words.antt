@@ -8,7 +8,7 @@ use Rattle.fe_words.specs.declared.word.Tag.{Tag}
 use Rattle.fe_words.specs.declared.word.Tag.TheVariants.{Full, Empty}
 use Rattle.fe_codes.specs.Binding.{◌>>=◌}
 
--- The word before the first space, and what stands behind that space. Nothing where there is no space.
+-- The word before the first space, and what follows that space. Nothing if there is no space.
 unfoldable pub words_at : List ℕ → Option (List ℕ × List ℕ)
 words_at line = option_map (λ at. (take at line, drop (at + 1) line)) (position (λ byte. byte == 32) line)
 

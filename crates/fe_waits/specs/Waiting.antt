@@ -53,7 +53,7 @@ key_of row = (row.slot, row.number)
 abbrev pub waiter_of : Row → Waiter
 waiter_of row = record { array = row.array; index = row.index; op = row.op }
 
--- the request for which a node stands
+-- the request that a node represents
 abbrev pub row_of : Waiting → ℕ → Option Row
 row_of w node = slice_index_or w.nodes node None
 
@@ -64,16 +64,16 @@ row_at members slot number =
     (λ waiter. record { slot = slot; number = number; array = waiter.array; index = waiter.index; op = waiter.op })
     (get members (slot, number))
 
--- what is told of a waiter: the array and the index of its word, and its operation
+-- what a list says of a waiter: the array and the index of its word, and its operation
 abbrev pub told_of : Waiter → ℕ × ℕ × Op
 told_of waiter = (waiter.array, waiter.index, waiter.op)
 
--- a list tells the requests of a slot, by number: each that waits is told, and nothing else is
+-- a list has the requests of a slot, by number: each that waits, and no others
 abbrev pub AreTold : FinMap pair_cmp Waiter → ℕ → List (ℕ × (ℕ × ℕ × Op)) → Type 0
 AreTold members slot told =
     (number : ℕ) (what : ℕ × ℕ × Op) → Contains told (number, what) ↔ (option_map told_of (get members (slot, number)) ≡ Some what)
 
--- no number is told twice
+-- no number is listed twice
 abbrev pub AreToldOnce : List (ℕ × (ℕ × ℕ × Op)) → Type 0
 AreToldOnce told = AllPairs (λ a b. a.0 ≢ b.0) told
 
@@ -85,7 +85,7 @@ IsWord arrays array index = (length : ℕ) × (get arrays array ≡ Some length)
 abbrev pub IsOn : Waiter → ℕ → ℕ → Type 0
 IsOn waiter array index = (waiter.array ≡ array) × (waiter.index ≡ index)
 
--- the node stands for a request on the word
+-- the node represents a request on the word
 abbrev pub IsNodeOn : Waiting → ℕ → ℕ → ℕ → Type 0
 IsNodeOn w array index node = (row : Row) × (row_of w node ≡ Some row) × IsOn (waiter_of row) array index
 
@@ -109,7 +109,7 @@ abbrev pub without_slot : FinMap pair_cmp Waiter → ℕ → FinMap pair_cmp Wai
 without_slot members slot = retain_keys members (λ key. not (key.0 == slot))
 
 -- what is always true: slots are below 64, each request is on a word of an added array, no slot has
--- more than 32, there are at most 2,048 and at most 64 arrays, and a node stands for a request that waits
+-- more than 32, there are at most 2,048 and at most 64 arrays, and a node represents a request that waits
 pub record IsWithinLimits (w : Waiting) : Type 0 where
   pub slots : (key : ℕ × ℕ) (waiter : Waiter) → get w.members key ≡ Some waiter → key.0 < 64
   pub words : (key : ℕ × ℕ) (waiter : Waiter) → get w.members key ≡ Some waiter → IsWord w.arrays waiter.array waiter.index

@@ -136,7 +136,7 @@ impl Waits {
         self.words.chain(array, index).first
     }
 
-    /// The request for which the node stands.
+    /// The request that the node represents.
     pub fn row(&self, node: Node) -> Row
         requires { IsSome (row_of self.now node) }
         ensures row { row_of self.now node ≡ Some result }
@@ -145,7 +145,7 @@ impl Waits {
         *self.pool.get(node)
     }
 
-    /// Takes out the request for which the node stands.
+    /// Takes out the request that the node represents.
     pub fn finish(&mut self, node: Node) -> Row
         requires { IsSome (row_of self.old node) }
         ensures row { row_of self.old node ≡ Some result }

@@ -14,7 +14,7 @@ abbrev pub word : ℕ → Tag → Word
 word value tag = record { value = value; tag = tag }
 
 -- The eight rows: what an operation does to a word with this tag and value. It leaves a word and
--- gives an answer, or it waits. The old value stays in a word that becomes empty, but for purge.
+-- gives an answer, or it waits. A word that becomes empty keeps its old value, except under purge.
 abbrev pub row : Op → Tag → ℕ → Option (Word × Reply)
 row ReadFe Full old = Some (word old Empty, Value old)
 row ReadFe Empty old = None

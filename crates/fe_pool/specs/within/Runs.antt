@@ -1,4 +1,4 @@
--- How a list stands in the neighbours of its nodes, and how all lists are read from them. No public
+-- How a list is kept in the neighbours of its nodes, and how all lists are read from them. No public
 -- clause cites this module.
 use Rattle.std.specs.Prelude.{◌≡◌, ℕ, zero, suc, ◌<◌, ◌^◌, ◌⊎◌, List, [], ◌∷◌, length, map, Option, Some, None, slice_index_or, slice_set}
 use Rattle.std.specs.List.{range_with_len}
@@ -6,12 +6,12 @@ use Rattle.fe_pool.specs.declared.neighbours.Neighbours.{Neighbours}
 use Rattle.fe_pool.specs.Pool.{Contents, first_or}
 use Rattle.fe_pool.specs.Columns.{Link, Columns, link_at, IsLoose}
 
--- the node stands in the list
+-- the node is in the list
 abbrev pub IsAmong : ℕ → List ℕ → Type 0
 IsAmong node [] = ⊥
 IsAmong node (x ∷ xs) = (node ≡ x) ⊎ IsAmong node xs
 
--- no node stands twice in the list
+-- no node is twice in the list
 abbrev pub AllDifferent : List ℕ → Type 0
 AllDifferent [] = Unit {0}
 AllDifferent (x ∷ xs) = (IsAmong x xs → ⊥) × AllDifferent xs
@@ -35,11 +35,11 @@ IsRun links before (node ∷ nodes) after = (link_at links node ≡ Some (record
 abbrev pub IsWhole : List Link → List ℕ → Type 0
 IsWhole links nodes = IsRun links None nodes None
 
--- each node that has neighbours stands on a whole list
+-- each node that has neighbours is on a whole list
 abbrev pub AllListed : List Link → Type 0
 AllListed links = (node : ℕ) (neighbours : Neighbours) → link_at links node ≡ Some neighbours → (nodes : List ℕ) × IsWhole links nodes × IsAmong node nodes
 
--- the nodes that follow one another from a node on, at most so many
+-- the nodes that follow one another from a node on, up to a bound
 abbrev pub run_from : List Link → ℕ → Option ℕ → List ℕ
 run_from links zero at = []
 run_from links (suc steps) None = []
@@ -83,7 +83,7 @@ contents c = record { items = c.items; of_word = lists c.of_word; of_session = l
 
 -- what is true of each pool: its columns are as long as one another, the free nodes from `first_free`
 -- on are those without an item, each once, a free node is on no list, and each node that has
--- neighbours stands on a list that agrees with them
+-- neighbours is on a list that agrees with them
 pub record IsPool {T : Type 0} (c : Columns T) (first_free : Option ℕ) : Type 0 where
   pub fits : length c.items < 2 ^ 32
   pub followers_length : length c.followers ≡ length c.items

@@ -1,4 +1,4 @@
--- What is told where a store is not opened.
+-- Which fault is reported when a store is not opened.
 use Rattle.std.specs.Prelude.{◌≡◌}
 use Rattle.fe_disk.specs.declared.file_fault.FileFault.{FileFault}
 use Rattle.fe_disk.specs.declared.file_fault.FileFault.TheVariants as file
@@ -7,13 +7,13 @@ use Rattle.fe_keeper.specs.declared.fault.Fault.TheVariants as store
 use Rattle.fe_store.specs.declared.fault.OpenFault.{OpenFault}
 use Rattle.fe_store.specs.declared.fault.OpenFault.TheVariants as fault
 
--- what is told where there is no disk over a file
+-- the fault when there is no disk over a file
 abbrev pub fault_of_file : FileFault → OpenFault
 fault_of_file file.Missing = fault.Device
 fault_of_file (file.WrongSize found) = fault.Size found
 fault_of_file file.Device = fault.Device
 
--- what is told where a keeper is not opened; it neither failed before nor refused a batch
+-- the fault when a keeper is not opened; it neither failed before nor refused a batch
 abbrev pub IsToldAs : keeper.Fault → OpenFault → Type 0
 IsToldAs store.Device told = told ≡ fault.Device
 IsToldAs store.NoMemory told = told ≡ fault.Memory

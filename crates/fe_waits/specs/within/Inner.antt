@@ -1,4 +1,4 @@
--- How the waiting requests stand in the pool and on the chains. No public clause cites this module.
+-- How the waiting requests are kept in the pool and on the chains. No public clause cites this module.
 use Rattle.std.specs.Prelude.{◌≡◌, ℕ, ◌≤◌, List, [], ◌∷◌, length, sum_by, Option, Some, None, slice_index_or, slice_get, Contains}
 use Rattle.std.specs.Ordering.{nat_cmp}
 use Rattle.std.specs.FinMap.{FinMap, insert, empty, len}
@@ -40,7 +40,7 @@ empty_chain = record { first = None; last = None; length = 0 }
 abbrev pub session_of : Row → ℕ
 session_of row = row.slot
 
--- the node stands for a request of the slot
+-- the node represents a request of the slot
 abbrev pub IsNodeOfSlot : Waiting → ℕ → ℕ → Type 0
 IsNodeOfSlot w slot node = (row : Row) × (row_of w node ≡ Some row) × (session_of row ≡ slot)
 

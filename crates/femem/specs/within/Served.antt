@@ -23,7 +23,7 @@ pub record AreSettings (settings : Settings) : Type 0 where
 abbrev pub RefusesFile : Fault → Type 0
 RefusesFile end = (end ≡ fault.Unreadable) ⊎ ((end ≡ fault.Memory) ⊎ ((text : List ℕ) × (why : SettingsFault) × RefusesText text why × (end ≡ of_settings why)))
 
--- the text of books was written in which each call and each mail stands in one column
+-- the text of books that count each call and each mail in one column was written
 pub record WritesBooks (before after : Option (List ℕ)) : Type 0 where
   pub books : Books
   pub add_up : AddUp books

@@ -5,7 +5,7 @@ use Rattle.fe_store.specs.declared.fault.OpenFault.{OpenFault}
 use Rattle.fe_store.specs.declared.fault.OpenFault.TheVariants as fault
 use Rattle.fe_store.proofs.opening.open_on.Goals as goal
 
--- what is told to be unformatted is so
+-- what is reported as unformatted is unformatted
 is_unformatted : (end : OpenFault) (image : List ℕ) → end ≡ fault.Unformatted → TellsImage end image → IsUnformatted image
 is_unformatted end image is told = subst (λ (e : OpenFault). TellsImage e image) is told
 
