@@ -1,6 +1,7 @@
 pub mod Admitted
 pub mod Agreement
 pub mod Below
+pub mod BoxLaws
 pub mod Coming
 pub mod Counts
 pub mod Events

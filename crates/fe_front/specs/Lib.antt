@@ -1,3 +1,4 @@
+pub mod Boxes
 pub mod Call
 pub mod Event
 pub mod Front

@@ -1,5 +1,6 @@
 //! Laws of the front, which hold apart from any code.
 
+ghost use Rattle.fe_front.specs.Boxes.{MailsStayDurable, BoxesStayShort};
 ghost use Rattle.fe_front.specs.Rising.{BooksRise};
 ghost use Rattle.fe_front.specs.Step.{StepsLead, StepsAreFew};
 
@@ -17,4 +18,15 @@ pub fn steps_are_few()
 /// taken mail where it takes one, and no more mails than it may make, 4,097 at most.
 pub fn books_rise()
     ensures { BooksRise }
+{}
+
+/// A mail that carries a place is in a box only once the entry at that place is durable. Steps are those of the clauses of
+/// `Front`: `step` of `call`, and `posted`, `attached` and the like of the other events.
+pub fn mails_stay_durable()
+    ensures { MailsStayDurable }
+{}
+
+/// No box ever has more than 128 mails. Steps are those of the clauses of `Front`, as above.
+pub fn boxes_stay_short()
+    ensures { BoxesStayShort }
 {}

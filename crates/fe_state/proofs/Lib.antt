@@ -3,6 +3,7 @@ pub mod DirectoryLemmas
 pub mod DroppedLemmas
 pub mod Empty
 pub mod Histories
+pub mod IdLemmas
 pub mod LegalLimits
 pub mod Limits
 pub mod Loads

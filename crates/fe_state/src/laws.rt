@@ -1,4 +1,5 @@
 ghost use Rattle.fe_state.specs.History.{KeepsLimits, FinishesOnce, JoinsAndCuts};
+ghost use Rattle.fe_state.specs.Ids.{IdsNeverReturn};
 ghost use Rattle.fe_state.specs.OtherWords.{KeepsOtherWords};
 ghost use Rattle.fe_state.specs.Examples.{ExampleAnswers, ExampleEffects, ExampleEntries};
 
@@ -27,4 +28,10 @@ pub fn examples_hold()
 /// A request leaves every word that it is not about as it was, in every array.
 pub fn other_words_stay()
     ensures { KeepsOtherWords }
+{}
+
+/// An array gets an id that no array had before, and none gets it later, whether the first is removed or not. Entries are
+/// legal one after another where `IsHistory` says so, as the groups of a store do.
+pub fn ids_never_return()
+    ensures { IdsNeverReturn }
 {}

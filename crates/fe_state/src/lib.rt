@@ -26,7 +26,8 @@ pub use batch::{BATCH_ENTRIES, Batch, Entries};
 pub use entry::Entry;
 pub use kept::Kept;
 pub use laws::{
-    examples_hold, histories_join_and_cut, limits_are_kept, numbers_finish_once, other_words_stay,
+    examples_hold, histories_join_and_cut, ids_never_return, limits_are_kept, numbers_finish_once,
+    other_words_stay,
 };
 pub use name::{NAME_BYTES, Name};
 pub use request::Request;

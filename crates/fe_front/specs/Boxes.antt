@@ -1,0 +1,37 @@
+-- What is always true of the boxes of a front: each has at most 128 mails, and an answer is in one only once its entry is
+-- durable.
+use Rattle.std.specs.Prelude.{ℕ, ◌≤◌, ◌<◌, List, length, All}
+use Rattle.fe_state.specs.State.{ServerState}
+use Rattle.fe_state.specs.declared.entry.Entry.{Entry}
+use Rattle.fe_mail.specs.Connections.{mails_on}
+use Rattle.fe_mail.specs.declared.mail.Mail.{Mail}
+use Rattle.fe_mail.specs.declared.mail.Mail.TheVariants.{Answer}
+use Rattle.fe_front.specs.Event.{Event}
+use Rattle.fe_front.specs.Front.{FrontState, IsFront, IsFirst}
+use Rattle.fe_front.specs.Call.{call_refused_by}
+use Rattle.fe_front.specs.Step.{FrontStep}
+
+-- a mail that carries a place carries one below the mark; only an answer has a place, that of its entry
+abbrev pub IsBelow : ℕ → Mail → Type 0
+IsBelow mark (Answer session number answer place) = place < mark
+IsBelow mark _ = Unit {0}
+
+-- each mail in a box that carries a place has one below the durable mark
+abbrev pub HoldsDurable : FrontState → Type 0
+HoldsDurable f = (conn : ℕ) → All (IsBelow f.durable) (mails_on f.connections conn)
+
+-- each box has at most 128 mails
+abbrev pub HasShortBoxes : FrontState → Type 0
+HasShortBoxes f = (conn : ℕ) → length (mails_on f.connections conn) ≤ 128
+
+-- what is true of each front that begins, and stays true through each event and each refused call
+pub record IsAlwaysTrue (P : FrontState → Type 0) : Type 0 where
+  pub first : (begun : ServerState) (f : FrontState) → IsFirst begun f → P f
+  pub step : (f f' : FrontState) (event : Event) (es : List Entry) → IsFront f → FrontStep f event es f' → P f → P f'
+  pub refused : (f : FrontState) → P f → P (call_refused_by f)
+
+abbrev pub MailsStayDurable : Type 0
+MailsStayDurable = IsAlwaysTrue HoldsDurable
+
+abbrev pub BoxesStayShort : Type 0
+BoxesStayShort = IsAlwaysTrue HasShortBoxes
