@@ -5,6 +5,7 @@ use Rattle.std.specs.FinMap.{FinMap, empty, get, insert, len}
 use Rattle.fe_state.specs.Sessions.{Session, IsInWindow}
 use Rattle.fe_state.specs.declared.dropped.Dropped.{Dropped}
 use Rattle.fe_state.specs.declared.kept.Kept.{Kept}
+use Rattle.fe_state.specs.declared.bounds.TheConstants.{SESSIONS, WINDOW, GREATEST_FLOOR}
 
 -- what is dropped for a number, given what is kept for it
 abbrev pub answer_at : ℕ → Option Kept → List Dropped
@@ -25,20 +26,20 @@ pub record AreDropped (floor answers : ℕ) (dropped : List Dropped) : Type 0 wh
   pub there : answers ≤ length dropped
   pub in_window : (k : ℕ) (d : Dropped) → k < answers → IsInWindow floor (slice_index_or dropped k d).number
 
--- a floor may be lowered again, by 32 at the most, where nothing is kept beyond the window of the lower one
+-- a floor may be lowered again, by a window at the most, where nothing is kept beyond the window of the lower one
 pub record MayLower (s : Session) (floor : ℕ) : Type 0 where
   pub least : 1 ≤ floor
   pub no_higher : floor ≤ s.floor
-  pub within_window : s.floor ≤ floor + 32
-  pub in_window : (number : ℕ) (k : Kept) → get s.kept number ≡ Some k → number < floor + 32
+  pub within_window : s.floor ≤ floor + WINDOW
+  pub in_window : (number : ℕ) (k : Kept) → get s.kept number ≡ Some k → number < floor + WINDOW
 
 -- a session may be opened again where it is not, with a floor and answers that it may have
 pub record MayReopen (floor answers : ℕ) (dropped : List Dropped) (sessions : FinMap nat_cmp Session) (session : ℕ) : Type 0 where
   pub least : 1 ≤ floor
-  pub most : floor ≤ 2 ^ 63 - 32
+  pub most : floor ≤ GREATEST_FLOOR
   pub answers_there : AreDropped floor answers dropped
   pub free : get sessions session ≡ None
-  pub few : len sessions < 64
+  pub few : len sessions < SESSIONS
 
 -- what was dropped for the numbers from a floor on and below an end came behind what had been dropped, and
 -- brings back what was kept before

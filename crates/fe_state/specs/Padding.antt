@@ -1,13 +1,14 @@
 -- A name's bytes in a row of fixed length, with zeros behind them.
 use Rattle.std.specs.Prelude.{◌≡◌, ℕ, ◌≤◌, ◌-◌, ◌++◌, List, length, take, drop, replicate}
 use Rattle.std.proofs.Common.{arith, sym, ap, ◌∙◌, take-append-drop, length-take-le}
+use Rattle.fe_state.specs.declared.bounds.TheConstants.{NAME_BYTES}
 
 -- the bytes, and zeros up to n cells
 abbrev pub padded : ℕ → List ℕ → List ℕ
 padded n bytes = bytes ++ replicate (n - length bytes) 0
 
 -- a front of the cells with zeros behind it gives the cells back
-pub padded-take : (n : ℕ) (cells : List ℕ) → (n ≤ 32) × (length cells ≡ 32) × (drop n cells ≡ replicate (32 - n) 0) → (length (take n cells) ≡ n) × (padded 32 (take n cells) ≡ cells)
+pub padded-take : (n : ℕ) (cells : List ℕ) → (n ≤ NAME_BYTES) × (length cells ≡ NAME_BYTES) × (drop n cells ≡ replicate (NAME_BYTES - n) 0) → (length (take n cells) ≡ n) × (padded NAME_BYTES (take n cells) ≡ cells)
 padded-take n cells h =
     let long : length (take n cells) ≡ n = length-take-le n cells (omega (arith, h.0, h.1)) in
-    (long, ap (λ k. take n cells ++ replicate (32 - k) 0) long ∙ ap (λ r. take n cells ++ r) (sym h.2) ∙ take-append-drop n cells)
+    (long, ap (λ k. take n cells ++ replicate (NAME_BYTES - k) 0) long ∙ ap (λ r. take n cells ++ r) (sym h.2) ∙ take-append-drop n cells)

@@ -5,6 +5,7 @@ use Rattle.std.specs.Coded.{Coded, code_by, coded×, coded_ℕ}
 use Rattle.std.specs.FinMap.{FinMap, code, empty, get, insert, retain_keys, contains_key}
 use Rattle.fe_state.specs.declared.kept.Kept.{Kept}
 use Rattle.fe_state.specs.contracts.kept.Kept.{the_row}
+use Rattle.fe_state.specs.declared.bounds.TheConstants.{WINDOW, GREATEST_FLOOR}
 
 -- a session: its floor, and what is kept for a number
 pub record Session : Type 0 where
@@ -20,16 +21,16 @@ session_code =
 abbrev pub first_session : Session
 first_session = record { floor = 1; kept = empty }
 
--- the numbers that a session may use are the 32 from its floor on
+-- the numbers that a session may use are those of its window, from its floor on
 pub record IsInWindow (floor number : ℕ) : Type 0 where
   pub not_below : floor ≤ number
-  pub not_beyond : number < floor + 32
+  pub not_beyond : number < floor + WINDOW
 
--- a floor may rise by 32 at the most, and to 2^63 - 32
+-- a floor may rise by a window at the most, and no higher than the greatest floor
 pub record MayRise (old new : ℕ) : Type 0 where
   pub no_lower : old ≤ new
-  pub within_window : new ≤ old + 32
-  pub within_limit : new ≤ 2 ^ 63 - 32
+  pub within_window : new ≤ old + WINDOW
+  pub within_limit : new ≤ GREATEST_FLOOR
 
 -- a session with its floor raised: what was kept below the floor is dropped
 abbrev pub raised : Session → ℕ → Session

@@ -15,6 +15,7 @@ use Rattle.fe_state.specs.declared.undo.Undo.{Undo}
 use Rattle.fe_state.specs.contracts.undo.Undo.{the_row}
 use Rattle.fe_state.specs.declared.undo.SessionChange.{SessionChange}
 use Rattle.fe_state.specs.declared.undo.SessionChange.TheVariants.{Same, Opened, Closed, Settled, Kept}
+use Rattle.fe_state.specs.declared.bounds.TheConstants.{WINDOW}
 
 -- a log: how many entries it has room for, what each of its entries changed, and the answers that they
 -- dropped, both with the latest first
@@ -42,9 +43,9 @@ answers_of (Closed floor answers) = answers
 answers_of (Settled floor answers) = answers
 answers_of _ = 0
 
--- how many of an entry's answers have room; no entry drops more than 32
+-- how many of an entry's answers have room; no entry drops more than those of a window
 abbrev pub with_room : Undo → ℕ
-with_room u = min 32 (answers_of u.session_change)
+with_room u = min WINDOW (answers_of u.session_change)
 
 -- what is always true of a log whose memory has room for so many entries and so many dropped answers
 pub record HasMemory (l : UndoLog) (undos dropped : ℕ) : Type 0 where
@@ -54,7 +55,7 @@ pub record HasMemory (l : UndoLog) (undos dropped : ℕ) : Type 0 where
   pub paired : length l.dropped ≤ sum_by with_room l.undos
   -- and the memory of the whole room is there
   pub undos_room : l.room ≤ undos
-  pub dropped_room : l.room * 32 ≤ dropped
+  pub dropped_room : l.room * WINDOW ≤ dropped
 
 -- the dropped answers that are left once a change is undone
 abbrev pub left : SessionChange → List Dropped → List Dropped

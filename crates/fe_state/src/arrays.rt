@@ -8,13 +8,11 @@ ghost use Rattle.fe_state.specs.ArraysLends.{lends_array};
 ghost use Rattle.fe_table.specs.Table.{shown_entry};
 
 use crate::array::Array;
+use crate::bounds::ARRAYS;
 use fe_table::{Copied, Table};
 use indexmap::IndexSet;
 use std::alloc::{AllocError, Global};
 use std::marker::Model;
-
-/// How many arrays there are at most.
-pub const ARRAYS: usize = 64;
 
 /// The arrays by id, in order of creation.
 ///
@@ -57,7 +55,7 @@ impl Arrays {
     /// How many arrays there are.
     pub fn len(&self) -> usize
         ensures len { result ≡ map.len self.now }
-        ensures fits { result ≤ 64 }
+        ensures fits { result ≤ ARRAYS }
     {
         self.table.len()
     }
@@ -101,7 +99,7 @@ impl Arrays {
     /// Puts an array at a new id, which comes to its place in the order.
     pub fn insert(&mut self, id: u64, array: Array)
         requires absent { map.get self.old id ≡ None }
-        requires room { map.len self.old < 64 }
+        requires room { map.len self.old < ARRAYS }
         ensures inserted { self.new ≡ map.insert self.old id array }
     {
         self.table.insert(id, array);
@@ -111,7 +109,7 @@ impl Arrays {
 
 // Makes a set anew of a table's ids. It takes no memory.
 fn index(table: &Table<Array, ARRAYS>, ids: &mut IndexSet<u64>)
-    requires room { 64 ≤ index_set_len ids.old + spare ids.old }
+    requires room { ARRAYS ≤ index_set_len ids.old + spare ids.old }
     ensures index { IsIndex ids.new table.now }
 {
     ids.clear();

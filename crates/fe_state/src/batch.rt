@@ -2,15 +2,13 @@ ghost use Rattle.std.specs.Prelude.{◌≡◌, ◌+◌, ◌<◌, ◌≤◌, ◌�
 ghost use Rattle.std.specs.List.{list_all};
 ghost use Rattle.fe_state.specs.Format.{entry_fits_format_1};
 
+use crate::bounds::BATCH_ENTRIES;
 use crate::entry::Entry;
 use crate::request::Request;
 use std::alloc::{AllocError, Global};
 use std::marker::Model;
 
-/// How many entries a batch has at most.
-pub const BATCH_ENTRIES: usize = 4097;
-
-/// The entries of a batch, in order: at most 4,097, with room for as many.
+/// The entries of a batch, in order: at most `BATCH_ENTRIES`, with room for as many.
 #[derive(Drop)]
 pub struct Entries {
     items: Vec<Entry>,
@@ -19,16 +17,17 @@ pub struct Entries {
 impl Model for Entries {
     ghost use Rattle.std.specs.Prelude.{◌≤◌, List, vec_len, vec_capacity};
     ghost use Rattle.fe_state.specs.declared.entry.Entry.{Entry};
+    ghost use Rattle.fe_state.specs.declared.bounds.TheConstants.{BATCH_ENTRIES};
 
     ghost Value = { List Entry };
 
     ghost view = { λ a. a.items.items };
 
-    ghost invariant = { λ a. (vec_len a.items ≤ 4097) × (4097 ≤ vec_capacity a.items) };
+    ghost invariant = { λ a. (vec_len a.items ≤ BATCH_ENTRIES) × (BATCH_ENTRIES ≤ vec_capacity a.items) };
 }
 
 impl Entries {
-    /// No entries yet. It makes the room for 4,097.
+    /// No entries yet. It makes all the room.
     pub fn new(alloc: Global) -> Result<Entries, AllocError>
         ensures { IfOk result (λ entries. entries ≡ []) }
     {
@@ -39,21 +38,21 @@ impl Entries {
 
     pub fn as_slice(&self) -> &[Entry]
         ensures entries { result.now ≡ self.now }
-        ensures most { length result.now ≤ 4097 }
+        ensures most { length result.now ≤ BATCH_ENTRIES }
     {
         self.items.as_slice()
     }
 
     /// Whether no further entry has room.
     pub fn is_full(&self) -> bool
-        ensures { IsTrue result ↔ (length self.now ≡ 4097) }
+        ensures { IsTrue result ↔ (length self.now ≡ BATCH_ENTRIES) }
     {
         self.items.len() == BATCH_ENTRIES
     }
 
     /// Adds an entry at the end. It takes no memory.
     pub fn push(&mut self, entry: Entry)
-        requires { length self.old < 4097 }
+        requires { length self.old < BATCH_ENTRIES }
         ensures { self.new ≡ self.old ++ entry ∷ [] }
     {
         let _named: Option<Request> = None;
@@ -77,7 +76,7 @@ pub struct Batch {
 }
 
 impl Batch {
-    /// A batch with no entries yet. It makes the room for 4,097.
+    /// A batch with no entries yet. It makes all the room.
     pub fn new(alloc: Global, first: u64) -> Result<Batch, AllocError>
         ensures first { IfOk result (λ batch. batch.first ≡ first) }
         ensures empty { IfOk result (λ batch. batch.entries ≡ []) }
@@ -100,7 +99,7 @@ impl Batch {
 
     /// Adds an entry at the end. It takes no memory.
     pub fn push(&mut self, entry: Entry)
-        requires { length self.old.entries < 4097 }
+        requires { length self.old.entries < BATCH_ENTRIES }
         ensures first { self.new.first ≡ self.old.first }
         ensures entries { self.new.entries ≡ self.old.entries ++ entry ∷ [] }
     {

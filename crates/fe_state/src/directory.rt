@@ -10,7 +10,8 @@ ghost use Rattle.fe_table.specs.Table.{shown_entry};
 
 use crate::answer::Answer;
 use crate::array::Array;
-use crate::arrays::{ARRAYS, Arrays};
+use crate::arrays::Arrays;
+use crate::bounds::{ARRAYS, WORDS};
 use crate::change::Change;
 use crate::name::Name;
 use crate::request::Request;
@@ -19,9 +20,6 @@ use fe_table::Copied;
 use fe_words::{Op, Reply, Tag, Word};
 use std::alloc::{AllocError, Global};
 use std::marker::Model;
-
-/// How many words there are at most, in one array and in all together.
-const WORDS: u32 = 65536;
 
 /// The arrays by id, with the id that the next one gets.
 #[derive(Drop)]
@@ -47,7 +45,7 @@ impl Model for Directory {
 }
 
 impl Directory {
-    /// No array yet. It makes room for the ids and names of 64; the one error is that memory is short.
+    /// No array yet. It makes room for the ids and names of all; the one error is that memory is short.
     pub fn new(alloc: Global) -> Result<Directory, AllocError>
         ensures { IfOk result (λ directory. directory ≡ first_directory) }
     {
@@ -298,7 +296,7 @@ impl Directory {
         }
     }
 
-    /// How many arrays there are, at most 64.
+    /// How many arrays there are.
     pub fn len(&self) -> usize
         ensures { result ≡ len self.now.arrays }
     {

@@ -5,6 +5,7 @@ mod answer;
 mod array;
 mod arrays;
 mod batch;
+mod bounds;
 mod change;
 mod directory;
 mod dropped;
@@ -22,16 +23,20 @@ mod words;
 
 pub use answer::Answer;
 pub use array::Array;
-pub use batch::{BATCH_ENTRIES, Batch, Entries};
+pub use batch::{Batch, Entries};
+pub use bounds::{
+    ARRAYS, BATCH_ENTRIES, EVENT_ENTRIES, GREATEST_FLOOR, GREATEST_PLACE, NAME_BYTES, SESSIONS,
+    WAITING, WINDOW, WORDS,
+};
 pub use entry::Entry;
 pub use kept::Kept;
 pub use laws::{
     examples_hold, histories_join_and_cut, ids_never_return, limits_are_kept, numbers_finish_once,
     other_words_stay,
 };
-pub use name::{NAME_BYTES, Name};
+pub use name::Name;
 pub use request::Request;
 pub use session::Session;
-pub use state::{GREATEST_PLACE, Illegal, State};
+pub use state::{Illegal, State};
 pub use undo_log::UndoLog;
 pub use words::Words;

@@ -3,10 +3,8 @@ ghost use Rattle.std.specs.List.{list_all};
 ghost use Rattle.fe_state.specs.Format.{name_fits_format_1};
 ghost use Rattle.fe_state.specs.Name.{is_plain, is_plain_byte};
 
+use crate::bounds::NAME_BYTES;
 use std::marker::Model;
-
-/// How many bytes a name has at most.
-pub const NAME_BYTES: usize = 32;
 
 /// The name of an array as a client sent it: 0 to 32 bytes of any kind.
 #[derive(Clone, Copy, PartialEq, Eq)]
@@ -18,14 +16,15 @@ pub struct Name {
 impl Model for Name {
     ghost use Rattle.std.specs.Prelude.{◌≡◌, ℕ, ◌≤◌, ◌-◌, List, length, take, drop, replicate};
     ghost use Rattle.fe_state.specs.Padding.{padded, padded-take};
+    ghost use Rattle.fe_state.specs.declared.bounds.TheConstants.{NAME_BYTES};
 
     ghost Value = { List ℕ };
 
     ghost view = { λ a. take a.len a.cells };
 
-    ghost invariant = { λ a. (a.len ≤ 32) × (length a.cells ≡ 32) × (drop a.len a.cells ≡ replicate (32 - a.len) 0) };
+    ghost invariant = { λ a. (a.len ≤ NAME_BYTES) × (length a.cells ≡ NAME_BYTES) × (drop a.len a.cells ≡ replicate (NAME_BYTES - a.len) 0) };
 
-    ghost inverse = { λ bytes. record { len = length bytes; cells = padded 32 bytes } };
+    ghost inverse = { λ bytes. record { len = length bytes; cells = padded NAME_BYTES bytes } };
 
     ghost inverse_ok = { λ a h i. record {
       len = (padded-take a.len a.cells h).0 i;
@@ -36,7 +35,7 @@ impl Model for Name {
 impl Name {
     /// The name of these bytes, or `None` where they are more than 32.
     pub fn new(bytes: &[u8]) -> Option<Name>
-        ensures fits { IsSome result ↔ (length bytes.now ≤ 32) }
+        ensures fits { IsSome result ↔ (length bytes.now ≤ NAME_BYTES) }
         ensures value { IfSome result (λ name. name ≡ bytes.now) }
     {
         if bytes.len() > NAME_BYTES {
@@ -53,7 +52,7 @@ impl Name {
     /// The bytes as they were sent.
     pub fn bytes(&self) -> &[u8]
         ensures bytes { result.now ≡ self.now }
-        ensures length { length result.now ≤ 32 }
+        ensures length { length result.now ≤ NAME_BYTES }
     {
         &self.cells[..usize::from(self.len)]
     }

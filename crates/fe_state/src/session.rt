@@ -5,21 +5,19 @@ ghost use Rattle.fe_state.specs.Sessions.{first_session, IsInWindow, MayRise, ra
 ghost use Rattle.fe_state.specs.SessionEffect.{IsUsable};
 ghost use Rattle.fe_state.specs.DroppedAnswers.{answer_at, WereDropped, MayLower};
 
+use crate::bounds::{GREATEST_FLOOR, WINDOW};
 use crate::dropped::Dropped;
 use crate::kept::Kept;
 use crate::request::Request;
 use std::marker::Model;
 
-/// How many numbers a session may use, from its floor on.
-pub const WINDOW: u64 = 32;
-
-/// A session: its floor, which is its least usable number, and what is kept for the 32 numbers
-/// from the floor on. It takes no memory.
+/// A session: its floor, which is its least usable number, and what is kept for the numbers of its
+/// window, from the floor on. It takes no memory.
 #[derive(Drop)]
 pub struct Session {
     floor: u64,
-    /// What is kept for a number is in the cell of the number's remainder by 32.
-    cells: [Option<Kept>; 32],
+    /// What is kept for a number is in the cell of the number's remainder by `WINDOW`.
+    cells: [Option<Kept>; WINDOW as usize],
 }
 
 impl Model for Session {
@@ -43,29 +41,29 @@ impl Session {
         Session::starting(1)
     }
 
-    /// A session with this floor, 1 to 2^63 - 32, for which nothing is kept.
+    /// A session with this floor, 1 to `GREATEST_FLOOR`, for which nothing is kept.
     pub fn starting(floor: u64) -> Session
         requires least { 1 ≤ floor }
-        requires most { floor ≤ 2 ^ 63 - 32 }
+        requires most { floor ≤ GREATEST_FLOOR }
         ensures floor { result.floor ≡ floor }
         ensures kept { result.kept ≡ map.empty }
     {
         Session {
             floor,
-            cells: [None; 32],
+            cells: [None; WINDOW as usize],
         }
     }
 
-    /// The least usable number, 1 to 2^63 - 32.
+    /// The least usable number, 1 to `GREATEST_FLOOR`.
     pub fn floor(&self) -> u64
         ensures floor { result ≡ self.now.floor }
         ensures least { 1 ≤ self.now.floor }
-        ensures most { self.now.floor ≤ 2 ^ 63 - 32 }
+        ensures most { self.now.floor ≤ GREATEST_FLOOR }
     {
         self.floor
     }
 
-    /// Whether the number is one of the 32 from the floor on.
+    /// Whether the number is in the window.
     pub fn is_in_window(&self, number: u64) -> bool
         ensures { IsTrue result ↔ IsInWindow self.now.floor number }
     {
@@ -76,7 +74,7 @@ impl Session {
     pub fn kept(&self, number: u64) -> Option<Kept>
         ensures kept { result ≡ map.get self.now.kept number }
         ensures in_window { (n : ℕ) (k : Kept) → map.get self.now.kept n ≡ Some k → IsInWindow self.now.floor n }
-        ensures few { map.len self.now.kept ≤ 32 }
+        ensures few { map.len self.now.kept ≤ WINDOW }
     {
         if self.is_in_window(number) {
             self.cells[cell_of(number)]
@@ -110,7 +108,7 @@ impl Session {
         }
     }
 
-    /// Raises the floor, by 32 at the most, and drops what was kept below it.
+    /// Raises the floor, by `WINDOW` at the most, and drops what was kept below it.
     pub fn raise(&mut self, floor: u64)
         requires { MayRise self.old.floor floor }
         ensures { self.new ≡ raised self.old floor }
@@ -121,10 +119,10 @@ impl Session {
         self.floor = floor;
     }
 
-    /// Raises the floor as `raise`, and appends what is dropped to `dropped`, which has room for 32 more.
+    /// Raises the floor as `raise`, and appends what is dropped to `dropped`, which has room for `WINDOW` more.
     pub(crate) fn settle(&mut self, floor: u64, dropped: &mut Vec<Dropped>)
         requires rise { MayRise self.old.floor floor }
-        requires room { vec_len dropped.old + 32 ≤ vec_capacity dropped.old }
+        requires room { vec_len dropped.old + WINDOW ≤ vec_capacity dropped.old }
         ensures raised { self.new ≡ raised self.old floor }
         ensures lowered { MayLower self.new self.old.floor }
         ensures dropped { WereDropped self.old.floor floor self.old.kept self.new.kept dropped.old.items dropped.new.items }
@@ -135,7 +133,7 @@ impl Session {
         self.floor = floor;
     }
 
-    /// Lowers the floor again, by 32 at the most. What is kept stays.
+    /// Lowers the floor again, by `WINDOW` at the most. What is kept stays.
     pub(crate) fn lower(&mut self, floor: u64)
         requires { MayLower self.old floor }
         ensures floor { self.new.floor ≡ floor }
@@ -144,11 +142,11 @@ impl Session {
         self.floor = floor;
     }
 
-    /// Drops what is kept below a number, and appends it to `dropped`, which has room for 32 more. The floor stays.
+    /// Drops what is kept below a number, and appends it to `dropped`, which has room for `WINDOW` more. The floor stays.
     pub(crate) fn drop_below(&mut self, end: u64, dropped: &mut Vec<Dropped>)
         requires least { self.old.floor ≤ end }
-        requires most { end ≤ self.old.floor + 32 }
-        requires room { vec_len dropped.old + 32 ≤ vec_capacity dropped.old }
+        requires most { end ≤ self.old.floor + WINDOW }
+        requires room { vec_len dropped.old + WINDOW ≤ vec_capacity dropped.old }
         ensures floor { self.new.floor ≡ self.old.floor }
         ensures kept { self.new.kept ≡ map.retain_keys self.old.kept (nat_le end) }
         ensures in_window { (n : ℕ) (k : Kept) → map.get self.old.kept n ≡ Some k → IsInWindow self.old.floor n }
@@ -180,7 +178,7 @@ impl Session {
     pub fn copied(&self) -> Session
         ensures { result ≡ self.now }
     {
-        let mut cells = [None; 32];
+        let mut cells = [None; WINDOW as usize];
         cells.copy_from_slice(&self.cells);
         Session {
             floor: self.floor,
@@ -190,7 +188,7 @@ impl Session {
 }
 
 fn cell_of(number: u64) -> usize
-    ensures { result ≡ number % 32 }
+    ensures { result ≡ number % WINDOW }
 {
     (number % WINDOW) as usize
 }

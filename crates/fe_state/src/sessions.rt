@@ -7,6 +7,7 @@ ghost use Rattle.fe_state.specs.SessionEffect.{MayAttach, IsUsable, SessionsAllo
 ghost use Rattle.fe_state.specs.DroppedAnswers.{keeping_all, kept_again, AreDropped, MayLower, MayReopen};
 ghost use Rattle.fe_state.specs.UndoLog.{put_back, CanPutBack, Remembers};
 
+use crate::bounds::{GREATEST_FLOOR, SESSIONS, WINDOW};
 use crate::change::Change;
 use crate::entry::Entry;
 use crate::kept::Kept;
@@ -17,12 +18,6 @@ use crate::undo_log::UndoLog;
 use fe_table::{Copied, Table};
 use std::alloc::{AllocError, Global};
 
-/// How many sessions there are at most.
-pub const SESSIONS: usize = 64;
-
-/// The greatest floor.
-pub const GREATEST_FLOOR: u64 = 9223372036854775776;
-
 // What moves a whole session, some 3 KB, is not inlined, so that a request which finishes pays for no such local.
 
 /// The sessions by number.
@@ -31,7 +26,7 @@ pub type Sessions = Table<Session, SESSIONS>;
 fn may_rise(old: u64, new: u64) -> bool
     ensures { IsTrue result ↔ MayRise old new }
 {
-    old <= new && new - old <= 32 && new <= GREATEST_FLOOR
+    old <= new && new - old <= WINDOW && new <= GREATEST_FLOOR
 }
 
 fn may_attach(sessions: &Sessions, session: u64, floor: u64) -> bool
@@ -80,7 +75,7 @@ pub fn allow(sessions: &Sessions, entry: &Entry) -> bool
 /// Opens a session that is not there, and says whether it did.
 #[inline(never)]
 fn open(sessions: &mut Sessions, session: u64) -> bool
-    requires { get sessions.old session ≡ None → len sessions.old < 64 }
+    requires { get sessions.old session ≡ None → len sessions.old < SESSIONS }
     ensures after { sessions.new ≡ opened sessions.old session }
     ensures free { OnTrue result (get sessions.old session ≡ None) }
     ensures added { OnTrue result (sessions.new ≡ insert sessions.old session first_session) }
@@ -95,7 +90,7 @@ fn open(sessions: &mut Sessions, session: u64) -> bool
 
 fn attach(sessions: &mut Sessions, session: u64, change: Change, log: &mut UndoLog)
     requires room { length log.old.undos < log.old.room }
-    requires few { get sessions.old session ≡ None → len sessions.old < 64 }
+    requires few { get sessions.old session ≡ None → len sessions.old < SESSIONS }
     ensures after { sessions.new ≡ opened sessions.old session }
     ensures remembered { Remembers change log.old log.new sessions.old sessions.new }
 {
@@ -115,7 +110,7 @@ fn attach(sessions: &mut Sessions, session: u64, change: Change, log: &mut UndoL
 fn close(sessions: &mut Sessions, session: u64, change: Change, log: &mut UndoLog)
     requires room { length log.old.undos < log.old.room }
     requires present { IsSome (get sessions.old session) }
-    requires few { len sessions.old ≤ 64 }
+    requires few { len sessions.old ≤ SESSIONS }
     ensures after { sessions.new ≡ remove sessions.old session }
     ensures remembered { Remembers change log.old log.new sessions.old sessions.new }
 {
@@ -164,7 +159,7 @@ pub fn record_entry(
 )
     requires room { length log.old.undos < log.old.room }
     requires allowed { SessionsAllow sessions.old entry.now }
-    requires few { len sessions.old ≤ 64 }
+    requires few { len sessions.old ≤ SESSIONS }
     ensures after { sessions.new ≡ sessions_after sessions.old place entry.now }
     ensures remembered { Remembers change log.old log.new sessions.old sessions.new }
 {

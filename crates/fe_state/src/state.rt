@@ -12,6 +12,7 @@ ghost use Rattle.fe_state.specs.UndoLog.{empty_log, shortened, undone, rewound, 
 
 use crate::answer::Answer;
 use crate::array::Array;
+use crate::bounds::{GREATEST_FLOOR, GREATEST_PLACE, SESSIONS};
 use crate::change::Change;
 use crate::directory::Directory;
 use crate::entry::Entry;
@@ -27,16 +28,13 @@ use fe_words::Word;
 use std::alloc::{AllocError, Global};
 use std::marker::Model;
 
-/// The greatest place: no entry follows there.
-pub const GREATEST_PLACE: u64 = 9223372036854775807;
-
 /// An entry that may not come next.
 #[derive(Clone, Copy, PartialEq, Eq)]
 pub struct Illegal;
 
 /// The arrays and sessions after the entries so far.
 ///
-/// It makes room for 64 sessions and for the ids and names of 64 arrays when it is made. After
+/// It makes room for all sessions and for the ids and names of all arrays when it is made. After
 /// that the words of a new array alone take memory.
 #[derive(Drop)]
 pub struct State {
@@ -244,14 +242,14 @@ impl State {
         Some(session)
     }
 
-    /// How many arrays there are, at most 64.
+    /// How many arrays there are.
     pub fn array_count(&self) -> usize
         ensures { result ≡ len self.now.arrays }
     {
         self.directory.len()
     }
 
-    /// How many sessions there are, at most 64.
+    /// How many sessions there are.
     pub fn session_count(&self) -> usize
         ensures { result ≡ len self.now.sessions }
     {
@@ -290,12 +288,12 @@ impl State {
         self.directory.load_word(array, index, word);
     }
 
-    /// Adds a session of an image, with a floor of 1 to 2^63 - 32 and nothing kept. It takes no memory.
+    /// Adds a session of an image, with a floor of 1 to `GREATEST_FLOOR` and nothing kept. It takes no memory.
     pub fn load_session(&mut self, session: u64, floor: u64)
         requires new { get self.old.sessions session ≡ None }
-        requires few { len self.old.sessions < 64 }
+        requires few { len self.old.sessions < SESSIONS }
         requires least { 1 ≤ floor }
-        requires most { floor ≤ 2 ^ 63 - 32 }
+        requires most { floor ≤ GREATEST_FLOOR }
         ensures { self.new ≡ with_sessions self.old (insert self.old.sessions session (record { floor = floor; kept = empty })) }
     {
         self.sessions.insert(session, Session::starting(floor));

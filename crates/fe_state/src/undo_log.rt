@@ -5,16 +5,14 @@ ghost use Rattle.fe_state.specs.DroppedAnswers.{MayLower};
 ghost use Rattle.fe_state.specs.Sessions.{MayRise, raised};
 ghost use Rattle.fe_state.specs.UndoLog.{empty_log, shortened, answers_of, HasDropped};
 
+use crate::bounds::{GREATEST_FLOOR, WINDOW};
 use crate::change::Change;
 use crate::dropped::Dropped;
 use crate::request::Request;
-use crate::session::{Session, WINDOW};
+use crate::session::Session;
 use crate::undo::{SessionChange, Undo};
 use std::alloc::{AllocError, Global};
 use std::marker::Model;
-
-/// How many answers an entry drops at most.
-const MOST_DROPPED: usize = 32;
 
 /// What entries changed, so that they can be undone from the latest to the first.
 ///
@@ -45,7 +43,7 @@ impl UndoLog {
     pub fn with_room(alloc: Global, entries: usize) -> Result<UndoLog, AllocError>
         ensures { IfOk result (λ log. log ≡ empty_log entries) }
     {
-        let answers = entries.checked_mul(MOST_DROPPED).ok_or(AllocError)?;
+        let answers = entries.checked_mul(WINDOW as usize).ok_or(AllocError)?;
         Ok(UndoLog {
             room: entries,
             undos: Vec::with_capacity(alloc, entries)?,
@@ -127,7 +125,7 @@ impl UndoLog {
         requires room { length self.old.undos < self.old.room }
         ensures floor { here.new.floor ≡ here.old.floor }
         ensures least { 1 ≤ here.old.floor }
-        ensures most { here.old.floor ≤ 2 ^ 63 - 32 }
+        ensures most { here.old.floor ≤ GREATEST_FLOOR }
         ensures emptied { here.new.kept ≡ empty }
         ensures remembered { HasDropped session (SessionChange.Closed here.old.floor) change self.old self.new here.old here.new }
     {

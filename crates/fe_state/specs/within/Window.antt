@@ -2,10 +2,11 @@
 use Rattle.std.specs.Prelude.{◌≡◌, ℕ, zero, suc, ◌+◌, ◌-◌, ◌%◌, ◌^◌, ◌≤◌, List, length, Option, Some, None, slice_index_or}
 use Rattle.std.specs.Ordering.{nat_cmp}
 use Rattle.std.specs.FinMap.{FinMap, empty, insert}
+use Rattle.fe_state.specs.declared.bounds.TheConstants.{WINDOW, GREATEST_FLOOR}
 
--- the cell of a number is that of its remainder by 32
+-- the cell of a number is that of its remainder by the window
 abbrev pub cell_of : {X : Type 0} → List (Option X) → ℕ → Option X
-cell_of cells number = slice_index_or cells (number % 32) None
+cell_of cells number = slice_index_or cells (number % WINDOW) None
 
 -- a map with what a cell holds put at a number
 abbrev pub with_cell : {X : Type 0} → FinMap nat_cmp X → ℕ → Option X → FinMap nat_cmp X
@@ -17,12 +18,12 @@ unfoldable pub held : {X : Type 0} → List (Option X) → ℕ → ℕ → FinMa
 held cells floor zero = empty
 held cells floor (suc n) = with_cell (held cells floor n) (floor + n) (cell_of cells (floor + n))
 
--- what the 32 cells of a session hold for the numbers of its window
+-- what the cells of a session hold for the numbers of its window
 abbrev pub window_of : {X : Type 0} → List (Option X) → ℕ → FinMap nat_cmp X
-window_of cells floor = held cells floor 32
+window_of cells floor = held cells floor WINDOW
 
 -- a floor within its limits, and a cell for each number of the window
 pub record IsRing {X : Type 0} (floor : ℕ) (cells : List (Option X)) : Type 0 where
   pub least : 1 ≤ floor
-  pub most : floor ≤ 2 ^ 63 - 32
-  pub whole : length cells ≡ 32
+  pub most : floor ≤ GREATEST_FLOOR
+  pub whole : length cells ≡ WINDOW
