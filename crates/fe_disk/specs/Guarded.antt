@@ -7,6 +7,13 @@ use Rattle.fe_disk.specs.declared.guarded.Guarded.{Guarded}
 abbrev pub disk_of : {D P : Type 0} → Guarded D P → D
 disk_of disk = disk.inner
 
+-- what the disk shows
+abbrev pub inner : {D P T : Type 0} → (D → T) → Guarded D P → T
+inner f disk = f (disk_of disk)
+
+abbrev pub inner_holds : {D P : Type 0} → (D → Type 0) → Guarded D P → Type 0
+inner_holds P disk = P (disk_of disk)
+
 -- which calls it passes on
 abbrev pub policy_of : {D P : Type 0} → Guarded D P → P
 policy_of disk = disk.policy

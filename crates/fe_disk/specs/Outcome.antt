@@ -1,6 +1,6 @@
 -- What a run of device calls leaves of a disk besides its bytes. Each of these records takes the members `size`, `failures`,
 -- `calls` and `honest` of the trait `Disk`, and how many reads, writes and syncs were asked for.
-use Rattle.std.specs.Prelude.{◌≡◌, ◌↔◌, ℕ, ◌+◌, ◌≤◌, Result, IsErr, IsErrOf, OnOk}
+use Rattle.std.specs.Prelude.{◌≡◌, ◌↔◌, ℕ, ◌+◌, ◌≤◌, Result, Ok, Err, IsErr, IsErrOf, OnOk}
 use Rattle.fe_disk.specs.Disk.{Rises, MakesAtMost, MakesJust}
 use Rattle.fe_disk.specs.declared.calls.Calls.{Calls}
 
@@ -30,3 +30,8 @@ pub record Runs {D T E : Type 0} (size failures : D → ℕ) (calls : D → Call
   pub most : MakesAtMost reads writes syncs (calls old) (calls new)
   pub honesty : honest new ↔ honest old
   pub same_size : size new ≡ size old
+
+-- a result without the disk that is given back beside the fault
+abbrev pub told : {D T E : Type 0} → Result T (E × D) → Result T E
+told (Ok x) = Ok x
+told (Err refused) = Err refused.0

@@ -64,7 +64,8 @@ pub trait Disk {
 
         ensures written { honest self.old → OnOk result (seen self.new ≡ after_write (seen self.old) at bytes.now) }
         ensures torn { honest self.old → IsTorn at (length bytes.now) (seen self.old) (seen self.new) }
-        ensures stop { honest self.old → Follows (IsTorn at (length bytes.now)) (may_leave self.old) (may_leave self.new) }
+        ensures stop { honest self.old
+            → Follows (IsTorn at (length bytes.now)) (may_leave self.old) (may_leave self.new) }
         ensures time { honest self.old → Elapses moment left_since may_leave self.old self.new }
         ensures device { Asks size failures calls honest 0 1 0 result self.old self.new };
 
@@ -81,14 +82,17 @@ pub trait Disk {
     ghost seen_is_image: { (disk : Self) → honest disk → IsImage (size disk) (seen disk) };
 
     /// So does each image that a stop may have left.
-    ghost left_is_image: { (disk : Self) (t : ℕ) (image : List ℕ) → honest disk → left_since disk t image → IsImage (size disk) image };
+    ghost left_is_image: { (disk : Self) (t : ℕ) (image : List ℕ) → honest disk
+        → left_since disk t image → IsImage (size disk) image };
 
     /// The disk as it reads is one of the images that a stop now may leave.
     ghost seen_may_stay: { (disk : Self) → honest disk → may_leave disk (seen disk) };
 
     /// This moment is one of those since an earlier one.
-    ghost counts_now: { (disk : Self) (t : ℕ) (image : List ℕ) → honest disk → t ≤ moment disk → may_leave disk image → left_since disk t image };
+    ghost counts_now: { (disk : Self) (t : ℕ) (image : List ℕ) → honest disk
+        → t ≤ moment disk → may_leave disk image → left_since disk t image };
 
     /// Since this moment there is no other.
-    ghost only_now: { (disk : Self) (image : List ℕ) → honest disk → left_since disk (moment disk) image → may_leave disk image };
+    ghost only_now: { (disk : Self) (image : List ℕ) → honest disk
+        → left_since disk (moment disk) image → may_leave disk image };
 }

@@ -62,15 +62,15 @@ impl<D: Disk, P: Policy> Disk for Guarded<D, P> {
     ghost use Rattle.std.specs.Prelude.{◌≡◌, ◌+◌, ◌≤◌, length, OnOk};
     ghost use Rattle.fe_disk.specs.Disk.{bytes_at, after_write, IsTorn, Follows, AddsNone, LeavesJust, Elapses};
     ghost use Rattle.fe_disk.specs.Outcome.{Asks};
-    ghost use Rattle.fe_disk.specs.Guarded.{disk_of, policy_of, fault_count, Guards};
+    ghost use Rattle.fe_disk.specs.Guarded.{disk_of, fault_count, inner, inner_holds, Guards};
 
-    ghost size = { λ disk. D.size (disk_of disk) };
+    ghost size = { inner D.size };
 
     ghost failures = { fault_count };
 
-    ghost calls = { λ disk. D.calls (disk_of disk) };
+    ghost calls = { inner D.calls };
 
-    ghost honest = { λ disk. D.honest (disk_of disk) };
+    ghost honest = { inner_holds D.honest };
 
     ghost seen = { λ disk. D.seen (disk_of disk) };
 
@@ -100,11 +100,15 @@ impl<D: Disk, P: Policy> Disk for Guarded<D, P> {
 
     fn read_at(&mut self, at: usize, buffer: &mut [u8]) -> Result<(), DeviceFault>
         requires { at + length buffer.old ≤ D.size (disk_of self.old) }
-        ensures read { D.honest (disk_of self.old) → OnOk result (buffer.new ≡ bytes_at (D.seen (disk_of self.old)) at (length buffer.old)) }
+        ensures read { D.honest (disk_of self.old)
+            → OnOk result (buffer.new ≡ bytes_at (D.seen (disk_of self.old)) at (length buffer.old)) }
         ensures same { D.honest (disk_of self.old) → D.seen (disk_of self.new) ≡ D.seen (disk_of self.old) }
-        ensures stop { D.honest (disk_of self.old) → AddsNone (D.may_leave (disk_of self.old)) (D.may_leave (disk_of self.new)) }
-        ensures time { D.honest (disk_of self.old) → Elapses D.moment D.left_since D.may_leave (disk_of self.old) (disk_of self.new) }
-        ensures device { Asks (λ disk. D.size (disk_of disk)) fault_count (λ disk. D.calls (disk_of disk)) (λ disk. D.honest (disk_of disk)) 1 0 0 result self.old self.new }
+        ensures stop { D.honest (disk_of self.old)
+            → AddsNone (D.may_leave (disk_of self.old)) (D.may_leave (disk_of self.new)) }
+        ensures time { D.honest (disk_of self.old)
+            → Elapses D.moment D.left_since D.may_leave (disk_of self.old) (disk_of self.new) }
+        ensures device { Asks (inner D.size) fault_count (inner D.calls) (inner_holds D.honest)
+            1 0 0 result self.old self.new }
         ensures guard { Guards P.passes P.next D.failures result self.old self.new }
     {
         if !self.admits(Asked::Read) {
@@ -114,7 +118,20 @@ impl<D: Disk, P: Policy> Disk for Guarded<D, P> {
         count(&mut self.failures, outcome)
     }
 
-    fn write_at(&mut self, at: usize, bytes: &[u8]) -> Result<(), DeviceFault> {
+    fn write_at(&mut self, at: usize, bytes: &[u8]) -> Result<(), DeviceFault>
+        requires { at + length bytes.now ≤ D.size (disk_of self.old) }
+        ensures written { D.honest (disk_of self.old)
+            → OnOk result (D.seen (disk_of self.new) ≡ after_write (D.seen (disk_of self.old)) at bytes.now) }
+        ensures torn { D.honest (disk_of self.old)
+            → IsTorn at (length bytes.now) (D.seen (disk_of self.old)) (D.seen (disk_of self.new)) }
+        ensures stop { D.honest (disk_of self.old)
+            → Follows (IsTorn at (length bytes.now)) (D.may_leave (disk_of self.old)) (D.may_leave (disk_of self.new)) }
+        ensures time { D.honest (disk_of self.old)
+            → Elapses D.moment D.left_since D.may_leave (disk_of self.old) (disk_of self.new) }
+        ensures device { Asks (inner D.size) fault_count (inner D.calls) (inner_holds D.honest)
+            0 1 0 result self.old self.new }
+        ensures guard { Guards P.passes P.next D.failures result self.old self.new }
+    {
         if !self.admits(Asked::Write) {
             return Err(fault(&mut self.failures));
         }
@@ -122,7 +139,18 @@ impl<D: Disk, P: Policy> Disk for Guarded<D, P> {
         count(&mut self.failures, outcome)
     }
 
-    fn sync(&mut self) -> Result<(), DeviceFault> {
+    fn sync(&mut self) -> Result<(), DeviceFault>
+        ensures durable { D.honest (disk_of self.old)
+            → OnOk result (LeavesJust (D.seen (disk_of self.new)) (D.may_leave (disk_of self.new))) }
+        ensures same { D.honest (disk_of self.old) → D.seen (disk_of self.new) ≡ D.seen (disk_of self.old) }
+        ensures stop { D.honest (disk_of self.old)
+            → AddsNone (D.may_leave (disk_of self.old)) (D.may_leave (disk_of self.new)) }
+        ensures time { D.honest (disk_of self.old)
+            → Elapses D.moment D.left_since D.may_leave (disk_of self.old) (disk_of self.new) }
+        ensures device { Asks (inner D.size) fault_count (inner D.calls) (inner_holds D.honest)
+            0 0 1 result self.old self.new }
+        ensures guard { Guards P.passes P.next D.failures result self.old self.new }
+    {
         if !self.admits(Asked::Sync) {
             return Err(fault(&mut self.failures));
         }

@@ -73,7 +73,8 @@ impl Disk for Liar {
         requires { at + length buffer.old ≤ byte_count self.old }
         ensures told { OnOk result (buffer.new ≡ bytes_at (told self.old) at (length buffer.old)) }
         ensures same { told self.new ≡ told self.old }
-        ensures only_at_top { IsErr result → (fault_count self.old ≡ 2 ^ 64 - 1) ⊎ ((calls_of self.old).reads ≡ 2 ^ 64 - 1) }
+        ensures only_at_top { IsErr result
+            → (fault_count self.old ≡ 2 ^ 64 - 1) ⊎ ((calls_of self.old).reads ≡ 2 ^ 64 - 1) }
         ensures device { Asks byte_count fault_count calls_of (λ disk. ⊥) 1 0 0 result self.old self.new }
     {
         if self.failures == u64::MAX || self.calls.reads == u64::MAX {
@@ -87,7 +88,8 @@ impl Disk for Liar {
     fn write_at(&mut self, _at: usize, bytes: &[u8]) -> Result<(), DeviceFault>
         requires { _at + length bytes.now ≤ byte_count self.old }
         ensures same { told self.new ≡ told self.old }
-        ensures only_at_top { IsErr result → (fault_count self.old ≡ 2 ^ 64 - 1) ⊎ ((calls_of self.old).writes ≡ 2 ^ 64 - 1) }
+        ensures only_at_top { IsErr result
+            → (fault_count self.old ≡ 2 ^ 64 - 1) ⊎ ((calls_of self.old).writes ≡ 2 ^ 64 - 1) }
         ensures device { Asks byte_count fault_count calls_of (λ disk. ⊥) 0 1 0 result self.old self.new }
     {
         if self.failures == u64::MAX || self.calls.writes == u64::MAX {
@@ -99,7 +101,8 @@ impl Disk for Liar {
 
     fn sync(&mut self) -> Result<(), DeviceFault>
         ensures same { told self.new ≡ told self.old }
-        ensures only_at_top { IsErr result → (fault_count self.old ≡ 2 ^ 64 - 1) ⊎ ((calls_of self.old).syncs ≡ 2 ^ 64 - 1) }
+        ensures only_at_top { IsErr result
+            → (fault_count self.old ≡ 2 ^ 64 - 1) ⊎ ((calls_of self.old).syncs ≡ 2 ^ 64 - 1) }
         ensures device { Asks byte_count fault_count calls_of (λ disk. ⊥) 0 0 1 result self.old self.new }
     {
         if self.failures == u64::MAX || self.calls.syncs == u64::MAX {

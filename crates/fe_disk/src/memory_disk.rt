@@ -204,7 +204,8 @@ impl Disk for MemoryDisk {
         requires { at + length bytes.now ≤ length self.old.image }
         ensures written { IsHonest self.old → OnOk result (self.new.image ≡ after_write self.old.image at bytes.now) }
         ensures torn { IsHonest self.old → IsTorn at (length bytes.now) self.old.image self.new.image }
-        ensures stop { IsHonest self.old → Follows (IsTorn at (length bytes.now)) (LeavesNow self.old) (LeavesNow self.new) }
+        ensures stop { IsHonest self.old
+            → Follows (IsTorn at (length bytes.now)) (LeavesNow self.old) (LeavesNow self.new) }
         ensures time { IsHonest self.old → Elapses moment_of LeavesSince LeavesNow self.old self.new }
         ensures device { Asks size_of failures_of calls_of IsHonest 0 1 0 result self.old self.new }
 
