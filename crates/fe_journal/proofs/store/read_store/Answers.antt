@@ -1,7 +1,9 @@
-use Rattle.std.proofs.Common.{ℕ, List, sym, ◌∙◌, subst}
+use Rattle.std.proofs.Common.{◌≡◌, ℕ, List, Result, Ok, Err, sym, ◌∙◌, subst}
 use Rattle.std.proofs.lemmas.Result.{IfOk-weaker}
 use Rattle.std.specs.Prelude.{IfOk, IfErr}
 use Rattle.fe_disk.specs.Disk.{LeavesJust}
+use Rattle.fe_disk.specs.Outcome.{Asks, Runs}
+use Rattle.fe_disk.specs.declared.calls.Calls.{Calls}
 use Rattle.fe_disk.proofs.Outcomes.{asks_run, runs_joined}
 use Rattle.fe_journal.specs.declared.fault.StoreFault.TheVariants.{Device}
 use Rattle.fe_journal.specs.Damage.{TellsFound}
@@ -9,13 +11,20 @@ use Rattle.fe_journal.specs.Store.{IsStore, IsWhole}
 use Rattle.fe_journal.proofs.Readings.{counted}
 use Rattle.fe_journal.proofs.store.read_store.Goals as goal
 
+-- the sync, and then the reads
+after_sync : {D T U E F : Type 0} (size failures : D → ℕ) (calls : D → Calls) (honest : D → Type 0) (device : E) (x : T) (second : Result U E) (old mid new : D)
+    → Asks {E = F} size failures calls honest 0 0 1 (Ok x) old mid → Runs size failures calls honest 4 0 0 device second mid new → Runs size failures calls honest 4 0 1 device second old new
+after_sync {T = T} {E = E} size failures calls honest device x second old mid new asks run =
+    let first : Result T E = Ok x in
+    runs_joined size failures calls honest 0 0 1 4 0 0 device first second old mid new (asks_run size failures calls honest 0 0 1 device x x old mid asks) (λ (e : first ≡ Err device). cc) run
+
 pub returns-clause-store : goal.returns-clause-store
 returns-clause-store g c = λ honest.
     subst (λ (l : List ℕ). IfOk c.read_synced.result (IsStore l)) (c.sync.ensures.same honest) (c.read_synced.ensures.store (c.sync.ensures.device.honesty.1 honest))
 
 pub returns-clause-faults : goal.returns-clause-faults
 returns-clause-faults g c = λ honest.
-    subst (λ (l : List ℕ). IfErr c.read_synced.result (λ fault. TellsFound fault l)) (c.sync.ensures.same honest) (c.read_synced.ensures.device.faults (c.sync.ensures.device.honesty.1 honest))
+    subst (λ (l : List ℕ). IfErr c.read_synced.result (λ fault. TellsFound fault l)) (c.sync.ensures.same honest) (c.read_synced.ensures.faults (c.sync.ensures.device.honesty.1 honest))
 
 pub returns-clause-settled : goal.returns-clause-settled
 returns-clause-settled g c = λ honest.
@@ -31,5 +40,4 @@ returns-clause-fault g c =
 
 pub returns-clause-device : goal.returns-clause-device
 returns-clause-device g c =
-    runs_joined g.D.Disk.size g.D.Disk.failures g.D.Disk.calls g.D.Disk.honest 0 0 1 4 0 0 Device _ c.read_synced.result c.args.disk.now c.sync.new.self c.read_synced.new.disk
-    (asks_run g.D.Disk.size g.D.Disk.failures g.D.Disk.calls g.D.Disk.honest 0 0 1 Device tt tt c.args.disk.now c.sync.new.self c.in_ok-sync.ensures.device) (λ e. cc) c.read_synced.ensures.device
+    after_sync g.D.Disk.size g.D.Disk.failures g.D.Disk.calls g.D.Disk.honest Device tt c.read_synced.result c.args.disk.now c.sync.new.self c.read_synced.new.disk c.in_ok-sync.ensures.device c.read_synced.ensures.device
