@@ -6,6 +6,7 @@ pub mod Effect
 pub mod Examples
 pub mod Format
 pub mod History
+pub mod KeptAnswers
 pub mod Name
 pub mod OtherWords
 pub mod Padding
