@@ -1,6 +1,6 @@
 -- What was dropped and is kept again is as it was.
 use Rattle.std.proofs.Common.{◌≡◌, ℕ, zero, suc, ◌+◌, ◌-◌, ◌*◌, ◌≤◌, ◌<◌, inl, inr, List, [], ◌∷◌, ◌++◌, length, take, drop, reverse, slice_index_or, Option, Some, None, refl, sym, ap, ◌∙◌, arith}
-use Rattle.std.specs.Prelude.{sum_by, slice_get}
+use Rattle.std.specs.Prelude.{sum_by}
 use Rattle.std.specs.Option.{option_map}
 use Rattle.std.specs.Ordering.{nat_cmp}
 use Rattle.std.specs.Cmp.{nat_cmp_total}
@@ -16,7 +16,7 @@ use Rattle.fe_state.specs.declared.kept.Kept.{Kept}
 use Rattle.fe_state.specs.declared.undo.Undo.{Undo}
 use Rattle.fe_state.specs.declared.undo.SessionChange.{SessionChange}
 use Rattle.fe_state.specs.declared.undo.SessionChange.TheVariants as change
-use Rattle.fe_state.specs.DroppedAnswers.{answer_at, keeping_all, kept_again, WereDropped, AreDropped}
+use Rattle.fe_state.specs.DroppedAnswers.{answer_at, keeping_all, kept_again, WereDropped}
 use Rattle.fe_state.specs.Sessions.{Session, IsInWindow, first_session, put_session}
 use Rattle.fe_state.specs.UndoLog.{with_room, answers_of, log_of, put_back, shortened, without_latest, HasDropped, HasMemory, UndoLog}
 use Rattle.fe_state.proofs.Maps.{get_inserted, get_beside, get_removed, get_left, same_or_other}

@@ -1,3 +1,4 @@
+pub mod AnswerLemmas
 pub mod ArraysLemmas
 pub mod DirectoryLemmas
 pub mod DroppedLemmas

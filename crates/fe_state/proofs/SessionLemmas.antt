@@ -129,7 +129,7 @@ raised_below m floor q low =
     get_retained m (nat_le floor) q ∙ ap (λ b. cond b (get m q) None) e
 
 -- and from it on what was
-raised_above : {X : Type 0} (m : FinMap nat_cmp X) (floor q : ℕ) → floor ≤ q → get (retain_keys m (nat_le floor)) q ≡ get m q
+pub raised_above : {X : Type 0} (m : FinMap nat_cmp X) (floor q : ℕ) → floor ≤ q → get (retain_keys m (nat_le floor)) q ≡ get m q
 raised_above m floor q high =
     let e : nat_le floor q ≡ true = grind (arith, nat_tests) in
     get_retained m (nat_le floor) q ∙ ap (λ b. cond b (get m q) None) e
@@ -179,7 +179,7 @@ window_moved cells old new low high none =
       ]
     ])
 
-none_or_some : {X : Type 0} (o : Option X) → (o ≡ None) ⊎ ((x : X) × (o ≡ Some x))
+pub none_or_some : {X : Type 0} (o : Option X) → (o ≡ None) ⊎ ((x : X) × (o ≡ Some x))
 none_or_some None = inl refl
 none_or_some (Some x) = inr (x, refl)
 

@@ -1,7 +1,7 @@
 -- Answers that sessions lost when they were settled or closed, and what it takes to keep them again.
-use Rattle.std.specs.Prelude.{◌≡◌, ℕ, ◌+◌, ◌-◌, ◌^◌, ◌≤◌, ◌<◌, List, [], ◌∷◌, ◌++◌, length, take, reverse, slice_index_or, Option, None, Some}
+use Rattle.std.specs.Prelude.{◌≡◌, ℕ, ◌+◌, ◌≤◌, ◌<◌, List, [], ◌∷◌, ◌++◌, length, take, reverse, slice_index_or, Option, None, Some}
 use Rattle.std.specs.Ordering.{nat_cmp}
-use Rattle.std.specs.FinMap.{FinMap, empty, get, insert, len}
+use Rattle.std.specs.FinMap.{FinMap, get, insert, len}
 use Rattle.fe_state.specs.Sessions.{Session, IsInWindow}
 use Rattle.fe_state.specs.declared.dropped.Dropped.{Dropped}
 use Rattle.fe_state.specs.declared.kept.Kept.{Kept}

@@ -7,6 +7,7 @@ pub mod Examples
 pub mod Format
 pub mod History
 pub mod Ids
+pub mod KeptAnswers
 pub mod Name
 pub mod OtherWords
 pub mod Padding

@@ -3,10 +3,10 @@ use Rattle.std.specs.Prelude.{◌≡◌, ℕ, ◌-◌, ◌*◌, ◌≤◌, refl,
 use Rattle.std.specs.Option.{option_map}
 use Rattle.std.specs.Ordering.{nat_cmp}
 use Rattle.std.specs.Coded.{Coded, code_by, coded×, coded_ℕ, coded_list}
-use Rattle.std.specs.FinMap.{FinMap, empty, get, insert, remove}
+use Rattle.std.specs.FinMap.{FinMap, get, insert, remove}
 use Rattle.fe_state.specs.Change.{restored, CanRestore}
 use Rattle.fe_state.specs.DroppedAnswers.{keeping_all, kept_again, AreDropped, MayLower, MayReopen}
-use Rattle.fe_state.specs.Sessions.{Session, IsInWindow, first_session, put_session}
+use Rattle.fe_state.specs.Sessions.{Session, first_session, put_session}
 use Rattle.fe_state.specs.State.{ServerState, IsWithinLimits, directory_of}
 use Rattle.fe_state.specs.declared.change.Change.{Change}
 use Rattle.fe_state.specs.declared.dropped.Dropped.{Dropped}

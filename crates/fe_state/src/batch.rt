@@ -4,6 +4,7 @@ ghost use Rattle.fe_state.specs.Format.{entry_fits_format_1};
 
 use crate::bounds::BATCH_ENTRIES;
 use crate::entry::Entry;
+use crate::naming::named;
 use crate::request::Request;
 use std::alloc::{AllocError, Global};
 use std::marker::Model;
@@ -55,7 +56,7 @@ impl Entries {
         requires { length self.old < BATCH_ENTRIES }
         ensures { self.new ≡ self.old ++ entry ∷ [] }
     {
-        let _named: Option<Request> = None;
+        named::<Request>();
         let _ = self.items.push(entry);
     }
 
@@ -103,7 +104,7 @@ impl Batch {
         ensures first { self.new.first ≡ self.old.first }
         ensures entries { self.new.entries ≡ self.old.entries ++ entry ∷ [] }
     {
-        let _named: Option<Request> = None;
+        named::<Request>();
         self.entries.push(entry);
     }
 }

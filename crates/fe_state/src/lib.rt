@@ -11,8 +11,10 @@ mod directory;
 mod dropped;
 mod entry;
 mod kept;
+mod kept_answers;
 mod laws;
 mod name;
+mod naming;
 mod request;
 mod session;
 mod sessions;
@@ -30,11 +32,13 @@ pub use bounds::{
 };
 pub use entry::Entry;
 pub use kept::Kept;
+pub use kept_answers::KeptAnswers;
 pub use laws::{
     examples_hold, histories_join_and_cut, ids_never_return, limits_are_kept, numbers_finish_once,
     other_words_stay,
 };
 pub use name::Name;
+pub use naming::named;
 pub use request::Request;
 pub use session::Session;
 pub use state::{Illegal, State};

@@ -1,13 +1,17 @@
-ghost use Rattle.std.specs.Prelude.{◌≡◌, ◌↔◌, ℕ, ◌+◌, ◌-◌, ◌%◌, ◌^◌, ◌≤◌, ◌<◌, ◌++◌, Some, IsTrue, nat_le, vec_len, vec_capacity};
+ghost use Rattle.std.specs.Prelude.{◌≡◌, ◌↔◌, ℕ, ◌+◌, ◌-◌, ◌%◌, ◌^◌, ◌≤◌, ◌<◌, [], ◌∷◌, ◌++◌, Some, IsTrue, IfSome, IfNone, length, nat_le, option_copied, vec_len, vec_capacity};
 ghost use Rattle.std.specs.FinMap as map;
 ghost use Rattle.fe_state.specs.declared.kept.Kept.{Kept};
 ghost use Rattle.fe_state.specs.Sessions.{first_session, IsInWindow, MayRise, raised, keeping};
 ghost use Rattle.fe_state.specs.SessionEffect.{IsUsable};
 ghost use Rattle.fe_state.specs.DroppedAnswers.{answer_at, WereDropped, MayLower};
+ghost use Rattle.fe_state.specs.KeptAnswers.{answers_from};
+ghost use Rattle.fe_table.specs.Table.{shown_entry};
 
 use crate::bounds::{GREATEST_FLOOR, WINDOW};
 use crate::dropped::Dropped;
 use crate::kept::Kept;
+use crate::kept_answers::KeptAnswers;
+use crate::naming::named;
 use crate::request::Request;
 use std::marker::Model;
 
@@ -81,6 +85,53 @@ impl Session {
         } else {
             None
         }
+    }
+
+    // What is kept for the number, where it lies.
+    fn kept_here(&self, number: u64) -> Option<&Kept>
+        ensures { option_copied result ≡ map.get self.now.kept number }
+    {
+        if self.is_in_window(number) {
+            self.cells[cell_of(number)].as_ref()
+        } else {
+            None
+        }
+    }
+
+    /// The first number from one of the window on for which something is kept, with that.
+    pub(crate) fn first_kept(&self, from: u64) -> Option<(u64, &Kept)>
+        requires { self.now.floor ≤ from }
+        ensures first { IfSome result (λ x. answers_from self.now from ≡ shown_entry x ∷ answers_from self.now (x.0 + 1)) }
+        ensures least { IfSome result (λ x. from ≤ x.0) }
+        ensures most { IfSome result (λ x. x.0 < 2 ^ 63) }
+        ensures none { IfNone result (answers_from self.now from ≡ []) }
+    {
+        for number in from..self.floor + WINDOW {
+            if let Some(kept) = self.kept_here(number) {
+                return Some((number, kept));
+            }
+        }
+        None
+    }
+
+    /// What is kept, with the numbers, in ascending order.
+    pub fn answers(&self) -> KeptAnswers<'_>
+        ensures entries { result ≡ map.entries self.now.kept }
+        ensures few { length result ≤ WINDOW }
+    {
+        KeptAnswers::starting(self, self.floor)
+    }
+
+    /// For how many numbers something is kept, 0 to `WINDOW`.
+    pub fn kept_count(&self) -> usize
+        ensures count { result ≡ map.len self.now.kept }
+        ensures few { result ≤ WINDOW }
+    {
+        let mut count = 0;
+        for _answer in self.answers() {
+            count += 1;
+        }
+        count
     }
 
     /// Whether a request may still finish under the number: it is in the window and nothing is kept for it.
@@ -167,7 +218,7 @@ impl Session {
         ensures dropped { dropped.new.items ≡ dropped.old.items ++ answer_at number (map.get self.old.kept number) }
         ensures capacity { vec_capacity dropped.new ≡ vec_capacity dropped.old }
     {
-        let _named: Option<Request> = None;
+        named::<Request>();
         if let Some(kept) = self.kept(number) {
             self.forget(number);
             dropped.push_reserved(Dropped { number, kept });

@@ -8,6 +8,7 @@ ghost use Rattle.fe_state.specs.UndoLog.{empty_log, shortened, answers_of, HasDr
 use crate::bounds::{GREATEST_FLOOR, WINDOW};
 use crate::change::Change;
 use crate::dropped::Dropped;
+use crate::naming::named;
 use crate::request::Request;
 use crate::session::Session;
 use crate::undo::{SessionChange, Undo};
@@ -94,7 +95,7 @@ impl UndoLog {
         requires none { answers_of undo.session_change ≡ 0 }
         ensures { self.new ≡ record { room = self.old.room; undos = undo ∷ self.old.undos; dropped = self.old.dropped } }
     {
-        let _named: Option<Request> = None;
+        named::<Request>();
         self.undos.push_reserved(undo);
     }
 

@@ -1,4 +1,4 @@
-use Rattle.std.proofs.Common.{◌≡◌, ap, ◌∙◌, length}
+use Rattle.std.proofs.Common.{◌∙◌, length}
 use Rattle.std.proofs.Math.Seq.{drop-append_seam}
 use Rattle.fe_state.specs.declared.undo.SessionChange.TheVariants as change
 use Rattle.fe_state.proofs.DroppedLemmas.{put_back-closed, remove-changed}

@@ -1,4 +1,4 @@
-use Rattle.std.proofs.Common.{◌≡◌, ℕ, ap, ◌∙◌, sym, take, add-one}
+use Rattle.std.proofs.Common.{ℕ, ap, ◌∙◌, sym, take, add-one}
 use Rattle.std.specs.Ordering.{nat_cmp}
 use Rattle.std.specs.FinMap.{FinMap, insert}
 use Rattle.fe_state.specs.declared.kept.Kept.{Kept}

@@ -1,4 +1,4 @@
-use Rattle.std.proofs.Common.{◌+◌, ◌-◌, arith}
+use Rattle.std.proofs.Common.{◌-◌, arith}
 use Rattle.std.proofs.lemmas.List.{length-reverse}
 use Rattle.fe_state.specs.declared.undo.SessionChange.TheVariants as change
 use Rattle.fe_state.proofs.DroppedLemmas.{answers_room, has_dropped}
