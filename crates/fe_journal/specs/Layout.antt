@@ -3,15 +3,29 @@ use Rattle.std.specs.Prelude.{◌≡◌, ◌≢◌, ℕ, ◌+◌, ◌-◌, ◌*�
 use Rattle.byteorder.specs.Endian.{big_number}
 use Rattle.fe_disk.specs.Disk.{bytes_at}
 
--- a device has two slots, one behind the other
+-- a slot's header, whose last byte is its gate
+abbrev pub header_bytes : ℕ
+header_bytes = 4096
+
+-- where a slot's journal area begins, behind its header and the place of its image
+abbrev pub area_begin : ℕ
+area_begin = 1052672
+
+-- a slot's journal area
+abbrev pub area_bytes : ℕ
+area_bytes = 1048576
+
+-- a slot
 abbrev pub slot_bytes : ℕ
 slot_bytes = 2101248
 
+-- a device has two slots, one behind the other
 abbrev pub device_bytes : ℕ
 device_bytes = 4202496
 
-abbrev pub area_bytes : ℕ
-area_bytes = 1048576
+-- the most bytes of an image that are written at a time
+abbrev pub slice_bytes : ℕ
+slice_bytes = 65536
 
 -- where a slot's header begins, with it the slot
 abbrev pub header_of : ℕ → ℕ

@@ -18,8 +18,10 @@ pub fn commit<D: Disk>(
     requires gate_fits { gate + 1 ≤ D.size disk.old }
 
     // A stop leaves the bytes torn, and, only once all of them are on the disk, the gate torn.
-    ensures any_moment { D.honest disk.old → LeavesOnly D.moment D.left_since disk.old disk.new (IsLeftInCommit (D.may_leave disk.old) (D.seen disk.old) at bytes.now gate) }
-    ensures committed { D.honest disk.old → OnOk result (D.seen disk.new ≡ after_commit (D.seen disk.old) at bytes.now gate) }
+    ensures any_moment { D.honest disk.old → LeavesOnly D.moment D.left_since disk.old disk.new
+        (IsLeftInCommit (D.may_leave disk.old) (D.seen disk.old) at bytes.now gate) }
+    ensures committed { D.honest disk.old
+        → OnOk result (D.seen disk.new ≡ after_commit (D.seen disk.old) at bytes.now gate) }
     ensures durable { D.honest disk.old → OnOk result (LeavesJust (D.seen disk.new) (D.may_leave disk.new)) }
 
     ensures device { Asks D.size D.failures D.calls D.honest 0 2 2 result disk.old disk.new }
@@ -33,7 +35,8 @@ pub fn commit<D: Disk>(
 fn open_gate<D: Disk>(disk: &mut D, gate: usize) -> Result<(), DeviceFault>
     requires gate_fits { gate + 1 ≤ D.size disk.old }
     requires settled { D.honest disk.old → LeavesJust (D.seen disk.old) (D.may_leave disk.old) }
-    ensures any_moment { D.honest disk.old → LeavesOnly D.moment D.left_since disk.old disk.new (IsTorn gate 1 (D.seen disk.old)) }
+    ensures any_moment { D.honest disk.old
+        → LeavesOnly D.moment D.left_since disk.old disk.new (IsTorn gate 1 (D.seen disk.old)) }
     ensures opened { D.honest disk.old → OnOk result (D.seen disk.new ≡ after_write (D.seen disk.old) gate (1 ∷ [])) }
     ensures durable { D.honest disk.old → OnOk result (LeavesJust (D.seen disk.new) (D.may_leave disk.new)) }
 
@@ -49,13 +52,16 @@ pub fn shut<D: Disk>(disk: &mut D, gate: usize) -> Result<(), DeviceFault>
     requires gate_fits { gate + 1 ≤ D.size disk.old }
 
     // From a disk on which all that was written is synced.
-    ensures any_moment { D.honest disk.old → LeavesJust (D.seen disk.old) (D.may_leave disk.old) → LeavesOnly D.moment D.left_since disk.old disk.new (IsLeftInShutting (D.seen disk.old) gate) }
-    ensures settled { D.honest disk.old → LeavesJust (D.seen disk.old) (D.may_leave disk.old) → OnOk result (LeavesJust (D.seen disk.new) (D.may_leave disk.new)) }
+    ensures any_moment { D.honest disk.old → LeavesJust (D.seen disk.old) (D.may_leave disk.old)
+        → LeavesOnly D.moment D.left_since disk.old disk.new (IsLeftInShutting (D.seen disk.old) gate) }
+    ensures settled { D.honest disk.old → LeavesJust (D.seen disk.old) (D.may_leave disk.old)
+        → OnOk result (LeavesJust (D.seen disk.new) (D.may_leave disk.new)) }
 
     ensures closed { D.honest disk.old → OnOk result (IsShut (D.seen disk.new) gate) }
     ensures torn { D.honest disk.old → IsTorn gate 1 (D.seen disk.old) (D.seen disk.new) }
 
-    ensures made { D.honest disk.old → OnOk result (Shuts (D.seen disk.old) gate 0 (D.calls disk.old) (D.calls disk.new)) }
+    ensures made { D.honest disk.old
+        → OnOk result (Shuts (D.seen disk.old) gate 0 (D.calls disk.old) (D.calls disk.new)) }
     ensures device { AsksAtMost D.size D.failures D.calls D.honest 1 1 1 result disk.old disk.new }
 {
     let mut byte = [0];

@@ -1,4 +1,5 @@
 ghost use Rattle.std.specs.Prelude.{◌≡◌, ◌+◌, ◌<◌, ◌≤◌, ℕ, List, [], ◌∷◌, length, IsNone, IfSome, IsSomeAnd};
+ghost use Rattle.fe_journal.specs.Layout.{area_bytes, device_bytes};
 ghost use Rattle.fe_journal.specs.Cursor.{Lists};
 
 use byteorder::{BigEndian, ByteOrder};
@@ -27,8 +28,8 @@ impl Model for Groups {
 impl Groups {
     // From the first group of a journal area on, which begins at `start` of the device.
     pub(crate) fn new(bytes: Vec<u8>, start: usize) -> Groups
-        requires start { start < 4202496 }
-        requires area { length bytes.items ≡ 1048576 }
+        requires start { start < device_bytes }
+        requires area { length bytes.items ≡ area_bytes }
         ensures { result ≡ record { bytes = bytes.items; start = start; at = 0 } }
     {
         Groups {
@@ -40,9 +41,10 @@ impl Groups {
 
     /// The payload of the next group, if there is one.
     pub fn payload(&self) -> Option<&[u8]>
-        ensures next { (payload : List ℕ) (rest : List (List ℕ)) → Lists self.now (payload ∷ rest) → IsSomeAnd result (λ p. p.now ≡ payload) }
+        ensures next { (payload : List ℕ) (rest : List (List ℕ)) → Lists self.now (payload ∷ rest)
+            → IsSomeAnd result (λ p. p.now ≡ payload) }
         ensures none { Lists self.now [] → IsNone result }
-        ensures within { IfSome result (λ p. self.now.at + (5 + length p.now) ≤ 1048576) }
+        ensures within { IfSome result (λ p. self.now.at + (5 + length p.now) ≤ area_bytes) }
     {
         if self.at >= self.bytes.len() - 5 || self.bytes[self.at] != 1 {
             return None;
@@ -58,15 +60,17 @@ impl Groups {
     /// Where the payload of the next group begins on the device, in bytes.
     pub fn offset(&self) -> usize
         ensures value { result ≡ self.now.start + self.now.at + 5 }
-        ensures within { result < 5251077 }
+        ensures within { result < device_bytes + area_bytes + 5 }
     {
         self.start + self.at + 5
     }
 
     /// Moves past the next group, if there is one.
     pub fn skip(&mut self)
-        ensures at { (payload : List ℕ) (rest : List (List ℕ)) → Lists self.old (payload ∷ rest) → self.new ≡ record self.old { at = self.old.at + (5 + length payload) } }
-        ensures rest { (payload : List ℕ) (rest : List (List ℕ)) → Lists self.old (payload ∷ rest) → Lists self.new rest }
+        ensures at { (payload : List ℕ) (rest : List (List ℕ)) → Lists self.old (payload ∷ rest)
+            → self.new ≡ record self.old { at = self.old.at + (5 + length payload) } }
+        ensures rest { (payload : List ℕ) (rest : List (List ℕ)) → Lists self.old (payload ∷ rest)
+            → Lists self.new rest }
         ensures none { Lists self.old [] → self.new ≡ self.old }
     {
         let length = match self.payload() {

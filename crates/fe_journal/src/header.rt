@@ -1,7 +1,9 @@
 ghost use Rattle.std.specs.Prelude.{◌≡◌, ◌≤◌, ◌<◌, ◌^◌, length, Option, None, Some};
+ghost use Rattle.fe_journal.specs.Layout.{header_bytes};
 ghost use Rattle.fe_journal.specs.Reading.{IsFormatOf, IsHeader, IsCounting};
 
 use crate::Format;
+use crate::layout::HEADER_BYTES;
 use byteorder::{BigEndian, ByteOrder};
 
 /// What the header of a valid slot says.
@@ -14,10 +16,10 @@ pub struct Header {
 
 /// The header in the bytes of a slot's header area, where the slot is valid.
 pub fn header_in(bytes: &[u8]) -> Option<Header>
-    requires { length bytes.now ≡ 4096 }
+    requires { length bytes.now ≡ header_bytes }
     ensures { IsHeader bytes.now 0 result }
 {
-    if bytes[4_095] != 1 {
+    if bytes[HEADER_BYTES - 1] != 1 {
         return None;
     }
     let format = format_of(BigEndian::read_u64(bytes))?;

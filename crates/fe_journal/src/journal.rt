@@ -1,7 +1,7 @@
 ghost use Rattle.std.specs.Prelude.{◌≡◌, ◌+◌, ◌≤◌, ◌<◌, length, Option, Some, None, false, vec_len, IsSome, IfSome, OnOk};
 ghost use Rattle.std.specs.Option.{ForSome};
 ghost use Rattle.fe_disk.specs.Disk.{LeavesOnly, MakesJust};
-ghost use Rattle.fe_journal.specs.Layout.{device_bytes, area_bytes, other_than, gate_of};
+ghost use Rattle.fe_journal.specs.Layout.{device_bytes, area_bytes, slice_bytes, other_than, gate_of};
 ghost use Rattle.fe_format.specs.Layout.{IsPayloadLength, IsImageLength};
 ghost use Rattle.fe_journal.specs.Groups.{room_at, end_of};
 ghost use Rattle.fe_journal.specs.Contents.{Contents, HoldsEither, Holds, with_group};
@@ -10,7 +10,7 @@ ghost use Rattle.fe_journal.specs.Journal.{Draft, Keeps, Ends, new_draft, with_s
 
 use crate::begun::Begun;
 use crate::commit::commit;
-use crate::layout::{area_of, gate_of, image_of};
+use crate::layout::{LONGEST_PAYLOAD, area_of, gate_of, image_of};
 use crate::slot::begin_slot;
 use crate::spelling::{put_area_start, put_group};
 use crate::{Format, JournalFault};
@@ -60,7 +60,15 @@ impl<D: Disk> Journal<D> {
         requires buffer { vec_len buffer ≡ area_bytes }
         requires is_slot { slot < 2 }
         requires within { used < area_bytes }
-        ensures { result ≡ record { disk = disk; slot = slot; format = format; generation = generation; used = used; begun = None; has_failed = false } }
+        ensures { result ≡ record {
+          disk = disk;
+          slot = slot;
+          format = format;
+          generation = generation;
+          used = used;
+          begun = None;
+          has_failed = false;
+        } }
     {
         Journal {
             disk,
@@ -85,7 +93,7 @@ impl<D: Disk> Journal<D> {
     pub fn room(&self) -> u32
         ensures { result ≡ room_at self.now.used }
     {
-        1_048_570u32.saturating_sub(self.used as u32)
+        LONGEST_PAYLOAD.saturating_sub(self.used as u32)
     }
 
     /// The format of the slot that counts, in which groups are appended.
@@ -139,12 +147,15 @@ impl<D: Disk> Journal<D> {
         requires fits { length payload.now ≤ room_at self.old.used }
 
         // A stop at any moment of the call leaves the contents of before, or those with the new group at the end.
-        ensures any_moment { D.honest self.old.disk → (c : Contents) (draft : Option Draft) → Keeps D.seen D.may_leave self.old c draft
+        ensures any_moment { D.honest self.old.disk
+            → (c : Contents) (draft : Option Draft) → Keeps D.seen D.may_leave self.old c draft
             → LeavesOnly D.moment D.left_since self.old.disk self.new.disk (HoldsEither c (with_group c payload.now)) }
-        ensures appended { D.honest self.old.disk → (c : Contents) (draft : Option Draft) → Keeps D.seen D.may_leave self.old c draft
+        ensures appended { D.honest self.old.disk
+            → (c : Contents) (draft : Option Draft) → Keeps D.seen D.may_leave self.old c draft
             → OnOk result (Keeps D.seen D.may_leave self.new (with_group c payload.now) draft) }
 
-        ensures value { OnOk result (self.new ≡ record self.old { disk = self.new.disk; used = self.old.used + (5 + length payload.now) }) }
+        ensures value { OnOk result
+            (self.new ≡ record self.old { disk = self.new.disk; used = self.old.used + (5 + length payload.now) }) }
         ensures made { OnOk result (MakesJust 0 2 2 (D.calls self.old.disk) (D.calls self.new.disk)) }
         ensures ends { Ends D.failures D.calls D.honest 0 2 2 result self.old self.new }
     {
@@ -185,7 +196,8 @@ impl<D: Disk> Journal<D> {
           begun = Some (record { format = format; generation = generation; image_length = image_length; written = 0 });
         }) }
         ensures made { D.honest self.old.disk
-            → OnOk result (Shuts (D.seen self.old.disk) (gate_of (other_than self.old.slot)) 1 (D.calls self.old.disk) (D.calls self.new.disk)) }
+            → OnOk result (Shuts (D.seen self.old.disk) (gate_of (other_than self.old.slot)) 1
+            (D.calls self.old.disk) (D.calls self.new.disk)) }
         ensures ends { Ends D.failures D.calls D.honest 1 2 1 result self.old self.new }
     {
         if self.has_failed {
@@ -210,12 +222,14 @@ impl<D: Disk> Journal<D> {
     pub fn slot_write(&mut self, slice: &[u8]) -> Result<(), JournalFault>
         requires begun { ForSome self.old.begun (λ b. b.written + length slice.now ≤ b.image_length) }
         requires has_begun { IsSome self.old.begun }
-        requires short { length slice.now ≤ 65536 }
+        requires short { length slice.now ≤ slice_bytes }
 
         // A stop at any moment of the call leaves the contents of before.
-        ensures any_moment { D.honest self.old.disk → (c : Contents) (d : Draft) → Keeps D.seen D.may_leave self.old c (Some d)
+        ensures any_moment { D.honest self.old.disk
+            → (c : Contents) (d : Draft) → Keeps D.seen D.may_leave self.old c (Some d)
             → LeavesOnly D.moment D.left_since self.old.disk self.new.disk (Holds c) }
-        ensures written { D.honest self.old.disk → (c : Contents) (d : Draft) → Keeps D.seen D.may_leave self.old c (Some d)
+        ensures written { D.honest self.old.disk
+            → (c : Contents) (d : Draft) → Keeps D.seen D.may_leave self.old c (Some d)
             → OnOk result (Keeps D.seen D.may_leave self.new c (Some (with_slice d slice.now))) }
 
         ensures value { OnOk result (IfSome self.old.begun (λ b. self.new ≡ record self.old {
@@ -251,9 +265,11 @@ impl<D: Disk> Journal<D> {
         requires has_begun { IsSome self.old.begun }
 
         // A stop at any moment of the call leaves the contents of before or those of the new slot.
-        ensures any_moment { D.honest self.old.disk → (c : Contents) (d : Draft) → Keeps D.seen D.may_leave self.old c (Some d)
+        ensures any_moment { D.honest self.old.disk
+            → (c : Contents) (d : Draft) → Keeps D.seen D.may_leave self.old c (Some d)
             → LeavesOnly D.moment D.left_since self.old.disk self.new.disk (HoldsEither c (finished c d catch_up.now)) }
-        ensures finished { D.honest self.old.disk → (c : Contents) (d : Draft) → Keeps D.seen D.may_leave self.old c (Some d)
+        ensures finished { D.honest self.old.disk
+            → (c : Contents) (d : Draft) → Keeps D.seen D.may_leave self.old c (Some d)
             → OnOk result (Keeps D.seen D.may_leave self.new (finished c d catch_up.now) None) }
 
         ensures value { OnOk result (IfSome self.old.begun (λ b. self.new ≡ record self.old {

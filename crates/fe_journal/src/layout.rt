@@ -1,16 +1,26 @@
 ghost use Rattle.std.specs.Prelude.{◌≡◌, ◌<◌};
 ghost use Rattle.fe_journal.specs.Layout.{header_of, gate_of, image_of, area_of};
 
-/// The bytes of a device (`docs/formats.md`, "Device").
-pub const DEVICE_BYTES: usize = 4_202_496;
-
-/// The bytes of a slot's header area, whose last one is the gate.
+/// The bytes of a slot's header area, whose last one is the gate (`docs/formats.md`, "Device").
 pub const HEADER_BYTES: usize = 4_096;
+
+/// Where a slot's journal area begins in it, behind the header and the place of the image.
+const AREA_BEGIN: usize = 1_052_672;
 
 /// The bytes of a slot's journal area.
 pub const AREA_BYTES: usize = 1_048_576;
 
-const SLOT_BYTES: usize = 2_101_248;
+/// The bytes of a slot.
+const SLOT_BYTES: usize = AREA_BEGIN + AREA_BYTES;
+
+/// The bytes of a device.
+pub const DEVICE_BYTES: usize = 2 * SLOT_BYTES;
+
+/// The longest payload in an empty journal area, with its frame and one more gate.
+pub const LONGEST_PAYLOAD: u32 = AREA_BYTES as u32 - 6;
+
+/// The longest slice of an image, in bytes, that is written at a time.
+pub const SLICE_BYTES: usize = 65_536;
 
 /// Where a slot's header begins.
 pub fn header_of(slot: usize) -> usize
@@ -25,7 +35,7 @@ pub fn gate_of(slot: usize) -> usize
     requires { slot < 2 }
     ensures { result ≡ gate_of slot }
 {
-    SLOT_BYTES * slot + 4_095
+    SLOT_BYTES * slot + HEADER_BYTES - 1
 }
 
 /// Where a slot's image begins.
@@ -33,7 +43,7 @@ pub fn image_of(slot: usize) -> usize
     requires { slot < 2 }
     ensures { result ≡ image_of slot }
 {
-    SLOT_BYTES * slot + 4_096
+    SLOT_BYTES * slot + HEADER_BYTES
 }
 
 /// Where a slot's journal area begins.
@@ -41,5 +51,5 @@ pub fn area_of(slot: usize) -> usize
     requires { slot < 2 }
     ensures { result ≡ area_of slot }
 {
-    SLOT_BYTES * slot + 1_052_672
+    SLOT_BYTES * slot + AREA_BEGIN
 }

@@ -36,10 +36,12 @@ impl<D: Disk> Journal<D> {
         ensures refused { D.honest disk → IfErr result (λ e. TellsFound e.0 (D.seen disk)) }
 
         // An unformatted store is told so, whatever memory there is.
-        ensures unformatted { D.honest disk → IsUnformatted (D.seen disk) → IsErrAnd result (λ e. (e.0 ≡ Unformatted) ⊎ (e.0 ≡ Device)) }
+        ensures unformatted { D.honest disk → IsUnformatted (D.seen disk)
+            → IsErrAnd result (λ e. (e.0 ≡ Unformatted) ⊎ (e.0 ≡ Device)) }
 
         // A store that holds contents is refused only for its device or for memory.
-        ensures holds { D.honest disk → (c : Contents) → Holds c (D.seen disk) → IfErr result (λ e. (e.0 ≡ Device) ⊎ (e.0 ≡ NoMemory)) }
+        ensures holds { D.honest disk → (c : Contents) → Holds c (D.seen disk)
+            → IfErr result (λ e. (e.0 ≡ Device) ⊎ (e.0 ≡ NoMemory)) }
 
         // No stop leaves what could not be left before, and what is read stays the same.
         ensures reads { D.honest disk → OnlyReads D.seen D.may_leave D.moment D.left_since disk (disk_after result) }
@@ -65,7 +67,8 @@ fn found_in<D: Disk>(store: Store, disk: D) -> Found<D>
     ensures disk { result.journal.disk ≡ disk }
     ensures ready { IsReady result.journal }
     ensures listed { AreListed result }
-    ensures found { D.honest disk → IsStore (D.seen disk) store → LeavesJust (D.seen disk) (D.may_leave disk) → IsFound D.seen D.may_leave (D.seen disk) result }
+    ensures found { D.honest disk → IsStore (D.seen disk) store → LeavesJust (D.seen disk) (D.may_leave disk)
+        → IsFound D.seen D.may_leave (D.seen disk) result }
 {
     let Store {
         buffer,

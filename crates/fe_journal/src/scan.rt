@@ -1,5 +1,6 @@
 // The lengths of all groups of a journal area.
 ghost use Rattle.std.specs.Prelude.{◌≡◌, ◌<◌, length, Option, Some, None, IfOk, IfErr};
+ghost use Rattle.fe_journal.specs.Layout.{area_bytes};
 ghost use Rattle.fe_journal.specs.Reading.{IsFitting, IsOddAt, EndsAt};
 
 use crate::Format;
@@ -9,11 +10,11 @@ use byteorder::{BigEndian, ByteOrder};
 /// The offset in the area of the closed gate after the open groups. `Err` is the first open gate
 /// whose length is not allowed or does not fit.
 pub fn scan(area: &[u8], format: Format) -> Result<usize, usize>
-    requires { length area.now ≡ 1048576 }
+    requires { length area.now ≡ area_bytes }
     ensures ends { IfOk result (EndsAt format area.now) }
-    ensures within { IfOk result (λ at. at < 1048576) }
+    ensures within { IfOk result (λ at. at < area_bytes) }
     ensures odd { IfErr result (IsOddAt format area.now) }
-    ensures odd_within { IfErr result (λ at. at < 1048576) }
+    ensures odd_within { IfErr result (λ at. at < area_bytes) }
 {
     let mut at = 0;
     while area[at] == 1 {
@@ -27,8 +28,8 @@ pub fn scan(area: &[u8], format: Format) -> Result<usize, usize>
 
 // The length behind an open gate, where it is allowed and fits with a gate behind it.
 fn payload_length(area: &[u8], at: usize, format: Format) -> Option<usize>
-    requires area { length area.now ≡ 1048576 }
-    requires within { at < 1048576 }
+    requires area { length area.now ≡ area_bytes }
+    requires within { at < area_bytes }
     ensures { IsFitting format area.now at result }
 {
     if AREA_BYTES - at < 6 {

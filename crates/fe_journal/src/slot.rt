@@ -24,9 +24,12 @@ pub fn begin_slot<D: Disk>(
     requires short { image_length < 2 ^ 32 }
 
     // From a disk on which all that was written is synced.
-    ensures any_moment { D.honest disk.old → LeavesJust (D.seen disk.old) (D.may_leave disk.old) → LeavesOnly D.moment D.left_since disk.old disk.new (IsLeftInBeginning (D.seen disk.old) slot) }
-    ensures begun { D.honest disk.old → OnOk result (IsBegun (D.seen disk.old) slot (header_fields format generation image_length) (D.seen disk.new)) }
-    ensures left { D.honest disk.old → LeavesJust (D.seen disk.old) (D.may_leave disk.old) → OnOk result ((image : List ℕ) → D.may_leave disk.new image → IsHeaderTorn (D.seen disk.old) slot image) }
+    ensures any_moment { D.honest disk.old → LeavesJust (D.seen disk.old) (D.may_leave disk.old)
+        → LeavesOnly D.moment D.left_since disk.old disk.new (IsLeftInBeginning (D.seen disk.old) slot) }
+    ensures begun { D.honest disk.old → OnOk result
+        (IsBegun (D.seen disk.old) slot (header_fields format generation image_length) (D.seen disk.new)) }
+    ensures left { D.honest disk.old → LeavesJust (D.seen disk.old) (D.may_leave disk.old)
+        → OnOk result ((image : List ℕ) → D.may_leave disk.new image → IsHeaderTorn (D.seen disk.old) slot image) }
 
     ensures made { D.honest disk.old
         → OnOk result (Shuts (D.seen disk.old) (gate_of slot) 1 (D.calls disk.old) (D.calls disk.new)) }

@@ -2,7 +2,7 @@
 ghost use Rattle.std.specs.Prelude.{◌≡◌, ◌⊎◌, ◌↔◌, ◌+◌, ◌≤◌, ◌<◌, length, Some, IfSome, IfOk, IfErr, IsErrOf, OnOk, vec_len};
 ghost use Rattle.fe_disk.specs.Disk.{LeavesJust, Rises, bytes_at};
 ghost use Rattle.fe_disk.specs.Outcome.{Asks, Runs};
-ghost use Rattle.fe_journal.specs.Layout.{device_bytes, header_of};
+ghost use Rattle.fe_journal.specs.Layout.{device_bytes, header_bytes, area_bytes, header_of};
 ghost use Rattle.fe_format.specs.Layout.{IsImageLength};
 ghost use Rattle.fe_journal.specs.Damage.{TellsFound};
 ghost use Rattle.fe_journal.specs.Reading.{IsHeader, HeaderFault, GroupFault, EndsAt};
@@ -100,7 +100,7 @@ fn read_header<D: Disk>(
 ) -> Result<Option<Header>, DeviceFault>
     requires is_slot { slot < 2 }
     requires device { D.size disk.old ≡ device_bytes }
-    requires header { length bytes.old ≡ 4096 }
+    requires header { length bytes.old ≡ header_bytes }
     ensures header { D.honest disk.old → IfOk result (IsHeader (D.seen disk.old) (header_of slot)) }
     ensures reads { D.honest disk.old → OnlyReads D.seen D.may_leave D.moment D.left_since disk.old disk.new }
 
@@ -168,9 +168,9 @@ fn read_bytes<D: Disk>(
 // Where the groups of a slot's journal area end, of which the lengths of all are tested.
 fn groups_end(slot: usize, area: &[u8], format: Format) -> Result<usize, StoreFault>
     requires is_slot { slot < 2 }
-    requires area { length area.now ≡ 1048576 }
+    requires area { length area.now ≡ area_bytes }
     ensures ends { IfOk result (EndsAt format area.now) }
-    ensures within { IfOk result (λ at. at < 1048576) }
+    ensures within { IfOk result (λ at. at < area_bytes) }
     ensures fault { IfErr result (GroupFault slot format area.now) }
 {
     match scan(area, format) {
@@ -193,7 +193,8 @@ fn read_slot<D: Disk>(
     requires numbered { 1 ≤ header.now.generation }
     requires length { IsImageLength header.now.format header.now.image_length }
     ensures parts { D.honest disk.old → IfOk result (IsSlotRead (D.seen disk.old) slot header.now) }
-    ensures faults { D.honest disk.old → CountsAs (D.seen disk.old) (Some (slot, header.now)) → IfErr result (λ fault. TellsFound fault (D.seen disk.old)) }
+    ensures faults { D.honest disk.old → CountsAs (D.seen disk.old) (Some (slot, header.now))
+        → IfErr result (λ fault. TellsFound fault (D.seen disk.old)) }
     ensures whole { IfOk result AreParts }
     ensures ends { IfOk result (λ parts. EndsAt header.now.format parts.area.items parts.used) }
     ensures reads { D.honest disk.old → OnlyReads D.seen D.may_leave D.moment D.left_since disk.old disk.new }

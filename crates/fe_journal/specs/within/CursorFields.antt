@@ -1,6 +1,7 @@
 -- How the fields of `Groups` give what its callers see.
 use Rattle.std.specs.Prelude.{◌≡◌, ◌<◌, ◌≤◌, length}
 use Rattle.fe_journal.specs.Cursor.{Cursor}
+use Rattle.fe_journal.specs.Layout.{area_bytes, device_bytes}
 use Rattle.fe_journal.specs.declared.groups.Groups.TheInside.{Inside}
 
 abbrev pub cursor_of : Inside → Cursor
@@ -8,6 +9,6 @@ cursor_of g = record { bytes = g.bytes.items; start = g.start; at = g.at }
 
 -- a journal area's bytes, and an offset in it
 pub record IsCursor (g : Inside) : Type 0 where
-  pub area : length g.bytes.items ≡ 1048576
-  pub within : g.at ≤ 1048576
-  pub start_within : g.start < 4202496
+  pub area : length g.bytes.items ≡ area_bytes
+  pub within : g.at ≤ area_bytes
+  pub start_within : g.start < device_bytes

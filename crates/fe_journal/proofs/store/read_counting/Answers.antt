@@ -1,5 +1,4 @@
-use Rattle.std.proofs.Common.{ℕ, List, subst, refl}
-use Rattle.std.proofs.lemmas.Result.{err_from_is_err_and}
+use Rattle.std.proofs.Common.{ℕ, List, subst}
 use Rattle.fe_journal.specs.Layout.{header_of}
 use Rattle.fe_journal.specs.Reading.{IsHeader}
 use Rattle.fe_journal.proofs.Readings.{counts_as}
