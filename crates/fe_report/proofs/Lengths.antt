@@ -17,13 +17,13 @@ grown old new line n h e =
 joined : (xs ys : List ℕ) (a b : ℕ) → length xs ≤ a → length ys ≤ b → length (xs ++ ys) ≤ a + b
 joined xs ys a b h k = omega (arith, length-append xs ys, h, k)
 
-long : (n : ℕ) → n < 2 ^ 64 → length (decimal n) ≤ 20
+pub long : (n : ℕ) → n < 2 ^ 64 → length (decimal n) ≤ 20
 long n h = length-decimal-le 20 n (omega arith) (omega arith) h
 
-short : (n : ℕ) → n < 2 ^ 32 → length (decimal n) ≤ 10
+pub short : (n : ℕ) → n < 2 ^ 32 → length (decimal n) ≤ 10
 short n h = length-decimal-le 10 n (omega arith) (omega arith) (omega arith)
 
-name : (op : Op) → length (name_of op) ≤ 13
+pub name : (op : Op) → length (name_of op) ≤ 13
 name ReadFe = omega arith
 name ReadFf = omega arith
 name ReadXx = omega arith

@@ -1,4 +1,5 @@
 pub mod AllWait
+pub mod Ascii
 pub mod Lengths
 pub mod Listed
 pub mod Parts

@@ -7,7 +7,7 @@ use fe_front::Front;
 use std::alloc::{AllocError, Global};
 
 /// How many bytes the line of a request has at most.
-const WORD_LINE: usize = 108;
+pub(crate) const WORD_LINE: usize = 108;
 
 /// How many bytes all other lines have at most.
 const OTHER_LINES: usize = 2976;

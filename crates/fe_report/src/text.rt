@@ -1,14 +1,16 @@
 //! The lines of a report.
 
-ghost use Rattle.std.specs.Prelude.{◌≡◌, ◌+◌, ◌*◌, ◌≤◌, ◌++◌, OnOk, codes, length, string_bytes, string_len};
+ghost use Rattle.std.specs.Prelude.{◌≡◌, ◌+◌, ◌*◌, ◌≤◌, ◌++◌, OnOk, codes, drop, length, string_bytes, string_len};
 ghost use Rattle.std.specs.BTreeMap.{btree_map_len};
 ghost use Rattle.std.specs.Fmt.{decimal};
 ghost use Rattle.std.specs.List.{flat_map};
+ghost use Rattle.fe_words.specs.Table.{name_of};
 ghost use Rattle.fe_report.specs.Report.{count_line, word_line, session_line, all_wait_line};
 
+use crate::reporting::WORD_LINE;
 use crate::rows::Spot;
 use fe_words::Op;
-use itoa::{Buffer, Integer};
+use itoa::write_digits;
 use std::alloc::AllocError;
 use std::collections::BTreeMap;
 
@@ -21,52 +23,48 @@ pub(crate) fn put_count(text: &mut String, count: u32) -> Result<(), AllocError>
     write!(text, "waiting {count}\n")
 }
 
-/// Writes a number.
-fn put_number<N: Integer>(text: &mut String, number: N) -> Result<(), AllocError>
-    ensures digits { OnOk result (string_bytes text.new ≡ string_bytes text.old ++ N.text number) }
+/// Writes a piece of a line so that it ends at `end`, and gives where it starts.
+fn put_piece(line: &mut [u8], piece: &str, end: usize) -> usize
+    requires room { length piece.now ≤ end }
+    requires in_bounds { end ≤ length line.old }
+    ensures start { result + length piece.now ≡ end }
+    ensures written { drop result line.new ≡ piece.now ++ drop end line.old }
 {
-    text.push_str(Buffer::new().format(number))
+    let start = end - piece.len();
+    line[start..end].copy_from_slice(piece.as_bytes());
+    start
 }
 
-/// Writes the beginning of a request's line: its word.
-fn put_place(text: &mut String, array: u64, index: u32) -> Result<(), AllocError>
-    ensures place { OnOk result (string_bytes text.new ≡ string_bytes text.old ++ (codes "word " ++ (decimal array ++ (codes " " ++ decimal index)))) }
+/// Writes the second part of a request's line, up to the line's end: its session, its number and its operation.
+fn put_caller(line: &mut [u8], session: u64, number: u64, op: Op) -> usize
+    requires whole { length line.old ≡ 108 }
+    ensures room { 36 ≤ result }
+    ensures in_bounds { result ≤ 108 }
+    ensures caller { drop result line.new ≡ codes " session " ++ (decimal session ++ (codes " number " ++ (decimal number ++ (codes " " ++ (name_of op ++ codes "\n"))))) }
 {
-    text.push_str("word ")?;
-    put_number(text, array)?;
-    text.push_str(" ")?;
-    put_number(text, index)
+    let at = put_piece(line, "\n", line.len());
+    let at = put_piece(line, op.name(), at);
+    let at = put_piece(line, " ", at);
+    let at = write_digits(number, line, at);
+    let at = put_piece(line, " number ", at);
+    let at = write_digits(session, line, at);
+    put_piece(line, " session ", at)
 }
 
-/// Goes on with its session and its number.
-fn put_caller(text: &mut String, session: u64, number: u64) -> Result<(), AllocError>
-    ensures caller { OnOk result (string_bytes text.new ≡ string_bytes text.old ++ (codes " session " ++ (decimal session ++ (codes " number " ++ decimal number)))) }
+/// Writes the first part of a request's line, its word, so that it ends at `end`.
+fn put_place(line: &mut [u8], array: u64, index: u32, end: usize) -> usize
+    requires room { 36 ≤ end }
+    requires in_bounds { end ≤ length line.old }
+    ensures in_bounds { result ≤ end }
+    ensures place { drop result line.new ≡ codes "word " ++ (decimal array ++ (codes " " ++ (decimal index ++ drop end line.old))) }
 {
-    text.push_str(" session ")?;
-    put_number(text, session)?;
-    text.push_str(" number ")?;
-    put_number(text, number)
+    let at = write_digits(u64::from(index), line, end);
+    let at = put_piece(line, " ", at);
+    let at = write_digits(array, line, at);
+    put_piece(line, "word ", at)
 }
 
-/// Writes the parts of a request's line.
-fn put_parts(
-    text: &mut String,
-    array: u64,
-    index: u32,
-    session: u64,
-    number: u64,
-    op: Op,
-) -> Result<(), AllocError>
-    ensures line { OnOk result (string_bytes text.new ≡ string_bytes text.old ++ word_line (((array, index), (session, number)), op)) }
-{
-    put_place(text, array, index)?;
-    put_caller(text, session, number)?;
-    text.push_str(" ")?;
-    text.push_str(op.name())?;
-    text.push_str("\n")
-}
-
-/// Writes the line of a request.
+/// Writes the line of a request. It is made from its end, so that the text grows once.
 fn put_word(
     text: &mut String,
     array: u64,
@@ -78,7 +76,12 @@ fn put_word(
     ensures line { OnOk result (string_bytes text.new ≡ string_bytes text.old ++ word_line (((array, index), (session, number)), op)) }
     ensures few { OnOk result (string_len text.new ≤ string_len text.old + 108) }
 {
-    put_parts(text, array, index, session, number, op)
+    let mut line = [0; WORD_LINE];
+    let caller = put_caller(&mut line, session, number, op);
+    let start = put_place(&mut line, array, index, caller);
+    // It is ASCII. To look at each byte again costs a third of a report.
+    let line = unsafe { str::from_utf8_unchecked(&line[start..]) };
+    text.push_str(line)
 }
 
 /// Writes the lines of the requests.

@@ -11,8 +11,7 @@ use std::marker::Model;
 
 /// A map from numbers to values, in ascending order of the numbers, with room for `ROOM` of them.
 ///
-/// `new` makes the room, and of the others `copied` alone takes memory. A key is found by halving the keys, which stand
-/// apart from the values, and one that comes or goes moves those after it.
+/// `new` makes the room, and of the others `copied` alone takes memory.
 #[derive(Drop)]
 pub struct Table<V, const ROOM: usize> {
     keys: Vec<u64>,

@@ -127,7 +127,7 @@ impl Waits {
         self.count += 1;
     }
 
-    /// A node of a request that waits on the word: the one that waits longest.
+    /// A node of a request that waits on the word, if one does.
     pub fn first_on(&self, array: u64, index: u32) -> Option<Node>
         requires word { IsWord self.now.arrays array index }
         ensures on_word { IfSome result (IsNodeOn self.now array index) }
