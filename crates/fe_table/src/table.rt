@@ -11,12 +11,14 @@ use std::marker::Model;
 
 /// A map from numbers to values, in ascending order of the numbers, with room for `ROOM` of them.
 ///
-/// `new` makes the room, and of the others `copied` alone takes memory. A key is found by halving the keys, which stand
-/// apart from the values, and one that comes or goes moves those after it.
+/// `new` makes the room, and of the others `copied` alone takes memory. A key is looked for at the hint, and then by
+/// halving the keys, which stand apart from the values. A key that comes or goes moves those after it.
 #[derive(Drop)]
 pub struct Table<V, const ROOM: usize> {
     keys: Vec<u64>,
     values: Vec<V>,
+    /// The place that a search looks at first. Any number is good.
+    hint: usize,
 }
 
 impl<V, const ROOM: usize> Model for Table<V, ROOM> {
@@ -43,7 +45,11 @@ impl<V, const ROOM: usize> Table<V, ROOM> {
     {
         let keys = Vec::with_capacity(alloc, ROOM)?;
         let values = Vec::with_capacity(alloc, ROOM)?;
-        Ok(Table { keys, values })
+        Ok(Table {
+            keys,
+            values,
+            hint: 0,
+        })
     }
 
     /// How many keys there are.
@@ -105,11 +111,26 @@ impl<V, const ROOM: usize> Table<V, ROOM> {
         }
     }
 
+    /// Looks for a key at a guessed place first, and gives the place where it is; the guess, where it is not there. Any
+    /// guess is good. The look-ups of the key that follow take one comparison each, while it stays at that place.
+    pub fn aim(&mut self, key: u64, guess: usize) -> usize
+        ensures { self.new ≡ self.old }
+    {
+        self.hint = guess;
+        if let Ok(place) = self.search(key) {
+            self.hint = place;
+        }
+        self.hint
+    }
+
     // Where the key is, or where it would go.
     fn search(&self, key: u64) -> Result<usize, usize>
         ensures found { IfOk result (IsAt (map.entries self.now) key) }
         ensures absent { IfErr result (IsGapFor (map.entries self.now) key) }
     {
+        if self.hint < self.keys.len() && self.keys[self.hint] == key {
+            return Ok(self.hint);
+        }
         self.keys.binary_search(&key)
     }
 }
