@@ -3,6 +3,7 @@ use Rattle.std.proofs.Common.{◌≡◌, ℕ, zero, suc, ◌+◌, ◌<◌, ◌�
 use Rattle.std.proofs.lemmas.List.{length-map, get_or-map, map-append}
 use Rattle.std.proofs.lemmas.List.Quantifiers.{position-Some}
 use Rattle.std.specs.Cmp.{unsigned_tied}
+use Rattle.std.specs.Prelude.{IfSome, IfNone}
 use Rattle.std.specs.FinMap.{FinMap, get, keys, entries, entries_sorted, contains_key-keys}
 use Rattle.std.specs.FinMap.Entries.{is_some-find}
 use Rattle.std.specs.List.{list_any}
@@ -26,15 +27,11 @@ module _ {X : Type 0} (m : FinMap nat_cmp X) where
     found_by = ap (list_any (nat_eq id)) order ∙ sym (contains_key-keys m id ∙ ap (λ test. list_any test (keys m)) (λ j x. unsigned_tied id x j))
 
     -- an id that the set does not find has no array
-    pub get_missed : false ≡ list_any (nat_eq id) ids → get m id ≡ None
+    get_missed : false ≡ list_any (nat_eq id) ids → get m id ≡ None
     get_missed missed = is_none _ (sym (missed ∙ found_by))
 
-    -- one that has an array is found
-    pub set_finds : IsSome (get m id) → list_any (nat_eq id) ids ≡ true
-    set_finds there = found_by ∙ there
-
-    -- and stands in the table where the set says
-    pub at_place : (place : ℕ) → Some place ≡ position (nat_eq id) ids → IsAt (entries m) id place
+    -- one that it finds stands in the table where the set says
+    at_place : (place : ℕ) → Some place ≡ position (nat_eq id) ids → IsAt (entries m) id place
     at_place place found =
         let seen = position-Some (nat_eq id) (keys m) place id (sym (found ∙ ap (position (nat_eq id)) order)) in
         let within = subst (λ n. place < n) (length-map (entries m) (λ e. e.0)) seen.0 in
@@ -42,6 +39,12 @@ module _ {X : Type 0} (m : FinMap nat_cmp X) where
           in_range = within;
           has_key = λ e. sym (get_or-map (λ e. e.0) (entries m) place e id within) ∙ sym (eqb-true id _ seen.1);
         }
+
+  -- so a place that the set gives is the id's, and one that it does not give nobody has
+  pub places : (ids : List ℕ) (id : ℕ) → ids ≡ keys m → (found : Option ℕ) → found ≡ position (nat_eq id) ids → is_some found ≡ list_any (nat_eq id) ids
+      → IfSome found (IsAt (entries m) id) × IfNone found (get m id ≡ None)
+  places ids id order None index there = (tt, get_missed ids id order there)
+  places ids id order (Some place) index there = (at_place ids id order place index, tt)
 
   -- the ids before a place, and the next one
   pub ids_next : (i : ℕ) (e : ℕ × X) → slice_get (entries m) i ≡ Some e
@@ -55,3 +58,11 @@ module _ {X : Type 0} (m : FinMap nat_cmp X) where
       ∙ ap (map (λ e. e.0)) (sym (take-push (entries m) i e here))
       ∙ ap (λ n. map (λ e. e.0) (take n (entries m))) (sym (add-one i))
       )
+
+-- a look-up that finds a key that is there, and the place that it finds
+pub place_there : {X : Type 0} (m : FinMap nat_cmp X) (id : ℕ) (found : Option ℕ) → IfNone found (get m id ≡ None) → IsSome (get m id) → IsSome found
+place_there m id None none there = absurd (true≢false (sym there ∙ ap is_some none))
+place_there m id (Some place) none there = refl
+
+pub placed : {X : Type 0} (m : FinMap nat_cmp X) (id place : ℕ) (found : Option ℕ) → found ≡ Some place → IfSome found (IsAt (entries m) id) → IsAt (entries m) id place
+placed m id place found is there = subst (λ o. IfSome o (IsAt (entries m) id)) is there

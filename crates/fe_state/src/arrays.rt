@@ -1,11 +1,11 @@
-ghost use Rattle.std.specs.Prelude.{◌≡◌, ◌+◌, ◌<◌, ◌≤◌, IfOk, None, Some, IsSome, option_copied, slice_get};
+ghost use Rattle.std.specs.Prelude.{◌≡◌, ◌+◌, ◌<◌, ◌≤◌, IfOk, IfSome, IfNone, None, Some, IsSome, option_copied, slice_get};
 ghost use Rattle.std.specs.Option.{option_map};
 ghost use Rattle.std.specs.FinMap as map;
 ghost use Rattle.std.specs.Borrow.{sem};
 ghost use Rattle.indexmap.specs.IndexSet.{index_set_len, spare};
 ghost use Rattle.fe_state.specs.within.Arrays.{IsIndex};
 ghost use Rattle.fe_state.specs.ArraysLends.{lends_array};
-ghost use Rattle.fe_table.specs.Table.{shown_entry};
+ghost use Rattle.fe_table.specs.Table.{shown_entry, IsAt};
 
 use crate::array::Array;
 use crate::bounds::ARRAYS;
@@ -17,12 +17,14 @@ use std::marker::Model;
 /// The arrays by id, in order of creation.
 ///
 /// Ids rise, so the table's ascending order is that of creation. The set has the ids in the same order, and finds the
-/// place of one in constant time. When an array comes or goes, the set is cleared and has all ids put in again, since
+/// place of one in constant time, where the hint is not that place. When an array comes or goes, the set is cleared and has all ids put in again, since
 /// clearing it keeps its room for certain, and taking one id out does not. `new` and `copied` alone take memory.
 #[derive(Drop)]
 pub struct Arrays {
     ids: IndexSet<u64>,
     table: Table<Array, ARRAYS>,
+    /// The place that a look-up tries before it asks the set. Any number is good.
+    hint: usize,
 }
 
 impl Model for Arrays {
@@ -49,7 +51,11 @@ impl Arrays {
     {
         let ids = IndexSet::with_capacity(alloc, ARRAYS)?;
         let table = Table::new(alloc)?;
-        Ok(Arrays { ids, table })
+        Ok(Arrays {
+            ids,
+            table,
+            hint: 0,
+        })
     }
 
     /// How many arrays there are.
@@ -64,7 +70,7 @@ impl Arrays {
     pub fn get(&self, id: u64) -> Option<&Array>
         ensures value { option_copied result ≡ map.get self.now id }
     {
-        let place = self.ids.get_index_of(&id)?;
+        let place = self.place_of(id)?;
         let (_, array) = self.table.at(place).unwrap();
         Some(array)
     }
@@ -82,8 +88,28 @@ impl Arrays {
         ensures* writes_back { sem 𝓛 (lends_array self.entry id result) }
         ensures value { map.get self.old id ≡ Some result.now }
     {
-        let place = self.ids.get_index_of(&id).unwrap();
+        let place = self.place_of(id).unwrap();
         self.table.at_mut(place)
+    }
+
+    /// Looks for an array, so that the look-ups of it that follow take one comparison each.
+    pub fn aim(&mut self, id: u64)
+        ensures { self.new ≡ self.old }
+    {
+        if let Some(place) = self.ids.get_index_of(&id) {
+            self.hint = place;
+        }
+    }
+
+    // The place of the array with an id, if it is there.
+    fn place_of(&self, id: u64) -> Option<usize>
+        ensures there { IfSome result (IsAt (map.entries self.now) id) }
+        ensures none { IfNone result (map.get self.now id ≡ None) }
+    {
+        match self.table.at(self.hint) {
+            Some((here, _)) if here == id => Some(self.hint),
+            _ => self.ids.get_index_of(&id),
+        }
     }
 
     /// Takes the array with an id out. The others keep their order.
@@ -124,6 +150,10 @@ impl Copied for Arrays {
         let mut ids = IndexSet::with_capacity(alloc, ARRAYS)?;
         let table = self.table.copied(alloc)?;
         index(&table, &mut ids);
-        Ok(Arrays { ids, table })
+        Ok(Arrays {
+            ids,
+            table,
+            hint: 0,
+        })
     }
 }

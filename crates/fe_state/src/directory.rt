@@ -310,6 +310,13 @@ impl Directory {
         self.arrays.at(place)
     }
 
+    /// Looks for an array, so that the look-ups of it that follow take one comparison each.
+    pub fn aim(&mut self, array: u64)
+        ensures { self.new ≡ self.old }
+    {
+        self.arrays.aim(array);
+    }
+
     /// Adds an array of an image, its words empty and of value 0. The one error is that memory is short.
     pub fn load_array(&mut self, id: u64, name: Name, length: u32) -> Result<(), AllocError>
         requires { MayCome self.old id (new_array name length Tag.Empty) }

@@ -212,6 +212,17 @@ impl State {
         Some(self.sessions.get(session)?.floor())
     }
 
+    /// Looks for a session, at a guessed place first, and for the array of a request, so that the look-ups of them that
+    /// follow take one comparison each. Any guess is good.
+    pub fn aim(&mut self, session: u64, guess: usize, request: &Request)
+        ensures { self.new ≡ self.old }
+    {
+        let _ = self.sessions.aim(session, guess);
+        if let Request::Access { array, .. } = request {
+            self.directory.aim(*array);
+        }
+    }
+
     /// The number of entries so far, at most 2^63 - 1.
     pub fn place(&self) -> u64
         ensures place { result ≡ self.now.place }

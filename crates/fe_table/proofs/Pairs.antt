@@ -1,5 +1,5 @@
 -- The keys of a table beside its values, as one list of entries: what a search finds, and what an edit of both makes of it.
-use Rattle.std.proofs.Common.{◌≡◌, ℕ, zero, suc, ◌<◌, ◌≤◌, List, [], ◌∷◌, length, get_or, set, slice_get, Some, None, refl, sym, ap, ◌∙◌, arith, T}
+use Rattle.std.proofs.Common.{◌≡◌, ℕ, zero, suc, ◌<◌, ◌≤◌, List, [], ◌∷◌, length, get_or, set, slice_get, Some, None, refl, sym, ap, subst, ◌∙◌, arith, T}
 use Rattle.std.proofs.lemmas.List.{get_or_default}
 use Rattle.std.proofs.lemmas.Slice.Zip.{get_or-zip}
 use Rattle.std.specs.FinMap.{FinMap, is_sorted, get, insert as map_insert, entries, len, from_sorted}
@@ -50,6 +50,15 @@ module _ {X : Type 0} where
     value_found k i v read a =
         get_seen (zip ks vs) m h seen k ∙ find_at (zip ks vs) k i (k, v) h (at_seen (zip ks vs) m h seen k i a)
         ∙ ap Some (ap (λ e. e.1) (pair_at ks vs i (k, v) paired (key_below k i a)) ∙ sym read)
+
+    -- a key that stands at a place is at it
+    pub key_stands : (i k : ℕ) → i < length ks → k ≡ get_or ks i k → IsAt (entries m) k i
+    key_stands i k lt read =
+        let size = length-pairs ks vs paired in
+        subst (λ l. IsAt l k i) (sym (entries_seen (zip ks vs) m h seen)) (record {
+          in_range = omega (arith, size, lt);
+          has_key = λ e. ap (λ e. e.0) (pair_at ks vs i e paired lt) ∙ get_or_default ks i e.0 k lt ∙ sym read;
+        })
 
     pub pair_read : (i k : ℕ) (v : X) → i < length ks → k ≡ get_or ks i k → v ≡ get_or vs i v → (k, v) ≡ get_or (zip ks vs) i (k, v)
     pair_read i k v lt key value = (λ j. (key j, value j)) ∙ sym (pair_at ks vs i (k, v) paired lt)

@@ -11,11 +11,13 @@ use std::marker::Model;
 
 /// A map from numbers to values, in ascending order of the numbers, with room for `ROOM` of them.
 ///
-/// `new` makes the room, and of the others `copied` alone takes memory.
+/// `new` makes the room; of the other calls only `copied` takes memory. A look-up tries the hint first.
 #[derive(Drop)]
 pub struct Table<V, const ROOM: usize> {
     keys: Vec<u64>,
     values: Vec<V>,
+    /// The place that a search looks at first. Any number is good.
+    hint: usize,
 }
 
 impl<V, const ROOM: usize> Model for Table<V, ROOM> {
@@ -42,7 +44,11 @@ impl<V, const ROOM: usize> Table<V, ROOM> {
     {
         let keys = Vec::with_capacity(alloc, ROOM)?;
         let values = Vec::with_capacity(alloc, ROOM)?;
-        Ok(Table { keys, values })
+        Ok(Table {
+            keys,
+            values,
+            hint: 0,
+        })
     }
 
     /// How many keys there are.
@@ -104,11 +110,26 @@ impl<V, const ROOM: usize> Table<V, ROOM> {
         }
     }
 
+    /// Looks for a key at a guessed place first, and gives the place where it is; the guess, where it is not there. Any
+    /// guess is good. The look-ups of the key that follow take one comparison each, while it stays at that place.
+    pub fn aim(&mut self, key: u64, guess: usize) -> usize
+        ensures { self.new ≡ self.old }
+    {
+        self.hint = guess;
+        if let Ok(place) = self.search(key) {
+            self.hint = place;
+        }
+        self.hint
+    }
+
     // Where the key is, or where it would go.
     fn search(&self, key: u64) -> Result<usize, usize>
         ensures found { IfOk result (IsAt (map.entries self.now) key) }
         ensures absent { IfErr result (IsGapFor (map.entries self.now) key) }
     {
+        if self.hint < self.keys.len() && self.keys[self.hint] == key {
+            return Ok(self.hint);
+        }
         self.keys.binary_search(&key)
     }
 }
