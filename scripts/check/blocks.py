@@ -1,4 +1,4 @@
-"""The blocks of commands in the documents: each is listed here, and those that no other check runs are run here."""
+"""The blocks of commands in the documents: each is listed here, and run here unless another check does."""
 
 import glob
 import os
