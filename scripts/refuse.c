@@ -1,5 +1,5 @@
-/* A preload that refuses one allocation of the program: the one of number REFUSE, counted from 1 over malloc, calloc,
-   realloc and the aligned ones. Where it came to that, the file that REFUSED names is made. */
+/* A preload that refuses the allocation of number REFUSE, counted from 1 over malloc, calloc, realloc and the aligned
+   ones. It then creates the file REFUSED. */
 #include <errno.h>
 #include <fcntl.h>
 #include <stddef.h>

@@ -1,6 +1,6 @@
-/* A client with a session file that is killed again and again, at each point of its work and at any moment, against a
-   real server that is killed in turns with it: check_kills PROGRAM. Every step is counted once. Ends by itself within
-   ten minutes, with status 0 where all was as it should be. */
+/* A client with a session file is killed again and again, at each point of its work and at random moments, in turns
+   with a real server: check_kills PROGRAM. Every step is counted once. It ends within ten minutes, with status 0 if all
+   is right. */
 #define _GNU_SOURCE
 #include "real.h"
 
@@ -10,15 +10,14 @@ enum { KILLS_AT_EACH = 20, KILLS_AT_ANY = 60, BATCH = 5, KEYS = 40, MOST_STEPS =
 
 /* ---- the worker: a process that is killed ---- */
 
-static const char *last_point; /* NULL: it ends by itself after a few steps */
+static const char *last_point; /* NULL: the worker ends by itself after a few steps */
 static int passes;
 
 void kill_point(const char *name) {
   if (last_point && strcmp(name, last_point) == 0 && --passes == 0) raise(SIGKILL);
 }
 
-/* What the worker knows of its own work. It is a file, which outlives a kill: this and then the values that were added
-   to. */
+/* The worker's own notes, in a file that outlives a kill: this header, then each value that the counter had. */
 typedef struct progress {
   uint64_t count, step, number; /* values; the next step with a key; the last number that was counted */
 } progress;
@@ -44,7 +43,7 @@ static void expect(femem_error error, const char *what) {
   _exit(8);
 }
 
-/* What the life before did not count. Only its last requests can be among that. */
+/* Counts what the life before did not: at most its last requests. */
 static void count_recovered(femem *client, progress *made) {
   femem_recovered recovered;
   femem_answer answer;
@@ -84,12 +83,12 @@ static void step_once(femem *client, progress *made, const femem_request *add) {
   expect(femem_once(client, key, add, &answer), "a step with a key");
   made->step++;
   note(made, answer.value);
-  /* The last few stay, so that the file has something to keep. */
+  /* The last few keys stay, so that the file has something to keep. */
   snprintf(key, sizeof key, "step %llu", (unsigned long long)(made->step < 8 ? 0 : made->step - 8));
   femem_forget(client, key);
 }
 
-/* Some requests in one send, that are counted in their order. */
+/* Several requests in one send, counted in order. */
 static void step_batch(femem *client, progress *made, const femem_request *add) {
   uint64_t numbers[BATCH];
   femem_answer answer;
@@ -126,8 +125,8 @@ static uint64_t draw(void) {
   return drawn ^= drawn << 17;
 }
 
-/* One life of the worker, which ends at the point; or after some milliseconds, where that is no point; or by itself.
-   Answers its status. */
+/* Runs one life of the worker, which ends at the point, after some milliseconds if there is no such point, or by
+   itself. Returns its status. */
 static int life(const char *session, uint64_t array, uint32_t index, const char *at, int times, long milliseconds) {
   fflush(stdout);
   pid_t worker = fork();
@@ -151,7 +150,7 @@ static int ascending(const void *one, const void *other) {
   return (a > b) - (a < b);
 }
 
-/* The word was raised as often as was counted, and each value was counted once. */
+/* The word was raised once for each count, and each value was counted once. */
 static void check_exact(femem *observer, uint64_t array, uint32_t index, const char *what, unsigned kills) {
   static uint64_t values[MOST_STEPS];
   progress made = noted();
@@ -172,7 +171,7 @@ static void begin_again(void) {
   start_server();
 }
 
-/* Twenty kills at one point, the server's in between, and a life that ends by itself. */
+/* Twenty kills at one point, with kills of the server in between, and then a life that ends by itself. */
 static void kills_at(femem *observer, uint64_t array, uint32_t index, const char *at) {
   char session[100], name[100];
   snprintf(session, sizeof session, "%s/session%u", folder, index);

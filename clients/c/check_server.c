@@ -1,5 +1,5 @@
-/* The client against a real server, which is killed and started again: check_server PROGRAM. Ends by itself within
-   ten minutes, usually within ten seconds, with status 0 where all was as it should be. */
+/* The client against a real server that is killed and restarted: check_server PROGRAM. It ends within ten minutes,
+   usually within ten seconds, with status 0 if all is right. */
 #define _GNU_SOURCE
 #include "real.h"
 
@@ -7,7 +7,7 @@
 
 enum { RAISERS = 4, MOST_RAISES = 20000, KILLS = 4 };
 
-/* ---- what each call answers ---- */
+/* ---- the answers of each call ---- */
 
 static void words(void) {
   femem *client = opened(7, &usual);
@@ -44,7 +44,7 @@ static void words(void) {
   femem_close(client);
 }
 
-/* Forty times a full window; a request that waits holds the floor, but nobody else. */
+/* Forty times a full window. A waiting request holds the floor, but no other request. */
 static void pipelines(void) {
   femem *client = opened(7, &usual), *other = opened(8, &usual);
   uint64_t array = 0, value = 0, due = 0;
@@ -71,7 +71,7 @@ static void pipelines(void) {
   femem_request request = {.operation = FEMEM_READFF, .array = array, .index = 1};
   ERROR(femem_call_within(client, &request, 50, &answer), FEMEM_WITHDRAWN);
   ERROR(femem_settle(client), FEMEM_OK);
-  /* A session has one connection: the one that attaches last. */
+  /* A session has one connection: the last to attach. */
   femem *taker = opened(8, &usual);
   ERROR(femem_readxx(other, array, 1, &value), FEMEM_REFUSED_NOT_ATTACHED);
   ERROR(femem_readxx(taker, array, 1, &value), FEMEM_OK);
@@ -82,7 +82,7 @@ static void pipelines(void) {
   femem_close(client);
 }
 
-/* A thousand in one call; and one that waits among others, which is taken back when its time is over. */
+/* A thousand requests in one call; and a waiting one among others, which is taken back when its time is over. */
 static void batches(void) {
   enum { COUNT = 1000 };
   static femem_request requests[COUNT];
@@ -111,7 +111,7 @@ static void batches(void) {
 
 /* ---- what waits ---- */
 
-/* Calls that run out of time leave nothing behind, however many they are. */
+/* However many calls run out of time, they leave nothing behind. */
 static void out_of_time(void) {
   femem *client = opened(7, &(femem_settings){.wait = 100, .reconnect = 60000}), *other = opened(8, &usual);
   uint64_t array = 0, value = 0;
@@ -129,7 +129,7 @@ static void out_of_time(void) {
   ERROR(femem_writeef(other, array, 0, 100), FEMEM_OK);
   femem_request request = {.operation = FEMEM_READXX, .array = array};
   ERROR(femem_call_within(client, &request, 60000, &answer), FEMEM_OK);
-  CHECK(answer.value == 100); /* no read that was given up has taken it */
+  CHECK(answer.value == 100); /* none of the reads that were given up took it */
   request.operation = FEMEM_READFE;
   ERROR(femem_call_within(client, &request, 60000, &answer), FEMEM_OK);
   CHECK(answer.value == 100);
@@ -139,7 +139,7 @@ static void out_of_time(void) {
   femem_close(other);
 }
 
-/* Requests that wait stop no other of their client, and happen once each. */
+/* Waiting requests do not hold up other requests of their client, and each happens once. */
 static void in_the_way(void) {
   enum { WAITING = 20 };
   femem *client = opened(7, &usual), *other = opened(8, &usual);
@@ -159,7 +159,7 @@ static void in_the_way(void) {
     CHECK(answer.number == numbers[i] && answer.error == FEMEM_OK && answer.value == 1000 + i);
   }
   CHECK(femem_out(client) == 0 && femem_ready(client) == 0);
-  /* Each word is empty again: nothing was read twice, and nothing by a request that was moved. */
+  /* Each word is empty again: no value was read twice, nor by a request that had moved away. */
   for (uint32_t i = 0; i < WAITING; i++) ERROR(femem_writeef(other, array, i, 0), FEMEM_OK);
   ERROR(femem_remove(other, array), FEMEM_OK);
   ERROR(femem_bye(client), FEMEM_OK);
@@ -168,7 +168,7 @@ static void in_the_way(void) {
   femem_close(other);
 }
 
-/* A child has a copy of the client, and can't disturb the one that is its parent's. */
+/* A child's copy of the client can't disturb its parent's. */
 static void forked(void) {
   femem *client = opened(7, &usual);
   uint64_t array = 0, value = 1, number = 0;
@@ -236,7 +236,7 @@ static int ascending(const void *one, const void *other) {
   return (a > b) - (a < b);
 }
 
-/* The values that all raisers were told are 0 to one less than the end, once each. */
+/* The values that the raisers got are 0 to one less than the end, each once. */
 static void check_values(uint64_t end) {
   static uint64_t all[RAISERS * MOST_RAISES];
   uint64_t count = 0;
@@ -248,7 +248,7 @@ static void check_values(uint64_t end) {
   CHECK(exact);
 }
 
-/* Four processes raise one counter while the server is killed and started again. */
+/* Four processes raise one counter while the server is killed and restarted. */
 static void kills(void) {
   femem *client = opened(7, &usual);
   uint64_t array = 0, end = 0, reconnects = 0;
@@ -279,7 +279,7 @@ static void kills(void) {
   femem_close(client);
 }
 
-/* A request that waits is not kept over a stop: the client sends it again. */
+/* The server does not keep a waiting request over a stop: the client sends it again. */
 static void waiting(void) {
   femem *client = opened(7, &usual), *other = opened(8, &usual);
   uint64_t array = 0, number = 0;

@@ -1,5 +1,5 @@
 /* Raises the first word of the array `counter` by one, and prints what it was: `counter SOCKET SESSION [TIMES]`. Run it
-   as often as you like, kill the server in between and start it again: no count is lost, and none is made twice. */
+   as often as you like, and kill and restart the server in between: no count is lost or made twice. */
 #include "femem.h"
 
 #include <stdio.h>

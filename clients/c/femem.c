@@ -1,4 +1,4 @@
-/* The session, and what a client knows of itself. */
+/* Calls on the session, and what a client knows about itself. */
 #define _POSIX_C_SOURCE 200809L
 #include "client.h"
 
@@ -16,7 +16,7 @@ femem_error femem_report(femem *client, const char **text) {
   if (!client->text) return FEMEM_MEMORY;
   femem_error error = fe_usable(client);
   if (error) return error;
-  /* One that was asked for and not waited for to its end is the answer to this. */
+  /* If an earlier report was requested and its wait ended early, that report is the answer. */
   if (client->report == NOTHING) {
     client->report = ASKED;
     fe_put_bare(client, REPORT);
@@ -38,7 +38,7 @@ femem_error femem_bye(femem *client) {
   error = fe_wait_for(client, fe_is_ended, 0, fe_moment(client->settings.wait));
   if (error) return error;
   fe_close_line(client, FEMEM_ENDED);
-  /* Where this fails the next life ends the session once more. */
+  /* If this fails, the next life ends the session once more. */
   if (client->file) session_file_begin(client->file);
   return FEMEM_OK;
 }

@@ -1,5 +1,5 @@
-/* What a check of kills gives to the client's text: it calls kill_point at each point where a process may end, and the
-   session file is written anew often. */
+/* Compiled into the client for check_kills: each point where a process may end calls kill_point, and the session file
+   is rewritten often. */
 #ifndef KILL_POINTS_H
 #define KILL_POINTS_H
 

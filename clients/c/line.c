@@ -18,7 +18,7 @@ void fe_close_line(femem *client, femem_error why) {
   client->input_end = client->output_begin = client->output_end = 0;
   client->probes = 0;
   if (client->report == COMING) client->report = ASKED;
-  /* What was to be moved is sent again under the number that it has. */
+  /* A request that was to move is sent again under its number. */
   client->moving = 0;
   for (slot *place = client->slots; place < client->slots + WINDOW; place++) {
     if (place->state == PARKED) place->state = OUT;
@@ -54,7 +54,7 @@ static femem_error system_fault(femem *client, femem_error error) {
   return error;
 }
 
-/* A session file has all that is sent before it is sent. */
+/* The session file gets everything before it is sent. */
 static bool is_kept(femem *client) {
   if (!client->file || session_file_sync(client->file, client->floor_told, client->next)) return true;
   system_fault(client, FEMEM_FILE_FAULT);
@@ -68,13 +68,13 @@ void fe_write_some(femem *client) {
     ssize_t count = send(client->descriptor, client->output + client->output_begin, size, MSG_NOSIGNAL);
     if (count < 0 && errno == EINTR) continue;
     if (count < 0 && (errno == EAGAIN || errno == EWOULDBLOCK)) return;
-    /* A server that went may have left replies, which are read first; the reading then tells. */
+    /* A server that is gone may have left replies. They are read first; the read then reports the end. */
     client->output_begin += count < 0 ? size : (size_t)count;
     FEMEM_POINT("sent");
   }
 }
 
-/* Reads once what is there. */
+/* Reads once what has come. */
 static femem_error read_some(femem *client) {
   ssize_t count;
   do count = recv(client->descriptor, client->input + client->input_end, INPUT - client->input_end, 0);
@@ -88,8 +88,8 @@ static femem_error read_some(femem *client) {
 
 bool fe_is_copy(const femem *client) { return client->owner != getpid(); }
 
-/* Asks whether the session is still this connection's, which nobody tells a client that only waits: what an earlier life
-   had on its way, or another client, may have attached it, and then its answers go there. */
+/* Asks whether this connection still has the session. The server does not tell a waiting client: an earlier life's late
+   attach, or another client, may have taken the session, and its answers then go there. */
 static void probe(femem *client) {
   client->quiet_since = fe_now();
   if (!fe_has_room(client, SETTLE_FRAME)) return;
@@ -133,8 +133,8 @@ static void put_attach(femem *client) {
   fe_put_short(client, ATTACH, client->session);
 }
 
-/* One connection and its attach, until the session is served. The attach is said again where no welcome comes: an
-   earlier life's attach may have been read later than this one's, and then the welcome went there. */
+/* Connects and attaches, until the session is served. The attach is repeated if no welcome comes: the server may have
+   read an earlier life's attach later than this one, and then the welcome went there. */
 static femem_error attach(femem *client, int64_t end) {
   femem_error error = dial(client);
   if (error) return error;
@@ -158,10 +158,9 @@ static femem_error attach(femem *client, int64_t end) {
   return error;
 }
 
-/* Tries until the end: a server that starts again, or one that has no connection or no session free at the moment. */
 femem_error fe_reach(femem *client, int64_t end, bool again) {
   for (int64_t pause = 1000;; pause = pause < 50000 ? pause * 2 : pause) {
-    /* Before the first time too, so that a server that hangs up at each welcome is not asked without a rest. */
+    /* Before the first try too, so that a server that hangs up at each welcome is not asked without a pause. */
     if (client->opened || pause > 1000) nap(pause);
     femem_error error = attach(client, end);
     bool passing = error == FEMEM_UNREACHABLE || error == FEMEM_DISCONNECTED || error == FEMEM_REFUSED_CLOSING;
@@ -183,7 +182,6 @@ femem_error fe_mend(femem *client, femem_error error, int64_t end) {
   return FEMEM_TIMEOUT;
 }
 
-/* Whether something may be sent. */
 femem_error fe_usable(femem *client) {
   if (fe_is_copy(client)) return FEMEM_FORKED;
   if (client->ended || client->bye) return FEMEM_ENDED;

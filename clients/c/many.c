@@ -1,4 +1,4 @@
-/* Keys, which are asked once over the client's own restarts, and batches. */
+/* Requests under keys, made once over the client's own restarts, and batches. */
 #define _POSIX_C_SOURCE 200809L
 #include "client.h"
 
@@ -12,7 +12,7 @@ static bool is_same_request(const femem_request *one, const femem_request *other
   return fe_put_request(spelled[1], 0, other) == size && memcmp(spelled[0], spelled[1], size) == 0;
 }
 
-/* Asks under a key, unless that was asked before. */
+/* Makes a request under a key, unless that was done before. */
 static femem_error begin_once(femem *client, const char *key, const femem_request *request, uint64_t *number) {
   const kept_key *kept = session_file_find(client->file, key);
   if (!kept) return fe_send_request(client, request, key, number);
@@ -21,7 +21,7 @@ static femem_error begin_once(femem *client, const char *key, const femem_reques
   return FEMEM_OK;
 }
 
-/* The answer of a key; where its time is over the request is taken back. */
+/* Waits for a key's answer. Takes the request back when its time is over. */
 static femem_error end_once(femem *client, const char *key, femem_answer *answer) {
   uint64_t number = answer->number;
   femem_error error = fe_wait_for(client, fe_is_answered, number, fe_moment(client->settings.wait));
@@ -57,7 +57,7 @@ femem_error femem_recovered_at(const femem *client, unsigned index, femem_recove
   return FEMEM_OK;
 }
 
-/* A batch. `keys` is NULL where it has none. */
+/* A batch. `keys` may be NULL. */
 typedef struct batch {
   const char *const *keys;
   const femem_request *requests;
@@ -65,7 +65,7 @@ typedef struct batch {
   size_t count, sent, taken;
 } batch;
 
-/* Sends what has a number, and says why that is not all of it. No place is used again before its answer is taken. */
+/* Sends as many requests as there are numbers, or returns why not. No slot is used again before its answer is taken. */
 static femem_error send_more(femem *client, batch *many) {
   while (many->sent < many->count && many->sent - many->taken < WINDOW) {
     const femem_request *request = &many->requests[many->sent];
@@ -79,7 +79,7 @@ static femem_error send_more(femem *client, batch *many) {
   return FEMEM_OK;
 }
 
-/* Takes the next answer; where its time is over the request is taken back. */
+/* Takes the next answer. Takes its request back when its time is over. */
 static femem_error take_next(femem *client, batch *many) {
   femem_answer *answer = &many->answers[many->taken];
   uint64_t number = answer->number;
@@ -98,7 +98,7 @@ static femem_error run_batch(femem *client, batch many) {
   while (many.taken < many.count) {
     femem_error error = send_more(client, &many);
     if (error && (error != FEMEM_WINDOW_FULL || many.sent == many.taken)) return error;
-    /* Half a window, so that the server has the other half meanwhile. */
+    /* Half a window, so that the server works on the other half meanwhile. */
     size_t end = many.sent - many.taken > WINDOW / 2 ? many.taken + WINDOW / 2 : many.sent;
     for (; many.taken < end; many.taken++)
       if ((error = take_next(client, &many)) != FEMEM_OK) return error;

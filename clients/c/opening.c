@@ -1,4 +1,4 @@
-/* Clients are made, opened and closed. */
+/* Making, opening and closing clients. */
 #define _POSIX_C_SOURCE 200809L
 #include "client.h"
 
@@ -38,7 +38,7 @@ femem_error femem_open(femem **client, const char *path, uint64_t session, const
   return error;
 }
 
-/* An earlier life was about to end its session: that is done first. */
+/* Ends the session that an earlier life was about to end. */
 static femem_error end_left(session_file *file, const char *path, const femem_settings *settings) {
   femem *left;
   femem_error error = femem_open(&left, path, file->session, settings);
@@ -52,7 +52,7 @@ static femem_error end_left(session_file *file, const char *path, const femem_se
 static void recover(femem *client, uint64_t wire) {
   const kept_request *kept = &client->file->requests[wire % WINDOW];
   slot *place = fe_slot_of(client, wire);
-  *place = (slot){.state = TAKEN}; /* ended, and its answer is not known here */
+  *place = (slot){.state = TAKEN}; /* ended; its answer is not known here */
   if (kept->wire != wire) return;
   *place = (slot){.state = OUT, .wire = wire, .request = kept->request, .answer.number = kept->number,
                   .keyed = kept->key, .recovered = true};
@@ -62,8 +62,8 @@ static void recover(femem *client, uint64_t wire) {
   if (kept->key) memcpy(listed->key, kept->key->key, sizeof listed->key);
 }
 
-/* What the session file says of the earlier life. A later one cannot know how many settles and attaches that still had
-   under way. */
+/* Restores the earlier life's state from the session file. How many of its settles and attaches are still under way is
+   not known. */
 static femem_error restore(femem *client) {
   const session_file *file = client->file;
   client->recovered = calloc(WINDOW, sizeof *client->recovered);
@@ -104,7 +104,7 @@ femem_error femem_open_file(femem **client, const char *path, const char *file, 
 
 void femem_close(femem *client) {
   if (!client) return;
-  /* What was taken since the last request. Where it fails the next life gets it once more. */
+  /* Notes the answers taken since the last send. If this fails, the next life gets them once more. */
   if (client->file && client->opened && !fe_is_copy(client))
     session_file_sync(client->file, client->floor_told, client->next);
   fe_close_line(client, FEMEM_DISCONNECTED);

@@ -1,4 +1,4 @@
-/* What is to be written to the server. */
+/* The output: messages to be written to the server. */
 #define _POSIX_C_SOURCE 200809L
 #include "client.h"
 

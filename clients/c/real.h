@@ -1,4 +1,4 @@
-/* A real server for a check, which is started, killed and started again, with what the checks share. */
+/* A real server for a check, which starts, kills and restarts it; and what the checks share. */
 #ifndef REAL_H
 #define REAL_H
 
@@ -46,7 +46,7 @@ static void stop_server(void) {
   kill(server, SIGKILL);
   waitpid(server, NULL, 0);
   server = 0;
-  unlink(path); /* what a stopped server leaves is the operator's to remove */
+  unlink(path); /* a stopped server leaves its socket, and its operator must remove it */
 }
 
 static void clean_up(void) {
@@ -70,7 +70,7 @@ static void too_long(int signal) {
   _exit(1);
 }
 
-/* The socket's file means that the server is ready. */
+/* Once the socket's file exists the server is ready. */
 static void start_server(void) {
   server = fork();
   if (server == 0) {
@@ -91,9 +91,9 @@ static femem *opened(uint64_t session, const femem_settings *settings) {
   return client;
 }
 
-/* ---- a check's begin and end ---- */
+/* ---- the begin and end of a check ---- */
 
-/* Whether a program was named; its server runs then. */
+/* Whether a program was named. Its server then runs. */
 static bool begin_real(const char *name, int count, char **words_given) {
   check_name = name;
   if (count != 2) {

@@ -1,10 +1,10 @@
-/* What a reply does to a client. Nothing is believed that no server sends. */
+/* What a reply does to a client. Replies that no correct server sends are errors. */
 #define _POSIX_C_SOURCE 200809L
 #include "client.h"
 
 #include <string.h>
 
-/* Whether a request may be answered so. */
+/* Whether this is a possible answer to a request. */
 static bool fits(const femem_request *request, const reply *told) {
   femem_operation operation = request->operation;
   if (operation == FEMEM_CREATE) {
@@ -30,7 +30,7 @@ static bool is_same(const femem_answer *one, const femem_answer *other) {
 
 static femem_error take_answer(femem *client, const reply *told) {
   if (client->phase == OPENING) return FEMEM_OK; /* to a request of an earlier program with this session */
-  /* A program that resumed a session may be told of any number that its window then had. */
+  /* A program that resumed a session may get replies to any number in its window at that time. */
   uint64_t end = client->next > client->resumed_end ? client->next : client->resumed_end;
   if (told->number < client->floor_told || told->number >= end) return FEMEM_WRONG_NUMBER;
   if (!fe_is_known(client, told->number)) return FEMEM_OK;
@@ -62,8 +62,8 @@ static femem_error take_withdrawn(femem *client, const reply *told) {
   return FEMEM_OK;
 }
 
-/* A welcome and as many settles as were sent may still be answered: it may have been another connection's settle that
-   was. Of a session file more lives may have been stopped just before. */
+/* A welcome and as many settles as were sent may still get replies, since the reply so far may have been to another
+   connection's settle. With a session file several earlier lives may have left some. */
 static void serve(femem *client, uint64_t floor) {
   client->floor_told = client->floor_asked = client->low = client->next = floor;
   client->cancels = 0;
@@ -72,8 +72,8 @@ static void serve(femem *client, uint64_t floor) {
   client->opened = true;
 }
 
-/* The first welcome of a session may be that of another connection which had it until now; the own one follows, and the
-   settle that goes out for each is answered in the same order. */
+/* The first welcome may be for another connection that had the session until now. This one's follows, and the settles
+   sent for each are answered in the same order. */
 static femem_error take_first_welcome(femem *client, uint64_t floor) {
   if (floor < client->floor_told) return FEMEM_STRANGE_REPLY;
   client->floor_told = floor;
@@ -116,8 +116,8 @@ static femem_error take_settled(femem *client, const reply *told) {
   return FEMEM_OK;
 }
 
-/* While a session is opened: requests of a program that had it before may still wait, since the server has not seen yet
-   that its connection is gone. They are taken back, and then the settle is asked for again. */
+/* While a session is opened, requests of its former program may still wait, since the server has not yet seen that
+   their connection is gone. They are taken back, and then the settle is sent again. */
 static femem_error take_opening_refusal(femem *client, const reply *told, femem_error refusal) {
   if (!client->welcomed) return told->number == client->session ? refusal : FEMEM_STRANGE_REPLY;
   if (refusal == FEMEM_REFUSED_NOT_WAITING || refusal == FEMEM_REFUSED_BELOW_FLOOR) return FEMEM_OK;
@@ -134,7 +134,7 @@ static femem_error take_refused_report(femem *client, femem_error refusal) {
   return FEMEM_OK;
 }
 
-/* It has happened: its answer comes, is here, or was taken long ago. */
+/* The request has happened: its answer will come, has come, or was taken long ago. */
 static femem_error take_not_waiting(femem *client, const reply *told) {
   if (client->cancels == 0 || told->number >= client->next) return FEMEM_WRONG_NUMBER;
   client->cancels--;
@@ -148,8 +148,8 @@ static femem_error take_not_waiting(femem *client, const reply *told) {
 
 static femem_error take_refused(femem *client, const reply *told) {
   femem_error refusal = (femem_error)(100 + told->code);
-  /* A session file's session is nobody else's: what has it now is what is left of an earlier life, whose attach was
-     read later than this one's. */
+  /* No other program has a session file's session: it was taken by an earlier life, whose attach was read later than
+     this one's. */
   bool own = client->file && client->retaken < WINDOW;
   if (refusal == FEMEM_REFUSED_NOT_ATTACHED && own) return client->retaken++, FEMEM_DISCONNECTED;
   if (client->phase == OPENING) return take_opening_refusal(client, told, refusal);
@@ -193,7 +193,7 @@ static femem_error take(femem *client, const reply *told) {
   }
 }
 
-/* Moves what is there of a report's text, and answers how many bytes it took. */
+/* Takes the part of a report's text that has come. Returns its size. */
 static size_t take_text(femem *client, const uint8_t *bytes, size_t count) {
   size_t left = client->text_length - client->text_at;
   size_t size = count < left ? count : left;

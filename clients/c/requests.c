@@ -1,4 +1,4 @@
-/* Requests are sent, waited for and taken back. */
+/* Sending requests, waiting for them and taking them back. */
 #define _POSIX_C_SOURCE 200809L
 #include "client.h"
 
@@ -11,7 +11,7 @@ bool fe_is_spelled(const femem_request *request) {
 static bool is_full(const femem *client) { return client->next >= client->floor_asked + WINDOW; }
 static bool is_stuck(const femem *client) { return is_full(client) && client->low == client->floor_asked; }
 
-/* Cancels what waits under the lower half of the window's numbers, so that it moves. */
+/* Cancels the requests that wait under the lower half of the window's numbers, to move them. */
 static void begin_moves(femem *client) {
   for (uint64_t wire = client->low; wire < client->floor_asked + WINDOW / 2; wire++) {
     slot *place = fe_slot_of(client, wire);
@@ -22,7 +22,7 @@ static void begin_moves(femem *client) {
   }
 }
 
-/* Drops a recovered answer that nobody takes, and answers whether there was one. */
+/* Drops a recovered answer that was not taken. Returns whether there was one. */
 static bool drop_recovered(femem *client) {
   for (uint64_t wire = client->low; wire < client->next; wire++) {
     slot *place = fe_slot_of(client, wire);
@@ -36,17 +36,17 @@ static bool drop_recovered(femem *client) {
 
 static bool is_crowded(const femem *client) { return client->out + client->ready >= WINDOW; }
 
-/* One of 32 requests has ended, or the one that holds the floor. */
+/* One of 32 requests has ended, or the one that holds the floor has. */
 static bool has_place(femem *client, uint64_t wire) {
   const slot *place = fe_slot_of(client, wire);
   return !is_crowded(client) || place->wire != wire || place->state != OUT;
 }
 
-/* Makes room for one more number, where the least one that is not taken holds the floor 32 below. It waits for what
-   nobody else waits for, and moves what waits. */
+/* Makes room for one more number, if the lowest number that is not taken holds the floor 32 below the next. It waits
+   for requests that no caller waits for, and moves waiting ones. */
 static femem_error make_room(femem *client) {
   int64_t end = fe_moment(client->settings.wait);
-  if (is_stuck(client)) fe_step(client, 0); /* takes what is there; what became of the connection shows below */
+  if (is_stuck(client)) fe_step(client, 0); /* takes what has come; errors of the connection show below */
   for (bool first = true; is_stuck(client); first = false) {
     femem_error error = fe_usable(client);
     if (error) return error;
@@ -67,13 +67,13 @@ static femem_error make_room(femem *client) {
 /* `key` may be NULL. */
 femem_error fe_send_request(femem *client, const femem_request *request, const char *key, uint64_t *number) {
   if (!fe_is_spelled(request)) return FEMEM_BAD_CALL;
-  /* A second request of one write finds what the first has found. */
+  /* The first request of a write has checked this for the others. */
   bool found = client->phase == SERVED && !client->bye && client->output_begin < client->output_end;
   femem_error error = found ? FEMEM_OK : fe_usable(client);
   if (error == FEMEM_OK) error = make_room(client);
   if (error == FEMEM_OK && !fe_has_room(client, RESERVE)) error = femem_flush(client);
   if (error) return error;
-  /* A settle goes in the same write as a call: behind it, or before it where it has to make room. */
+  /* A settle goes in the same write as a request: after it, or before it if it must make room. */
   if (is_full(client)) fe_put_settle(client, client->low);
   uint64_t own = client->next;
   if (client->file && !session_file_ask(client->file, own, own, request, key)) return FEMEM_MEMORY;
@@ -136,7 +136,7 @@ femem_error fe_ask_back(femem *client, uint64_t number) {
   }
   bool moving = place->cancelled == TO_MOVE;
   place->cancelled = TO_END;
-  /* A client that is not connected says it when it comes back. */
+  /* A client that is not connected sends it when it reconnects. */
   if (!moving && client->phase == SERVED) fe_put_cancel(client, place->wire);
   if (moving) fe_end_move(client);
   return FEMEM_OK;

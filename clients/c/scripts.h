@@ -1,4 +1,4 @@
-/* Servers that are scripts: each is a process of its own, which ends with 1 where the client does another thing. */
+/* Scripted servers: each is its own process, which ends with status 1 if the client deviates from the script. */
 #ifndef SCRIPTS_H
 #define SCRIPTS_H
 
@@ -58,7 +58,7 @@ static inline void hear_end(int line) {
   if (recv(line, &byte, 1, 0) != 0) _exit(1);
 }
 
-/* A resuming client is welcomed at floor 1, and its numbers begin there. */
+/* Welcomes a resuming client at floor 1, where its numbers begin. */
 static inline void welcome(int line) {
   hear(line, ATTACH_7);
   say(line, WELCOME_7);
@@ -72,7 +72,7 @@ static inline int take_line(int listener) {
   return line;
 }
 
-/* Begins a script on the socket at `path`, and answers its process. */
+/* Starts a script on the socket at `path`. Returns its process. */
 static inline pid_t begin(script run) {
   unlink(path);
   int listener = socket(AF_UNIX, SOCK_STREAM, 0);
@@ -90,7 +90,7 @@ static inline pid_t begin(script run) {
   return child;
 }
 
-/* The script has come to its end as it should. */
+/* Checks that the script came to its end. */
 static inline void end(pid_t child, int line) {
   int status = 0;
   waitpid(child, &status, 0);
@@ -98,10 +98,10 @@ static inline void end(pid_t child, int line) {
 }
 #define END(child) end(child, __LINE__)
 
-/* ---- frames by their numbers ---- */
+/* ---- frames with numbers ---- */
 
-/* Scripts with these count from 1, and so do the numbers of a program that resumes; those of another begin above the 32
-   that the session may have used. */
+/* Scripts with these count from 1, as does a program that resumes. The numbers of other programs begin `below` higher,
+   above the 32 that the session may have used. */
 static unsigned below;
 
 static inline void said(int line, const char *form, unsigned number) {
@@ -123,9 +123,9 @@ static const char settle_of[] = "00000009 07 %016x";
 static const char withdrawn_of[] = "00000009 43 %016x";
 static const char not_waiting_of[] = "0000000a 46 %016x 0a";
 static const char settled_of[] = "00000009 44 %016x";
-static const char value_of[] = "00000016 42 %016x 01 %016x 00000000"; /* its value is what the script counts */
+static const char value_of[] = "00000016 42 %016x 01 %016x 00000000"; /* its value is the script's number */
 
-/* Several in one piece, so that the client reads all of them or none. */
+/* Sends several in one piece, so that the client reads all of them or none. */
 static inline void said_all(int line, const char *form, unsigned first, unsigned last) {
   uint8_t bytes[1024];
   size_t count = 0;

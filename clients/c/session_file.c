@@ -1,5 +1,5 @@
-/* The session file: a header, and groups of records behind it, each with a sum. It is appended to, and written anew
-   beside itself and renamed where it has grown. */
+/* The session file: a header and groups of records, each with a sum. Groups are appended; once the file has grown it is
+   rewritten under another name and renamed. */
 #define _DEFAULT_SOURCE
 #define _POSIX_C_SOURCE 200809L
 #include "session_file.h"
@@ -17,7 +17,7 @@
 #ifndef FEMEM_POINT
 #define FEMEM_POINT(name) ((void)0)
 #endif
-/* A file that is smaller is never written anew. */
+/* A smaller file is never rewritten. */
 #ifndef FEMEM_COMPACT_FROM
 #define FEMEM_COMPACT_FROM 65536
 #endif
@@ -40,7 +40,7 @@ static uint64_t get(const uint8_t *at, int bytes) {
   return number;
 }
 
-/* FNV-1a, begun with the session so that no group of another file counts. */
+/* FNV-1a, started with the session so that a group of another file does not count. */
 static uint64_t sum_of(uint64_t session, const uint8_t *bytes, size_t count) {
   uint64_t sum = UINT64_C(0xcbf29ce484222325) ^ session;
   for (size_t i = 0; i < count; i++) sum = (sum ^ bytes[i]) * UINT64_C(0x100000001b3);
@@ -91,7 +91,7 @@ static femem_answer get_answer(const uint8_t *at, uint64_t number) {
                         .array = get(at + 8, 8), .value = get(at + 16, 8)};
 }
 
-/* ---- what the file says ---- */
+/* ---- the file's content ---- */
 
 static kept_request *place_of(session_file *file, uint64_t wire) { return &file->requests[wire % SESSION_REQUESTS]; }
 
@@ -173,7 +173,7 @@ static bool write_bytes(int descriptor, const uint8_t *bytes, size_t count) {
   return true;
 }
 
-/* Writes a group, whose payload stands behind room for its head and before room for its sum. */
+/* Writes a group. Its payload has room for the head before it and for the sum after it. */
 static bool write_group(session_file *file, int descriptor, uint8_t *group, size_t payload) {
   uint8_t *at = put(group, payload, 4);
   put(put(at, file->floor, 8), file->next, 8);
@@ -219,7 +219,7 @@ static void put_kept(session_file *file, const kept_key *kept) {
   recorded(file, put_answer(at, &kept->answer));
 }
 
-/* Everything that the file has to say, into its new descriptor. */
+/* Writes the whole content to the file's new descriptor. */
 static bool write_image(session_file *file) {
   uint8_t header[HEADER];
   memcpy(header, magic, sizeof magic);
@@ -249,7 +249,7 @@ static bool sync_folder(const char *path) {
   return synced;
 }
 
-/* Writes the file anew. Whoever opens the old one meanwhile finds another one at its path. */
+/* Rewrites the file. A process that opened the old one meanwhile finds another file at the path. */
 static bool write_anew(session_file *file) {
   FEMEM_POINT("before the compaction");
   size_t length = strlen(file->path);
@@ -287,7 +287,7 @@ bool session_file_sync(session_file *file, uint64_t floor, uint64_t next) {
   return done;
 }
 
-/* ---- what is put ---- */
+/* ---- adding records ---- */
 
 bool session_file_ask(session_file *file, uint64_t wire, uint64_t number, const femem_request *request,
                       const char *key) {
@@ -324,17 +324,17 @@ void session_file_leave(session_file *file) {
 
 /* ---- reading ---- */
 
-/* The size of the record there; 0 where there is none. */
+/* The size of the record at `at`; 0 if there is none. */
 static size_t size_of(const uint8_t *at, size_t count) {
   static const size_t sizes[] = {0, 18 + REQUEST, 9, 9 + ANSWER, 17, 2, 10 + REQUEST + ANSWER, 1};
-  static const size_t keys[] = {0, 17, 0, 0, 0, 1, 9, 0}; /* where the length of a key stands */
+  static const size_t keys[] = {0, 17, 0, 0, 0, 1, 9, 0}; /* the offset of the key's length */
   if (count == 0 || *at < ASKED || *at > LEAVING || count < sizes[*at]) return 0;
   if (keys[*at] == 0) return sizes[*at];
   size_t length = at[keys[*at]], size = sizes[*at] + length;
   return length <= FEMEM_KEY && size <= count ? size : 0;
 }
 
-/* Takes a record's word; false where it does not fit to those before it. */
+/* Applies a record; false if it contradicts those before it. */
 static bool take(session_file *file, const uint8_t *at) {
   uint8_t kind = *at++;
   char key[FEMEM_KEY + 1] = {0};
@@ -366,7 +366,7 @@ static bool take(session_file *file, const uint8_t *at) {
   return true;
 }
 
-/* The size of the whole group there; 0 where there is none. */
+/* The size of the whole group at `at`; 0 if there is none. */
 static size_t group_at(const session_file *file, const uint8_t *at, size_t count) {
   if (count < GROUP_HEAD + SUM) return 0;
   uint64_t payload = get(at, 4), whole = GROUP_HEAD + payload + SUM;
@@ -386,8 +386,8 @@ static bool take_group(session_file *file, const uint8_t *group, size_t count) {
   return true;
 }
 
-/* Takes the groups. The last may be cut where a write was broken off: of that nothing was sent. One with a whole group
-   behind it is damage. */
+/* Applies the groups. An interrupted write may have cut the last one: nothing of it was sent. A cut group with a whole
+   group after it is damage. */
 static femem_error take_all(session_file *file, const uint8_t *bytes) {
   if (file->size < HEADER || memcmp(bytes, magic, sizeof magic) != 0) return FEMEM_FILE_DAMAGED;
   if (get(bytes + 16, SUM) != sum_of(0, bytes, 16)) return FEMEM_FILE_DAMAGED;
@@ -399,7 +399,7 @@ static femem_error take_all(session_file *file, const uint8_t *bytes) {
     if (group_at(file, bytes + behind, file->size - behind) > 0) return FEMEM_FILE_DAMAGED;
   if (file->size - at > SESSION_GROUP) return FEMEM_FILE_DAMAGED;
   if (at < file->size && ftruncate(file->descriptor, (off_t)at) != 0) return FEMEM_FILE_FAULT;
-  file->size = at; /* how much of it is over is not known: it is written anew once where it is large */
+  file->size = at; /* `compacted` is not known, so a large file is rewritten once */
   file->unsynced = true;
   return lseek(file->descriptor, (off_t)at, SEEK_SET) < 0 ? FEMEM_FILE_FAULT : FEMEM_OK;
 }
@@ -431,12 +431,12 @@ bool session_file_begin(session_file *file) {
   close(source);
   if (count != sizeof drawn) return false;
   forget_all(file);
-  /* Above the numbers that people choose. */
+  /* Greater than the numbers that people choose. */
   file->session = get(drawn, 8) | UINT64_C(1) << 63;
   return write_anew(file);
 }
 
-/* Opens and locks what is at the path; a file that another process replaced meanwhile is looked for again. */
+/* Opens and locks the file at the path, and tries again if another process replaced it meanwhile. */
 static femem_error open_locked(session_file *file, const char *path) {
   for (int tries = 0; tries < 100; tries++) {
     file->descriptor = open(path, O_RDWR | O_CREAT | O_CLOEXEC | O_NOCTTY, 0600);
@@ -458,8 +458,8 @@ femem_error session_file_open(session_file **file, const char *path) {
   session_file *made = calloc(1, sizeof *made);
   if (!made) return FEMEM_MEMORY;
   femem_error error = open_locked(made, path);
-  /* Whole, so that it holds where the program changes its folder; and that of a link's file, which is what is
-     renamed. */
+  /* An absolute path, since the program may change its folder; and a link's target, since a rename would replace the
+     link. */
   if (error == FEMEM_OK && !(made->path = realpath(path, NULL))) error = FEMEM_FILE_FAULT;
   if (error == FEMEM_OK) error = read_all(made);
   int why = errno;

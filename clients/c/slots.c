@@ -1,5 +1,4 @@
-/* The 32 places of requests: which numbers are out, answered and taken, and how a request moves to a later number.
-   */
+/* The 32 slots of requests: which numbers are out, answered and taken, and how a request moves to a later number. */
 #define _POSIX_C_SOURCE 200809L
 #include "client.h"
 
@@ -26,9 +25,9 @@ void fe_advance(femem *client) {
   while (client->low < client->next && fe_slot_of(client, client->low)->state == TAKEN) client->low++;
 }
 
-/* Sends what was withdrawn so that it moves: under the next numbers, for which there is room since the floor can rise
-   above the old ones. What is kept from that by an answer that nobody took gets its own number again. A new number is
-   at most 32 above the old one of the same request, so no place is needed that has another. */
+/* Sends requests that were withdrawn to move, under the next numbers, which are free since the floor can rise above the
+   old ones. If an answer that was not taken prevents that, a request keeps its old number. A new number is at most 32
+   above the request's old one, so no slot in use is needed. */
 static void move_parked(femem *client) {
   uint64_t first = client->low, end = client->next;
   while (client->low < end && !(fe_slot_of(client, client->low)->state == OUT ||

@@ -1,5 +1,5 @@
-/* The session file: what it keeps, what damage does to it, and the client that has it, against servers that are
-   scripts. It includes the file's text, so that it sees what is inside. Ends by itself; prints what failed. */
+/* Tests of the session file: what it keeps, what damage does to it, and a client with one, against scripted servers. It
+   includes session_file.c, to see its internals. It ends by itself, and prints what failed. */
 #define _DEFAULT_SOURCE
 #define _POSIX_C_SOURCE 200809L
 #include "session_file.c"
@@ -8,14 +8,14 @@
 
 #include <signal.h>
 
-static char kept_at[100], kept_new[100]; /* the session file, and where it is written anew */
+static char kept_at[100], kept_new[100]; /* the session file, and its name while it is rewritten */
 
-/* The points that were passed: syncs, and sends in all and of what was not synced. */
+/* Counts of points passed: syncs, all sends, and sends of something not synced. */
 static unsigned syncs, sends, early, last_send;
 static bool unsynced_write;
 
 void kill_point(const char *name) {
-  /* A life that ends with its last send. */
+  /* In a life that ends with its last send. */
   if (last_send > 0 && strcmp(name, "sent") == 0 && --last_send == 0) _exit(failures > 0);
   if (strcmp(name, "written") == 0) unsynced_write = true;
   if (strcmp(name, "synced") == 0) unsynced_write = false;
@@ -43,7 +43,7 @@ static session_file *file_opened(femem_error due, int line) {
 }
 #define OPEN_FILE(due) file_opened(due, __LINE__)
 
-/* A file with something of each kind, in several groups. */
+/* Makes a file with records of each kind, in several groups. */
 static void fill(session_file *kept) {
   CHECK(session_file_ask(kept, 33, 33, &add_one, "first"));
   CHECK(session_file_ask(kept, 34, 34, &read_one, NULL));
@@ -80,14 +80,14 @@ static void keeps(void) {
   session_file *kept = OPEN_FILE(FEMEM_OK);
   uint64_t session = kept->session;
   CHECK(session >> 63 == 1 && kept->next == 0);
-  CHECK(OPEN_FILE(FEMEM_FILE_IN_USE) == NULL); /* one at a time, also within one process */
+  CHECK(OPEN_FILE(FEMEM_FILE_IN_USE) == NULL); /* one client at a time, even within one process */
   fill(kept);
   is_filled(kept);
   session_file_close(kept);
   kept = OPEN_FILE(FEMEM_OK);
   CHECK(kept->session == session);
   is_filled(kept);
-  /* Written anew it says the same. */
+  /* Once rewritten it has the same content. */
   CHECK(write_anew(kept));
   CHECK(OPEN_FILE(FEMEM_FILE_IN_USE) == NULL);
   session_file_close(kept);
@@ -106,7 +106,7 @@ static void keeps(void) {
   session_file_close(kept);
 }
 
-/* What is no plain file is refused, and stays what it is. */
+/* Anything but a plain file is refused, and stays as it is. */
 static void no_plain_file(void) {
   test = "no plain file";
   fresh();
@@ -120,7 +120,7 @@ static void no_plain_file(void) {
   CHECK(rmdir(kept_at) == 0);
 }
 
-/* A file does not grow with what is over. */
+/* A file does not grow with requests that have ended. */
 static void compaction(void) {
   test = "a file that is written anew";
   fresh();
@@ -171,7 +171,7 @@ static void write_kept(const uint8_t *bytes, size_t count) {
   if (!to || fwrite(bytes, 1, count, to) != count || fclose(to) != 0) abort();
 }
 
-/* Cut anywhere, it is what it was before the write that was cut; turned anywhere but there, it is told. */
+/* A file cut anywhere is as before the write that was cut; a byte changed before the last write is damage. */
 static void damage(void) {
   test = "damage";
   fresh();
@@ -214,7 +214,7 @@ static uint64_t draw(void) {
   return drawn ^= drawn << 17;
 }
 
-/* Any records under a right sum: it opens or is damaged, and nothing is undefined. */
+/* With any records under a correct sum it opens or is damaged, without undefined behaviour. */
 static void any_records(void) {
   test = "any records";
   fresh();
@@ -234,7 +234,7 @@ static void any_records(void) {
       memcpy(group, bytes + at, whole);
       for (uint64_t turns = draw() % 3; turns > 0; turns--)
         group[GROUP_HEAD + draw() % (whole - GROUP_HEAD)] = (uint8_t)draw();
-      uint8_t *exact = malloc(whole); /* a sanitizer tells of any byte that is read behind them */
+      uint8_t *exact = malloc(whole); /* the sanitizers report any byte read beyond them */
       memcpy(exact, group, whole);
       right = take_group(kept, exact, whole);
       free(exact);
@@ -257,7 +257,7 @@ static femem *client_opened(const femem_settings *settings, femem_error due, int
 }
 #define OPEN(settings, due) client_opened(settings, due, __LINE__)
 
-/* Takes any session's attach, and welcomes it at a floor; answers the session. */
+/* Takes any session's attach, and welcomes it at a floor. Returns the session. */
 static uint64_t welcome_any(int line, const char *floor) {
   uint8_t frame[13];
   size_t at = 0;
@@ -280,7 +280,7 @@ static void meet_any(int line) {
   say(line, SETTLED_AT("21"));
 }
 
-/* Begins a life of the program, which ends with its send of that number. In the new process it answers 0. */
+/* Starts a life of the program, which ends at its send of that number. Returns 0 in the new process. */
 static pid_t life_of(unsigned last) {
   fflush(stdout);
   pid_t life = fork();
@@ -303,7 +303,7 @@ static void batch_server(int listener) {
   hear_end(line);
 }
 
-/* A batch has one sync, before its send. What was taken is over, once the client was closed. */
+/* A batch has one sync, before its send. Taken requests are noted as ended when the client is closed. */
 static void batch(void) {
   test = "a batch";
   fresh();
@@ -386,7 +386,7 @@ static void many_keys_server(int listener) {
   hear_end(line);
 }
 
-/* A batch with keys that was broken off: the next life asks the same, and has each answer of the one time. */
+/* An interrupted batch with keys: the next life makes the same requests, and gets each answer of the one time. */
 static void many_keys(void) {
   test = "many requests with keys";
   fresh();
@@ -403,7 +403,7 @@ static void many_keys(void) {
   pid_t life = life_of(0);
   if (life == 0) {
     femem *client = OPEN(&(femem_settings){.wait = 1000}, FEMEM_OK);
-    last_send = 2; /* the batch, and the cancel of what has no answer in time */
+    last_send = 2; /* the batch, and the cancel of a request without an answer in time */
     femem_batch_once(client, names, requests, 40, answers);
     _exit(1);
   }
@@ -435,7 +435,7 @@ static void earlier_server(int listener) {
   welcome_any(line, "0000000000000021");
   hear(line, SETTLE_TO("22"));
   said(line, settled_of, 2);
-  /* What the earlier life had no answer to, and the last that it took. */
+  /* The earlier life's requests without an answer, and the last one that it took. */
   for (unsigned number = 2; number <= 3; number++) heard(line, read_of, number);
   heard(line, add_of, 5);
   said(line, value_of, 5);
@@ -445,7 +445,7 @@ static void earlier_server(int listener) {
   hear_end(line);
 }
 
-/* What a life that was killed left is sent again, word for word, and is told. */
+/* What a killed life left is sent again, byte for byte, and is listed. */
 static void earlier(void) {
   test = "the requests of the earlier life";
   fresh();
@@ -476,7 +476,7 @@ static void earlier(void) {
   ERROR(femem_wait(client, 34, &answer, 20000), FEMEM_OK);
   CHECK(answer.value == 2 && answer.number == 34);
   ERROR(femem_cancel(client, 35, &answer), FEMEM_WITHDRAWN);
-  /* That of the key comes from the file: nothing is asked. */
+  /* The key's answer comes from the file: nothing is sent. */
   ERROR(femem_once(client, "four", &add_one, &answer), FEMEM_OK);
   CHECK(answer.value == 4 && answer.number == 36 && femem_out(client) == 0 && femem_ready(client) == 0);
   femem_close(client);
@@ -506,7 +506,7 @@ static void keys_server(int listener) {
   hear_end(line);
 }
 
-/* A key has one request and one answer, until it is forgotten or the request has not happened. */
+/* A key has one request and one answer, until it is forgotten or if the request has not happened. */
 static void keys(void) {
   test = "keys";
   fresh();
@@ -552,7 +552,7 @@ static void faulty_server(int listener) {
   heard(line, add_of, 1);
   said(line, value_of, 1);
   hear_end(line);
-  hear_end(take_line(listener)); /* it connects, and can't note that it attaches */
+  hear_end(take_line(listener)); /* it connects, but can't note the attach */
   line = take_line(listener);
   welcome_any(line, "0000000000000021");
   heard(line, add_of, 1);
@@ -560,7 +560,7 @@ static void faulty_server(int listener) {
   hear_end(line);
 }
 
-/* Where the file can't be written nothing is sent. */
+/* If the file can't be written, nothing is sent. */
 static void file_fault(void) {
   test = "a file that can't be written";
   fresh();
@@ -617,7 +617,7 @@ static void leaving_server(int listener) {
   hear_end(line);
 }
 
-/* A life that was killed in its bye: the next one ends that session, and begins another. */
+/* A life that is killed during its bye: the next one ends that session, and begins another. */
 static void leaving(void) {
   test = "a bye that was broken off";
   fresh();
@@ -652,7 +652,7 @@ static void strange_server(int listener) {
   }
 }
 
-/* A session that was begun anew, or that another has used, is not that of the file. */
+/* A session that was begun again, or that another program used, is not the file's. */
 static void strange_session(void) {
   test = "a session that is another one";
   fresh();
@@ -687,7 +687,7 @@ static void left_server(int listener) {
   hear_end(line);
 }
 
-/* Recovered answers that nobody takes stop nobody. */
+/* Recovered answers that are not taken hold up nothing. */
 static void left_answers(void) {
   test = "recovered answers that nobody takes";
   fresh();
@@ -727,10 +727,10 @@ static void crowded_server(int listener) {
   for (unsigned number = 1; number <= 32; number++) heard(line, add_of, number);
   rest(50000);
   said_all(line, value_of, 1, 32);
-  heard(line, settle_of, 2); /* one answer that nobody takes is dropped, since one place is needed */
+  heard(line, settle_of, 2); /* one answer that was not taken is dropped, since its place is needed */
   heard(line, add_of, 33);
   said(line, settled_of, 2);
-  said(line, "0000000a 46 %016x 01", 33); /* not attached: what is left of another life has the session */
+  said(line, "0000000a 46 %016x 01", 33); /* not attached: the remains of another life have the session */
   hear_end(line);
   line = take_line(listener);
   welcome_any(line, "0000000000000022");
@@ -739,8 +739,8 @@ static void crowded_server(int listener) {
   hear_end(line);
 }
 
-/* A window full of what an earlier life asked keeps a call waiting, and does not fail it; nor does an attach of that
-   life that the server reads late. */
+/* A window full of an earlier life's requests makes a call wait, not fail; nor does an attach of that life that the
+   server reads late make it fail. */
 static void crowded(void) {
   test = "a window full of recovered requests";
   fresh();
@@ -769,7 +769,7 @@ static void copied_server(int listener) {
   }
 }
 
-/* A child of the program has the lock and the connection as well, until it lets go of them. It writes nothing. */
+/* A child of the program shares the lock and the connection until it closes them. It writes nothing. */
 static void copied(void) {
   test = "a client that a fork copied";
   fresh();

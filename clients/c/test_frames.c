@@ -1,4 +1,5 @@
-/* Tests of the client's frames: the worked ones, the decoder, and any bytes. Ends by itself; prints what failed. */
+/* Tests of the client's frames: the worked ones, the decoder, and any bytes. It ends by itself, and prints what failed.
+   */
 #define _POSIX_C_SOURCE 200809L
 #include "testing.h"
 
@@ -6,7 +7,7 @@
 
 #include <stdlib.h>
 
-/* ---- spelling ---- */
+/* ---- encoding ---- */
 
 static void spelled(uint64_t number, femem_request request, const char *hex, int line) {
   uint8_t due[64], got[LONGEST_REQUEST];
@@ -61,7 +62,7 @@ static void decoder(void) {
   for (size_t i = 0; i < sizeof table / sizeof *table; i++) {
     uint8_t *bytes = malloc(64), read[64];
     size_t count = bytes_of(table[i].hex, read);
-    bytes = realloc(bytes, count ? count : 1); /* a sanitizer tells of any byte that is read behind them */
+    bytes = realloc(bytes, count ? count : 1); /* the sanitizers report any byte read beyond them */
     memcpy(bytes, read, count);
     reply told;
     check(fe_read_reply(bytes, count, &told) == table[i].takes, table[i].hex, __LINE__);
@@ -87,7 +88,7 @@ static uint64_t draw(void) {
   return drawn ^= drawn << 17;
 }
 
-/* A reply, mostly near to what is due, with a byte turned now and then. */
+/* Makes a reply, mostly close to an expected one, sometimes with a changed byte. */
 static size_t odd_reply(uint8_t *at) {
   static const char *hex[] = {
     WELCOME_7, VALUE("01", "05"), VALUE("02", "05"), DONE("03"), "00000009 43 0000000000000004",
@@ -101,7 +102,7 @@ static size_t odd_reply(uint8_t *at) {
   return count;
 }
 
-/* A client in some phase that has eight numbers out. */
+/* A client in a random phase, with eight numbers out. */
 static void begin_any(femem *client) {
   char *text = client->text;
   *client = (femem){.descriptor = -1, .session = 7, .text = text, .report = ASKED, .attaches = 2};
@@ -128,7 +129,7 @@ static bool is_sound(const femem *client) {
          client->input_end <= INPUT && client->output_end <= OUTPUT;
 }
 
-/* Whatever bytes come: the client's counts stay as they must be, and nothing is undefined. */
+/* Whatever bytes come, the client's counts stay consistent, without undefined behaviour. */
 static void fuzz(void) {
   test = "any bytes";
   femem *client = calloc(1, sizeof *client);

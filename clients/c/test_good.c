@@ -1,5 +1,5 @@
-/* The client against good servers: the worked exchange, opening, the window, and coming back after a stop. Ends by
-   itself; prints what failed. */
+/* The client against good servers: the worked exchange, opening, the window, and reconnecting after a stop. It ends by
+   itself, and prints what failed. */
 #include "scripts.h"
 
 static void worked_server(int listener) {
@@ -55,7 +55,8 @@ static void worked(void) {
 
 /* ---- opening, settling, the window ---- */
 
-/* The session had another program: an answer and a welcome of its connection come first, and a request of it waits. */
+/* Another program had the session: an answer and a welcome to its connection come first, and one of its requests waits.
+   */
 static void opening_server(int listener) {
   int line = take_line(listener);
   hear(line, ATTACH_7);
@@ -90,8 +91,9 @@ static void opening(void) {
   END(server);
 }
 
-/* The earlier program was stopped just after its attach: its welcome comes first, and has the same floor. Each of the
-   two is followed by a settle, and each of these is answered. Or the answer to its own settle comes in between. */
+/* The earlier program was stopped just after its attach: its welcome comes first, and has the same floor. A settle
+   follows each of the two, and each settle is answered. Or the answer to the earlier program's settle comes in between.
+   */
 static void twice_welcome_server(int listener) {
   int line = take_line(listener);
   hear(line, ATTACH_7);
@@ -143,7 +145,7 @@ static void refused_attach(void) {
   pid_t server = begin(refusing_server);
   femem *client;
   ERROR(femem_open(&client, path, 7, &resuming), FEMEM_REFUSED_SESSION_LIMIT);
-  client = opened(&returning); /* a session that is closing is asked for again */
+  client = opened(&returning); /* tries again while the session is closing */
   femem_close(client);
   END(server);
 }
@@ -156,13 +158,13 @@ static void window_server(int listener) {
     snprintf(hex, sizeof hex, "0000001e 05 %016x 17 0000000000000001 00000000 0000000000000001", number);
     hear(line, hex);
   }
-  for (unsigned number = 32; number >= 1; number--) { /* an order that no server has, but may have */
+  for (unsigned number = 32; number >= 1; number--) { /* an order that no server uses, but that is allowed */
     snprintf(hex, sizeof hex, "00000016 42 %016x 01 %016x 00000000", number, number);
     say(line, hex);
   }
   hear(line, SETTLE_TO("21") ADD("21"));
   say(line, SETTLED_AT("21") VALUE("21", "21"));
-  for (unsigned number = 34; number <= 50; number++) { /* a settle behind the call that has 16 answers below it */
+  for (unsigned number = 34; number <= 50; number++) { /* a settle after the call with 16 answers below it */
     snprintf(hex, sizeof hex, "0000001e 05 %016x 17 0000000000000001 00000000 0000000000000001", number);
     hear(line, hex);
     if (number == 49) hear(line, SETTLE_TO("31"));
@@ -205,9 +207,9 @@ static void window(void) {
   END(server);
 }
 
-/* ---- coming back ---- */
+/* ---- reconnecting ---- */
 
-/* After a stop answers may come before the own welcome, and the welcome of an attach that was cut short. */
+/* After a stop, answers may come before this attach's welcome, as may the welcome of an interrupted attach. */
 static void returning_server(int listener) {
   int line = take_line(listener);
   welcome(line);
@@ -223,7 +225,7 @@ static void returning_server(int listener) {
   hear(line, ADD("03"));
   say(line, VALUE("02", "01") VALUE("01", "00") VALUE("03", "02"));
   hear(line, ADD("04"));
-  close(line); /* without a reply: the next life has it kept */
+  close(line); /* without a reply: the server's next life has it */
   line = take_line(listener);
   close(line);
   line = take_line(listener);
@@ -251,7 +253,8 @@ static void comes_back(void) {
   END(server);
 }
 
-/* Without the setting it is the caller's: the request stays out, and its settle and its cancel go again with it. */
+/* Without `reconnect` the caller reconnects: the request stays out, and is sent again with its settle and its cancel.
+   */
 static void asked_back_server(int listener) {
   int line = take_line(listener);
   welcome(line);
@@ -312,7 +315,7 @@ static void half_report_server(int listener) {
   hear_end(line);
 }
 
-/* What is asked beside requests is asked again too. */
+/* Other messages are sent again too. */
 static void half_report(void) {
   test = "a stop in a report and in a bye";
   pid_t server = begin(half_report_server);
@@ -335,7 +338,7 @@ static void lost_server(int listener) {
     line = take_line(listener);
     hear(line, ATTACH_7);
     say(line, i ? "00000011 41 0000000000000007 0000000000000006" : WELCOME_7);
-    hear_end(line); /* nothing is sent again: it might happen twice */
+    hear_end(line); /* nothing is sent again, since it might happen twice */
   }
 }
 

@@ -1,5 +1,5 @@
 #!/bin/sh
-# Installs the library into a folder and uses it from there as a program would. Ends by itself; prints what failed.
+# Installs the library into a folder and uses it from there as a program would. It ends by itself, and prints what failed.
 set -eu
 cd "$(dirname "$0")"
 folder=$(mktemp -d)
@@ -14,7 +14,7 @@ done
 [ "$(readlink "$root/lib/libfemem.so")" = libfemem.so.1 ] || fail "libfemem.so"
 [ "$(readlink "$root/lib/libfemem.so.1")" = libfemem.so.1.0.0 ] || fail "libfemem.so.1"
 
-# Both have the functions of the header, and no other name.
+# Both libraries export the header's functions, and no other name.
 grep -o '\bfemem_[a-z_]*(' femem.h | tr -d '(' | sort -u > "$folder/declared"
 [ "$(wc -l < "$folder/declared")" -gt 40 ] || fail "the header declares few functions"
 nm -D --defined-only "$root/lib/libfemem.so.1" | awk '{ print $3 }' | sort > "$folder/shared"
@@ -23,7 +23,7 @@ diff "$folder/declared" "$folder/shared" >&2 || fail "the shared library's names
 diff "$folder/declared" "$folder/static" >&2 || fail "the static library's names"
 objdump -p "$root/lib/libfemem.so.1" | grep -q 'SONAME *libfemem.so.1$' || fail "the soname"
 
-# The version is the same everywhere, and so is what the page says.
+# The version is the same everywhere, and the page is up to date with the header.
 version=$(sed -n 's/^#define FEMEM_VERSION "\(.*\)"/\1/p' femem.h)
 grep -qx "Version: $version" "$root/lib/pkgconfig/femem.pc" || fail "the version of femem.pc"
 grep -qx "prefix=/usr" "$root/lib/pkgconfig/femem.pc" || fail "the prefix of femem.pc"

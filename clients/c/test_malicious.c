@@ -1,8 +1,8 @@
 /* The client against malicious servers: bad frames, wrong numbers, replies without end, silence. Each is a named error
-   in time, and memory stays what it is. Ends by itself; prints what failed. */
+   in time, and memory does not grow. It ends by itself, and prints what failed. */
 #include "scripts.h"
 
-static const char *malice; /* what the server says to the first call, number 1 */
+static const char *malice; /* the server's reply to the first call, number 1 */
 
 static void malicious_server(int listener) {
   int line = take_line(listener);
@@ -39,7 +39,7 @@ static void malicious(void) {
     femem *client = opened(&resuming);
     uint64_t value = 0;
     ERROR(femem_readfe(client, 1, 0, &value), table[i].due);
-    /* It stays so, and nothing more is sent. */
+    /* The error stays, and nothing more is sent. */
     ERROR(femem_readfe(client, 1, 0, &value), table[i].due);
     CHECK(femem_descriptor(client) == -1);
     END(server);
@@ -72,7 +72,7 @@ static void answers_again(void) {
   femem_close(client);
 }
 
-/* A server that never says what it is asked for, but something without end. */
+/* A server that never sends what is due, but something else without end. */
 static uint8_t endless[65536];
 static size_t endless_count;
 
@@ -121,7 +121,7 @@ static void trickling_server(int listener) {
 
 static void endless_reports(void) {
   endless_report("a report that is too long", "00040002 47", 1000, FEMEM_BAD_FRAME, FEMEM_BAD_FRAME);
-  /* The first is the answer; what comes behind it is told with the next call. */
+  /* The first is the answer; the next call reports what follows it. */
   endless_report("reports without end", "00000401 47", 1024, FEMEM_OK, FEMEM_STRANGE_REPLY);
   endless_report("a report that is no text", "00000003 47 ff ff", 0, FEMEM_BAD_FRAME, FEMEM_BAD_FRAME);
   endless_report("settled without end", SETTLED_AT("01"), 0, FEMEM_STRANGE_REPLY, FEMEM_STRANGE_REPLY);
@@ -136,14 +136,14 @@ static void endless_reports(void) {
   END(server);
 }
 
-/* The same answer again and again, without end: it is let pass, but the time ends. */
+/* The same answer again and again, without end: it is ignored, but the time runs out. */
 static void flooding_server(int listener) {
   int line = take_line(listener);
   welcome(line);
   hear(line, READ("01"));
   say(line, VALUE("01", "05"));
   hear(line, READ("02"));
-  /* In large pieces, so that there is always more to read. */
+  /* In large pieces, so that there is always something to read. */
   size_t count = bytes_of(VALUE("01", "05"), endless);
   for (endless_count = count; endless_count + count <= sizeof endless; endless_count += count)
     memcpy(endless + endless_count, endless, count);

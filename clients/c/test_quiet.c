@@ -1,5 +1,5 @@
-/* Silence, against servers that are scripts: an attach whose welcome went to another connection, and a session that was
-   taken from a client that waits. The client asks sooner here than in earnest. Ends by itself; prints what failed. */
+/* Silence, against scripted servers: an attach whose welcome went to another connection, and a session taken from a
+   waiting client. The client is compiled to ask sooner than usual. It ends by itself, and prints what failed. */
 #include "scripts.h"
 
 #include <stdlib.h>
@@ -41,7 +41,7 @@ static void taking_server(int listener) {
   hear_end(line);
 }
 
-/* A call that waits for ever learns that its session is another connection's. */
+/* A call that waits for ever learns that another connection has its session. */
 static void taken(void) {
   test = "a session that was taken from a client that waits";
   pid_t server = begin(taking_server);
@@ -53,7 +53,7 @@ static void taken(void) {
   END(server);
 }
 
-/* Welcomes whatever session is attached, and answers it. */
+/* Welcomes whatever session is attached. Returns the session. */
 static uint64_t meet_any(int line) {
   uint8_t head[13];
   if (recv(line, head, sizeof head, MSG_WAITALL) != sizeof head || head[4] != 1) _exit(1);
@@ -83,7 +83,7 @@ static void taking_file_server(int listener) {
   hear_end(line);
 }
 
-/* A client with a session file takes its session back: what took it is left of an earlier life. */
+/* A client with a session file takes its session back: the remains of an earlier life took it. */
 static void taken_back(void) {
   test = "a session file's session that was taken";
   char file[100];

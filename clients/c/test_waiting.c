@@ -1,5 +1,5 @@
-/* Requests that wait, against servers that are scripts: a call whose time is over takes its request back, and what
-   waits moves out of the way of others. Ends by itself; prints what failed. */
+/* Waiting requests, against scripted servers: a call whose time is over takes its request back, and waiting requests
+   move out of the way of others. It ends by itself, and prints what failed. */
 #include "scripts.h"
 
 /* Welcomes a client that does not resume. */
@@ -39,7 +39,7 @@ static void out_of_time(void) {
   for (int i = 0; i < 40; i++) {
     femem_error error = femem_readfe(client, 1, 0, &value);
     femem_answer answer;
-    /* On a slow machine the cancel's reply may be late too, but not each. */
+    /* On a slow machine the cancel's reply may be late too, but not every one. */
     at_once += error == FEMEM_WITHDRAWN;
     while (error == FEMEM_TIMEOUT) error = femem_cancel(client, femem_number(client), &answer);
     ERROR(error, FEMEM_WITHDRAWN);
@@ -61,7 +61,7 @@ static void late_server(int listener) {
     heard(line, read_of, number);
     heard(line, cancel_of, number);
   }
-  /* All in one piece, so that the client has read it all or nothing. */
+  /* All in one piece, so that the client reads all or nothing. */
   char hex[4096] = "";
   snprintf(hex, sizeof hex, VALUE("01", "01") "0000000a 46 0000000000000001 0a");
   for (unsigned number = 2; number <= 32; number++)
@@ -74,8 +74,8 @@ static void late_server(int listener) {
   hear_end(line);
 }
 
-/* The cancel's reply is late as well: the request is out until it comes, and its withdrawal holds no place then. An
-   answer does until it is taken. */
+/* The cancel's reply is late too: the request is out until it comes, and a withdrawal then holds no slot. An answer
+   does until it is taken. */
 static void late_withdrawals(void) {
   test = "withdrawals that come late";
   pid_t server = begin_at(0, late_server);
@@ -85,14 +85,14 @@ static void late_withdrawals(void) {
     ERROR(femem_readfe(client, 1, 0, &value), FEMEM_TIMEOUT);
     CHECK(femem_out(client) == due);
   }
-  femem_error last = femem_readfe(client, 1, 0, &value); /* the server speaks now, and may be in time */
+  femem_error last = femem_readfe(client, 1, 0, &value); /* the server replies now, and may be in time */
   CHECK(last == FEMEM_TIMEOUT || last == FEMEM_WITHDRAWN);
   femem_answer answer = {0};
   ERROR(femem_next(client, &answer, 20000), FEMEM_OK);
   CHECK(answer.number == 1 && answer.value == 1);
   femem_request request = {.operation = FEMEM_INT_FETCH_ADD, .array = 1, .operand = 1};
   femem_error error;
-  /* Until all that is late has come. */
+  /* Until every late reply has come. */
   do error = femem_call_within(client, &request, 5000, &answer);
   while (error == FEMEM_WINDOW_FULL || (error == FEMEM_TIMEOUT && femem_out(client) > 0 && femem_number(client) < 33));
   ERROR(error, FEMEM_OK);
@@ -124,7 +124,7 @@ static void moving_server(int listener) {
   hear_end(line);
 }
 
-/* One request that waits stops nobody, and keeps the number that its caller has. */
+/* One waiting request holds up no other, and keeps its number for the caller. */
 static void moves_on(void) {
   test = "a request that waits moves on";
   pid_t server = begin_at(32, moving_server);
@@ -145,7 +145,8 @@ static void moves_on(void) {
   END(server);
 }
 
-/* Of three that wait one happens before its cancel, one is taken back by its caller; then the connection goes. */
+/* Of three waiting requests one happens before its cancel, and one is taken back by its caller; then the connection
+   ends. */
 static void several_server(int listener) {
   int line = take_line(listener);
   meet(line);
@@ -161,7 +162,7 @@ static void several_server(int listener) {
   said(line, withdrawn_of, 3);
   heard(line, settle_of, 2);
   heard(line, read_of, 33);
-  heard(line, read_of, 3); /* the answer of 2, which nobody took, leaves no number for it */
+  heard(line, read_of, 3); /* the answer of 2, which was not taken, leaves no number for it */
   said(line, settled_of, 2);
   heard(line, settle_of, 3); /* 2 is taken */
   heard(line, add_of, 34);
@@ -200,7 +201,7 @@ static void several_move(void) {
   END(server);
 }
 
-/* A stop between a move's cancel and its reply: the request goes again under the number that it has. */
+/* A stop between a move's cancel and its reply: the request is sent again under its present number. */
 static void stopped_server(int listener) {
   int line = take_line(listener);
   meet(line);
@@ -245,7 +246,7 @@ static void stopped_move(void) {
   END(server);
 }
 
-/* A program that resumes counts on its numbers, so nothing of it moves. */
+/* A program that resumes relies on its numbers, so its requests do not move. */
 static void resumed_server(int listener) {
   int line = take_line(listener);
   welcome(line);

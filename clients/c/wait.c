@@ -1,4 +1,4 @@
-/* Waiting until something holds of a client. */
+/* Waiting for a condition of a client. */
 #define _POSIX_C_SOURCE 200809L
 #include "client.h"
 
@@ -14,7 +14,7 @@ bool fe_any_answered(femem *client, uint64_t unused) {
   return client->ready > 0 || client->out == 0;
 }
 
-/* Nothing is being moved, and the least number that held the floor is not being cancelled. */
+/* No request is moving, and the one that held the floor is not being cancelled. */
 bool fe_is_moved(femem *client, uint64_t wire) {
   slot *place = fe_slot_of(client, wire);
   return client->moving == 0 && !(place->wire == wire && place->state == OUT && place->cancelled == TO_END);
@@ -30,7 +30,7 @@ bool fe_is_ended(femem *client, uint64_t unused) {
   return client->ended;
 }
 
-/* It writes, since what waits for this has no other reason to look at the socket again. */
+/* It writes, since nothing else looks at the socket again while this is waited for. */
 static bool is_written(femem *client, uint64_t unused) {
   (void)unused;
   if (client->phase != CLOSED) fe_write_some(client);

@@ -1,4 +1,4 @@
-/* How requests are spelled and replies are read (docs/formats.md, "Frames"). */
+/* Encoding requests and reading replies (docs/formats.md, "Frames"). */
 #define _POSIX_C_SOURCE 200809L
 #include "client.h"
 
@@ -62,7 +62,7 @@ size_t fe_put_request(uint8_t *at, uint64_t number, const femem_request *request
   return 13 + size;
 }
 
-/* The length that a kind of reply has, a report's least, and 0 for what is no kind of reply. */
+/* The length of a kind of reply (a report's is the least), and 0 for other kinds. */
 static uint32_t reply_length(uint8_t kind) {
   static const uint8_t lengths[] = {17, 22, 9, 9, 9, 10, 2};
   return kind >= WELCOME && kind <= REPORTED ? lengths[kind - WELCOME] : 0;

@@ -1,9 +1,9 @@
 #!/usr/bin/env python3
 """Tries the client against a real server: `check.py PROGRAM`, where PROGRAM is the program `femem`.
 
-Every pattern with 16 processes, the shell, a counter that 16 processes raise while the server is killed and started twenty
-times, and a server that never comes back. It prints a line for each, and ends with status 0 where all went well. Socket and
-store are in a temporary folder.
+It tries every pattern with 16 processes, the shell, a counter that 16 processes raise while the server is killed and
+restarted twenty times, and a server that never comes back. It prints a line for each, and ends with status 0 if all went
+well. Socket and store are in a temporary folder.
 """
 
 import json
@@ -28,7 +28,7 @@ KILLS = 20
 
 
 class Failure(Exception):
-    """A part did not go as it must."""
+    """A part failed."""
 
 
 def expect(what, got, wanted):
@@ -37,7 +37,7 @@ def expect(what, got, wanted):
 
 
 class Server:
-    """The program `femem serve`, over a store that is formatted for it."""
+    """The program `femem serve`, with a store made for it."""
 
     def __init__(self, program, folder):
         self.path = os.path.join(folder, "socket")
@@ -48,7 +48,7 @@ class Server:
             file.write(f'socket = "{self.path}"\nstore = "{store}"\nformat = true\n')
 
     def start(self):
-        """Its socket is there once it serves."""
+        """The server is ready once its socket exists."""
         self._process = subprocess.Popen([self._program, "serve", "--settings", self._settings])
         end = time.monotonic() + 20
         while not os.path.exists(self.path):
@@ -57,18 +57,18 @@ class Server:
             time.sleep(0.01)
 
     def kill(self):
-        """What it leaves of its socket is removed, as an operator does."""
+        """Removes the socket that the server leaves, as an operator does."""
         self._process.send_signal(signal.SIGKILL)
         self._process.wait()
         if os.path.exists(self.path):
             os.unlink(self.path)
 
 
-# What each process does. It gives what the part looks at.
+# What each process does. It returns what the part checks.
 
 
 def lock(client, k):
-    """Numbers are read and written inside the lock by two operations, so each that is not alone is lost."""
+    """Inside the lock a number is read and written by two operations, so an addition by two holders at once would be lost."""
     mine, total = Lock(client, "lock"), shared_array(client, "total", 1, full=True)
     for _ in range(5):
         with mine:
@@ -97,7 +97,7 @@ def queue(client, k):
 
 
 def barrier(client, k):
-    """The number of arrivals as seen behind each wait: never less than all of that round."""
+    """The number of arrivals seen after each wait: never fewer than all of that round."""
     gate, arrivals = Barrier(client, "barrier", PROCESSES), Counter(client, "arrivals")
     seen = []
     for _ in range(4):
@@ -123,7 +123,7 @@ def once(client, k):
 
 
 def raising(client, k):
-    """Raises a counter until a file says that it is enough: by one and by one, and 32 at a time."""
+    """Raises a counter until a file says to stop: one by one, and 32 at a time."""
     word = shared_array(client, "raised", 1, full=True)
     values = []
     while not os.path.exists(client.path + ".enough"):
@@ -136,7 +136,7 @@ def raising(client, k):
 
 
 def count_once(path, file, progress, steps):
-    """Adds 1 so many times, each once, over whatever kills this process. `progress` says how far it has come."""
+    """Adds 1 that many times, each exactly once, although this process is killed. `progress` is how far it has come."""
     done = 0
     if os.path.exists(progress):
         with open(progress) as found:
@@ -156,9 +156,9 @@ WORK = {w.__name__: w for w in (lock, semaphore, queue, barrier, counter, future
 
 
 def work_as_told(path, k):
-    """A process: for each name on standard input it does that work, and prints what came of it."""
-    # A slow machine may not get to each client before the server is killed again.
-    # Two of three have further sessions.
+    """A process: for each name on standard input it does that work, and prints the result."""
+    # On a slow machine the server may be killed again before each client is served.
+    # Two out of three have further sessions.
     with Client(path, 1000 + k, sessions=1 + k % 3, reconnect_timeout=100.0) as client:
         print("ready", flush=True)
         for line in sys.stdin:
@@ -197,7 +197,7 @@ class Processes:
         return self.results()
 
     def close(self):
-        """An end of their input ends them; whoever does not end is ended."""
+        """Ends them by closing their input, or kills them."""
         for process in self._all:
             process.stdin.close()
         for process in self._all:
@@ -247,13 +247,13 @@ def try_shell(path):
         [sys.executable, "-m", "femem", path], cwd=ROOT, input=lines, capture_output=True, text=True, timeout=30
     )
     out = shell.stdout.splitlines()
-    # The clients of the patterns wait where reports show that they are there.
+    # The patterns' clients keep a request waiting that shows in reports.
     expect("shell", (shell.returncode, out[1:3], out[-1]), (0, ["done", "value 42"], "done"))
     expect("shell", (out[0][:6], out[3][:8], out[4]), ("array ", "not-now:", f"waiting {PROCESSES}"))
 
 
 def try_kills(server, processes):
-    """The counter ends at as much as it was raised, and each of its values was answered once."""
+    """The counter ends at the number of additions, and each of its values was answered once."""
     enough = server.path + ".enough"
     processes.begin("raising")
     for _ in range(KILLS):
@@ -271,7 +271,7 @@ def try_kills(server, processes):
 
 
 def try_restarts(server):
-    """A process that is killed again and again, and its server in turns with it, has counted exactly."""
+    """A process that is killed again and again, in turns with its server, has counted exactly."""
     steps, kills = 600, 0
     file, progress = server.path + ".session", server.path + ".progress"
     chance = random.Random(3)
@@ -279,7 +279,7 @@ def try_restarts(server):
     while time.monotonic() < end:
         process = subprocess.Popen([sys.executable, __file__, "--count", server.path, file, progress, str(steps)])
         try:
-            # Half of them are killed early, so that there are many whatever the machine.
+            # Half of them are killed early, so that there are many kills on any machine.
             status = process.wait(0.15 + chance.random() * (0.2 if kills < 20 else 60.0))
         except subprocess.TimeoutExpired:
             process.kill()
@@ -297,8 +297,8 @@ def try_restarts(server):
 
 
 def try_no_server(server):
-    """What is asked of a server that never comes back ends with an error, about in the time that was given."""
-    # So long because on a slow machine a server that is there may not answer at once either.
+    """Requests to a server that never comes back end with an error, after about the given time."""
+    # This is long because on a slow machine even a running server may not answer at once.
     with Client(server.path, 1, reconnect_timeout=8.0) as client:
         word = shared_array(client, "word", 1, full=False)
         waiting = client.submit(requests.readfe(word, 0))

@@ -1,7 +1,7 @@
-"""Makes the package's wheel and source archive, with the standard library alone, so that nothing is fetched for them.
+"""Makes the package's wheel and source archive, using only the standard library, so that nothing is fetched for them.
 
-`pip install .` and `python3 -m build --no-isolation` call it; `python3 wheels.py FOLDER` makes both by itself. The same
-text gives the same bytes.
+`pip install .` and `python3 -m build --no-isolation` call it; `python3 wheels.py FOLDER` makes both. The same sources give
+the same bytes.
 """
 
 import base64
@@ -16,24 +16,24 @@ import zipfile
 
 ROOT = pathlib.Path(__file__).resolve().parent
 
-# What each file of an archive was last changed at: 2020-01-01.
+# The modification time of every file in an archive: 2020-01-01.
 DATE = (2020, 1, 1, 0, 0, 0)
 SECONDS = 1577836800
 
 
 def _field(name):
-    """A text of pyproject.toml."""
+    """A text value in pyproject.toml."""
     return re.search(rf'^{name} = "(.*)"$', (ROOT / "pyproject.toml").read_text(), re.MULTILINE)[1]
 
 
 def _listed(name):
-    """The texts of a list of pyproject.toml."""
+    """The texts of a list in pyproject.toml."""
     found = re.search(rf"^{name} = \[(.*?)\]$", (ROOT / "pyproject.toml").read_text(), re.MULTILINE | re.DOTALL)[1]
     return re.findall(r'"(.*?)"', found)
 
 
 def _license():
-    """The licence: in the source archive it stands beside this file, in the repository at its top."""
+    """The licence: next to this file in the source archive, at the top in the repository."""
     beside = ROOT / "LICENSE"
     return (beside if beside.exists() else ROOT.parents[1] / "LICENSE").read_bytes()
 
@@ -64,7 +64,7 @@ def _metadata():
 
 
 def _scripts():
-    """The commands that an installation makes, from the last table of pyproject.toml."""
+    """The commands that an installation creates, from the last table of pyproject.toml."""
     lines = (ROOT / "pyproject.toml").read_text().split("[project.scripts]\n")[1].splitlines()
     return ("[console_scripts]\n" + "".join(line.replace('"', "") + "\n" for line in lines)).encode()
 

@@ -1,4 +1,4 @@
-"""The documents' blocks of commands: each is known, and those that no other check runs are run here."""
+"""The blocks of commands in the documents: each is listed here, and run here unless another check does."""
 
 import glob
 import os
@@ -79,7 +79,7 @@ def blocks_known(_place):
 
 
 def targets(_place):
-    """each `make TARGET` that a document names is one of the Makefile, or of the C client's"""
+    """each `make TARGET` that a document names is in the Makefile, or in the C client's"""
     made = {it for name in ("Makefile", "clients/c/Makefile") for it in re.findall(r"^([a-z-]+):", text_of(name), re.M)}
     wanted = {(name, it) for name in PAGES for it in re.findall(r"`make ([a-z-]+)", text_of(name))}
     return told([f"{name}: make {it}" for name, it in sorted(wanted) if it not in made], len(wanted), 8, "targets")
@@ -97,7 +97,7 @@ FIRST_PATH = b"attach 7\n1 create cells 2 empty\n2 writeef 1 0 42\n3 readfe 1 0\
 
 
 def page_of_operating(place):
-    """the operator's page: a server listens, reports, is copied while stopped, looked at, has its format, and ends a session"""
+    """the operator's page: a server listens, reports, is copied while stopped, is looked at, shows its format, and ends a session"""
     server = Server(place, "femem").start()
     moved = {
         "/run/femem/femem.socket": server.socket,
@@ -131,21 +131,21 @@ def page_of_operating(place):
 
 
 def planted_edit(_place):
-    """the edit that CONTRIBUTING.md shows is one of the crate's"""
+    """the edit that CONTRIBUTING.md shows is one of fe_wire's"""
     wanted = block("CONTRIBUTING.md", "clause: Decoder::feed reads").strip()
     edits = [text_of(it).strip() for it in glob.glob(os.path.join(TOP, "crates", "fe_wire", "must-fail", "*.edit"))]
     holds(edits and wanted in edits, f"no edit of fe_wire is\n{wanted}")
 
 
 def shell(place, words, seconds=100, env=None):
-    """What commands print that all succeed, run by a shell in the check's folder."""
+    """Runs commands in a shell, in the check's folder. All must succeed. Returns their output."""
     process = place.start(["sh", "-e", "-c", words], "shell", env, group=True)
     process.wait(seconds * place.options.patience)
     same(process.returncode, 0, f"{words}\n{place.read('shell.out').decode()}{place.read('shell.err').decode()}")
     return place.read("shell.out").decode()
 
 
-# The program of which the examples are a part: they leave `step`s to be noted, and the request under each key.
+# The program around the page's examples. They leave it to the program to note each step and to make each key's request.
 PROGRAM = """#include <femem.h>
 #include <inttypes.h>
 #include <stdbool.h>
@@ -177,7 +177,7 @@ int main(void) {
 
 @within(110)
 def page_of_c(place):
-    """the lines of the C client's page build and install it and a program of the page's examples, which runs against a server"""
+    """the commands of the C client's page build and install it; a program made of the page's examples runs against a server"""
     compiler()
     if not shutil.which("pkg-config"):
         raise Skipped("there is no pkg-config")
@@ -199,7 +199,7 @@ def page_of_c(place):
 
 @within(110)
 def page_of_python(place):
-    """the Python client's page installs it, and its shell does what the page shows, against a server"""
+    """the commands of the Python client's page install it; its shell does what the page shows, against a server"""
     words = block("clients/python/README.md", "pip install").strip()
     pip = ["python3", "-m", "pip", "--version"]
     if subprocess.run(pip, stdin=subprocess.DEVNULL, capture_output=True, timeout=60, check=False).returncode:

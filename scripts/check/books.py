@@ -1,4 +1,4 @@
-"""A server that ends by itself, and the books that it prints."""
+"""A server that ends by itself, and the totals (the books) that it prints."""
 
 import re
 import threading
@@ -11,7 +11,7 @@ LINES = re.compile(r"calls (\d+) completed (\d+) waiting (\d+) withdrawn (\d+) r
 
 
 def books_of(server):
-    """The numbers of the two lines that an ended server printed, which have to add up."""
+    """The numbers of the two lines that an ended server printed. They must add up."""
     status, output, errors = server.ended()
     same((status, errors), (0, ""))
     found = LINES.fullmatch(output)
@@ -29,7 +29,7 @@ def text(**numbers):
 
 
 def serve_and_call(place):
-    """one connection through `call`: the books of five lines, and what `look` shows then"""
+    """one connection through `call`: the books after five lines, and what `look` then shows"""
     server = Server(place, accepts=1).start()
     given = b"attach 7\n1 create cells 2 empty\n2 writeef 1 0 42\n3 readfe 1 0\n4 readxx 1 0\n"
     told = b"welcome 7 1\n1 array 1 2\n2 done\n3 value 42\n4 value 42\n"
@@ -39,7 +39,7 @@ def serve_and_call(place):
 
 
 def each_column(place):
-    """each column of the books by a client that reads all that it is told"""
+    """each column of the books, with clients that read everything sent to them"""
     server = Server(place, accepts=2).start()
     waits = ("access", 16, 1, 0, 0, False)
     with server.attached(7) as conn:
@@ -56,13 +56,13 @@ def each_column(place):
             same(other.ask(wire.settle(9)), ("settled", 9))
             same(other.ask(wire.cancel(9)), ("refused", 9, "not-waiting"))
             same(other.ask(wire.bye()), ("goodbye", 8))
-    # calls: 1, 1 again, 1 otherwise, 99, 2, 2 again, 3 of session 7; 1 of session 8
+    # calls: of session 7 1, 1 again, 1 with another request, 99, 2, 2 again, 3; of session 8 1
     wanted = text(calls=8, completed=3, withdrawn=1, repeated=2, refused=2, mails=13, taken=13)
     same(server.ended(), (0, wanted, ""))
 
 
 def waiting_goes(place):
-    """what still waits as its client goes is withdrawn, and so nothing waits in the books of a server that ended"""
+    """what still waits when its client leaves is withdrawn, so the books of a server that ended show nothing waiting"""
     server = Server(place, accepts=1).start()
     with server.attached(7) as conn:
         same(conn.ask(wire.call(1, ("create", b"cells", 2, 0)))[:2], ("answer", 1))
@@ -72,7 +72,7 @@ def waiting_goes(place):
 
 
 def of_many(place):
-    """40 clients in parallel that come and go by `accepts`: the books agree with what they did"""
+    """40 clients in parallel that come and go, within `accepts`: the books agree with what they did"""
     clients, each = 40, 24
     server = Server(place, accepts=clients + 1, connections=64).start()
     with server.attached(1000) as conn:
@@ -101,7 +101,7 @@ def of_many(place):
 
 
 def with_losses(place):
-    """clients that break off, never read or send rubbish: the books still add up, and count no more than was sent"""
+    """clients that disconnect, never read or send garbage: the books still add up, and count no more than was sent"""
     clients = 24
     server = Server(place, accepts=clients + 1).start()
     with server.attached(1000) as conn:
@@ -131,11 +131,11 @@ def with_losses(place):
 
 
 def connections_come_and_go(place):
-    """of three clients one after the other each is served alone; those that are closed at once are not counted by `accepts`"""
+    """three clients, one after another, are each served alone; `accepts` does not count those that are closed at once"""
     server = Server(place, accepts=3, connections=1).start()
     for turn in range(3):
         with until(lambda: attached_or_none(server), 20, "the place is free") as conn:
-            # (behind the last one the server waits for no connection)
+            # (after the last one the server waits for no connection)
             for _ in range(5 * (turn < 2)):
                 with server.connect() as late:
                     holds(late.has_ended(), "a second connection was served")
@@ -144,7 +144,7 @@ def connections_come_and_go(place):
 
 
 def attached_or_none(server):
-    """A connection that has attached session 7, or None where it was closed at once."""
+    """A connection that has attached session 7, or None if it was closed at once."""
     conn = server.connect()
     try:
         same(conn.ask(wire.attach(7)), ("welcome", 7, 1))
@@ -155,7 +155,7 @@ def attached_or_none(server):
 
 
 def streams_end(place):
-    """a client that sends a byte at a time, one that shuts its sending side, one that sends no frame: what came before is done"""
+    """a client that sends a byte at a time, one that shuts its sending side, one that sends no valid frame: what came before is done"""
     server = Server(place, accepts=3).start()
     look = lambda number, index: wire.call(number, ("access", 18, 1, index, 0, False))
     with server.attached(7) as slow:
@@ -170,7 +170,7 @@ def streams_end(place):
             same(slow.reply()[2], answer)
     with server.attached(8) as half:
         same(half.ask(look(1, 0)), ("answer", 1, ("value", 42)))
-        # (the second word is written, and the first one is waited for)
+        # (the write is to the second word, and the read waits for the first)
         half.send(wire.call(2, ("access", 19, 1, 1, 9, False)) + wire.call(3, ("access", 16, 1, 0, 0, False)))
         half.finish()
         until(half.has_ended, 20, "the server ends a connection that was shut")
@@ -179,7 +179,7 @@ def streams_end(place):
         bad.send(bytes(4))
         holds(bad.has_ended(), "the server kept a connection that sent no frame")
     found = books_of(server)
-    # (whether the answer to the write is mailed before its client is gone is open)
+    # (the write's answer may or may not be mailed before its client is gone)
     wanted = {"calls": 8, "completed": 7, "waiting": 0, "withdrawn": 1, "repeated": 0, "refused": 0}
     same({key: found[key] for key in wanted}, wanted)
     left = "place 10\narray 1 cells 2\nsession 7 floor 1 kept 4\nsession 8 floor 1 kept 2\nsession 9 floor 1 kept 1\n"
@@ -187,12 +187,12 @@ def streams_end(place):
 
 
 def turns_end_a_connection(place):
-    """a connection that was read as often as `turns` says has ended, and what came with the last read is handled"""
+    """a connection ends after `turns` reads, and what came with the last read is handled"""
     server = Server(place, accepts=2, turns=3).start()
     with server.connect() as conn:
         same([conn.ask(wire.report()) for _ in range(2)], [("report", "waiting 0\n")] * 2)
         conn.send(wire.report())
-        # (whether the last report is written before the connection is ended is open)
+        # (the last report may or may not be written before the connection ends)
         until(lambda: conn.has_ended() and conn.got in (b"", wire.framed(71, b"waiting 0\n")), 20, "the third read was the last")
     with server.connect() as conn:
         same(conn.ask(wire.report()), ("report", "waiting 0\n"))

@@ -1,4 +1,4 @@
-"""`femem call`: what goes over its connection and what it prints, beside a server of this check that gives its bytes at once."""
+"""`femem call`: what goes over its connection and what it prints, against a server of this check that sends all its bytes at once."""
 
 import os
 import socket
@@ -56,7 +56,7 @@ STRAY = (
     b"18446744073709551615 int_fetch_add 18446744073709551615 4294967295 18446744073709551615 nowait ",
 )
 
-# Frames that are none of a reply, as soon as their last byte is there.
+# Bytes that are not a reply's frame, which shows at their last byte.
 BAD = (
     b"\x00\x00\x00\x00",
     b"\x00\x04\x00\x02",
@@ -72,7 +72,7 @@ BAD = (
     b"\x00\x00\x00\x02\x47\xff",
 )
 
-# Other replies, and what is printed for each.
+# Other replies, with what is printed for each.
 OTHERS = (
     (b"\x00\x00\x00\x09\x43\x00\x00\x00\x00\x00\x00\x00\x09", b"9 withdrawn\n"),
     (b"\x00\x00\x00\x09\x44\xff\xff\xff\xff\xff\xff\xff\xff", b"settled 18446744073709551615\n"),
@@ -97,7 +97,7 @@ OTHERS = (
 )
 
 
-# The frames of other messages, and a line for each.
+# The frames of other messages, with a line for each.
 FRAMES = (
     (b"5 find cells", b"\0\0\0\x1a\x03\0\0\0\0\0\0\0\x05\x05cells" + bytes(11)),
     (b"6 remove 1", b"\0\0\0\x11\x04\0\0\0\0\0\0\0\x06\0\0\0\0\0\0\0\x01"),
@@ -112,7 +112,7 @@ FRAMES = (
 
 
 class Other:
-    """A server of this check: it gives its bytes to each connection at once, ends its side if asked, and keeps what came."""
+    """A server of this check: it sends its bytes to each connection at once, ends its side if asked, and keeps what it receives."""
 
     def __init__(self, place):
         self.path = place.path("other.socket")
@@ -128,7 +128,7 @@ class Other:
         self.listener.close()
 
     def talk(self, place, lines, answers, ends=False, env=None, closed=""):
-        """Runs `call` with these lines, answered so: its status, output and errors, and what it sent."""
+        """Runs `call` with these lines, against these answers: its status, output and errors, and what it sent."""
         came = []
         is_over = threading.Event()
         thread = threading.Thread(target=self.serve, args=(answers, ends, came, is_over), daemon=True)
@@ -157,7 +157,7 @@ class Other:
                 came.append(piece)
 
     def accepted(self, is_over):
-        """The connection that comes, or None where the client is over and none came."""
+        """The next connection, or None if the client has ended without one."""
         while True:
             was_over = is_over.is_set()
             try:
@@ -168,17 +168,17 @@ class Other:
 
 
 def received(conn):
-    """What came next."""
+    """The next bytes received."""
     while True:
         try:
             return conn.recv(65536)
         except ConnectionResetError:
-            # (told once where the client ended the connection with bytes unread; what it sent before can still be read)
+            # (reported once if the client closed the connection with bytes unread; what it sent before can still be read)
             pass
 
 
 def printed_of(count):
-    """What is printed once that number of bytes of the first path's replies came."""
+    """What is printed once that many bytes of the first path's replies have come."""
     whole = sum(len(b"".join(REPLIES[:number])) <= count for number in range(1, len(REPLIES) + 1))
     return lines_of(PRINTED, whole)
 
@@ -188,7 +188,7 @@ def lines_of(text, count):
 
 
 def first_path(place):
-    """the frames of the first path and what is printed, however few bytes a call on a stream passes, each second one interrupted"""
+    """the frames of the first path and what is printed, with few bytes for each call on a stream and every second call interrupted"""
     library = preload(place, "streams.c")
     with Other(place) as other:
         for call in ("recv", "send", "read", "write"):
@@ -214,7 +214,7 @@ def other_replies(place):
 
 
 def odd_lines(place):
-    """empty lines ask nothing, and the last line may lack its line feed"""
+    """empty lines send nothing, and the last line may lack its line feed"""
     longest = b"18446744073709551615 int_fetch_add 18446744073709551615 4294967295 18446744073709551615 nowait\n"
     with Other(place) as other:
         for lines, printed, sent in (
@@ -228,7 +228,7 @@ def odd_lines(place):
 
 
 def much(place):
-    """the longest report, and a line that the reads of the input cut"""
+    """the longest report, and a line split over several reads of the input"""
     lines = b"\n" * 65534 + b"bye\nreport\n"
     report = b"a" * 262143 + b"\n"
     with Other(place) as other:
@@ -237,7 +237,7 @@ def much(place):
 
 
 def stray_lines(place):
-    """a line outside the syntax behind an exchange: its number is printed, nothing of it is sent, and what was printed before stays"""
+    """a line outside the syntax after an exchange: its number is printed, nothing of it is sent, and the earlier output stays"""
     with Other(place) as other:
         for line in STRAY:
             for end in (b"", b"\n", b"\nbye\n"):
@@ -247,7 +247,7 @@ def stray_lines(place):
 
 
 def bad_frames(place):
-    """what is no reply's frame behind an exchange is `femem: socket`, whatever comes behind it"""
+    """bytes that are not a reply after an exchange are `femem: socket`, whatever follows them"""
     with Other(place) as other:
         for frame in BAD:
             for behind in (b"", WELCOME):
@@ -257,7 +257,7 @@ def bad_frames(place):
 
 
 def server_ends(place):
-    """a server that ends the connection before its reply is whole, at each byte of it, is `femem: socket`"""
+    """a server that ends the connection within a reply, at each of its bytes, is `femem: socket`"""
     with Other(place) as other:
         for count in range(len(WELCOME)):
             found = other.talk(place, b"attach 7\n" * 3, WELCOME + WELCOME[:count], ends=True)
@@ -266,8 +266,8 @@ def server_ends(place):
 
 
 def until_none_fails(place, other, library, call, most, wanted):
-    """Fails each call of that kind in turn, where each passes at most `most` bytes, and counts them. `wanted` says what a run
-    leaves after that number of bytes: its status, its line on standard error, what it printed, and what it sent."""
+    """Fails each call of that kind in turn, with at most `most` bytes for each call, and counts them. `wanted` says what a run
+    leaves after that many bytes: its status, its line on standard error, what it printed, and what it sent."""
     number = 0
     while True:
         number += 1
@@ -283,24 +283,24 @@ def until_none_fails(place, other, library, call, most, wanted):
 
 
 def behind_reads(count):
-    """After that number of bytes of the input."""
+    """After that many bytes of the input."""
     whole = FIRST_PATH[:count].count(b"\n")
     return 2, b"femem: input\n", lines_of(PRINTED, whole), b"".join(MESSAGES[:whole])
 
 
 def behind_writes(count):
-    """After that number of bytes was printed: the message of the line that is not whole was sent, and no later one."""
+    """After that many bytes were printed: the message of the incomplete line was sent, and no later one."""
     return 2, b"femem: input\n", PRINTED[:count], b"".join(MESSAGES[: PRINTED[:count].count(b"\n") + 1])
 
 
 def behind_receives(count):
-    """After that number of bytes from the server."""
+    """After that many bytes from the server."""
     printed = printed_of(count)
     return 4, b"femem: socket\n", printed, b"".join(MESSAGES[: printed.count(b"\n") + 1])
 
 
 def behind_sends(count):
-    """After that number of bytes was sent."""
+    """After that many bytes were sent."""
     sent = b"".join(MESSAGES)[:count]
     whole = sum(len(b"".join(MESSAGES[:number])) <= count for number in range(1, len(MESSAGES) + 1))
     return 4, b"femem: socket\n", lines_of(PRINTED, whole), sent
@@ -308,12 +308,12 @@ def behind_sends(count):
 
 @within(120)
 def streams_fail(place):
-    """each call on a stream fails in turn, a byte at a time: what was sent and printed before stays, and no more is sent"""
+    """each call on a stream fails in turn, with a byte for each call: what was sent and printed before stays, and no more is sent"""
     library = preload(place, "streams.c")
     told = []
     with Other(place) as other:
         for call, wanted, calls in (
-            # (the last read gives nothing)
+            # (the last read returns nothing)
             ("read", behind_reads, len(FIRST_PATH) + 1),
             ("write", behind_writes, len(PRINTED)),
             ("recv", behind_receives, len(b"".join(REPLIES))),
@@ -326,7 +326,7 @@ def streams_fail(place):
 
 
 def memory_refused(place):
-    """each allocation is refused in turn: `femem: memory`, or the same as with memory; what was sent and printed is a front"""
+    """each allocation is refused in turn: `femem: memory`, or the same as with enough memory; what was sent and printed is a prefix"""
     library = preload(place, "../refuse.c")
     mark = place.path("refused")
     number = 0
@@ -348,7 +348,7 @@ def memory_refused(place):
 
 
 def connects(place):
-    """where no server is, nothing is printed; where one listens, an input without lines ends well"""
+    """without a server nothing is printed; with one, an input without lines ends well"""
     ask = lambda lines: place.run("call", "--socket", place.path("other.socket"), given=lines)
     told = (4, b"", b"femem: socket\n")
     same(ask(b"bye\n"), told, "no socket")
@@ -358,7 +358,7 @@ def connects(place):
 
 
 def closed_streams(place):
-    """a standard stream that is closed fails where it is used, and the connection never takes its place"""
+    """a closed standard stream fails when it is used, and the connection never takes its place"""
     told = b"femem: input\n"
     with Other(place) as other:
         for closed, sent, errors in (
@@ -368,7 +368,7 @@ def closed_streams(place):
             (">&- 2>&-", MESSAGES[0], b""),
             ("<&- >&- 2>&-", b"", b""),
         ):
-            # (what the server gives is also a line, which a client that reads from its connection would send back)
+            # (what the server sends is also a line: a client that read its input from its connection would send it back)
             found = other.talk(place, FIRST_PATH, REPLIES[0] + b"\nattach 8\n", closed=closed)
             same(found, ((2, b"", errors), sent), closed)
         found = other.talk(place, b"jump\n", b"", closed="2>&-")

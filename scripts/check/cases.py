@@ -1,6 +1,6 @@
-"""The cases of fe_laboratory: its script, with the bytes that docs/formats.md gives (store.py, model.py, wire.py).
+"""The cases of fe_laboratory: its script, with bytes made from docs/formats.md (store.py, model.py, wire.py).
 
-`python3 -m check.cases`, in scripts/, writes the crate's files `stdin` and `stdout`. The check compares them.
+`python3 -m check.cases`, in scripts/, writes the crate's files `stdin` and `stdout`. The check compares them with the crate's.
 """
 
 import struct
@@ -62,7 +62,7 @@ SMALL = (attached(), CELLS)
 
 
 def spell_words(words):
-    """An array's words, those that are the same in a row as one piece."""
+    """An array's words, with each run of equal words as one piece."""
     pieces, k = [], 0
     while k < len(words):
         same = 1
@@ -75,7 +75,7 @@ def spell_words(words):
 
 
 def spell(state, form=TWO):
-    """The image of a state, as the script spells it."""
+    """The image of a state, in the script's notation."""
     pieces = [struct.pack(">QQII", state.place, state.next_id, len(state.arrays), len(state.sessions)).hex()]
     for id, array in sorted(state.arrays.items()):
         pieces.append((struct.pack(">QB", id, len(array.name)) + array.name.ljust(form.name, b"\0") + struct.pack(">I", len(array.words))).hex())
@@ -237,23 +237,23 @@ MOST = created(b"cells", 2, 1, 65536)
 
 
 def most():
-    """A store whose image is the largest of one array: ten slices."""
+    """A store with the largest image of one array: ten slices."""
     say("store 2")
     calls("keeper", f"append $attached {record(MOST)}")
     say("run ok")
 
 
 def old():
-    """A store of format 1 whose image has the answer."""
+    """A store of format 1 with a kept answer in its image."""
     image = image_of(after(*SMALL), ONE)
     say("store 1", f"write 16 4:{len(image)}", f"write 4096 {image.hex()}")
 
 
-# Nine slices, with a group behind each third of them, and the tenth.
+# Nine slices, with a group after every third of them, and the tenth.
 SLICES = [call for slice in range(1, 10) for call in ["step"] + (["append $attached"] if slice % 3 == 0 else [])] + ["step"]
 
-# A store, calls over it, and how many device calls they make: an opening five; a batch four; the beginning of a checkpoint
-# two, or four where the other slot is valid; a slice one, and the rest of a checkpoint four (docs/store.md).
+# A store, calls on it, and how many device calls they make: an opening 5, a batch 4, the beginning of a checkpoint 2 (4 if
+# the other slot is valid), a slice 1, and the rest of a checkpoint 4 (docs/store.md).
 SWEEPS = [
     (small, 5 + 4 + 2 + 4 + 1 + 4 + 4 + 4 + 4 + 5, ["append $attached", "begin", "append $attached", "step", "append $attached*2", "finish", "append $attached", "begin", "finish"]),
     (full, 5 + 2 + 5 + 4, ["begin", "append $attached*4000"]),
@@ -384,7 +384,7 @@ def migration():
     say("reads 8 8:3", "reads 2101256 8:2", f"reads 3153920 01 4:{12000 * 80}")
     case("room_in_migration")
     say("store 1", f"write 16 4:{len(image)}", f"write 4096 {image.hex()}")
-    # Behind the 12,000 records there is room for 88,565 bytes: 1,107 records fit, and 1,108 do not.
+    # After the 12,000 records there is room for 88,565 bytes: 1,107 records fit, and 1,108 do not.
     calls("keeper", "begin", *many, "finish")
     say("run ok", "told yyyyyy", "holds place 12001 used 960005 format Two")
     calls("keeper", "append $attached*1108")
@@ -394,7 +394,7 @@ def migration():
 
 
 def told_of(device, start):
-    """How a store is opened of which one byte was changed."""
+    """The result of opening a store with one changed byte."""
     try:
         state = read_store(device)
     except Unformatted:
@@ -405,7 +405,7 @@ def told_of(device, start):
 
 
 def from_start(image, start):
-    """An image as the script spells it: where it is as long as that of the start, only what differs."""
+    """An image in the script's notation: only the differences, if it is as long as the starting image."""
     if len(image) != len(start):
         return image.hex()
     pieces, k = [], 0
@@ -416,7 +416,7 @@ def from_start(image, start):
 
 
 def state_of_store(read):
-    """The state at the end of what `read_store` gives."""
+    """The last state that `read_store` returns."""
     return read[-1]
 
 
@@ -484,13 +484,13 @@ def full_directory():
 # Images
 
 
-# A byte of the image, what is put there, and the offset of the fault that this makes.
+# A byte of the image, its new value, and the offset of the resulting fault.
 FAULTS = [
     # place, next id, counts
     (0, 128, 0), (15, 0, 8), (15, 11, 8), (15, 2, 71), (19, 65, 16), (23, 65, 20),
     # ids: 0, not below the next one, out of order
     (31, 0, 24), (78, 3, 71), (78, 1, 71), (31, 2, 71),
-    # names: no length, one above 16, a zero or a capital in it, a letter behind it, one that is taken
+    # names: length 0, length above 16, a zero or a capital in it, a letter after it, one that is taken
     (32, 0, 32), (32, 17, 32), (32, 6, 33), (33, 67, 33), (48, 97, 33), (80, 99, 79),
     # lengths and tags
     (52, 0, 49), (50, 1, 49), (53, 2, 53), (62, 255, 62),
@@ -503,7 +503,7 @@ FAULTS = [
 
 
 def two_sessions(name, kept):
-    """A state with two arrays and two sessions, of which session 7 has these answers."""
+    """A state with two arrays and two sessions; session 7 has these answers."""
     state = State()
     state.place, state.next_id = 9, 3
     state.arrays = {1: Array(name, [(42, 1), (7, 0)]), 2: Array(b"bells", [(0, 0)])}
@@ -530,7 +530,7 @@ def images():
     case("damaged_images")
     for at, byte, offset in FAULTS:
         say(f"fault 1 {offset} $image:0:{at} {byte:02x} $image:{at + 1}:293")
-    # 65,536 words, and two more
+    # one array of 65,536 words besides the other's two
     say("fault 1 96 $image:0:97 01 $image:98:99 00 $image:100:293")
     case("cut_images")
     for length in range(293):
@@ -569,7 +569,7 @@ def attach(session):
 READFE, READFF, READXX, WRITEEF, PURGE, FETCH_ADD = 16, 17, 18, 19, 22, 23
 DONE, NO_ARRAY, BAD_INDEX = ("done",), ("no-array",), ("bad-index",)
 
-# What connections send, what each is told for it, and how many entries each group has.
+# What connections send, the replies to each, and how many entries each group has.
 FIRST = (
     [(1, attach(7)), (1, create(1, 2)), (1, access(2, 0, WRITEEF, 42)), (1, access(3, 0, READFE)), (1, access(4, 0, READXX))],
     {1: [welcome(7), answered(1, ("array", 1, 2)), answered(2, DONE), answered(3, ("value", 42)), answered(4, ("value", 42))]},
@@ -589,8 +589,8 @@ REMOVAL = (
     | {conn: [welcome(conn + 6), answered(1, NO_ARRAY)] for conn in (2, 3, 4)},
     [1, 1, 1, 1, 1, 4, 1],
 )
-# A connection that is in use is not connected anew, so a frame goes on where it stood. Nothing is read behind a bad frame.
-# Where the number comes again, it is written behind what was written before.
+# A connection in use is not connected again, so a partial frame goes on. Nothing is read after a bad frame.
+# If the connection's number comes again, its replies are added to the earlier ones.
 BAD_FRAME = (
     [(1, "00000009"), (1, "010000000000000007"), (1, "00000000" + attach(7)), (1, attach(7))],
     {1: [welcome(7), welcome(7)]},
@@ -600,7 +600,7 @@ PATHS = (("first_path", FIRST), ("broadcast", BROADCAST), ("removal", REMOVAL))
 
 
 def check_written(told, groups):
-    """What is told to each connection, and to no other, and how many entries each group has."""
+    """Writes the expected replies of every connection, and how many entries each group has."""
     if not groups or not told or not all(told.values()):
         raise ValueError("a run that tells nothing shows nothing")
     for conn in range(6):
@@ -627,7 +627,7 @@ def desk_sweeps():
             case(f"{name}_of_{path_name}")
             say("store 2")
             calls("desk", *(f"line {conn} {frame}" for conn, frame in sent))
-            # an opening five, a group four (docs/store.md)
+            # an opening 5, a group 4 (docs/store.md)
             say(f"{word} {5 + 4 * len(groups)}", "run ok")
             check_written(told, groups)
     case("fuse_each_of_format")
@@ -643,12 +643,12 @@ def stop_in_slices():
     for slice in range(1, 11):
         slices += ["step"] + ([f"bytes 1 {attach(7)}"] if slice % 3 == 0 else [])
     calls("desk", "connect 1", "begin", *slices, "finish")
-    # an opening five, the beginning two, ten slices and three groups, and the rest of the checkpoint four
+    # an opening 5, the beginning 2, ten slices, three groups of 4, and the rest of the checkpoint 4
     most = spell(after(attached(), created(b"cells", 1, 1, 65536), *[attached()] * 3))
     say(f"fuse {5 + 2 + 10 + 3 * 4 + 4}", "run ok", "groups 1 1 1", "holds place 5 used 245 format Two", f"image {most}")
 
 
-# Streams of the first path, cut behind each byte, and with each byte changed
+# Streams of the first path, cut after each byte, and with each byte changed
 
 FRAMES, ENDS, REPLIES = [frame for _, frame in FIRST[0]], (13, 48, 82, 116, 150), FIRST[1][1]
 
@@ -673,7 +673,7 @@ def streams():
 
 
 def told_with(place, byte):
-    """What is told where the byte at the place is another, from the fields of docs/formats.md, "Frames"."""
+    """The replies if the byte at that place is changed, from the fields of docs/formats.md, "Frames"."""
     welcomed, made, wrote, was_read, looked = REPLIES
 
     def field(first, number):
@@ -772,7 +772,7 @@ ALL = [
 
 
 def spelled():
-    """The script, and what the laboratory prints for it."""
+    """The script, and the laboratory's output for it."""
     lines.clear()
     for part in ALL:
         part()
@@ -789,7 +789,7 @@ def spelled():
 
 
 def laboratory(place):
-    """the script of fe_laboratory, and what it is to print, are those of the model"""
+    """the script of fe_laboratory and its expected output are the model's"""
     for name, text in zip(("stdin", "stdout"), spelled()):
         same((FOLDER / name).read_text() == text, True)
 

@@ -1,4 +1,4 @@
-"""Clients that do whatever the protocol has at random, and the history that comes of it."""
+"""Clients that do at random whatever the protocol allows, and the resulting history."""
 
 import random
 import threading
@@ -15,7 +15,7 @@ NEEDS = {b"readfe": FULL, b"readff": FULL, b"writeef": EMPTY, b"writeff": FULL, 
 
 
 class Client:
-    """A client that asks, cancels, settles, goes and comes back at random, and knows what it may be told."""
+    """A client that asks, cancels, settles, leaves and comes back at random, and knows which replies are allowed."""
 
     def __init__(self, server, session, seed):
         self.server = server
@@ -30,7 +30,7 @@ class Client:
         self.floor = 1
         self.next = 1
         self.open = {}
-        self.cancelled = set()  # the open numbers whose cancel is under way
+        self.cancelled = set()  # the open numbers with a cancel under way
         self.is_leaving = False
 
     def work(self, ends):
@@ -39,17 +39,17 @@ class Client:
                 self.come()
             self.act()
             self.listen(self.random.choice((0.001, 0.003, 0.02)))
-        # what is under way comes to its end, but for what waits
+        # what is under way ends, except what waits
         while self.listen(0.3):
             pass
 
     def come(self):
-        """Attaches over a new connection, and sends again what is unanswered."""
+        """Attaches over a new connection, and sends unanswered requests again."""
         conn = self.server.connect()
         conn.send(wire.attach(self.session))
         welcome = conn.reply()
         while welcome[0] != "welcome":
-            # (what is stored after the session is taken over is told here, before the welcome too)
+            # (replies stored after the session is taken over come here, even before the welcome)
             self.take(welcome)
             welcome = conn.reply()
         same(welcome[1], self.session)
@@ -83,7 +83,7 @@ class Client:
             else:
                 self.conn.send(wire.call(number, self.open[number]))
         elif chance < 0.86:
-            # (the session is taken over, or its connection goes and another comes)
+            # (the session is taken over, or its connection ends and another is made)
             if self.random.random() < 0.5:
                 self.conn.close()
                 self.conn = None
@@ -95,7 +95,7 @@ class Client:
             self.settle()
 
     def settle(self):
-        """Settles, and waits until it is told so: what it knows of its floor is always sure."""
+        """Settles, and waits for the reply: so it always knows its floor exactly."""
         least = min(self.open, default=self.next)
         if least > self.floor:
             self.conn.send(wire.settle(least))
@@ -118,7 +118,7 @@ class Client:
         return ("access", op, array, self.random.randrange(WORDS + (pick > 0.98)), operand, self.random.random() < 0.2)
 
     def listen(self, seconds):
-        """Takes what comes in that time: whether there was something."""
+        """Takes what comes in that time. Returns whether anything came."""
         self.conn.wait(seconds)
         try:
             self.take(self.conn.reply())
@@ -134,7 +134,7 @@ class Client:
         kind, *rest = reply
         if kind == "answer" and rest[0] in self.open:
             self.told.append((self.life, rest[0], self.open.pop(rest[0]), rest[1]))
-            # (its cancel is refused then, and that may come before or behind)
+            # (its cancel is then refused; the refusal may come before this or after)
         elif kind == "answer":
             # (again, for a number that was sent again)
             holds((rest[0], rest[1]) in [(it[1], it[3]) for it in self.told if it[0] == self.life], f"session {self.session}: {reply}")
@@ -154,7 +154,7 @@ class Client:
 
 @within(90)
 def histories(place):
-    """clients at random: the whole history is the table's, what was told is in it, and nobody who may be served waits"""
+    """clients at random: the whole history follows the table, every reply is in it, and no request that can be served waits"""
     server = Server(place).start()
     with server.attached(99) as conn:
         same(conn.ask(wire.call(1, ("create", b"shared", WORDS, 0)))[:2], ("answer", 1))
@@ -173,7 +173,7 @@ def histories(place):
         thread.start()
     history = History()
     while any(thread.is_alive() for thread in threads):
-        # (often enough that at most one checkpoint begins between two readings)
+        # (often enough: at most one checkpoint begins between two readings)
         content = copied(server.store)
         if content:
             history.read(content)
@@ -198,7 +198,7 @@ def histories(place):
 
 
 def nobody_is_left(waiting, history, clients):
-    """Each request of the report waits for a tag that its word does not have, and is one that its client has open."""
+    """Each request in the report waits for a tag that its word does not have, and its client has it open."""
     first, *lines = waiting.splitlines()
     rows = [line.split() for line in lines if line.startswith("word ")]
     same(first, f"waiting {len(rows)}")

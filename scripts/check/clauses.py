@@ -1,19 +1,19 @@
-"""The functions, laws and clauses that documents cite are those of the crates that they cite."""
+"""The functions, laws and clauses that documents cite are in the crates that they cite."""
 
 import re
 
 from .sources import contracts_of, has, is_function, is_named
 from .texts import NAME, exists, rows_of, split, text_of, told
 
-# A name, and after it in parentheses nothing but names: a function with its clauses.
+# A name, followed by names in parentheses: a function with its clauses.
 CITED = re.compile(r"`([\w:]+)`(?: \(((?:`\w+`(?:, |; | and )?)+)\))?")
 LISTED = re.compile(r"\(((?:`\w+`(?:, |; | and )?)+)\)")
-# The same of a function by its path, as `fe_desk::Desk::step`.
+# The same for a function by its path, such as `fe_desk::Desk::step`.
 PATHED = re.compile(r"`(fe_\w+)::([\w:]+)`(?:,? \(?((?:(?:clause )?`\w+`(?:, | and )?)+))?")
 
 
 def of_row(crate, first, calls, row):
-    """What is wrong in a row of a crate's table: each call is a function with one of the clauses, and each clause is a call's."""
+    """What is wrong in a row of a crate's table: each call must be a function with one of the clauses, each clause one of a call."""
     named = [it for it in NAME.findall(row[1]) if not exists("crates", it)]
     laws = NAME.findall(row[2]) if first == "laws" else []
     lost = [f"{crate} has no function {it}" for it in (*calls, *laws) if not is_function(crate, it)]
@@ -25,7 +25,7 @@ def of_row(crate, first, calls, row):
 
 
 def of_prose(crate, line):
-    """The same of a line: names in parentheses are clauses of the functions that their sentence names, or of any function."""
+    """The same for a line: names in parentheses must be clauses of the functions that their sentence names, or of any function."""
     count, lost = 0, []
     for sentence in re.split(r"[.;:] ", line):
         outside = NAME.findall(LISTED.sub("", sentence))
@@ -40,7 +40,7 @@ def of_prose(crate, line):
 
 
 def clauses(_place):
-    """each function, law and clause that docs/proved.md names is one of its crate"""
+    """each function, law and clause that docs/proved.md names is in its crate"""
     missing = []
     count = 0
     crate = None
@@ -66,7 +66,7 @@ def clauses(_place):
 
 
 def cited(_place):
-    """each function with its clauses that the promise's table, the layers and the README name is one of the crate named with it"""
+    """each function with its clauses that the promise's table, the layers and the README name is in the crate named with it"""
     missing = []
     count = 0
     tables = [("docs/proved.md", "## The promise", 1), ("ARCHITECTURE.md", "## Layers", 2)]

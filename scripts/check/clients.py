@@ -1,4 +1,4 @@
-"""Both clients: their own tests, and their programs against a real server."""
+"""Both clients: their own tests, and their check programs against a real server."""
 
 import os
 import re
@@ -12,12 +12,12 @@ CLIENTS = os.path.normpath(os.path.join(os.path.dirname(os.path.realpath(__file_
 
 
 def environment(place):
-    """Temporary files, and what Python keeps of the modules that it compiled, go into the check's folder."""
+    """Temporary files and Python's compiled modules go into the check's folder."""
     return {"PYTHONDONTWRITEBYTECODE": "", "PYTHONPYCACHEPREFIX": place.path("compiled"), "TMPDIR": place.folder}
 
 
 def ran(place, words, seconds):
-    """Runs a program of a client to its end, and gives the last line that it printed."""
+    """Runs a client's program to its end, and returns the last line that it printed."""
     process = place.start(words, "client", environment(place), stderr=subprocess.STDOUT, group=True)
     try:
         process.wait(seconds)
@@ -29,7 +29,7 @@ def ran(place, words, seconds):
     return (said.strip().splitlines() or [""])[-1]
 
 
-# How many files of tests run at a time.
+# How many test files run at a time.
 AT_ONCE = 4
 
 
@@ -38,7 +38,7 @@ def tests_in_python(place):
     """the tests of the Python client"""
     tests = os.path.join(CLIENTS, "python", "tests")
     files = [name for name in os.listdir(tests) if name.startswith("test_") and name.endswith(".py")]
-    files.sort(reverse=True)  # those that take long come early so
+    files.sort(reverse=True)  # this puts the long ones early
     env = environment(place)
     left, running, count = list(files), {}, 0
     while left or running:
@@ -59,7 +59,7 @@ def tests_in_python(place):
 
 @within(600)
 def python(place):
-    """the Python client against a real server: every pattern, kills of either, a server that never comes back"""
+    """the Python client against a real server: every pattern, kills of both, a server that never comes back"""
     return ran(place, [sys.executable, os.path.join(CLIENTS, "python", "check.py"), place.program], 580)
 
 
@@ -72,7 +72,7 @@ def tests_in_c(place):
 
 @within(600)
 def c(place):
-    """the C client against a real server that is killed and started again"""
+    """the C client against a real server that is killed and restarted"""
     compiler()
     return ran(place, [os.path.join(CLIENTS, "c", "check"), place.program], 590)
 

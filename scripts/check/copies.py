@@ -1,4 +1,4 @@
-"""Copies of a store: of one that a server left, and of one that a server is writing."""
+"""Copies of a store: one that a server left, and one that a server is writing."""
 
 import os
 import shutil
@@ -16,7 +16,7 @@ HEADERS = ((0, store.IMAGE), (store.SLOT, store.IMAGE))
 
 
 def left_by_serve(place):
-    """a store that was left by SIGTERM is copied, opened, and goes on under another server"""
+    """a store left by SIGTERM is copied, opened, and used by another server"""
     server = Server(place).start()
     with server.attached(7) as conn:
         same(conn.ask(wire.call(1, ("create", b"cells", 3, 1))), ("answer", 1, ("array", 1, 3)))
@@ -38,7 +38,7 @@ def left_by_serve(place):
 
 
 class Load:
-    """A client that adds to a word and settles, until it is stopped."""
+    """A client that adds to a word and settles until it is stopped."""
 
     def __init__(self, server):
         self.server = server
@@ -70,7 +70,7 @@ class Load:
 
 
 def copied(path):
-    """The bytes of a store that is written meanwhile, read from the beginning to the end: None where a checkpoint was begun or ended."""
+    """A store's bytes, read from beginning to end while it is written: None if a checkpoint began or ended meanwhile."""
     with open(path, "rb") as file:
         headers = lambda: [os.pread(file.fileno(), size, at) for at, size in HEADERS]
         before = headers()
@@ -80,7 +80,7 @@ def copied(path):
 
 @within(60)
 def taken_in_mid_run(place):
-    """copies of the file under load, in which no checkpoint begins or ends, have all that was answered before them"""
+    """copies of the file under load, with no checkpoint beginning or ending, have everything answered before them"""
     server = Server(place).start()
     with server.attached(7) as conn:
         same(conn.ask(wire.call(1, ("create", b"counter", 1, 1))), ("answer", 1, ("array", 1, 1)))
@@ -97,7 +97,7 @@ def taken_in_mid_run(place):
             continue
         later = load.answered
         value = store.read_store(content)[2].arrays[1].words[0][0]
-        # (an answer is on its way to this check for a moment after its entry is stored, 15 at most)
+        # (answers reach this check a moment after their entries are stored: at most 15 are on their way)
         holds(answered <= value <= later + 15, f"a copy has {value}, of {answered} answers before it and {later} behind it")
         copies += 1
         if copies % 8 == 1:
@@ -121,7 +121,7 @@ def opened(place, file, value):
 
 
 def left_by_a_kill(place):
-    """a store that a kill left is looked at twice, and is the same each time"""
+    """a store left by a kill shows the same at two looks"""
     server = Server(place).start()
     with server.attached(7) as conn:
         conn.send(b"".join(wire.call(number, ("find", b"a")) for number in range(1, 33)))
@@ -135,7 +135,7 @@ def left_by_a_kill(place):
 
 
 def copy_goes_on(place):
-    """a store that is copied while an append waits for its first sync has what was answered, and each number takes effect once there"""
+    """a store copied while an append waits for its first sync has what was answered, and there each number takes effect once"""
     held = Held(place, "fdatasync")
     server = Server(place, accepts=1).start(held.env)
     with server.attached(7) as conn:
@@ -162,7 +162,7 @@ def copy_goes_on(place):
 
 
 def may_only_be_read(place):
-    """a store that may only be read is looked at, by a user who may do no more; a pipe is no store, and nobody waits for its writer"""
+    """a read-only store can be looked at by a user who may only read; a pipe is not a store, and a look does not wait for its writer"""
     os.mkfifo(place.path("pipe"))
     same(place.run("look", "--store", place.path("pipe")), (3, b"", b"femem: store device\n"))
     server = Server(place).start()
@@ -173,7 +173,7 @@ def may_only_be_read(place):
     os.chmod(server.store, 0o444)
     how = {"capture_output": True, "timeout": 30}
     if os.geteuid() == 0:
-        # (root may write what may only be read)
+        # (root may write read-only files)
         how.update(user=65534, group=65534, extra_groups=[])
         for folder in (place.folder, os.path.dirname(place.folder)):
             os.chmod(folder, 0o711)

@@ -9,7 +9,7 @@ from .harness import Held, Server, holds, same, until, within
 
 
 def together(count, work):
-    """Does the work in so many threads at once, and raises what one of them raised."""
+    """Does the work in `count` threads at once, and raises what one of them raised."""
     raised = []
 
     def guarded(number):
@@ -32,14 +32,14 @@ def adding(array, index, operand):
 
 
 def made(server, *arrays):
-    """Makes arrays (name, length, full) by a session of their own, 1000."""
+    """Makes arrays (name, length, full) in a separate session, 1000."""
     with server.attached(1000) as conn:
         for number, (name, length, full) in enumerate(arrays, 1):
             same(conn.ask(wire.call(number, ("create", name, length, full))), ("answer", number, ("array", number, length)))
 
 
 def in_parallel(place):
-    """32 clients at once, 16 requests of each under way: a counter that all raise loses nothing, and no value comes twice"""
+    """32 clients at once, each with 16 requests under way: a counter that all raise loses nothing, and no value comes twice"""
     clients, calls, window = 32, 96, 16
     server = Server(place).start()
     made(server, (b"counter", 1, 1))
@@ -76,7 +76,7 @@ def hand_overs(place):
     taken = [[] for _ in range(pairs)]
 
     def work(client):
-        # (a word has as many that fill it as empty it, so nobody waits for ever)
+        # (each word is filled as often as it is emptied, so no client waits for ever)
         with server.attached(client) as conn:
             for number in range(1, each + 1):
                 if client < pairs:
@@ -98,7 +98,7 @@ def hand_overs(place):
 
 
 def held_call_holds_one(place):
-    """a call that is held between its read and its handling holds no other connection: one that comes then is answered first"""
+    """a call held between its read and its handling holds up no other connection: one made then is answered first"""
     held = Held(place, "recv")
     server = Server(place, accepts=2).start(held.env)
     with server.attached(7) as first:
@@ -117,7 +117,7 @@ def held_call_holds_one(place):
 
 @within(90)
 def one_after_another(place):
-    """a thousand connections one after the other, each with a session that goes on where it was"""
+    """a thousand connections, one after another, each with a session that continues where it was"""
     server = Server(place, connections=256).start()
     made(server, (b"counter", 1, 1))
     for turn in range(1000):
@@ -138,7 +138,7 @@ def threads_of(server):
 
 @within(90)
 def the_257th(place):
-    """256 connections are served at once, the 257th is closed without a word, and one comes in once one has gone"""
+    """256 connections are served at once, the 257th is closed without a reply, and another is served once one has ended"""
     server = Server(place, connections=256).start()
     conns = [server.connect() for _ in range(256)]
     for conn in conns:
@@ -179,7 +179,7 @@ def few_connections(place):
 
 
 def byte_at_a_time(place):
-    """a client that sends a byte at a time is answered the same"""
+    """a client that sends a byte at a time gets the same answers"""
     server = Server(place).start()
     with server.connect() as conn:
         for frame, reply in (
@@ -196,14 +196,14 @@ def byte_at_a_time(place):
     server.stop()
 
 
-# The frames of version 1 and 2 and what the server sends for each, by hand: the first path, and then the other kinds.
+# Frames of versions 1 and 2 and the server's replies, written by hand: the first path, then the other kinds.
 TALK = (
     (b"\0\0\0\x09\x01\0\0\0\0\0\0\0\x07", b"\0\0\0\x11\x41\0\0\0\0\0\0\0\x07\0\0\0\0\0\0\0\x01"),
     (b"\0\0\0\x1f\x02\0\0\0\0\0\0\0\x01\x05cells" + bytes(14) + b"\x02\0", b"\0\0\0\x16\x42\0\0\0\0\0\0\0\x01\x03\0\0\0\0\0\0\0\x01\0\0\0\x02"),
     (b"\0\0\0\x1e\x05\0\0\0\0\0\0\0\x02\x13\0\0\0\0\0\0\0\x01" + bytes(11) + b"\x2a", b"\0\0\0\x16\x42\0\0\0\0\0\0\0\x02\x02" + bytes(12)),
     (b"\0\0\0\x1e\x05\0\0\0\0\0\0\0\x03\x10\0\0\0\0\0\0\0\x01" + bytes(12), b"\0\0\0\x16\x42\0\0\0\0\0\0\0\x03\x01\0\0\0\0\0\0\0\x2a" + bytes(4)),
     (b"\0\0\0\x1e\x05\0\0\0\0\0\0\0\x04\x12\0\0\0\0\0\0\0\x01" + bytes(12), b"\0\0\0\x16\x42\0\0\0\0\0\0\0\x04\x01\0\0\0\0\0\0\0\x2a" + bytes(4)),
-    # (readfe under number 5 that may not wait is answered not-now, and one under number 7 waits and is cancelled)
+    # (a readfe under number 5 that may not wait is answered not-now; one under number 7 waits and is cancelled)
     (b"\0\0\0\x1e\x0b\0\0\0\0\0\0\0\x05\x10\0\0\0\0\0\0\0\x01" + bytes(12), b"\0\0\0\x16\x42\0\0\0\0\0\0\0\x05\x0b" + bytes(12)),
     (b"\0\0\0\x1e\x05\0\0\0\0\0\0\0\x07\x10\0\0\0\0\0\0\0\x01" + bytes(12), b""),
     (b"\0\0\0\x09\x06\0\0\0\0\0\0\0\x07", b"\0\0\0\x09\x43\0\0\0\0\0\0\0\x07"),
@@ -222,7 +222,7 @@ TALK = (
 
 
 def bytes_of_frames(place):
-    """the bytes of a reply of each kind, to frames that come whole or a byte at a time"""
+    """the bytes of each kind of reply, to frames sent whole or a byte at a time"""
     for pieces in ("whole", "bytes"):
         server = Server(place, pieces).start()
         with server.connect() as conn:
@@ -243,7 +243,7 @@ def half_closed(place):
         same([conn.reply(), conn.reply()], [("welcome", 7, 1), ("answer", 1, ("no-array",))])
         conn.finish()
         with server.attached(8) as other:
-            # (its waiting request goes with it)
+            # (its waiting request is withdrawn)
             until(lambda: other.ask(wire.report()) == ("report", "waiting 0\n"), 10, "the waiting request was withdrawn")
         holds(conn.has_ended(), "the server kept a connection whose stream ended")
     with server.connect() as conn:
@@ -258,7 +258,7 @@ def half_closed(place):
 
 @within(90)
 def never_reads(place):
-    """a client that sends and never reads is dropped, and the others are served meanwhile"""
+    """a client that sends and never reads is dropped, while the others are served"""
     server = Server(place).start()
     made(server, (b"counter", 1, 1))
     piece = b"".join(wire.call(number, ("access", 18, 1, 0, 0, False)) for number in range(1, 33)) * 64
@@ -276,7 +276,7 @@ def never_reads(place):
                 same(other.ask(wire.report())[0], "report")
         holds(dropped, "a client that never reads was not dropped")
         same(other.ask(wire.call(1, adding(1, 0, 1))), ("answer", 1, ("value", 0)))
-        # what waits in the streams ends, and then the session is free
+        # once the data in the streams is done with, the session is free
         with server.attached(7) as again:
             same(again.ask(wire.call(1, ("access", 18, 1, 0, 0, False)))[:2], ("answer", 1))
     server.stop()
@@ -284,7 +284,7 @@ def never_reads(place):
 
 
 def slow_reader(place):
-    """a client that reads slowly, and has few answers unread, gets each of them in order"""
+    """a client that reads slowly, with few answers unread, gets all of them in order"""
     server = Server(place).start()
     made(server, (b"counter", 1, 1))
     with server.attached(7) as conn:
@@ -331,7 +331,7 @@ def bad_frames(place):
                 holds("timed out" not in str(why) and "within" not in str(why), f"a frame {name}: {why}")
             wanted = [("welcome", session, 1), ("answer", 1, ("no-array",))]
             holds(got == wanted[: len(got)], f"a frame {name}: {got}")
-    # (a welcome is told once all that came before it is stored)
+    # (a welcome is sent once everything before it is stored)
     server.attached(1000).close()
     server.stop()
     left = store.read_store(place.read("s.store"))[2]
@@ -340,7 +340,7 @@ def bad_frames(place):
 
 
 def taken_over(place):
-    """a session that another connection attaches leaves the first one not attached, and its requests wait on"""
+    """when another connection attaches a session, the first one is no longer attached, and its requests go on waiting"""
     server = Server(place).start()
     made(server, (b"cells", 1, 0))
     with server.attached(7) as first, server.attached(8) as other:
@@ -357,7 +357,7 @@ def taken_over(place):
 
 
 def refusals(place):
-    """64 sessions, and the 65th refused; windows, floors and numbers, as in the schedules"""
+    """64 sessions are kept and the 65th is refused; windows, floors and numbers are as in the schedules"""
     server = Server(place, connections=100).start()
     conns = [server.attached(session) for session in range(64)]
     with server.connect() as late:
@@ -366,7 +366,7 @@ def refusals(place):
         same(conns[0].ask(wire.bye()), ("goodbye", 0))
         same(late.ask(wire.attach(64)), ("welcome", 64, 1))
         same(late.ask(wire.call(33, ("find", b"a"))), ("refused", 33, "beyond-window"))
-        # (a name without a byte is in no schedule)
+        # (no schedule has an empty name)
         same(late.ask(wire.call(1, ("create", b"", 0, 1))), ("answer", 1, ("bad-name",)))
         same(late.ask(wire.call(2, ("find", b""))), ("answer", 2, ("bad-name",)))
         same(late.ask(wire.settle(0)), ("refused", 0, "below-floor"))
@@ -378,7 +378,7 @@ def refusals(place):
 
 
 def turns(place):
-    """a connection that was read as often as `turns` says is ended, and others are served"""
+    """a connection ends after `turns` reads, and others are served"""
     server = Server(place, turns=5).start()
     with server.connect() as conn:
         got = 0

@@ -1,7 +1,7 @@
-"""The Debian package: built, installed in a clean Debian beside this one, served by its unit, removed and purged.
+"""The Debian package: built, installed in a clean Debian, run by its unit, removed and purged.
 
-The clean Debian is this machine's own, below a layer that takes what is written, with a systemd of its own, in namespaces: nothing
-of the machine changes. FEMEM_CLEAN_ROOT names the root of another Debian, such as mmdebstrap makes one, to be taken in its place.
+The clean Debian is this machine's own, under an overlay that takes all writes, with its own systemd, in namespaces: the machine
+itself does not change. FEMEM_CLEAN_ROOT can name the root of another Debian to use instead, such as one made by mmdebstrap.
 """
 
 import os
@@ -24,10 +24,10 @@ KILLS = 6
 MOST_EXPOSED = 2.5
 STORE = "/var/lib/femem/femem.store"
 SOCKET = "/run/femem/femem.socket"
-# (the man pages' index is none of the package's, and takes most of the time)
+# (the index of man pages is not part of the package, and building it takes most of the time)
 DPKG = ("dpkg", "--no-triggers", "--force-unsafe-io")
 
-# The first part makes the layer and a control group, the second the namespaces of what it starts.
+# OUTER makes the overlay and a control group, INNER the namespaces of what it starts.
 OUTER = r"""
 set -eu
 mount -t tmpfs -o size=2g,mode=755 femem-check "$ROOM"
@@ -66,7 +66,7 @@ exec env -i container=other PATH=/usr/sbin:/usr/bin:/sbin:/bin sh -c 'cd / && um
 
 
 class Clean:
-    """A clean Debian with a systemd, in namespaces. All of it ends with its first process."""
+    """A clean Debian with systemd, in namespaces. Everything in it ends with its first process."""
 
     def __init__(self, place, package):
         for word in ("dpkg", "unshare", "nsenter", "mount"):
@@ -95,7 +95,7 @@ class Clean:
         self.ends()
 
     def ends(self):
-        """Ends all of it, and takes its control group away."""
+        """Ends all of it, and removes its control group."""
         self.process.kill()
         self.process.wait()
         script = 'mount -t cgroup2 cgroup2 "$0" && until [ ! -d "$0/$1" ] || find "$0/$1" -depth -type d -exec rmdir {} +; do sleep 0.1; done'
@@ -120,7 +120,7 @@ class Clean:
         return self.place.read(name).decode(errors="replace").strip()[-1500:]
 
     def path(self, path):
-        """A path of the clean Debian, as this process names it."""
+        """A path in the clean Debian, as seen from this process."""
         return f"/proc/{self.first}/root{path}"
 
     def ask(self, *words, env=None):
@@ -134,7 +134,7 @@ class Clean:
         return ran.returncode, ran.stdout.decode(errors="replace"), ran.stderr.decode(errors="replace")
 
     def do(self, *words, env=None):
-        """Runs a command there that has to succeed: its output."""
+        """Runs a command there that must succeed: its output."""
         status, output, errors = self.ask(*words, env=env)
         same(status, 0, f"{' '.join(words)}: {(output + errors)[-1500:]}")
         return output
@@ -146,7 +146,7 @@ class Clean:
 
 
 class Unit:
-    """The server as the unit runs it, for the clients of the other checks."""
+    """The server run by the unit, for the clients of the other checks."""
 
     def __init__(self, clean):
         self.clean = clean
@@ -181,7 +181,7 @@ class Unit:
 
     def kill(self):
         """Kills the server, and waits until systemd has started it again."""
-        # (systemd would count the kills, and give up after five in a minute)
+        # (otherwise systemd would count the kills, and give up after five in a minute)
         self.clean.do("systemctl", "reset-failed", "femem")
         before = self.pid()
         self.clean.do("systemctl", "kill", "--signal=KILL", "--kill-whom=main", "femem")
@@ -198,8 +198,8 @@ class Unit:
 
 
 def built(place, folder="deb"):
-    """Builds the package of the program that is tried."""
-    # (a commit that is made meanwhile would be another time)
+    """Builds the package of the program under test."""
+    # (a commit made meanwhile would change the time)
     env = {"SOURCE_DATE_EPOCH": os.environ.get("SOURCE_DATE_EPOCH") or str(EPOCH)}
     process = place.start([os.path.join(TOP, "scripts", "make_deb"), place.program, place.path(folder)], "make_deb", env)
     process.wait()
@@ -209,7 +209,7 @@ def built(place, folder="deb"):
 
 @within(120)
 def package(place):
-    """the package is the same twice, has the program byte for byte, belongs to root, and nothing in it formats a store"""
+    """two builds of the package are equal; it has the program byte for byte, belongs to root, and its settings format no store"""
     holds(shutil.which("dpkg-deb"), "there is no dpkg-deb on this machine: Debian's package dpkg is missing")
     made = built(place)
     with open(made, "rb") as first, open(built(place, "again"), "rb") as second:
@@ -238,7 +238,7 @@ def package(place):
 
 
 def is_whole(unit):
-    """The store that the installation made: empty, of the right size, and nobody else's."""
+    """The store that the installation made is empty, has the right size, belongs to femem, and is alone in its folder."""
     clean = unit.clean
     same(clean.do("stat", "--format=%s %U %G %h", STORE), f"{store.SIZE} femem femem 1\n")
     same(clean.do("stat", "--format=%a %U %G", "/var/lib/femem"), "750 femem femem\n")
@@ -255,7 +255,7 @@ def installed(clean):
 
 
 def confined(unit):
-    """The process has no privilege and no network, and its system calls are filtered: how exposed systemd finds the unit."""
+    """The process has no privilege and no network, and its system calls are filtered. Returns systemd's exposure level for the unit."""
     status = unit.status()
     same([status[it] for it in ("CapPrm", "CapEff", "CapBnd", "CapAmb")], ["0" * 16] * 4, "capabilities")
     same((status["NoNewPrivs"], status["Seccomp"]), ("1", "2"), "no new privileges, and a filter of system calls")
@@ -272,7 +272,7 @@ def confined(unit):
 
 @within(120)
 def serves(place):
-    """installed in a clean Debian, it serves under its unit's filter, and loses nothing over kills, each of which systemd mends"""
+    """installed in a clean Debian, it serves under its unit's filter, and loses nothing over kills; systemd restarts it after each"""
     with Clean(place, built(place)) as clean:
         unit = Unit(clean)
         same(clean.ask("id", "-u", "femem")[0], 1, "the user is there before")
@@ -309,7 +309,7 @@ def compare(unit, history, load):
 
 @within(120)
 def statuses(place):
-    """status 2 and a server that came to its end stay down, status 3 is tried five times; the store is there again once it is back"""
+    """after status 2 or 0 the server stays down, after status 3 it is restarted five times; a store that is put back is served again"""
     with Clean(place, built(place)) as clean:
         unit = installed(clean)
         with open(clean.path("/etc/femem.toml"), encoding="ascii") as file:
@@ -317,7 +317,7 @@ def statuses(place):
         unit.settings(settings + "connection = 1\n")
         holds(clean.ask("systemctl", "restart", "femem")[0] in (0, 1), "systemctl")
         until(lambda: unit.shows("ActiveState") == ("failed",), 60, "the unit has failed")
-        time.sleep(1.5)  # (it would be started again after one second)
+        time.sleep(1.5)  # (a restart would come after one second)
         same(unit.shows("ActiveState", "ExecMainStatus", "NRestarts"), ("failed", "2", "0"))
         unit.settings(settings)
         os.rename(unit.store, unit.store + ".aside")
@@ -338,7 +338,7 @@ def statuses(place):
 
 @within(120)
 def removed(place):
-    """removing keeps the store, installing again goes on with it, purging keeps it too, and only a yes takes it"""
+    """removing keeps the store, installing again uses it, and purging removes it only after a yes"""
     with Clean(place, built(place)) as clean:
         unit = installed(clean)
         unit.attached(7).close()

@@ -1,4 +1,4 @@
-"""The documents: their blocks run, what they name is there, their links lead somewhere, and they are as short as they should be."""
+"""The documents: their blocks run, what they name exists, their links lead somewhere, and they are not too long."""
 
 import glob
 import os
@@ -31,7 +31,7 @@ def listed(heading):
 
 
 def naming(words, roots):
-    """The files below these that name each of the words, in whatever spelling."""
+    """The files below these folders that contain every word, whatever its case and underscores."""
     found = []
     for root in roots:
         for folder, folders, files in os.walk(os.path.join(TOP, root)):
@@ -45,7 +45,7 @@ def naming(words, roots):
 
 
 def touched(_place):
-    """each file that names all operations, or all settings, is in CONTRIBUTING.md's list of what a new one touches"""
+    """each file that names all operations, or all settings, is in CONTRIBUTING.md's list of files to change for a new one"""
     ops = [it.replace(b"_", b"") for it in OPS]
     keys = [rb"\b" + it + rb"\b" for it in (b"socket", b"store", b"connections", b"format", b"accepts", b"turns")]
     missing = []
@@ -57,14 +57,14 @@ def touched(_place):
         known = listed(heading)
         found = [it for it in naming(words, roots) if it != os.path.relpath(os.path.realpath(__file__), TOP)]
         count += len(found)
-        # (a folder of tests covers its files)
+        # (a test folder in the list covers its files)
         known |= {it for it in found if os.path.dirname(it) in known and "tests" in it}
         missing += [f"{heading} lacks {it}" for it in found if it not in known]
     return told(missing, count, 35, "files")
 
 
 def crates(_place):
-    """each crate is in the README and, unless it is a test, in ARCHITECTURE.md and docs/proved.md, and they name no other"""
+    """each crate is in the README and, unless it is a test, in ARCHITECTURE.md and docs/proved.md, and they name no other crate"""
     there = sorted(os.path.basename(os.path.dirname(it)) for it in glob.glob(os.path.join(TOP, "crates", "*", "src")))
     missing = []
     for page in ("README.md", "ARCHITECTURE.md", "docs/proved.md"):
@@ -76,7 +76,7 @@ def crates(_place):
 
 
 def versions(_place):
-    """each package and version that a document names is that of the repository"""
+    """each package and version that a document names is the repository's"""
     missing = []
     count = 0
     for page in (*PAGES, *READMES):
@@ -88,19 +88,19 @@ def versions(_place):
 
 
 def lengths(_place):
-    """the README, docs/proved.md, docs/DECISIONS.md and docs/model.md have no more words than they may"""
+    """the README, docs/proved.md, docs/DECISIONS.md and docs/model.md keep to their limits of words"""
     found = {name: len(text_of(name).split()) for name in MOST_WORDS}
     missing = [f"{name} has {found[name]} words, and may have {most}" for name, most in MOST_WORDS.items() if found[name] > most]
     return told(missing, len(found), 4, "documents")
 
 
 LINK = re.compile(r"\[([^\]]*)\]\(([^)\s]+)\)")
-# A document, and after it the title of a section in quotes, or several.
+# A document, followed by one or more titles of sections in quotes.
 QUOTED = re.compile(r"([\w/]+\.md)`?(?:\]\([^)]*\))?, (\"[^\"]+\"(?: and \"[^\"]+\")*)")
 
 
 def wrong_in_link(page, text, target):
-    """What is wrong in a link of a page: a text that is another file's path, or a target that is not there."""
+    """What is wrong in a link of a page: its text is the path of another file, or its target does not exist."""
     file, _, part = target.partition("#")
     named = text.strip("`")
     if text != named and is_path(named) and os.path.basename(named) != os.path.basename(file):
@@ -111,14 +111,14 @@ def wrong_in_link(page, text, target):
 
 
 def has_section(page, file, title):
-    """Whether the document that a page names has a section or a bold paragraph of that title."""
+    """Whether the document that a page names has a section or a bold paragraph with that title."""
     path = next((it for it in (file, f"docs/{file}", os.path.join(os.path.dirname(page), file)) if exists(it)), None)
     bold = rf"^(?:- |[0-9]+\. )?\*\*{re.escape(title)}\.?\*\*"
     return path is not None and (slug(title) in headings(path) or re.search(bold, text_of(path), re.M) is not None)
 
 
 def links(_place):
-    """each link of a document leads to a file and a heading, and each section that is named in quotes is there"""
+    """each link of a document leads to a file and a heading, and each section named in quotes exists"""
     missing = []
     count = 0
     for page in (*PAGES, *READMES):

@@ -1,4 +1,4 @@
-"""How connections and servers begin and end: half-closed clients, places that become free, sockets, device faults."""
+"""How connections and servers begin and end: half-closed clients, freed places, sockets, device faults."""
 
 import fcntl
 import os
@@ -35,7 +35,7 @@ def goodbye(session):
 
 
 def rest_of(conn):
-    """All bytes that come until the stream ends."""
+    """All bytes up to the end of the stream."""
     while True:
         try:
             conn.more()
@@ -50,14 +50,14 @@ def descriptors_of(server):
 
 @within(60)
 def half_closed_replies(place):
-    """clients that send and shut their sending side at once get each reply, byte by byte, and then the end"""
+    """clients that send and at once shut their sending side get each reply, byte for byte, and then the end of the stream"""
     turns = place.options.turns or 100
     server = Server(place).start()
     made(server, (b"counter", 1, 1), (b"empty", 1, 0))
     for turn in range(turns):
         session = turn % 60
         says = wire.attach(session) + wire.call(1, adding(1, 0, 1))
-        # (a request that waits has no reply, and is withdrawn)
+        # (a waiting request gets no reply, and is withdrawn)
         says += wire.call(2, ("access", READFE, 2, 0, 0, False)) if turn % 2 else b""
         with server.connect() as conn:
             conn.send(says + wire.settle(2) + (b"" if turn % 2 else wire.bye()))
@@ -74,7 +74,7 @@ def half_closed_replies(place):
 
 @within(60)
 def half_closed_long(place):
-    """a client that shuts its sending side behind more than a socket holds, and reads late, gets all of it"""
+    """a client that sends more than a socket holds, shuts its sending side and reads late gets every reply"""
     server = Server(place).start()
     for turn in range(5):
         with server.connect() as conn:
@@ -99,7 +99,7 @@ def half_closed_long(place):
 
 @within(60)
 def closed_at_once(place):
-    """clients that send and close wholly at once leave no thread and no open file behind"""
+    """clients that send and at once close leave no thread and no open file"""
     turns = place.options.turns or 100
     server = Server(place, connections=256).start()
     made(server, (b"counter", 1, 1))
@@ -115,7 +115,7 @@ def closed_at_once(place):
 
 
 def last_turn(place):
-    """a connection whose reads are used up gets the replies to what it sent in the last one, byte by byte"""
+    """a connection that has used up its `turns` gets the replies to its last read, byte for byte"""
     turns = place.options.turns or 20
     server = Server(place, turns=1).start()
     for turn in range(turns):
@@ -128,7 +128,7 @@ def last_turn(place):
 
 @within(60)
 def at_the_limit(place):
-    """`connections = 1`: a client that closes and connects again at once is served"""
+    """`connections = 1`: a client that closes and at once connects again is served"""
     turns = place.options.turns or 200
     server = Server(place, connections=1).start()
     for turn in range(turns):
@@ -149,12 +149,12 @@ def at_the_limit(place):
 
 @within(60)
 def ready_socket(place):
-    """once the socket's file is there a client can connect, and no other file is left beside it"""
+    """once the socket's file exists a client can connect, and no temporary socket is left"""
     turns = place.options.turns or 20
     for turn in range(turns):
         server = Server(place)
         if turn % 4 == 1:
-            # (what a start that was killed left)
+            # (left by a server that was killed while it started)
             left = socket.socket(socket.AF_UNIX)
             left.bind(server.socket + ".new")
             left.close()
@@ -172,14 +172,14 @@ def ready_socket(place):
 
 
 def until_there(server):
-    """Waits for the socket's file, and looks all the time."""
+    """Polls for the socket's file, without a pause."""
     end = time.monotonic() + 30
     while not os.path.exists(server.socket):
         holds(time.monotonic() < end, "there is no socket")
 
 
 def long_paths(place):
-    """a socket's path of 103 to 107 bytes is served, and one of 108 is not; a path that is taken, and what is beside it, stays"""
+    """socket paths of 103 to 107 bytes are served, and one of 108 is not; a file at the path, or at PATH.new, stays"""
     for length in (103, 104, 107):
         server = Server(place)
         server.socket = place.path("s" * (length - len(place.folder) - 1))
@@ -205,17 +205,17 @@ def long_paths(place):
 
 @within(90)
 def fault_with_silent_clients(place):
-    """a device fault ends the server within a second, with clients that say nothing, or read nothing, one of which shut its sending side"""
+    """a device fault ends the server within a second, even with clients that send nothing or read nothing, one of them half-closed"""
     turns = place.options.turns or 5
     library = preload(place, "record.c")
     slowest = 0
     for turn in range(turns):
         server = Server(place, f"f{turn}", connections=64)
         server.start().stop()
-        # (each group takes four calls of the device)
+        # (each group takes four device calls)
         server.start({"LD_PRELOAD": library, "RECORD": place.path(f"record{turn}"), "TURN": "60", "HOW": "fails"})
         silent = [server.connect() for _ in range(10)] + [server.attached(session) for session in range(5)]
-        # (the server's write sides sleep in their writes to these; the second one's read side has ended)
+        # (the server's writers are blocked in their writes to these; the reader of the second one has ended)
         deaf = [server.connect() for _ in range(3)]
         for it in deaf[:2]:
             fill(it)
@@ -240,7 +240,7 @@ def fault_with_silent_clients(place):
 
 
 def fill(conn):
-    """Asks for reports and reads none, until one comes no more since the socket is full."""
+    """Asks for reports and reads none, until the socket is full and no more come."""
     unread = 0
     for _ in range(100_000):
         conn.send(wire.report())
@@ -266,7 +266,7 @@ def memory_of(server):
 
 @within(60)
 def unread_reports(place):
-    """forty connections that ask for 200 long reports each and read nothing cost less than 20 MB"""
+    """forty connections that each ask for 200 long reports and read nothing cost less than 20 MB"""
     server = Server(place, connections=256).start()
     made(server, (b"empty", 65536, 0))
     waiting = []
@@ -287,7 +287,7 @@ def unread_reports(place):
         time.sleep(0.01)
     holds(highest * 1024 < 20_000_000, f"{highest} KiB")
     for conn in deaf:
-        # (they still come, one after the other)
+        # (the reports still come, one after another)
         same({conn.reply()[0] for _ in range(10)}, {"report"})
         conn.close()
     for conn in waiting:

@@ -1,4 +1,4 @@
-"""Devices that fail, and memory that is refused, under a running server."""
+"""A device that fails, and memory that is refused, under a running server."""
 
 import errno
 import os
@@ -19,7 +19,7 @@ CHANGES = ("write", "pwrite", "fdatasync", "fsync", "ftruncate", "fchmod", "fadv
 
 
 class Client:
-    """A client with one request at a time, which goes on over connections that end."""
+    """A client with one request at a time, which reconnects when its connection ends."""
 
     def __init__(self, server, work, seconds=10):
         self.server = server
@@ -28,7 +28,7 @@ class Client:
         self.seconds = seconds
 
     def attempt(self):
-        """Goes on over one connection: whether all is answered."""
+        """Continues over one connection. Returns whether everything is answered."""
         try:
             with self.server.connect(seconds=self.seconds) as conn:
                 same(conn.ask(wire.attach(7))[:2], ("welcome", 7))
@@ -44,7 +44,7 @@ class Client:
             return False
 
     def until_end(self):
-        """Goes on until all is answered, or the server has ended: whether it has."""
+        """Continues until everything is answered or the server has ended. Returns whether it has ended."""
         for _ in range(40):
             if self.attempt():
                 return False
@@ -57,7 +57,7 @@ class Client:
 
 
 def answered(work, state=None):
-    """The answers that the work has by the table, from that state on."""
+    """The answers that the table gives to the work, starting in that state."""
     now = state or State()
     if 7 not in now.sessions:
         now.apply(("attached", 7, 1))
@@ -74,7 +74,7 @@ def is_change(call):
 
 
 def fills_and_others(calls, tried=lambda call: True):
-    """The number and the kind of each call that changes a file and is tried. Of those that fill a new one with zeros there are three."""
+    """The number and kind of each call to try that changes a file. Of the writes that fill a new file with zeros it takes three."""
     found = [(number, call.kind) for number, call in enumerate(filter(is_change, calls), 1) if tried(call)]
     fills = [turn for turn in found if turn[1] == "write"]
     chosen = {*fills[:1], *fills[-1:], *random.sample(fills, min(1, len(fills)))}
@@ -82,7 +82,7 @@ def fills_and_others(calls, tried=lambda call: True):
 
 
 class Trial:
-    """A store, made anew where there is no base, and one client's work over it, whose calls one after the other do not go well."""
+    """A store, created if there is no base, and one client's work over it, in which one call after another is made to fail."""
 
     def __init__(self, place, base, state, work):
         self.place = place
@@ -93,7 +93,7 @@ class Trial:
         self.count = 0
 
     def run(self, **how):
-        """A server up to the end of the work, or its own: the server, its client, and the calls that it made."""
+        """Runs a server until the work is done or the server ends: the server, its client, and the server's calls."""
         self.count += 1
         name = f"r{self.count}"
         for file in os.listdir(self.place.folder):
@@ -115,7 +115,7 @@ class Trial:
         return server, client, found
 
     def right(self):
-        """The calls of a run in which all goes well."""
+        """The calls of a run without faults."""
         server, client, found = self.run()
         holds(server.is_running(), f"the server ended without a fault: {server.errors()}")
         same(client.answers, self.wanted)
@@ -123,9 +123,9 @@ class Trial:
         return found
 
     def faults(self, ways):
-        """Has each call fail in turn: what is told then, and what the store has afterwards. How many calls of each kind failed."""
+        """Fails each call in turn, and checks the answers and the store afterwards. Returns how many calls of each kind failed."""
         found = {}
-        # (where its socket's file gets no name beside its own, the server listens all the same)
+        # (calls on the socket's files are left out: the server also listens if its temporary name fails)
         for number, kind in fills_and_others(self.right(), lambda call: "socket" not in call.file):
             for how in ways:
                 if how == "short" and "write" not in kind:
@@ -141,7 +141,7 @@ class Trial:
 
 
 def goes_on(place, server, client, wanted, name):
-    """Starts the server again without the fault: each answer is kept, and what was not answered is done once."""
+    """Restarts the server without the fault: each answer is kept, and what was not answered is done once."""
     holds(client.answers == wanted[: len(client.answers)], f"{name}: {client.answers}")
     if os.path.exists(server.socket):
         os.unlink(server.socket)
@@ -163,17 +163,17 @@ WORK = [("create", b"counter", 2, 1)] + [adding(1, 0, 1)] * 6
 
 @within(240)
 def new_stores(place):
-    """each device call from the making of a store on fails in turn: `femem: store device`, status 3, no answer lost or invented"""
+    """each device call, from the creation of a store on, fails in turn: `femem: store device`, status 3, no answer lost or invented"""
     found = Trial(place, None, None, WORK).faults(("fails", "short"))
-    # A file that is made, opened and formatted, gets another name and loses its first; then the store's opening and eight groups
-    # (docs/store.md). Of what fills the file three writes fail.
+    # A file is created, opened and formatted, linked under its final name and unlinked from the first; then an opening and eight groups
+    # (docs/store.md). Three of the writes that fill the file fail.
     once = {"open": 1, "write": 3, "fsync": 1 + 1 + 1 + 1, "link": 1, "unlink": 1, "fadvise": 1 + 1}
     same(found, {**once, "pwrite": 6 + 8 * 2, "fdatasync": 1 + 3 + 1 + 8 * 2})
     return in_words(found)
 
 
 def near_a_checkpoint():
-    """A store in which a checkpoint of three slices is due behind the first group, and the state that it stands for."""
+    """A store in which a checkpoint of three slices is due after the first group, and its state."""
     state = State()
     entries = [("attached", 7, 1), ("finished", 7, 32, ("create", b"big", 20000, 1), ("array", 1, 20000))]
     for entry in entries + [("settled", 7, 1)]:
@@ -184,7 +184,7 @@ def near_a_checkpoint():
 
 @within(240)
 def in_checkpoints(place):
-    """each device call of a checkpoint between groups fails in turn, with the same"""
+    """each device call of a checkpoint between groups fails in turn, with the same result"""
     base, state = near_a_checkpoint()
     found = Trial(place, base, state, [adding(1, 19999, 1)] * 9).faults(("fails", "short"))
     # an opening; ten groups; a header, three slices and the end of a checkpoint
@@ -193,7 +193,7 @@ def in_checkpoints(place):
 
 
 def remounted(place, path):
-    """The store once its pages come from the device: those that a failed sync lost have the bytes that they had before."""
+    """The store as read from the device: pages lost by a failed sync have their earlier bytes. With the number of lost pages."""
     device = bytearray(place.read(path))
     lost = place.read("lost")
     for at in range(0, len(lost), 8 + 4096):
@@ -203,8 +203,8 @@ def remounted(place, path):
 
 
 def sync_lost(place, library, base, work, wanted, number):
-    """Has the sync of that number fail, which loses what was written before it, starts the server again, which does all the work, and reads what
-    the device has then: nothing that was answered is lost. Whether it came to that sync, and how many pages were lost at the end."""
+    """Fails the sync of that number, which loses the writes before it; restarts the server, which does all the work; and reads the
+    device: nothing that was answered is lost. Returns whether that sync was reached, and how many pages were lost at the end."""
     place.write("lost", b"")
     path = place.write("store", base)
     env = {"LD_PRELOAD": library, "STORE": path, "LOST": place.path("lost")}
@@ -218,7 +218,7 @@ def sync_lost(place, library, base, work, wanted, number):
     same(server.ended(), (3, "", "femem: store device\n"), f"sync {number}")
     told = client.answers
     holds(told == wanted[: len(told)], f"sync {number}: {told}")
-    # (the first is that of the opening, before which nothing is written)
+    # (the first sync is the opening's, and nothing is written before it)
     holds(bool(place.read("lost")) == (number > 1), f"sync {number}: what it lost")
     if os.path.exists(server.socket):
         os.unlink(server.socket)
@@ -234,7 +234,7 @@ def sync_lost(place, library, base, work, wanted, number):
 
 
 def lost_syncs(place, base, work):
-    """Has each sync of the work fail in turn in that way: how many there were."""
+    """Fails each sync of the work in turn in that way. Returns how many there were."""
     library = preload(place, "lose.c")
     wanted = answered(work, store.read_store(base)[2])
     number = 1
@@ -244,7 +244,7 @@ def lost_syncs(place, base, work):
 
 
 def at_an_end_of_a_page():
-    """A store whose next group has its gate at the end of a page, and all else in the next: three groups of 17 entries have 4,095 bytes."""
+    """A store whose next group has its gate at the end of a page and the rest in the next page: three groups of 17 entries take 4,095 bytes."""
     state = State()
     for entry in (("attached", 9, 1), ("finished", 9, 1, ("create", b"cells", 3, 1), ("array", 1, 3))):
         state.apply(entry)
@@ -253,7 +253,7 @@ def at_an_end_of_a_page():
 
 @within(240)
 def syncs_that_lose(place):
-    """a sync fails, and the system takes pages for written that are not on the device: the server that is started again loses nothing that it answers"""
+    """a sync fails, and the system counts pages as written that are not on the device: the restarted server loses nothing that it answers"""
     work = [adding(1, 0, 1)] * 4
     # an opening; five groups
     same(lost_syncs(place, at_an_end_of_a_page(), work), 1 + 5 * 2)
@@ -300,7 +300,7 @@ def memory_refused(place):
 
 @within(120)
 def commands_where_memory_ends(place):
-    """each allocation of the other commands is refused in turn: `femem: memory`, or the same as with memory; what is printed is a front"""
+    """each allocation of the other commands is refused in turn: `femem: memory` after a prefix of the output, or the same as with enough memory"""
     library = preload(place, "../refuse.c")
     filled = store.device_of(store.TWO, groups=[[("attached", 7, 1)], [("finished", 7, 1, ("create", b"cells", 2, 0), ("array", 1, 2))]])
     paths = 'socket = "x.socket"\nstore = "none"\n'
@@ -322,7 +322,7 @@ def commands_where_memory_ends(place):
 
 
 def refused_in_turn(place, library, words, status):
-    """Refuses each allocation of a run that would end so: how many there were."""
+    """Refuses each allocation of a run that otherwise ends with that status. Returns how many there were."""
     wanted = place.run(*words)
     same(wanted[0], status, words)
     mark = place.path("refused")
@@ -340,11 +340,11 @@ def refused_in_turn(place, library, words, status):
 
 
 def few_files(place):
-    """a server that may open few files: connections beyond that wait, and are served once others have gone"""
+    """a server with a low limit on open files: connections beyond it wait, and are served once others have ended"""
     server = Server(place, connections=256).start(limit=(resource.RLIMIT_NOFILE, 16))
     conns = [server.connect() for _ in range(30)]
     for conn in conns:
-        # (each is served at last, since those before it are closed)
+        # (each is served in the end, since those before it are closed)
         same(conn.ask(wire.report())[0], "report")
         conn.close()
     with server.attached(7) as conn:
@@ -353,7 +353,7 @@ def few_files(place):
 
 
 def little_memory(place):
-    """a server that may have little memory: each connection is served or closed, the server goes on or ends as `femem: memory`"""
+    """a server with little memory: each connection is served or closed, and the server goes on or ends with `femem: memory`"""
     told = {}
     for megabytes in (8, 16, 24, 32, 48, 64, 96, 128):
         server = Server(place, f"{megabytes}", connections=256).start(waits=False, limit=(resource.RLIMIT_AS, megabytes << 20))
@@ -363,7 +363,7 @@ def little_memory(place):
         for conn in filter(None, conns):
             conn.close()
         if server.is_running():
-            # (what they had is free again)
+            # (their memory is free again)
             with until(lambda: served_one(server), 20, f"{megabytes} MB: a connection is served again") as conn:
                 same(conn.ask(wire.attach(7))[:2], ("welcome", 7))
             server.stop()
@@ -374,7 +374,7 @@ def little_memory(place):
 
 
 def open_or_none(server, number):
-    """A connection that was served, which stays open, or None where it was closed or the server has ended."""
+    """A connection that was served and stays open, or None if it was closed or the server has ended."""
     if not server.is_running():
         return None
     try:

@@ -1,4 +1,4 @@
-"""The file of a store: how it is made, what is kept of one that is formatted, and what happens where somebody else changes it."""
+"""The file of a store: how it is made, what is kept when it is formatted, and what happens if somebody else changes it."""
 
 import os
 import shutil
@@ -22,7 +22,7 @@ def cut_to(size):
 
 
 def replace(path):
-    """Another store takes the path, as a backup that is put in place."""
+    """Another store takes the path, like a backup that is restored."""
     shutil.copy(path, f"{path}.other")
     os.rename(f"{path}.other", path)
 
@@ -42,7 +42,7 @@ def link_to_another(path):
 
 
 def behind_a_second_name(change):
-    """The file gets another name first, which it keeps."""
+    """The file first gets a second name, and keeps it."""
 
     def both(path):
         os.link(path, f"{path}.second")
@@ -51,7 +51,7 @@ def behind_a_second_name(change):
     return both
 
 
-# Each with the name that the server's file has afterwards, where it has one and its size.
+# Each with the name of the server's file afterwards, if it still has a name and its size.
 CHANGES = {
     "cut to nothing": (cut_to(0), None),
     "cut by a byte": (cut_to(SIZE - 1), None),
@@ -67,7 +67,7 @@ CHANGES = {
 
 
 def files_in(folder):
-    """The files of a folder, by their names."""
+    """The contents of a folder's files, by name."""
     found = {}
     for name in os.listdir(folder):
         with open(os.path.join(folder, name), "rb") as file:
@@ -76,7 +76,7 @@ def files_in(folder):
 
 
 def with_records(device, groups, entry, gate=b"\0"):
-    """A device that has so many groups of one entry, once the next one's records are written, with this gate."""
+    """A device with that many groups of one entry, after the records of the next group are written, with this gate."""
     found = bytearray(device)
     _, at, data = Journal(TWO, 0, groups * (5 + TWO.record)).group(entry)[0]
     found[at - 1 : at + len(data)] = gate + data
@@ -84,7 +84,7 @@ def with_records(device, groups, entry, gate=b"\0"):
 
 
 def changed_meanwhile(place):
-    """a served file is cut, made longer, removed, renamed or replaced: no answer follows, but `femem: store device`"""
+    """a served file is cut, extended, removed, renamed or replaced: no answer follows, only `femem: store device`"""
     for number, (name, (change, kept)) in enumerate(CHANGES.items()):
         folder = place.path(f"c{number}")
         os.mkdir(folder)
@@ -100,7 +100,7 @@ def changed_meanwhile(place):
         same(len(client.answers), 3, f"{name}: answers")
         same(server.ended(), (3, "", "femem: store device\n"), name)
         if kept:
-            # one group more, of which the gate is closed (it is behind attached and three answers)
+            # one more group, with a closed gate (before it are an attached and three answers)
             left[kept] = with_records(left[kept], 4, ("attached", 7, 1))
         if "cut" not in name and "longer" not in name:
             same(files_in(there) == left, True, f"{name}: what the files have")
@@ -111,7 +111,7 @@ def changed_meanwhile(place):
 
 
 def renamed_in_a_group(place):
-    """a served file is renamed within a sync of a group: that is not answered, and has an open gate only where it was the second"""
+    """a served file is renamed during a sync of a group: the group is not answered, and its gate is open only after the second sync"""
     for syncs, gate in ((1, b"\0"), (2, b"\1")):
         name = f"sync {syncs}"
         held = Held(place, "fdatasync")
@@ -132,7 +132,7 @@ def renamed_in_a_group(place):
             held.let_go()
             holds(conn.has_ended(), f"{name}: a reply came")
         same(server.ended(), (3, "", "femem: store device\n"), name)
-        # (attached twice, and three answers)
+        # (attached twice, then three answers)
         left = with_records(before, 5, ("finished", 7, 4, WORK[3], wanted[3]), gate)
         same(place.read(f"s{syncs}.store.other") == left, True, f"{name}: the file that was renamed")
         os.rename(f"{server.store}.other", server.store)
@@ -140,7 +140,7 @@ def renamed_in_a_group(place):
 
 
 def by_other_paths(place):
-    """a store is served by a symbolic link, by a path from the server's folder, and by the longest that has room for PATH.new"""
+    """a store is served through a symbolic link, by a relative path, and by the longest path that leaves room for PATH.new"""
     whole = bytes(store.device_of(TWO))
     os.symlink(place.write("file", whole), place.path("link"))
     for name, path in (("link", place.path("link")), ("near", "near"), ("long", "./" * 2043 + "store")):
@@ -155,7 +155,7 @@ def by_other_paths(place):
 
 
 def spoiled():
-    """Right stores of which one byte is changed, or that a newer server wrote: no slot of them is valid."""
+    """Correct stores with one byte changed, or written by a newer server: no slot is valid."""
     base = bytes(store.device_of(TWO, full_state(), [[("attached", 7, 1)]], 3))
     for name, at, byte in (("magic", 0, 0x47), ("gate", GATE, 0x03), ("newer format", 7, 0x33)):
         device = bytearray(base)
@@ -168,13 +168,13 @@ def mode_of(path):
 
 
 def files_of(place, server):
-    """The files of a store, by what their names have behind its path."""
+    """The files of a store, by what follows its path in their names."""
     name = os.path.basename(server.store)
     return {file[len(name) :]: place.read(file) for file in os.listdir(place.folder) if file.startswith(name)}
 
 
 def kept_bytes(place):
-    """a store of which one byte is wrong is formatted only where that is asked for, and only once all of its bytes are in PATH.before-format"""
+    """a store with one wrong byte is formatted only on request, and only once all of its bytes are in PATH.before-format"""
     earlier = None
     for name, device in spoiled():
         server = Server(place, name.replace(" ", "_"), format=False)
@@ -183,7 +183,7 @@ def kept_bytes(place):
         same(files_of(place, server) == {"": device}, True, f"{name}: the file is as it was")
         server.settings["format"] = True
         if earlier is not None:
-            # a copy of other bytes is there: it stays, and so does the store
+            # a copy with other bytes exists: it stays, and so does the store
             place.write(os.path.basename(server.store) + ".before-format", earlier)
             same(server.start(waits=False).ended(), (3, "", "femem: store device\n"), name)
             same(files_of(place, server) == {"": device, ".before-format": earlier}, True, f"{name}: both files are as they were")
@@ -201,7 +201,7 @@ def kept_bytes(place):
 
 
 def nothing_to_keep(place):
-    """a file of zeros, and one that a format left that was broken off, are formatted, and no copy is made"""
+    """a file of zeros, and one left by an interrupted format, are formatted without a copy"""
     whole = bytes(store.device_of(TWO))
     begun = bytearray(whole)
     begun[GATE] = 0
@@ -213,7 +213,7 @@ def nothing_to_keep(place):
 
 
 def modes(place):
-    """a store that is made may be read and written by its owner alone, whatever the umask"""
+    """a new store can be read and written only by its owner, whatever the umask"""
     for mask in (0, 0o022, 0o077):
         before = os.umask(mask)
         try:
@@ -225,7 +225,7 @@ def modes(place):
 
 
 def left_over(place):
-    """what a start that was broken off left under PATH.new is removed by the next; a file of another stays, and keeps a store from being made"""
+    """a PATH.new left by an interrupted start is removed by the next start; anyone else's file stays, and no store is made"""
     whole = bytes(store.device_of(TWO))
     for name, device in (("nothing", b""), ("some zeros", bytes(70000)), ("all zeros", bytes(SIZE)), ("formatted", whole)):
         server = Server(place, name.replace(" ", "_"))
@@ -243,7 +243,7 @@ def left_over(place):
 
 
 def begun_at_once(place):
-    """of several servers that are started at once on a store that is not there, one makes it and serves, and the others end"""
+    """of several servers started at once on a missing store, one makes it and serves, and the others end"""
     for turn in range(6):
         servers = [Server(place, f"t{turn}_{k}", store=place.path(f"store{turn}")).start(waits=False) for k in range(4)]
         until(lambda: sum(server.is_running() for server in servers) == 1, 30, "all but one end")

@@ -1,4 +1,4 @@
-"""Checks and the processes that they start: each check has a folder, a deadline, and leaves no process behind."""
+"""Checks and the processes that they start: each check has a folder and a deadline, and leaves no process running."""
 
 import os
 import resource
@@ -15,15 +15,15 @@ HERE = os.path.dirname(os.path.realpath(__file__))
 
 
 class Wrong(Exception):
-    """A check found something that should not be so."""
+    """A check found something wrong."""
 
 
 class Skipped(Exception):
-    """What a check needs is not on this machine."""
+    """This machine lacks something that a check needs."""
 
 
 class Late(Exception):
-    """A check did not end in its time."""
+    """A check did not end in time."""
 
 
 def same(got, wanted, what=""):
@@ -42,7 +42,7 @@ def short(value):
 
 
 def until(condition, seconds, what):
-    """Waits until the condition holds, and gives what it gave."""
+    """Waits until the condition holds, and returns its value."""
     end = time.monotonic() + seconds
     while True:
         found = condition()
@@ -54,7 +54,7 @@ def until(condition, seconds, what):
 
 
 class Place:
-    """What one check has: the program, a folder of its own, and the processes that it started."""
+    """What a check works with: the program, its own folder, and the processes that it started."""
 
     def __init__(self, program, folder, options):
         self.program = program
@@ -72,8 +72,8 @@ class Place:
         return self.path(name)
 
     def start(self, words, name="program", env=None, stdin=subprocess.DEVNULL, stdout=None, stderr=None, limit=None, group=False):
-        """Starts a process whose output and errors go to files NAME.out and NAME.err, under that limit of the system, if
-        any. With `group` whatever it starts itself ends with it."""
+        """Starts a process whose output and errors go to the files NAME.out and NAME.err, under a resource limit if one is
+        given. With `group` the processes that it starts end with it."""
         how = {"env": {**os.environ, **(env or {})}, "cwd": self.folder, "start_new_session": group}
         if limit:
             how["preexec_fn"] = lambda: resource.setrlimit(limit[0], (limit[1], limit[1]))
@@ -85,7 +85,7 @@ class Place:
         return process
 
     def run(self, *words, given=b"", seconds=30, env=None, stdout=None, closed=""):
-        """Runs the program to its end: its status, output and errors. `closed` are a shell's words that close streams."""
+        """Runs the program to its end: its status, output and errors. `closed` is the shell's syntax that closes streams."""
         shell = ["sh", "-c", f'exec "$0" "$@" {closed}'] if closed else []
         process = self.start([*shell, self.program, *words], "run", env, subprocess.PIPE, stdout)
         try:
@@ -124,7 +124,7 @@ class Server:
         self.process = None
 
     def start(self, env=None, waits=True, limit=None):
-        """Starts the server; it is ready once its socket is there."""
+        """Starts the server; it is ready once its socket exists."""
         lines = [f'socket = "{self.socket}"', f'store = "{self.store}"']
         lines += [f"{key} = {str(value).lower()}" for key, value in self.settings.items()]
         file = self.place.write(f"{self.name}.toml", "".join(line + "\n" for line in lines).encode())
@@ -155,7 +155,7 @@ class Server:
         return self.place.read(f"{self.name}.err").decode()
 
     def ended(self, seconds=30):
-        """Waits for the server's end: its status, output and errors."""
+        """Waits for the server to end: its status, output and errors."""
         try:
             self.process.wait(seconds)
         except subprocess.TimeoutExpired:
@@ -166,7 +166,7 @@ class Server:
         return self.process.poll() is None
 
     def stop(self, signal_number=signal.SIGKILL):
-        """Ends the server where it is, and removes its socket, as its operator has to."""
+        """Kills the server, and removes its socket, as its operator must."""
         self.process.send_signal(signal_number)
         self.process.wait(30)
         if os.path.exists(self.socket):
@@ -180,7 +180,7 @@ class Server:
 
 
 class Held:
-    """A server whose calls of one kind can be held: the environment to start it in, and what holds it."""
+    """Holds a server's calls of one kind: the environment to start the server in, and the files that hold a call."""
 
     def __init__(self, place, call):
         self.asked = place.path("hold")
@@ -188,7 +188,7 @@ class Held:
         self.env = {"LD_PRELOAD": preload(place, "streams.c"), "CALL": call, "HOLD": self.asked, "MARK": self.mark}
 
     def next(self):
-        """From here on the next call is held."""
+        """Holds the next call from now on."""
         with open(self.asked, "wb"):
             pass
 
@@ -252,7 +252,7 @@ def compiler():
 
 
 def preload(place, source):
-    """Compiles a preload, and gives its path."""
+    """Compiles a preload, and returns its path."""
     made = place.path(f"{source}.so")
     words = [compiler(), "-O2", "-shared", "-fPIC", "-o", made, os.path.join(HERE, source), "-ldl"]
     ran = subprocess.run(words, stdin=subprocess.DEVNULL, stdout=subprocess.PIPE, stderr=subprocess.STDOUT, timeout=60)
@@ -275,7 +275,7 @@ def where(error):
 
 
 def within(seconds):
-    """Gives a check another deadline than the usual one."""
+    """Gives a check a deadline of its own."""
 
     def give(check):
         check.seconds = seconds

@@ -1,7 +1,7 @@
 """The whole history of a store that is stopped again and again, read from its file after each stop.
 
-A store keeps an image and the groups behind it. As long as at most one checkpoint is begun between two readings,
-what was read before and the two slots have every entry since the first, and each is checked against the table.
+A store keeps an image and the groups after it. If at most one checkpoint begins between two readings, the earlier
+readings and the two slots together have every entry since the first. Each is checked against the table.
 """
 
 from . import store
@@ -15,22 +15,22 @@ class History:
     def __init__(self, device=None):
         first = lambda: store.slots_of(device)[0].read()[0] if device else State()
         self.state = first()  # after all entries
-        self.base = first()  # at the last image, by the entries before it
+        self.base = first()  # at the last image, computed from the entries before it
         self.entries = []  # those from the base's place on
         self.base_generation = 0
-        self.image = b""  # of that generation
+        self.image = b""  # of base_generation
         self.finished = {}  # (session, life, number): request and answer
         self.lives = {}  # how often a session was closed
         self.attached = {}  # how often a session was attached
         self.checkpoints = 0
         self.cut_checkpoints = 0  # stops within a checkpoint
-        self.spelled = {}  # records of attached entries, which are many
+        self.spelled = {}  # the entries of attached records, since there are many
 
     def read(self, device):
-        """Goes on with what a store holds after a stop."""
+        """Adds what a store holds after a stop."""
         valid = store.slots_of(device)
         for slot in reversed(valid):
-            # (an older slot has what came before the image of the newer one)
+            # (an older slot has the entries before the newer one's image)
             if slot is valid[0] or slot.generation >= self.base_generation:
                 self.read_slot(slot)
         found = store.Slot(bytes(device[valid[0].at ^ store.SLOT :][: 2 * store.IMAGE]), 0)
@@ -54,7 +54,7 @@ class History:
             same(place, self.state.place, "entries that were there before are gone, the place")
 
     def move_base(self, image):
-        """The image has to be the state after the entries before it."""
+        """Checks that the image is the state after the entries before it."""
         count = image.place - self.base.place
         holds(0 <= count <= len(self.entries), f"an image of place {image.place}, with entries from {self.base.place} to {self.state.place}")
         for entry in self.entries[:count]:

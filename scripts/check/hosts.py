@@ -1,8 +1,8 @@
-"""A store on two hosts: a mirror of two network block devices. Either host can go with its device at any moment.
+"""A store on two hosts: a mirror of two network block devices. Either host can fail with its device at any moment.
 
-Each host is a namespace of processes, mounts and network on this machine, with a disk that its own `nbd-server` lends out. The
-active host has QEMU's `quorum` over both disks, which confirms a write and a sync once both disks did; a file system on it, and
-the server. Killing a host's first process kills all of it at once, and what its kernel has not written reaches no disk.
+Each host is a set of namespaces (processes, mounts, network) on this machine, with a disk exported by its own `nbd-server`. The
+active host runs QEMU's `quorum` over both disks, which confirms a write or a sync once both disks have, a file system on that, and
+the server. Killing a host's first process kills the whole host at once, and what it has not written reaches no disk.
 
 Outside the gate: it needs root, /dev/fuse, loop devices and the Debian packages below. `make check-hosts` runs it.
 """
@@ -28,7 +28,7 @@ PORT = 10809
 
 
 class Host:
-    """A host with an address and a disk. What it started ends with it."""
+    """A host with an address and a disk. Its processes end with it."""
 
     def __init__(self, place, name, address):
         self.place = place
@@ -68,7 +68,7 @@ class Host:
         return self.place.start(self.inside(*words), f"{name}.{self.name}")
 
     def lends(self):
-        """Lends its disk out to whoever comes, and confirms a sync once the disk did."""
+        """Exports its disk, and confirms a sync once the disk has."""
         settings = self.place.write(f"nbd.{self.name}", (
             f"[generic]\nuser = root\ngroup = root\nport = {PORT}\n"
             f"[disk]\nexportname = {self.disk}\nflush = true\nfua = true\n"
@@ -77,19 +77,19 @@ class Host:
         until(self.is_lending, 60, f"host {self.name} lends its disk")
 
     def ends(self, name):
-        """Kills what runs on this host under that name: its own processes are all that it sees."""
+        """Kills this host's processes of that name. It sees no others."""
         self.do("sh", "-c", f"for it in $(pgrep -x {name}); do kill -9 $it; done")
 
     def is_lending(self):
         return f":{PORT} " in self.do("ss", "--listening", "--tcp", "--numeric")
 
     def keeps(self):
-        """Lends its disk out no more."""
+        """Stops exporting its disk."""
         self.ends("nbd-server")
         until(lambda: not self.is_lending(), 60, f"host {self.name} keeps its disk")
 
     def mirror(self, hosts, confirmed):
-        """A file that is the disks of both hosts: it confirms a write and a sync once that number of them did."""
+        """A file over both hosts' disks: it confirms a write or a sync once `confirmed` of them have."""
         words = ["driver=raw", "file.driver=quorum", f"file.vote-threshold={confirmed}", "file.read-pattern=fifo"]
         for number, host in enumerate(hosts):
             of = f"file.children.{number}"
@@ -104,7 +104,7 @@ class Host:
         self.fuse = None
 
         def is_file():
-            # (the socket's name is there before anybody listens)
+            # (the socket's file exists before anything listens on it)
             if self.fuse is None or self.fuse.poll() is not None:
                 self.fuse = self.start("fuse", "nbdfuse", file, "--unix", socket)
             return self.do("stat", "--format=%s", file).strip() == str(DISK_BYTES)
@@ -125,12 +125,12 @@ class Host:
         self.do("umount", self.mounted)
 
     def takes_over(self):
-        """Goes on with its own disk alone. What the other host may still have under way does not come here."""
+        """Continues with its own disk alone, out of reach of what the other host still has under way."""
         self.keeps()
         return self.mounts(self.disk)
 
     def dies(self):
-        """All of the host ends at once, and its disk is out of reach."""
+        """The whole host ends at once, and its disk can't be reached."""
         self.holder.kill()
         self.holder.wait()
         until(lambda: not os.path.exists(f"/proc/{self.first}"), 60, "the host has ended")
@@ -143,7 +143,7 @@ class Server:
     def __init__(self, host):
         self.host = host
         self.socket = host.place.path("femem.socket")
-        # (as this process names what only the host has mounted)
+        # (this process's path to what is mounted only in the host)
         self.store = f"/proc/{host.first}/root{host.mounted}/femem.store"
 
     def start(self, is_new=False):
@@ -156,7 +156,7 @@ class Server:
         return self
 
     def stop(self):
-        """Ends the server, and not its host."""
+        """Ends the server but not its host."""
         self.host.ends(os.path.basename(self.host.place.program)[:15])
         self.process.wait(60)
 
@@ -211,9 +211,9 @@ class Pair:
             host.holder.wait()
 
     def link(self):
-        """Links the hosts, and has each of them lend its disk."""
+        """Links the hosts, and makes each export its disk."""
         words = ["ip", "link", "add", "wire", "type", "veth", "peer", "name", "wire", "netns", str(self.hosts[1].first)]
-        # (whose number of the other host's process is the machine's)
+        # (run with the machine's process numbers, which name the other host's process)
         subprocess.run(["nsenter", f"--target={self.hosts[0].first}", "--net", "--", *words], check=True, timeout=30)
         for host in self.hosts:
             host.do("ip", "address", "add", f"{host.address}/24", "dev", "wire")
@@ -222,14 +222,14 @@ class Pair:
         return self.hosts
 
     def returns(self, dead, other):
-        """A dead host comes back with a new disk, and gets a copy of the other's while nobody writes there."""
+        """A dead host comes back with a new disk, a copy of the other host's, which nobody writes meanwhile."""
         shutil.copyfile(other.disk, dead.disk)
         dead.begin()
         self.link()
 
 
 class Crew:
-    """Clients that go on over all hosts."""
+    """Clients that continue on every host."""
 
     def __init__(self, server):
         make_arrays(server)
@@ -243,7 +243,7 @@ class Crew:
         self.load.begin()
 
     def compare(self, server):
-        """What clients were told against what a host's disk has."""
+        """Compares the clients' replies with a host's disk."""
         server.reads(self.history)
         self.load.compare(self.history)
 
@@ -260,7 +260,7 @@ class Crew:
 
 
 def begun(pair, confirmed=2):
-    """The first host serves a new store from both disks."""
+    """Starts a server on the first host, with a new store on both disks."""
     active = pair.hosts[0]
     file = active.mirror(pair.hosts, confirmed)
     active.do("mkfs.ext4", "-q", "-F", file)
@@ -270,7 +270,7 @@ def begun(pair, confirmed=2):
 
 @within(400)
 def taken_over(place):
-    """the active host is killed with its disk under load, the other takes over with its own: all that was answered is there, in turns"""
+    """the active host is killed with its disk under load, the other takes over with its own, in turns: everything answered is there"""
     with Pair(place) as pair:
         active, other = pair.hosts
         server = begun(pair)
@@ -302,7 +302,7 @@ def taken_over(place):
 
 @within(120)
 def peer_is_lost(place):
-    """the other host is killed under load: the server ends with `femem: store device`, and either disk has all that was answered"""
+    """the other host is killed under load: the server ends with `femem: store device`, and both disks have everything answered"""
     with Pair(place) as pair:
         active, other = pair.hosts
         server = begun(pair)
@@ -316,7 +316,7 @@ def peer_is_lost(place):
         answered = crew.load.answered
         holds(answered >= 300, f"only {answered} answers")
         active.dies()
-        # Each disk alone, on a host that begins anew. (One may have a group that the other has not: nobody was answered for it.)
+        # Each disk alone, on a restarted host. (One may have a group that the other lacks: that group was not answered.)
         told = {client: list(client.told) for client in crew.load.clients}
         for host in (active, other):
             os.rename(f"{host.disk}.gone", host.disk)
@@ -330,7 +330,7 @@ def peer_is_lost(place):
 
 
 def is_still(load):
-    """Whether nobody was answered for a second."""
+    """Whether no client gets an answer for a second."""
     before = load.answered
     time.sleep(1)
     return load.answered == before
@@ -338,14 +338,14 @@ def is_still(load):
 
 @within(120)
 def wire_is_cut(place):
-    """the wire is cut under load and no word comes of it: nobody is answered from then on, and the other host has what was answered"""
+    """the wire is cut under load, without an error: from then on no client is answered, and the other host has everything answered"""
     with Pair(place) as pair:
         active, other = pair.hosts
         crew = Crew(begun(pair))
         crew.over(crew.load.server)
         crew.load.wait_for(lambda: crew.load.answered >= 300, 30)
         other.do("ip", "link", "set", "wire", "down")
-        # (what was confirmed before is still on its way to the clients for a moment)
+        # (for a moment, answers confirmed before are still on their way to the clients)
         until(lambda: is_still(crew.load), 30, "nobody is answered")
         answered = crew.load.answered
         time.sleep(1.5)
@@ -359,7 +359,7 @@ def wire_is_cut(place):
 
 @within(120)
 def one_side_is_not_enough(place):
-    """where a mirror confirms what one disk has, the same check finds answers that the other host lost"""
+    """with a mirror that confirms what one disk has, the same check finds answers that the other host lost"""
     with Pair(place) as pair:
         active, other = pair.hosts
         server = begun(pair, confirmed=1)

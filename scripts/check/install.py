@@ -1,4 +1,4 @@
-"""What is installed beside the package: the program, the C library, the Python client, and what `make dist` puts together."""
+"""What is installed without the package: the program, the C library, the Python client; and what `make dist` produces."""
 
 import os
 import re
@@ -19,7 +19,7 @@ SOCKET, STORE = "/run/femem/femem.socket", "/var/lib/femem/femem.store"
 
 
 def done(place, words, name="made", env=None, status=0):
-    """Runs a command to its end, and gives what it printed."""
+    """Runs a command to its end, and returns its output."""
     process = place.start(words, name, env, group=True)
     process.wait()
     said = place.read(f"{name}.out").decode(errors="replace")
@@ -29,8 +29,8 @@ def done(place, words, name="made", env=None, status=0):
 
 
 def program(place):
-    """`make install` puts the program into a prefix, byte for byte, and its man pages"""
-    # (-o: it is not proved anew here, however old it is)
+    """`make install` puts the program, byte for byte, and its man pages into a prefix"""
+    # (-o: it is not proved again here, however old it is)
     words = ["make", "-s", "-C", TOP, "-o", place.program, f"PROVED={place.program}", "PREFIX=/usr", f"DESTDIR={place.path('root')}"]
     done(place, [*words, "install"])
     installed = place.path("root/usr/bin/femem")
@@ -42,7 +42,7 @@ def program(place):
 
 
 def flags(pc, field, root):
-    """What femem.pc tells a compiler, where the system it was installed into is below a root."""
+    """The flags that femem.pc gives a compiler, for an installation below a root."""
     values = dict(re.findall(r"^(\w+)=(.*)$", pc, re.M))
     text = re.search(rf"^{field}: (.*)$", pc, re.M)[1]
     while found := re.search(r"\$\{(\w+)\}", text):
@@ -52,7 +52,7 @@ def flags(pc, field, root):
 
 @within(120)
 def c(place):
-    """`make install` of the C library: a program built by what femem.pc says works with a server, and libfemem(3) is well formed"""
+    """`make install` of the C library: a program built with femem.pc's flags works with a server, and libfemem(3) is well formed"""
     root = place.path("root")
     done(place, ["make", "-s", "-C", os.path.join(TOP, "clients", "c"), "install", "PREFIX=/usr", f"DESTDIR={root}"])
     for name in ("include/femem.h", "lib/libfemem.a", "lib/libfemem.so", "lib/libfemem.so.1", "lib/pkgconfig/femem.pc"):
@@ -82,7 +82,7 @@ def wheel(folder):
 
 
 def recorded(place, name="record", **changed):
-    """A record of the program that is tried and the sources that are here, which says that it is none of a proof."""
+    """A record of the program under test and the present sources, which says that it is not from a proof."""
     fields = {
         "program": record.sum_of(place.program), "sources": record.sources(), "commit": "none", "toolchain": "none",
         "by": "scripts/check/install.py, which proves nothing", **changed,
@@ -92,10 +92,10 @@ def recorded(place, name="record", **changed):
 
 @within(180)
 def dist(place):
-    """`make dist` puts package, wheel, C library, sums and record into one folder, twice the same; the wheel's client works"""
+    """`make dist` puts package, wheel, C library, sums and record into one folder, the same ones twice; the wheel's client works"""
     folder = place.path("dist")
     words = [os.path.join(TOP, "scripts", "dist"), place.program, recorded(place), folder]
-    # (a commit that is made meanwhile would be another time)
+    # (a commit made meanwhile would change the time)
     epoch = {"SOURCE_DATE_EPOCH": str(pages.epoch())}
     done(place, words, env=epoch)
     with open(os.path.join(folder, "SHA256SUMS"), encoding="ascii") as file:
@@ -119,7 +119,7 @@ def dist(place):
 
 
 def dist_refuses(place):
-    """`make dist` refuses a program without a record, with another program's, and with that of other sources"""
+    """`make dist` refuses a program without a record, with another program's record, and with a record of other sources"""
     folder = place.path("dist")
     words = [os.path.join(TOP, "scripts", "dist"), place.program]
     for fault, path in (
@@ -130,7 +130,7 @@ def dist_refuses(place):
         said = done(place, [*words, path, folder], status=1)
         holds(fault in said, f"{fault}: {said}")
         holds(not os.path.exists(folder), "something was released")
-    # a source that differs by one byte is another source
+    # one changed byte makes it another source
     copy = place.path("copy")
     for name in ("crates.txt", "HANDLES", "crates/fe_words"):
         there = os.path.join(copy, name)
@@ -145,7 +145,7 @@ def dist_refuses(place):
 
 
 def tracked():
-    """The repository's texts: their paths and what they say."""
+    """The repository's text files: their paths and contents."""
     listed = subprocess.run(["git", "-C", TOP, "ls-files", "-z"], capture_output=True, check=True, text=True).stdout
     for name in listed.split("\0"):
         if name.endswith((".md", ".service", ".toml", ".c", ".h", ".py", ".pc.in", ".3")) and os.path.exists(os.path.join(TOP, name)):
@@ -154,7 +154,7 @@ def tracked():
 
 
 def one_path(place):
-    """every text that names a system's socket or store names the one path of each"""
+    """every text that names the system's socket or store has the same path for it"""
     strays = []
     count = 0
     for name, text in tracked():
@@ -169,7 +169,7 @@ def one_path(place):
 
 
 def one_version(place):
-    """the clients have the version of CHANGELOG.md"""
+    """the clients' version is that of CHANGELOG.md"""
     with open(os.path.join(TOP, "clients", "python", "pyproject.toml"), encoding="utf-8") as file:
         same(re.search(r'^version = "(.*)"$', file.read(), re.M)[1], pages.version(), "the Python client")
 

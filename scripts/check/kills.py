@@ -1,4 +1,4 @@
-"""A server that is killed under load again and again, and started on the same store."""
+"""A server that is killed under load again and again, and restarted on the same store."""
 
 import os
 import random
@@ -10,22 +10,22 @@ from .harness import Server, Wrong, holds, same, until, within
 from .history import History
 from .model import State
 
-ENTRIES_A_ROUND = 5500  # so that at most one checkpoint begins in it
-SECONDS_A_KILL = 0.4  # what is aimed at
+ENTRIES_A_ROUND = 5500  # few enough that at most one checkpoint begins in a round
+SECONDS_A_KILL = 0.4  # the target
 MIGRATIONS = 12
 COUNTERS, HANDS = 1, 2
 SETTER = 99  # the session that makes the arrays
 
 
 class Client:
-    """A client that keeps its session, its numbers and what is unanswered over the stops of the server."""
+    """A client that keeps its session, its numbers and its unanswered requests when the server stops."""
 
     window = 1
-    most = None  # how many requests there are at most, once it is told to come to an end
+    most = None  # the maximum number of requests, once it is asked to finish
 
     def __init__(self, session):
         self.session = session
-        self.life = 0  # how often it said good-bye
+        self.life = 0  # how often it said bye
         self.welcomes = 0
         self.told = []  # (life, number, request, answer)
         self.sent = {}  # (life, number): the requests that were sent under the number
@@ -34,7 +34,7 @@ class Client:
     def begin_life(self):
         self.floor = 1
         self.next = 1
-        self.open = {}  # number: request that is not answered
+        self.open = {}  # number: unanswered request
         self.answers = {}  # number: answer
         self.settling = None
         self.is_leaving = False
@@ -43,10 +43,10 @@ class Client:
         """The next request, or None."""
 
     def take(self, request, answer):
-        """What an answer does."""
+        """Handles an answer."""
 
     def is_done(self):
-        """Whether nothing more is wanted, once it is told to come to an end."""
+        """Whether nothing is left to do, once it is asked to finish."""
         return not self.open and self.settling is None and not self.is_leaving
 
     def is_cancelled(self, request):
@@ -56,9 +56,9 @@ class Client:
         return False
 
     def over(self, conn, load):
-        """Goes on over a new connection, until it ends or all is done."""
+        """Continues over a new connection, until it ends or all is done."""
         self.attach(conn)
-        # what is unanswered goes again, under the same numbers
+        # unanswered requests are sent again, under the same numbers
         for number, request in sorted(self.open.items()):
             self.send(conn, number, request)
         while True:
@@ -141,7 +141,7 @@ class Adder(Client):
 
 
 class Hand(Client):
-    """One side of a word that is filled and emptied in turn."""
+    """One of the two clients that fill and empty a word in turn."""
 
     def __init__(self, session, index, window):
         super().__init__(session)
@@ -178,7 +178,7 @@ class Consumer(Hand):
 
 
 class Restless(Client):
-    """Makes arrays and removes them, lets requests be withdrawn, and says good-bye."""
+    """Creates and removes arrays, has requests withdrawn, and says bye."""
 
     def __init__(self, session):
         super().__init__(session)
@@ -197,7 +197,7 @@ class Restless(Client):
                 word(17),
                 word(16),
                 word(16, nowait=True),
-                word(17),  # waits for ever, and is withdrawn
+                word(17),  # waits until it is withdrawn
                 lambda: ("find", name),
                 lambda: ("remove", self.array),
                 lambda: ("find", name),
@@ -205,7 +205,7 @@ class Restless(Client):
         return self.plan.pop(0)()
 
     def is_cancelled(self, request):
-        # (after three requests that are answered at once the word is empty)
+        # (the word is empty after three requests, which are answered at once)
         return request is not None and request[0] == "access" and request[1] == 17 and len(self.plan) == 3
 
     def wants_to_leave(self):
@@ -229,7 +229,7 @@ class Restless(Client):
 
 
 class Storm(Client):
-    """Attaches its session again and again, which fills the journal, so that checkpoints come."""
+    """Attaches its session again and again, to fill the journal and cause checkpoints."""
 
     burst = 100
 
@@ -241,13 +241,13 @@ class Storm(Client):
                 same(conn.piece(len(welcomes)), welcomes)
                 self.welcomes += self.burst
             else:
-                # (where the server is gone it is seen here)
+                # (this shows whether the server is gone)
                 conn.ask(wire.report())
                 time.sleep(0.005)
 
 
 class Load:
-    """Clients over one life of the server after the other."""
+    """Clients over successive lives of the server."""
 
     def __init__(self, server, clients):
         self.server = server
@@ -258,7 +258,7 @@ class Load:
         self.raised = []
 
     def allows(self, count=1):
-        """Whether so many entries more may be asked for in this round."""
+        """Whether `count` more entries may be requested in this round."""
         if self.left < count:
             return False
         self.left -= count
@@ -282,18 +282,18 @@ class Load:
             self.raised.append(error)
 
     def wait_for(self, condition, seconds):
-        """Waits until the condition holds, or so much time has passed."""
+        """Waits until the condition holds, for that many seconds at most."""
         ends = time.monotonic() + seconds
         while not condition() and time.monotonic() < ends and not self.raised:
             time.sleep(0.001)
 
     def wait_for_some(self, seconds):
-        """Waits until some answers came in this round."""
+        """Waits for some answers in this round."""
         wanted = random.randrange(1500)
         self.wait_for(lambda: self.answered >= wanted, random.uniform(0.2, 1) * seconds)
 
     def wait_for_checkpoint(self, seconds):
-        """Waits until a checkpoint has begun, and then for a part of it."""
+        """Waits until a checkpoint has begun, and then a random moment longer."""
         with open(self.server.store, "rb") as file:
             generations = lambda: [os.pread(file.fileno(), 8, at + 8) for at in (0, store.SLOT)]
             before = generations()
@@ -308,7 +308,7 @@ class Load:
             raise self.raised[0]
 
     def compare(self, history):
-        """What clients were told, against the history: kept, once, and only what was asked."""
+        """Compares the clients' replies with the history: each answer is kept, took effect once, and is to its request."""
         for client in self.clients:
             for life, number, request, answer in client.told:
                 found = history.finished.get((client.session, life, number))
@@ -318,7 +318,7 @@ class Load:
 
 
 def asked_for(history, load):
-    """Every entry is of a request that its client sent, under that number."""
+    """Every entry has a request that its client sent under that number."""
     sent = {(client.session, *key): requests for client in load.clients for key, requests in client.sent.items()}
     for key, (request, _) in history.finished.items():
         if key[0] != SETTER:
@@ -332,7 +332,7 @@ def make_arrays(server):
 
 
 class Crew:
-    """Who is there while the server is killed a hundred times."""
+    """The clients of a server that is killed a hundred times."""
 
     def __init__(self):
         self.adders = [Adder(session, session % 3) for session in range(1, 5)]
@@ -341,13 +341,13 @@ class Crew:
         self.all = [*self.adders, *(it for pair in self.pairs for it in pair), *self.others]
 
     def finish(self, load):
-        """A last life of the server, in which all that is open comes to its end."""
+        """A last life of the server, in which every open request ends."""
         for producer, consumer in self.pairs:
             producer.most = consumer.most = max(producer.count, consumer.count)
         finish(load)
 
     def sums(self, state):
-        """What the words hold at the end, and what was handed over."""
+        """Checks what the words hold at the end, and what was handed over."""
         for index in range(3):
             counted(state, index, [it for it in self.adders if it.index == index])
         for producer, consumer in self.pairs:
@@ -359,7 +359,7 @@ class Crew:
 
 
 def counted(state, index, adders):
-    """A counter has been raised once for each answer, and each answer has another value."""
+    """A counter was raised once for each answer, and each answer has a different value."""
     values = sorted(value for it in adders for value in it.values)
     same(values, list(range(len(values))), f"what was answered of counter {index}")
     same(state.arrays[COUNTERS].words[index], (len(values), 1), f"counter {index}")
@@ -373,7 +373,7 @@ def finish(load):
 
 @within(420)
 def killed(place):
-    """the server is killed under load and started again: every answer is kept, each number took effect once, nothing is skipped"""
+    """the server is killed under load and restarted: every answer is kept, each number takes effect once, nothing is skipped"""
     server = Server(place, connections=100).start()
     make_arrays(server)
     crew = Crew()
@@ -389,7 +389,7 @@ def killed(place):
         read(server, history, load)
         server.start(waits=False)
         if random.random() < 0.1:
-            # within its start
+            # while it starts
             time.sleep(random.uniform(0, 0.02))
             server.stop()
             server.start(waits=False)
@@ -419,7 +419,7 @@ def store_of_format_1():
 
 @within(120)
 def killed_in_migrations(place):
-    """stores of format 1 whose server is killed as they move to format 2, with the same"""
+    """stores of format 1 whose server is killed while they move to format 2, with the same result"""
     first = store_of_format_1()
     cut = 0
     for turn in range(MIGRATIONS):
@@ -450,7 +450,7 @@ def read(server, history, load):
 
 @within(90)
 def killed_in_its_beginning(place):
-    """a server that is killed while it makes its store, at some moment: the next one serves, and nothing is left beside the store"""
+    """a server is killed at a random moment while it makes its store: the next one serves, and nothing but the store is left"""
     began = time.monotonic()
     Server(place, "whole").start().stop()
     seconds, begun = time.monotonic() - began, 0

@@ -1,4 +1,4 @@
-"""Lines on standard error, and statuses."""
+"""Messages on standard error, and exit statuses."""
 
 import os
 import socket
@@ -15,7 +15,7 @@ MORE = b"\n\nFor more information, try '--help'.\n"
 
 
 def words(place):
-    """wrong words of the command line are told, with status 2 and no output"""
+    """wrong command lines are reported, with status 2 and no output"""
     name = os.path.basename(place.program).encode()
     usage = b"\n\nUsage: " + name
     missing = lambda option, command: b"the following required arguments were not provided:\n  " + option + usage + b" " + command + b" " + option
@@ -27,14 +27,14 @@ def words(place):
         (("look",), missing(b"--store <PATH>", b"look")),
         (("look", "--store"), b"a value is required for '--store <PATH>' but none was supplied"),
         (("run", "more"), b"unexpected argument 'more' found" + usage + b" run"),
-        # (here the words that would give the program's name are not read)
+        # (this error comes before the program's name is read from its arguments)
         (("look", "--store", b"\xff"), b"invalid UTF-8 was detected in one or more arguments\n\nUsage: femem <COMMAND>"),
     ):
         same(place.run(*given), (2, b"", b"error: " + said + MORE), given)
 
 
 def commands(place):
-    """an option's value stands behind a blank or `=`, and may have blanks"""
+    """an option's value follows a space or `=`, and may contain spaces"""
     store = place.write("a b", bytes(device_of(TWO)))
     for given in (("look", "--store", store), ("look", f"--store={store}")):
         same(place.run(*given), (0, b"place 0\n", b""), given)
@@ -45,7 +45,7 @@ def commands(place):
 
 
 def help_and_version(place):
-    """help and version are shown, with status 0; where they can't be written it is `femem: input`"""
+    """help and version are shown, with status 0; if they can't be written it is `femem: input`"""
     for given in (("--help",), ("help",), ("-h",)):
         status, output, errors = place.run(*given)
         same((status, errors), (0, b""), given)
@@ -69,7 +69,7 @@ def refused(place, text, line, status=2):
 
 
 def settings_unreadable(place):
-    """settings that can't be read, and settings that are no TOML"""
+    """settings that can't be read, and settings that are not TOML"""
     same(place.run("serve", "--settings", place.path("none")), (2, b"", b"femem: settings: unreadable\n"))
     same(place.run("serve", "--settings", place.folder), (2, b"", b"femem: settings: unreadable\n"))
     refused(place, b'socket = "\xff"\n', "settings: unreadable")
@@ -78,12 +78,12 @@ def settings_unreadable(place):
 
 
 def settings_in_order(place):
-    """the first wrong key is told, in the order of docs/settings.md, and an unknown key last"""
+    """the first wrong key in the order of docs/settings.md is reported, and an unknown key last"""
     wrong = {"socket": "1", "store": "true", "connections": "0", "format": "1", "accepts": "-1", "turns": "0"}
     right = {"socket": '"x.socket"', "store": '"x.store"', "connections": "1", "format": "false", "accepts": "0", "turns": "1"}
     keys = list(wrong)
     for at, key in enumerate(keys):
-        # (the later keys are wrong too, and stand before it in the text)
+        # (the later keys are wrong too, and come before it in the file)
         lines = ["more = 1"] + [f"{it} = {wrong[it]}" for it in reversed(keys[at:])] + [f"{it} = {right[it]}" for it in keys[:at]]
         refused(place, "\n".join(lines), f"settings: {key}")
     refused(place, "\n".join(["more = 1"] + [f"{it} = {right[it]}" for it in keys]), "settings: unknown key")
@@ -94,7 +94,7 @@ def settings_in_order(place):
 
 
 def settings_bounds(place):
-    """the bounds of each setting, from both sides"""
+    """the bounds of each setting, just inside and just outside"""
     for key, values in {
         "connections": ("257", "-1", "1.0", '"1"', "true", "[1]", "9223372036854775807"),
         "format": ("0", '"true"', "[]"),
@@ -106,13 +106,13 @@ def settings_bounds(place):
         for value in values:
             others = "".join(line + "\n" for line in PATHS.splitlines() if not line.startswith(key))
             refused(place, f"{others}{key} = {value}\n", f"settings: {key}")
-    # the store isn't there, so settings that are right go on to `femem: store device`
+    # the store doesn't exist, so right settings end with `femem: store device`
     for line in ("connections = 1", "connections = 256", "format = false", "accepts = 0", "accepts = 65536", "turns = 1", "turns = 0x100_0000_0000", "accepts = 65_536", "# none"):
         refused(place, PATHS + line + "\n", "store device", 3)
 
 
 def settings_values(place):
-    """what the settings say holds, in each form of TOML; 64 connections where nothing is said"""
+    """the server follows its settings, in each form of TOML; it serves 64 connections by default"""
     shown = b"waiting 0\n"
     report = lambda server: place.run("call", "--socket", server.socket, given=b"report\n")
     usual = Server(place, "usual").start()
@@ -122,7 +122,7 @@ def settings_values(place):
         holds(late.has_ended(), "the 65th connection was served")
     for conn in conns:
         conn.close()
-    # (numbers as in no schedule, and a text that is taken as it stands)
+    # (numbers in forms that no schedule has, and a literal string)
     few = Server(place, "few", connections="0x1", accepts="0b10", turns="0o2", store=place.path("a b")).start()
     with few.connect() as conn:
         same(conn.ask(wire.report())[0], "report")
@@ -137,7 +137,7 @@ def settings_values(place):
 
 
 def store_refusals(place):
-    """a store that is missing, of another size, unformatted or no file, by `serve` and `look`"""
+    """a store that is missing, of a wrong size, unformatted or not a file, with `serve` and `look`"""
     new = device_of(TWO)
     for name, content, line in (
         ("none", None, "store device"),
@@ -161,7 +161,7 @@ def store_refusals(place):
 
 
 def formats(place):
-    """`format = true` makes a store where none is, and leaves one that is there as it is"""
+    """`format = true` makes a missing store, and leaves an existing one as it is"""
     server = Server(place, store=place.write("zeros", bytes(SIZE)), format=True).start()
     server.attached(7).close()
     server.stop()
@@ -178,7 +178,7 @@ def formats(place):
 
 
 def sockets(place):
-    """a path of the socket that is taken, too long or without a folder is `femem: socket`, after any fault of the store"""
+    """a socket path that is taken, too long or in a missing folder is `femem: socket`; a fault of the store comes first"""
     store = place.write("store", bytes(device_of(TWO)))
     with socket.socket(socket.AF_UNIX) as dead:
         dead.bind(place.path("dead"))
@@ -188,7 +188,7 @@ def sockets(place):
         for fault, content in (("store device", None), ("store size 10", b"0123456789"), ("store unformatted", bytes(SIZE))):
             other = place.path("none") if content is None else place.write("other", content)
             refused(place, f'socket = "{path}"\nstore = "{other}"\n', fault, 3)
-    # the store is made, and then the socket is not
+    # the store is made, then the socket fails
     made = place.path("made")
     refused(place, f'socket = "{place.path("file")}"\nstore = "{made}"\nformat = true\n', "socket", 4)
     same(place.run("look", "--store", made), (0, b"place 0\n", b""))
@@ -197,7 +197,7 @@ def sockets(place):
 
 
 def two_servers(place):
-    """a second server on the same store or socket is refused, a look is not, and the first goes on"""
+    """a second server on the same store or socket is refused, a look is not, and the first server goes on"""
     first = Server(place).start()
     text = f'store = "{first.store}"\n'
     refused(place, f'socket = "{place.path("x.socket")}"\n' + text, "store device", 3)
@@ -211,7 +211,7 @@ def two_servers(place):
 
 
 def run_faults(place):
-    """`run`: a wrong line, and an output that is full"""
+    """`run`: a wrong line, and a full output"""
     same(place.run("run", given=b"c1 attach 7\n\nc1 jump\nc1 bye\n"), (2, b"c1 welcome 7 1\n", b"femem: line 3\n"))
     same(place.run("run", given=b"c1 attach 7\r\n"), (2, b"", b"femem: line 1\n"))
     same(place.run("run", given=b""), (0, b"", b""))
@@ -221,7 +221,7 @@ def run_faults(place):
 
 
 def call_faults(place):
-    """`call`: no server, a wrong line, an output that is full"""
+    """`call`: no server, a wrong line, a full output"""
     same(place.run("call", "--socket", place.path("none"), given=b"attach 7\n"), (4, b"", b"femem: socket\n"))
     server = Server(place).start()
     ask = lambda given, **how: place.run("call", "--socket", server.socket, given=given, **how)
@@ -235,7 +235,7 @@ def call_faults(place):
 
 
 def call_and_wrong_servers(place):
-    """`call`: a server that ends, breaks off in a frame, or writes what is no frame, is `femem: socket`"""
+    """`call`: a server that ends, stops within a frame, or sends an invalid frame is `femem: socket`"""
     welcome = wire.framed(65, bytes(7) + b"\7" + bytes(7) + b"\1")
     same(wire.reply_of(welcome[4:]), ("welcome", 7, 1), "the frame of this check")
     for number, (written, shown) in enumerate(
@@ -266,7 +266,7 @@ def call_and_wrong_servers(place):
 
 
 def serve_once(listener, written):
-    """Reads something, writes that, and ends the connection once the client has."""
+    """Reads something, writes those bytes, and ends the connection once the client has."""
     conn, _ = listener.accept()
     with conn:
         conn.settimeout(5)

@@ -12,16 +12,16 @@ from .model import State
 LOOKS = 1000
 LEAST_CHECKPOINTS = 5
 CALLS = 15  # between two settles
-BIG = 60000  # words, so that a checkpoint has nine slices
+BIG = 60000  # words: a checkpoint then has nine slices
 
 
 class Load:
-    """A client with one connection, whose messages make an entry each, in their order, until it is stopped."""
+    """A client with one connection, each of whose messages makes one entry, in order, until it is stopped."""
 
     def __init__(self, server):
         self.server = server
-        self.state = State()  # after all that was asked
-        self.entries = collections.deque()  # all that were asked, until they are taken
+        self.state = State()  # after everything requested
+        self.entries = collections.deque()  # those requested and not yet taken
         self.asked = 0
         self.answered = 0
         self.is_ending = False
@@ -35,7 +35,7 @@ class Load:
         self.asked += 1
 
     def call(self, number, request):
-        """What is sent, and the reply to it."""
+        """A message, and the expected reply."""
         answer = self.state.answer_to(request)
         self.add(("finished", 7, number, request, answer))
         return wire.call(number, request), ("answer", number, answer)
@@ -45,7 +45,7 @@ class Load:
         return wire.settle(floor), ("settled", floor)
 
     def round(self, number):
-        """Adds to a word, and makes an array, finds it and removes it."""
+        """Adds to a word; creates an array, finds it and removes it."""
         name, id = b"r%d" % number, self.state.next_id
         requests = [adding(1, 0, 1)] * (CALLS - 3) + [("create", name, 3, 1), ("find", name), ("remove", id)]
         said = [self.call(number + k, request) for k, request in enumerate(requests)]
@@ -79,14 +79,14 @@ class Load:
 
 
 def generation(path):
-    """That of the slot that counts, in a store that nobody writes."""
+    """The generation of the slot that counts, in a store that is not being written."""
     with open(path, "rb") as file:
         return store.slots_of(file.read())[0].generation
 
 
 @within(400)
 def while_served(place):
-    """a thousand looks at a store that a server writes, with checkpoints: each succeeds, shows the state of the history at its place, and that never falls"""
+    """a thousand looks at a store that a server writes, with checkpoints: each succeeds and shows the state at its place, which never falls"""
     server = Server(place).start()
     load = Load(server)
     until(lambda: load.answered > 100 or load.raised, 30, "the load begins")
@@ -95,7 +95,7 @@ def while_served(place):
     for number in range(LOOKS):
         answered = load.answered
         text = server.looks()
-        # (what a look shows was stored before it ended, so it was asked before)
+        # (what a look shows was stored before the look ended, so it was requested before)
         asked = load.asked
         at = int(text.split("\n", 1)[0].removeprefix("place "))
         holds(max(answered, last) <= at <= asked, f"look {number}: place {at}, after {last}; {answered} were answered, {asked} asked")
@@ -114,7 +114,7 @@ def while_served(place):
 
 
 def beside_one_that_starts(place):
-    """a look that goes on keeps no server from its store, and a server that runs keeps no look from it"""
+    """a running look does not keep a server from its store, nor a running server a look"""
     server = Server(place).start()
     same(server.looks(), "place 0\n")
     server.attached(7).close()

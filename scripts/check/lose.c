@@ -1,10 +1,10 @@
-/* A preload that is the system's memory over a device of which one sync fails, as Linux has it: the fdatasync of number
-   FAIL_SYNC, counted from 1, fails with EIO; the pages that were written since the sync before are not on the device, yet count
-   as written. Whoever reads the file is shown them, until the system forgets its pages (POSIX_FADV_DONTNEED): then the old
-   bytes come back. A page that is written again is whole on the device behind the next sync.
+/* A preload that acts like Linux's page cache when a sync of its device fails: fdatasync number FAIL_SYNC, counted from 1,
+   fails with EIO; the pages written since the sync before are not on the device, yet count as written. Reads return them
+   until the system drops its pages (POSIX_FADV_DONTNEED): then the old bytes come back. A page that is written again is
+   whole on the device after the next sync.
 
-   The file is that of the path STORE. What the device has of the pages that were lost stands in the file LOST, for the next
-   process: the number of each page in 8 bytes, and its bytes. */
+   STORE is the path of the file. The file LOST keeps what the device has in place of the lost pages, for the next process:
+   the number of each page in 8 bytes, and its bytes. */
 #define _GNU_SOURCE
 #include <dlfcn.h>
 #include <errno.h>
@@ -20,7 +20,7 @@
 #define PAGE 4096
 #define PAGES 1026
 
-/* Of a page that is not known to be on the device: what the device has in its place. */
+/* Of each page that may not be on the device, `olds` has the device's bytes. */
 enum state { ON_DEVICE, DIRTY, LOST };
 
 static pthread_mutex_t lock = PTHREAD_MUTEX_INITIALIZER;

@@ -1,4 +1,4 @@
-"""The man pages: `man` has nothing against them, and they have all that their documents have."""
+"""The man pages: `man` has no warnings for them, and they have everything that their documents have."""
 
 import collections
 import os
@@ -13,7 +13,7 @@ sys.path.insert(0, os.path.normpath(os.path.join(os.path.dirname(os.path.realpat
 
 from release import pages  # noqa: E402
 
-# What a user meets, by the program's own words and not by the documents.
+# What a user meets, taken from the program's source and not from the documents.
 COMMANDS = ("femem run", "femem serve --settings FILE", "femem call --socket PATH", "femem look --store PATH", "femem help")
 LINES = (
     "femem: settings: unreadable", "femem: settings: not toml", "femem: settings: KEY", "femem: settings: unknown key",
@@ -25,7 +25,7 @@ FAULTS = re.compile(r'^ *#\[error\("(femem: [^"]+)"\)\]$', re.M)
 
 
 def needs_man():
-    """`man`, which Debian's package man-db has."""
+    """Needs `man`, from Debian's package man-db."""
     if not shutil.which("man"):
         words = "apt-get -q update && apt-get -q install -y --no-install-recommends man-db"
         subprocess.run(["sh", "-c", words], capture_output=True, timeout=300)
@@ -33,7 +33,7 @@ def needs_man():
 
 
 def made(place):
-    """Makes the pages: their paths."""
+    """Makes the pages. Returns their paths."""
     process = place.start([os.path.join(pages.TOP, "scripts", "man_pages"), place.path("man")], "man_pages")
     process.wait()
     same(process.returncode, 0, place.read("man_pages.err").decode())
@@ -41,7 +41,7 @@ def made(place):
 
 
 def shown(path):
-    """What `man` shows of a page, in one line without the marks of its terminal, and what it has to say of it."""
+    """What `man` shows of a page, as one line without terminal codes, and its warnings."""
     env = {**os.environ, "LC_ALL": "C.UTF-8", "MANWIDTH": "500", "MANPAGER": "cat", "GROFF_NO_SGR": "1", "MANROFFSEQ": ""}
     ran = subprocess.run(["man", "--warnings", "-E", "UTF-8", "-l", path], env=env, capture_output=True, timeout=60)
     same(ran.returncode, 0, ran.stderr.decode())
@@ -49,7 +49,7 @@ def shown(path):
 
 
 def is_well_formed(path):
-    """`man --warnings` has nothing against a page, and shows more than its title."""
+    """Checks that `man --warnings` has no warning for a page and shows more than its title."""
     needs_man()
     env = {**os.environ, "LC_ALL": "C.UTF-8", "MANWIDTH": "80", "MANROFFSEQ": ""}
     ran = subprocess.run(["man", "--warnings", "-E", "UTF-8", "-l", "-Tutf8", path], env=env, capture_output=True, timeout=60)
@@ -58,7 +58,7 @@ def is_well_formed(path):
 
 
 def warnings(place):
-    """`man --warnings` says nothing against any page, at the width of a terminal"""
+    """`man --warnings` has no warning for any page, at the width of a terminal"""
     for path in made(place):
         is_well_formed(path)
     return f"{len(pages.PAGES)} pages"
@@ -69,7 +69,7 @@ def words(text):
 
 
 def told(place):
-    """each word of the documents is in their page, each command, fault and setting in femem(1) and femem.toml(5)"""
+    """each word of the documents is in their page, and each command, fault and setting in femem(1) and femem.toml(5)"""
     needs_man()
     found = {}
     for path, (name, number, _, parts, _) in zip(made(place), pages.PAGES):
@@ -77,18 +77,18 @@ def told(place):
         same(said, "", name)
         for document, wanted in parts:
             lines = pages.sections_of(pages.document(document), wanted)
-            # (a heading is in capitals there, a link's target is not shown, and the rule below a table's head neither)
+            # (the page has headings in capitals, and shows neither the targets of links nor the rule below a table's head)
             text = re.sub(r"\]\([^)]*\)", "]", "\n".join(it for it in lines if not it.startswith("## ")))
             text = re.sub(r"\[`?(settings|formats)\.md`?\]", "", text)
             lost = words(text) - words(found[name])
-            # (the head of a table's first two columns is not repeated where a row becomes a paragraph)
+            # (where rows become paragraphs, the heads of a table's first two columns are not shown)
             heads = words(" ".join(line for line, below in zip(lines, lines[1:]) if re.fullmatch(r"[|\- ]+", below) and "|" in below))
             same(dict(lost - heads), {}, f"{name}({number}) of {document}: what it lacks")
     for it in (*COMMANDS, *LINES):
         holds(it in found["femem"], f"femem(1) does not have: {it}")
     for it in KEYS:
         holds(re.search(rf"\b{it}\b", found["femem.toml"]), f"femem.toml(5) does not have: {it}")
-    # Each text of a fault in the source is one of the lines, and the other way round.
+    # The texts of faults in the source are exactly these lines.
     with open(os.path.join(pages.TOP, "crates", "femem", "src", "fault.rt"), encoding="utf-8") as file:
         texts = {re.sub(r" \{0\}$", "", it) for it in FAULTS.findall(file.read())}
     same(sorted(texts), sorted({re.sub(r" (N|KEY)$", "", it) for it in LINES}), "the texts of faults")

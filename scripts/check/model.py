@@ -1,4 +1,4 @@
-"""What a server's history does, entry by entry, from README.md's table and docs/model.md.
+"""What the entries of a server's history do, from README.md's table and docs/model.md.
 
 An entry is ("attached", SESSION, FLOOR), ("closed", SESSION), ("settled", SESSION, FLOOR) or
 ("finished", SESSION, NUMBER, REQUEST, ANSWER), with requests and answers as in wire.py.
@@ -61,7 +61,7 @@ class State:
         return (self.place, self.next_id, self.arrays, self.sessions) == (other.place, other.next_id, other.arrays, other.sessions)
 
     def looks(self):
-        """What `femem look` prints of it."""
+        """What `femem look` prints for it."""
         lines = [f"place {self.place}"]
         lines += [f"array {id} {it.name.decode()} {len(it.words)}" for id, it in sorted(self.arrays.items())]
         lines += [f"session {session} floor {it.floor} kept {len(it.kept)}" for session, it in sorted(self.sessions.items())]
@@ -105,7 +105,7 @@ class State:
         return does[2]
 
     def check(self, entry):
-        """Illegal where the entry cannot come now."""
+        """Raises Illegal if the entry cannot come now."""
         kind, session, *rest = entry
         known = self.sessions.get(session)
         if self.place >= TOP_PLACE:
@@ -130,7 +130,7 @@ class State:
                 raise Illegal(f"{entry}, but the table answers {self.answer_to(request)}")
 
     def apply(self, entry):
-        """What a legal entry does; it is checked first."""
+        """Checks an entry and carries it out."""
         self.check(entry)
         kind, session, *rest = entry
         if kind == "attached":

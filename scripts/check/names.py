@@ -1,4 +1,4 @@
-"""The files, functions and definitions that documents name are there."""
+"""The files, functions and definitions that documents name exist."""
 
 import os
 import re
@@ -9,9 +9,9 @@ from .texts import ANY, NAME, PAGES, bases, exists, is_path, split, text_of, tol
 
 # What comes before the name of a definition in specs.
 KINDS_OF_DEFINITION = "(?:abbrev|unfoldable|pub|record|data)"
-# `NAME`, or several, and after them in parentheses `CRATE/FILE`.
+# One or more `NAME`, followed by `CRATE/FILE` in parentheses.
 FILED = re.compile(r"((?:`\w+`(?:, | and )?)+)(?: and (?:its|the) \w+(?: that it names)?)? \((?:[^()`]* )?`(\w+)/(\w+)`")
-# The same in specs and sources.
+# What comes before the name of a declaration in specs and sources.
 DECLARED = "(?:abbrev|unfoldable|pub|pub\\(crate\\)|record|data|enum|struct|trait|fn|ghost)"
 
 
@@ -22,12 +22,12 @@ def is_specs(word):
 
 
 def paths(_place):
-    """each path that a document names is there"""
+    """each path that a document names exists"""
     missing = []
     count = 0
     for page in PAGES:
         for number, line in split(text_of(page))[0]:
-            # (a link's text is not looked up, but its target)
+            # (texts of links are not paths; another check follows the targets)
             words = NAME.findall(re.sub(r"\[[^\]]*\]\([^)]*\)", "", line))
             for at, word in enumerate(words):
                 word = ANY.sub("*", word)
@@ -73,7 +73,7 @@ def definitions(_place):
 
 
 def model(_place):
-    """each definition that docs/model.md names under a crate's heading is one of that crate, or of those below it"""
+    """each definition that docs/model.md names under a crate's heading is in that crate or in those below it"""
     missing = []
     count = 0
     text = ""

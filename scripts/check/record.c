@@ -1,13 +1,13 @@
-/* A preload that writes down what a program does to the files of one folder, and to the connections that it accepts.
+/* A preload that records what a program does to the files of one folder, and to the connections that it accepts.
 
    The file that RECORD names gets a line for each call, `CALL FILE NUMBER..`, with `= ERROR` where it failed, and the file
-   RECORD.bytes what was written, received and sent, one behind another. The folder is that of RECORD; its files are named
-   by their paths within it, the folder itself is `.`, and connections are `1`, `2` and so on. A line is written once its call
-   has returned, and that of a send before it begins, since whoever receives it may go on at once.
+   RECORD.bytes gets what was written, received and sent, in order. The folder is RECORD's; its files are named by their paths
+   within it, the folder itself is `.`, and connections are `1`, `2` and so on. A line is written once its call has returned,
+   but a send's line before the call, since the receiver may act at once.
 
-   With TURN the call of that number, counted from 1 over those that change a file, goes as HOW says: the process is killed
-   `before` it, at `half` of its bytes or `after` it; or the call `fails` with EIO, at once or, where HOW is `short`, behind
-   half of its bytes. */
+   With TURN, HOW decides the call of that number, counted from 1 over the calls that change a file: the process is killed
+   `before` it, at `half` of its bytes or `after` it; or the call fails with EIO, at once (`fails`) or after half of its
+   bytes (`short`). */
 #define _GNU_SOURCE
 #include <dlfcn.h>
 #include <errno.h>
@@ -50,7 +50,7 @@ __attribute__((constructor)) static void begin(void) {
   *strrchr(folder, '/') = 0;
   folder_length = strlen(folder);
   snprintf(more, sizeof more, "%s.bytes", path);
-  /* (far above the numbers that the program gets) */
+  /* (far above the program's own descriptors) */
   int line_file = open(path, O_CREAT | O_WRONLY | O_APPEND | O_CLOEXEC, 0644);
   int byte_file = open(more, O_CREAT | O_WRONLY | O_APPEND | O_CLOEXEC, 0644);
   lines = fcntl(line_file, F_DUPFD_CLOEXEC, FILES - 2);
@@ -61,7 +61,7 @@ __attribute__((constructor)) static void begin(void) {
   if (getenv("HOW")) how = *getenv("HOW");
 }
 
-/* The name of a path within the folder, or nothing. */
+/* The name of a path within the folder, or NULL. */
 static const char *within(const char *path) {
   if (lines < 0 || strncmp(path, folder, folder_length) != 0) return NULL;
   if (path[folder_length] == 0) return ".";
@@ -83,7 +83,7 @@ static void put(int file, const void *from, size_t size) {
   }
 }
 
-/* Writes down a call, with these bytes, if any, and how it ended. What the program sees of the error stays. */
+/* Records a call, with its bytes, if any, and how it ended. Keeps errno for the program. */
 static void note(const void *from, size_t size, long result, const char *form, ...) {
   int error = errno;
   char line[512];
@@ -104,7 +104,7 @@ static void end(void) {
   for (;;) pause();
 }
 
-/* Counts a call that changes a file: how it goes, by the first letter of HOW, or 0 as always. */
+/* Counts a call that changes a file. Returns what happens to it, as the first letter of HOW, or 0 for nothing special. */
 static char next(void) {
   pthread_mutex_lock(&lock);
   int found = ++changes == turn;
@@ -113,7 +113,7 @@ static char next(void) {
   return found ? how : 0;
 }
 
-/* Behind a call that went so. */
+/* Called after such a call. */
 static void over(char way) {
   if (way == 'a' || way == 'h') end();
 }
@@ -123,7 +123,7 @@ static int refused(void) {
   return -1;
 }
 
-/* What a call came to that goes so, where it is no write. */
+/* The result of such a call, if it is not a write. */
 #define CAME(way, call) (way == 'f' || way == 's' ? refused() : (call))
 
 typedef int (*opener)(const char *, int, ...);
@@ -174,7 +174,7 @@ int close(int file) {
   return real(file);
 }
 
-/* Calls of a file that is named. */
+/* Calls on a path. */
 #define OF_FILE(call) \
   int call(int file) { \
     REAL(of_file, #call); \
@@ -190,7 +190,7 @@ int close(int file) {
 OF_FILE(fsync)
 OF_FILE(fdatasync)
 
-/* How much a write that goes so writes. */
+/* How many bytes such a write writes. */
 static size_t of(char way, size_t size) { return way == 'h' || way == 's' ? size / 2 : size; }
 
 ssize_t write(int file, const void *from, size_t size) {
@@ -358,7 +358,7 @@ int statx(int at, const char *path, int flags, unsigned mask, struct statx *to) 
   return result;
 }
 
-/* The path of an open file is the text of a link that its descriptor names. */
+/* The path of an open file is the target of its descriptor's link. */
 ssize_t readlink(const char *path, char *to, size_t size) {
   typedef ssize_t (*asker)(const char *, char *, size_t);
   REAL(asker, "readlink");
@@ -397,7 +397,7 @@ ssize_t recv(int file, void *to, size_t size, int flags) {
   return got;
 }
 
-/* A call that is made by its number: all but the waiting of threads is written down. */
+/* A system call made by its number: all are recorded except futex waits. */
 long syscall(long number, ...) {
   if (!raw) raw = (caller)dlsym(RTLD_NEXT, "syscall");
   long given[6];

@@ -1,4 +1,4 @@
-"""What a server does to its file and to its connections, call by call, against the tables of docs/store.md."""
+"""A server's calls on its file and its connections, one by one, against the tables of docs/store.md."""
 
 import errno
 import fcntl
@@ -17,7 +17,7 @@ from .store import AREA, GATE, IMAGE, JOURNAL, ONE, SLOT, TWO, image_of, record_
 
 
 class Call:
-    """One line of a record: the call, its file, its numbers, the number of its error, and the bytes that went over."""
+    """One line of a record: the call, its file, its numbers, its errno, and the bytes transferred."""
 
     def __init__(self, kind, file, numbers, error, data):
         self.kind = kind
@@ -31,7 +31,7 @@ class Call:
 
 
 def calls_of(path):
-    """The calls of a record, in their order."""
+    """The calls of a record, in order."""
     with open(path, encoding="utf-8") as file, open(f"{path}.bytes", "rb") as data:
         found = []
         for line in file:
@@ -43,21 +43,21 @@ def calls_of(path):
         return found
 
 
-# What the tables say, as the lines of a record with the bytes of each write
+# The tables' calls, as lines of a record with the bytes of each write
 
 
 def wrote(at, data):
     return [("pwrite", at, data)]
 
 
-# After each sync the file has to have its size, a name and its path. The first one has the system forget its pages.
+# After each sync the server checks the file's size, that it has a name, and its path. The first sync also drops the cached pages.
 WATCH = [("fstat",), ("readlink",)]
 SYNC = [("fdatasync",)] + WATCH
 FIRST_SYNC = [("fdatasync",), ("fadvise", 0, 0, os.POSIX_FADV_DONTNEED)] + WATCH
 
 
 def opening(slot, length):
-    """What an opening does where the slot counts: a sync, both headers, its journal area and its image."""
+    """The calls of an opening whose slot counts: a sync, both headers, the slot's journal area and its image."""
     at = slot * SLOT
     return FIRST_SYNC + HEADERS + [("pread", at + JOURNAL, AREA), ("pread", at + IMAGE, length)]
 
@@ -66,7 +66,7 @@ HEADERS = [("pread", 0, IMAGE), ("pread", SLOT, IMAGE)]
 
 
 def reformatting():
-    """What it does where no slot is valid: all bytes are read, and then the store is looked at once more before it is formatted."""
+    """The calls of an opening without a valid slot: all bytes are read, then the store is checked again before it is formatted."""
     return FIRST_SYNC + HEADERS + [("pread", 0, store.SIZE)] + SYNC + HEADERS + formatting()
 
 
@@ -80,7 +80,7 @@ def formatting():
 
 
 class Journal:
-    """The groups of a slot's journal, from its front on."""
+    """The groups of a slot's journal, from its start."""
 
     def __init__(self, form, slot, used=0):
         self.form = form
@@ -96,14 +96,14 @@ class Journal:
         return wrote(at + 1, data) + SYNC + wrote(at, b"\1") + SYNC
 
     def caught_up(self, entries):
-        """What a checkpoint's end writes here."""
+        """What the end of a checkpoint writes here."""
         data = b"\1" + self.records(entries) if entries else b"\0"
         at, self.at = self.at, self.at + len(data) - 1
         return wrote(at, data) + SYNC
 
 
 def beginning(slot, generation, image, is_open):
-    """The other slot is closed where its gate is open, and has its header's fields."""
+    """Closes the other slot if its gate is open, and writes the fields of its header."""
     at = slot * SLOT
     closed = wrote(at + GATE, b"\0") + SYNC if is_open else []
     return [("pread", at + GATE, 1)] + closed + wrote(at, TWO.magic + struct.pack(">QI", generation, len(image)))
@@ -118,7 +118,7 @@ def finishing(slot, journal, entries):
 
 
 def of_file(calls, name):
-    """The calls of a file from its first sync on, as the tables have them. A read has no bytes: they are the disk's."""
+    """The calls on a file from its first sync on, in the form of the tables. A read has no bytes: they come from the disk."""
     found = []
     for call in calls:
         if call.file == name and (found or call.kind == "fdatasync"):
@@ -129,7 +129,7 @@ def of_file(calls, name):
 
 
 def as_said(found, wanted):
-    """The calls are those that are wanted: the first that is not is told, with those before it."""
+    """Checks that these are the wanted calls. Reports the first difference, with the calls before it."""
     for at in range(max(len(found), len(wanted))):
         got, due = (row[at] if at < len(row) else "nothing more" for row in (found, wanted))
         if got != due:
@@ -146,14 +146,14 @@ def shown(call):
 
 
 class Sent:
-    """The replies that a record has, each with the connection's session, where in the record it left."""
+    """The replies in a record, each with its connection's session, at the call that sent it."""
 
     def __init__(self):
         self.rest = {}
         self.session = {}
 
     def replies(self, call):
-        """The replies whose last byte leaves with this call."""
+        """The replies whose last byte this call sends."""
         data = self.rest.get(call.file, b"") + call.data
         while len(data) >= 4 and len(data) >= 4 + int.from_bytes(data[:4], "big"):
             size = 4 + int.from_bytes(data[:4], "big")
@@ -166,18 +166,18 @@ class Sent:
 
 
 class Durable:
-    """The entries that a store got since its beginning, and keeps whatever a stop does to the writes since the last sync."""
+    """The entries added to a store that it keeps whatever a stop does to the writes since the last sync."""
 
     def __init__(self, device):
         self.device = bytearray(device)
         self.written = []
-        self.entries = {}  # how often each is there
+        self.entries = {}  # how often each entry is there
         self.slot = None
         self.find()
         self.entries.clear()
 
     def find(self):
-        """Goes to the slot that counts. What its first group has came before where it was begun meanwhile."""
+        """Moves to the slot that counts. If a checkpoint made it meanwhile, the entries of its first group are known already."""
         slot = store.slots_of(self.device)[0]
         if slot.at == self.slot:
             return self.more()
@@ -209,7 +209,7 @@ class Durable:
 
 
 def left_in_time(calls, name, device, asked):
-    """Each reply that says that something is stored leaves once its entry is in the store, synced: how many there were.
+    """Checks that each reply about something stored is sent after its entry is synced. Returns how many there are.
     `asked` has the request of each session and number."""
     durable, sent, welcomes, count = Durable(device), Sent(), {}, 0
     for call in calls:
@@ -236,7 +236,7 @@ def left_in_time(calls, name, device, asked):
 # The checks
 
 
-# What writes, syncs or names files, or sends, and is not in a record.
+# The calls that write, sync or name files, or send, and that no record has.
 UNRECORDED = set(
     "aio_fsync aio_write copy_file_range creat dprintf fallocate fdopen fopen fputs fwrite io_submit lio_listio mmap msync openat"
     " posix_fallocate preadv pwritev pwritev2 renameat renameat2 sendfile sendmmsg sendmsg sendto splice symlink sync syncfs"
@@ -245,7 +245,7 @@ UNRECORDED = set(
 
 
 def sees_all(place):
-    """the program calls nothing that changes a file, or sends, but what a record has"""
+    """the program uses no calls that change a file or send except those in a record"""
     if not shutil.which("nm"):
         raise Skipped("there is no nm")
     words = ["nm", "-D", "--undefined-only", place.program]
@@ -257,7 +257,7 @@ def sees_all(place):
 
 
 def recorded(place, device, work, **settings):
-    """Serves the store to one client, which asks for all of that in turn: the calls that were made, and the answers."""
+    """Serves the store to one client, which makes the requests in turn. Returns the server's calls, and the answers."""
     server = Server(place, store=place.write("s.store", bytes(device)), **settings)
     server.start({"LD_PRELOAD": preload(place, "record.c"), "RECORD": place.path("record")})
     answers = []
@@ -279,7 +279,7 @@ ATTACHED = ("attached", 7, 1)
 
 
 def state_with(words):
-    """A state with an array of so many words, which session 9 made."""
+    """A state with an array of `words` words, made by session 9."""
     state = State()
     for entry in (("attached", 9, 1), ("finished", 9, 1, ("create", b"big", words, 1), ("array", 1, words))):
         state.apply(entry)
@@ -287,7 +287,7 @@ def state_with(words):
 
 
 def opened(place):
-    """a store that is opened is synced and read, and nothing is written; a new one is formatted as the table says"""
+    """opening a store syncs and reads it and writes nothing; a new one is formatted as in the table"""
     for form in (ONE, TWO):
         state = state_with(3)
         device = store.device_of(form, state, [[ATTACHED]], 2, 1)
@@ -307,12 +307,12 @@ FOLDER_SYNC = ["open . 0 0", "fsync ."]
 
 
 def in_lines(name, calls):
-    """The calls of a file, as a record spells them."""
+    """The calls on a file, as lines of a record."""
     return [" ".join(str(it) for it in (kind, name, *(len(it) if isinstance(it, bytes) else it for it in rest))) for kind, *rest in calls]
 
 
 def with_zeros(calls):
-    """The lines of a record, with the writes that fill a file as one: how many zeros they are."""
+    """The lines of a record, with the writes that fill a file with zeros joined into one."""
     found = []
     for call in calls:
         if call.kind == "write":
@@ -325,12 +325,12 @@ def with_zeros(calls):
 
 
 def known(name):
-    """The size of a file that was opened, and its path, are asked of the file itself."""
+    """The size and the path of an open file are read from its descriptor."""
     return [f"fstat {name}", f"readlink {name}"]
 
 
 def new_file(name):
-    """A file that is not there before is made of zeros, which only its owner may read, and is on the device with its name."""
+    """A new file is filled with zeros, is readable only by its owner, and is synced with its name."""
     filled = [f"open {name} {EXCLUSIVE} 600", f"flock {name} {LOCK}", f"write {name} {store.SIZE}", f"fsync {name}"]
     return [*filled, *FOLDER_SYNC, *known(name)]
 
@@ -340,7 +340,7 @@ def renamed(old, new):
 
 
 def listening():
-    """Once the store is open the server's socket is made under a name beside its own, and gets its own when it listens."""
+    """Once the store is open, the socket is made under a temporary name, and gets its own name when it listens."""
     return [f"stat s.socket{MISSING}", f"stat s.socket.new{MISSING}", "link s.socket.new s.socket", "unlink s.socket.new"]
 
 
@@ -349,7 +349,7 @@ def opened_at(name):
 
 
 def made(place):
-    """a store that is not there is made under another name, and gets its own once it is formatted and on the device; each call is as the table says"""
+    """a missing store is made under a temporary name, and gets its own name once it is formatted and synced; each call is as in the table"""
     server = Server(place)
     server.start({"LD_PRELOAD": preload(place, "record.c"), "RECORD": place.path("record")})
     server.stop()
@@ -362,7 +362,7 @@ def made(place):
 
 
 def kept(place):
-    """an unformatted store with bytes is copied beside it, and formatted once the copy is on the device under its name"""
+    """an unformatted store that is not empty is copied, and formatted once the copy is synced under its name"""
     device = store.device_of(TWO, state_with(3), [[ATTACHED]])
     device[0] += 1
     calls, _ = recorded(place, device, ())
@@ -378,7 +378,7 @@ def kept(place):
 
 
 def looked(place):
-    """a look takes no lock and writes nothing; it reads each gate before what it guards, and the header once more at its end"""
+    """a look takes no lock and writes nothing; it reads each gate before what it guards, and the header again at the end"""
     groups = [[ATTACHED], [ATTACHED, ATTACHED]]
     place.write("s.store", bytes(store.device_of(TWO, state_with(3), groups, 2, 1)))
     env = {"LD_PRELOAD": preload(place, "record.c"), "RECORD": place.path("record")}
@@ -395,7 +395,7 @@ def looked(place):
 
 
 def too_early(calls, at, record):
-    """The record with the reply at that place before the second sync of the group that has the entry's record."""
+    """The record with the reply at that place moved before the second sync of its entry's group."""
     first = next(place for place, call in enumerate(calls) if call.kind == "pwrite" and record in call.data)
     second = [place for place, call in enumerate(calls) if place > first and call.kind == "fdatasync"][1]
     holds(second < at, "a reply leaves behind the second sync of its group")
@@ -411,7 +411,7 @@ def is_in_time(calls, device, asked):
 
 
 def appended(place):
-    """each group is four calls; a checkpoint closes the other slot, writes a slice behind each group, and is finished as the table says"""
+    """each group is four calls; a checkpoint closes the other slot, writes a slice after each group, and ends as in the table"""
     state = state_with(20000)
     # with two groups more the journal has 524,288 bytes, and a checkpoint is due
     groups = [[("attached", 9, 1)] * 3276] * 2
@@ -445,7 +445,7 @@ def appended(place):
 
 
 def migrated(place):
-    """a store of format 1 goes on in it until a checkpoint, which writes format 2, also where a name is too long for it"""
+    """a store of format 1 stays in format 1 until a checkpoint, which writes format 2"""
     state = state_with(20000)
     # with two groups more the journal has 524,288 bytes, and a checkpoint is due
     base = store.device_of(ONE, state, [[("attached", 9, 1)] * 4095] * 2, 2, 1)
@@ -465,7 +465,7 @@ def migrated(place):
 
 
 def migrated_by_a_name(place):
-    """an entry that format 1 has no record for has the whole checkpoint made before its own group"""
+    """an entry that has no record in format 1 causes a whole checkpoint before its own group"""
     state = state_with(8000)
     base = store.device_of(ONE, state, [[ATTACHED]], 1, 0)
     work = [("find", b"seventeen_letters"), ("find", b"sixteen_letters_")]
@@ -484,7 +484,7 @@ def migrated_by_a_name(place):
 
 
 class Asker(threading.Thread):
-    """A client with windows of requests, which notes what it asked under each number."""
+    """A client that sends windows of requests, and notes its request under each number."""
 
     def __init__(self, server, session, asked):
         super().__init__(daemon=True)
@@ -514,7 +514,7 @@ class Asker(threading.Thread):
 
 @within(120)
 def replies_wait(place):
-    """each reply to eight clients leaves behind the second sync of its group, through a checkpoint"""
+    """each reply to eight clients is sent after the second sync of its group, also during a checkpoint"""
     base = store.device_of(TWO, state_with(30000), [[("attached", 9, 1)] * 3200] * 2)
     server = Server(place, store=place.write("s.store", bytes(base)), format=False)
     server.start({"LD_PRELOAD": preload(place, "record.c"), "RECORD": place.path("record")})

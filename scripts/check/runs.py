@@ -1,4 +1,4 @@
-"""`femem run`: the schedules of examples/, the syntax of lines, and streams that are short, fail or are closed."""
+"""`femem run`: the schedules of examples/, the syntax of lines, and streams that pass few bytes, fail or are closed."""
 
 import os
 import re
@@ -89,7 +89,7 @@ def in_syntax(line):
 
 
 def worked_schedules(place):
-    """each schedule of examples/ through `femem run`: its output, its line on standard error and its status"""
+    """each schedule of examples/ through `femem run`: its output, its message on standard error and its status"""
     names = [file[: -len(".txt")] for file in sorted(os.listdir(schedules.EXAMPLES)) if file.endswith(".txt")]
     for name in WORKED:
         holds(name in names, f"no schedule {name}")
@@ -108,7 +108,7 @@ def content_of(file):
 
 
 def full_cascade(place):
-    """a write that lets 2,047 requests be served, in one batch"""
+    """one write lets 2,047 requests be served, in one batch"""
     lines = ["c1 attach 1", "c1 1 create cells 1 empty", "c1 settle 2"]
     answers = ["c1 welcome 1 1", "c1 1 array 1 1", "c1 settled 2"]
     for conn in range(2, 65):
@@ -126,7 +126,7 @@ def full_cascade(place):
 
 
 class Seats:
-    """A schedule of sessions that wait, what it prints, and who waits: (session, number) with its connection."""
+    """A schedule of waiting sessions, its expected output, and what waits: (session, number) with its connection."""
 
     def __init__(self):
         self.lines = ["c99 attach 1", "c99 1 create cells 8 empty", "c99 bye"]
@@ -134,7 +134,7 @@ class Seats:
         self.waiting = {}
 
     def come(self, conn, session, *numbers):
-        """A session comes, and these numbers wait for a word of its own choice."""
+        """A session attaches, and its requests under these numbers wait for a word chosen by the session."""
         self.lines.append(f"c{conn} attach {session}")
         self.answers.append(f"c{conn} welcome {session} 1")
         for number in numbers:
@@ -162,7 +162,7 @@ class Seats:
 
 
 def sessions_come_and_go(place):
-    """64 sessions wait with two requests each; half of them leave and others come, and each request stays with its session"""
+    """64 sessions wait with two requests each; half of them leave and others come; each request stays with its session"""
     seats = Seats()
     for conn in range(1, 65):
         seats.come(conn, 1000 + conn, 1, 2)
@@ -173,7 +173,7 @@ def sessions_come_and_go(place):
         seats.come(conn, 2000 + conn, 3)
     seats.report()
     seats.cancel(1064, 2)
-    # (the session that writes needs a place)
+    # (this frees a place for the session that writes)
     seats.leave(1, 2001)
     seats.come(98, 3000)
     writes = [session % 8 for session, _ in seats.waiting]
@@ -189,7 +189,7 @@ def sessions_come_and_go(place):
 
 
 def each_is_served(found, writes, waiting):
-    """Each write serves one request of its word; who comes first is open."""
+    """Checks that each write serves one request of its word, whichever it is."""
     for number, word in enumerate(writes, 1):
         served, done, settled = found[3 * number - 3 : 3 * number]
         same((done, settled), (f"c98 {number} done", f"c98 settled {number + 1}"))
@@ -205,7 +205,7 @@ def text_of(lines):
 
 
 def stray_lines(place):
-    """a line outside the syntax ends the run there, by its number; what is before it stays, and nothing behind it runs"""
+    """a line outside the syntax ends the run and its number is reported; the earlier output stays, and no later line runs"""
     for line in STRAY:
         holds(not in_syntax(line) or re.search(rb"4294967296|18446744073709551616", line), f"this check's own syntax, {line}")
         given = b"c1 attach 7\n\n" + line + b"\nc1 1 create a 1 full\n"
@@ -214,7 +214,7 @@ def stray_lines(place):
 
 
 def names_are_bytes(place):
-    """a name that is not plain is answered so, whatever its bytes; plain ones have 1 to 32"""
+    """a name that is not plain is answered `bad-name`, whatever its bytes; plain names have 1 to 32 bytes"""
     given = (
         b"c1 attach 7\nc1 1 create a\0b 1 full\nc1 2 create a\tb 1 full\nc1 3 create \xff\xfe 1 full\nc1 4 create a\r 1 full\n"
         b"c1 5 create sixteen__letters 4294967295 full\nc1 6 create sixteen__letters 1 full\n"
@@ -240,9 +240,9 @@ def longest_lines(place):
 
 
 def cut_anywhere(place):
-    """an input that is cut at each byte: the line that is cut runs as if it were whole, or its number is printed"""
+    """an input cut at each byte: the cut line runs if it is a line of the syntax, or its number is printed"""
     given = b"c1 attach 7\nc1 1 create cells 2 empty\nc1 2 writeef 1 0 42\nc1 cancel 2\nhold\nc1 gone\nflush\n"
-    # (what the lines that are cut print where they are in the syntax still: other sessions, names, words and numbers)
+    # (`whole` is the output of whole lines, `shorter` that of cut lines still in the syntax)
     whole = (b"c1 welcome 7 1\n", b"c1 1 array 1 2\n", b"c1 2 done\n", b"c1 refused 2 not-waiting\n", b"", b"", b"")
     shorter = {b"c1 2 writeef 1 0 4": b"c1 2 done\n"}
     for count in range(len(given)):
@@ -259,7 +259,7 @@ def cut_anywhere(place):
 
 
 def with_streams(place, library, given, **how):
-    """A run under the preload: its status, output and errors, and whether a call failed."""
+    """A run with the preload: its status, output and errors, and whether a call failed."""
     mark = place.path("mark")
     env = {"LD_PRELOAD": library, "MARK": mark, **{key: str(value) for key, value in how.items()}}
     ran = place.run("run", given=given, env=env)
@@ -270,7 +270,7 @@ def with_streams(place, library, given, **how):
 
 
 def until_none_fails(place, library, call, most, wanted):
-    """Fails each call of that kind in turn, in a run whose calls pass at most `most` bytes, and counts them."""
+    """Fails each call of that kind in turn, with at most `most` bytes for each call, and counts them."""
     number = 0
     while True:
         number += 1
@@ -282,7 +282,7 @@ def until_none_fails(place, library, call, most, wanted):
 
 
 def short_streams(place):
-    """streams that pass few bytes in a read or a write, or interrupt each second one"""
+    """streams that pass few bytes in a read or a write, or interrupt every second call"""
     library = preload(place, "streams.c")
     sizes = (1, 2, 3, 7, 64)
     for call in ("read", "write"):
@@ -293,13 +293,13 @@ def short_streams(place):
 
 @within(90)
 def streams_fail(place):
-    """each read of the input and each write of the output fails in turn: `femem: input`, and what is written is a front"""
+    """each read of the input and each write of the output fails in turn: `femem: input`, after a prefix of the output"""
     library = preload(place, "streams.c")
     answers = FIRST_ANSWERS.splitlines(keepends=True)
     printed = lambda count: b"".join(answers[: FIRST_PATH[:count].count(b"\n")])
     told = []
     for most in (1, 5):
-        # (the last read gives nothing)
+        # (the last read returns nothing)
         reads = until_none_fails(place, library, "read", most, printed)
         same(reads, -(-len(FIRST_PATH) // most) + 1, "reads")
         writes = until_none_fails(place, library, "write", most, lambda count: FIRST_ANSWERS[:count])
@@ -308,11 +308,11 @@ def streams_fail(place):
     return ", ".join(told)
 
 
-# What the first path prints where its array finds no memory.
+# What the first path prints if there is no memory for its array.
 NO_MEMORY = b"c1 welcome 7 1\nc1 refused 1 no-memory\nc1 2 no-array\nc1 3 no-array\nc1 4 no-array\n"
 
 
-# What is printed where the creation, or one of two reports, finds no memory: what is asked behind it is answered as ever.
+# The output if there is no memory for the creation or for one of two reports: later requests are answered as usual.
 ARRAY, WAITS = b"c1 1 array 1 2\n", b"c1 waiting 1\nc1 word 1 0 session 7 number 2 readfe\nc1 session 7 waits 1\nc1 all-wait yes\n"
 REST = b"c1 2 value 5\nc1 3 done\n"
 ASKED_AGAIN = tuple(
@@ -328,7 +328,7 @@ ASKED_AGAIN = tuple(
 
 @within(120)
 def refuse_each(place):
-    """each allocation of four schedules is refused in turn: the run ends with status 3, or a creation or a report is answered `no-memory`"""
+    """each allocation of four schedules is refused in turn: the run ends with status 3, or a creation or a report is refused with `no-memory`"""
     library = preload(place, "../refuse.c")
     mark = place.path("refused")
     told = []
@@ -361,7 +361,7 @@ def is_front(text, whole):
 
 
 def is_refused(output, found):
-    """Whether the first line that differs refuses what a request is answered there."""
+    """Whether the first differing line is a refusal in place of the request's answer."""
     for wanted, line in zip(output.splitlines(), found.splitlines()):
         if line != wanted:
             conn, number, *_ = wanted.split()
@@ -370,7 +370,7 @@ def is_refused(output, found):
 
 
 def streams_closed(place):
-    """an input or an output that is closed, a folder, or a pipe that nobody reads is `femem: input`"""
+    """an input or output that is closed, a folder, or a pipe without a reader is `femem: input`"""
     told = (2, b"", b"femem: input\n")
     shell = lambda text: ended(place, ["/bin/sh", "-c", text, "sh", place.program, place.folder])
     same(shell('exec "$1" run <&-'), told, "no input")
@@ -381,12 +381,12 @@ def streams_closed(place):
     os.close(ours)
     with os.fdopen(theirs, "wb") as pipe:
         same(place.run("run", given=b"c1 attach 7\n", stdout=pipe), told, "a pipe that nobody reads")
-        # (what prints nothing needs no output)
+        # (a run that prints nothing needs no output)
         same(place.run("run", given=b"hold\n", stdout=pipe), (0, b"", b""))
 
 
 def ended(place, words):
-    """Status, output and errors of a process without input."""
+    """Runs a process without input: its status, output and errors."""
     process = place.start(words, "shell")
     status = process.wait(30)
     return status, place.read("shell.out"), place.read("shell.err")

@@ -1,4 +1,4 @@
-"""The schedules of examples/ through a real server: by `femem call` where one client can send them, and by sockets."""
+"""The schedules of examples/ against a real server: with `femem call` if one client can send them, and over sockets."""
 
 import os
 import time
@@ -10,7 +10,7 @@ EXAMPLES = os.path.join(os.path.dirname(os.path.realpath(__file__)), "..", "..",
 
 
 def schedules():
-    """Each schedule that runs to its end: its name, lines and output."""
+    """Each schedule without a fault: its name, lines and output."""
     for file in sorted(os.listdir(EXAMPLES)):
         name = file[: -len(".txt")]
         if file.endswith(".txt") and not os.path.exists(os.path.join(EXAMPLES, f"{name}.err")):
@@ -22,12 +22,12 @@ def one_client_can_send(lines, output):
     """Whether all lines are messages of c1, and each is answered before the next."""
     if any(line.split()[0] != b"c1" or line.endswith(b" gone") for line in lines):
         return False
-    # (a line that has no reply of its own keeps `call` waiting; a report has several lines)
+    # (`call` would wait for ever after a line without a reply; a report has several lines)
     return len(lines) == len(output) and not any(line.endswith(b"report") for line in lines)
 
 
 def by_call(place):
-    """schedules that one client can send, through `femem call`, each over a new store"""
+    """schedules that one client can send, through `femem call`, each on a new store"""
     count = 0
     for name, lines, output in schedules():
         if not one_client_can_send(lines, output):
@@ -42,7 +42,7 @@ def by_call(place):
 
 
 class Clients:
-    """The connections of a schedule over a server, and the lines that they were told and that are not compared yet."""
+    """The connections of a schedule to a server, and the lines received but not compared yet."""
 
     def __init__(self, server):
         self.server = server
@@ -50,7 +50,7 @@ class Clients:
         self.told = {}
 
     def do(self, words, wanted):
-        """Does a line of a schedule, and compares what it prints."""
+        """Carries out a line of a schedule, and compares its output."""
         if words == [b"stop"]:
             self.server.stop()
             self.conns, self.told = {}, {}
@@ -64,9 +64,9 @@ class Clients:
             self.conns[name], self.told[name] = self.server.connect(seconds=10), []
         self.conns[name].send(wire.message_of(words[1:]))
         if not wanted:
-            # (messages of one connection are handled in their order, and a report is answered at once)
+            # (a connection's messages are handled in order, and a report is answered at once)
             same(self.conns[name].ask(wire.report())[0], "report")
-        # (a schedule sorts by number what one line gives)
+        # (a schedule sorts the replies to one line by number)
         told = [(line.split()[0], self.next_line(line.split()[0])) for line in wanted]
         same(sorted(b" ".join(it) for it in told), sorted(wanted))
 
@@ -77,7 +77,7 @@ class Clients:
 
 
 def expected(place, lines):
-    """What each line prints, by one run in which a report of another connection follows each line."""
+    """The output of each line, from one run in which another connection's report follows each line."""
     marked = b"".join(line + b"\nc999 report\n" for line in lines)
     status, output, _ = place.run("run", given=marked)
     same(status, 0)
@@ -93,7 +93,7 @@ def expected(place, lines):
 
 @within(60)
 def by_sockets(place):
-    """schedules without `hold`, a connection for each of their clients, a kill for each `stop`; and nothing else comes"""
+    """schedules without `hold`, with a connection for each client and a kill for each `stop`: these replies come and no others"""
     count = 0
     for name, lines, output in schedules():
         if any(line in (b"hold", b"check") for line in lines):

@@ -1,4 +1,4 @@
-"""The sources as the documents name them: which functions, clauses and definitions a crate has."""
+"""The sources that documents name: the functions, clauses and definitions of a crate."""
 
 import functools
 import glob
@@ -17,8 +17,8 @@ def source_of(crate, folder):
 
 @functools.cache
 def contracts_of(crate):
-    """Each function of a crate with the names of its `ensures` clauses, which is a list, since several may have one name; and with
-    no function those of the ghost items of its types."""
+    """Pairs of a crate's functions and the names of their `ensures` clauses. Several functions may have the same name. Ghost items
+    of types come with an empty function name."""
     found = []
     for line in source_of(crate, "src").split("\n"):
         if begin := re.match(r"\s*(?:pub(?:\([a-z]+\))? )?(?:const )?(?:unsafe )?fn (\w+)", line):
@@ -31,7 +31,7 @@ def contracts_of(crate):
 
 
 def has(crate, function, clause):
-    """Whether a function of that name in the crate has a clause of that name. `Type::function` is a function."""
+    """Whether a function of that name in the crate has a clause of that name. The function may be `Type::function`."""
     return any(name == function.split("::")[-1] and clause in clauses for name, clauses in contracts_of(crate))
 
 
@@ -42,7 +42,7 @@ def has_item(path, name):
 
 
 def is_named(crate, name):
-    """Whether the crate's sources have the name, of whatever it is, or it is a crate's."""
+    """Whether the crate's sources contain the name, for anything, or a crate has it."""
     last = name.split("::")[-1]
     return exists("crates", name) or re.search(rf"\b{last}\b", source_of(crate, "src")) is not None
 

@@ -1,6 +1,6 @@
-"""A server that is killed at its calls, one after the other, while a store is made, formatted, checkpointed or moved to format 2.
+"""A server that is killed at each of its calls in turn, while a store is made, formatted, checkpointed or moved to format 2.
 
-`--stops N` says how often each check kills it: at each call in turn where N is enough for that, and at random moments beyond."""
+`--stops N` says how often each check kills it: at each call in turn if N is large enough, then at random moments."""
 
 import os
 import random
@@ -16,7 +16,7 @@ from .records import calls_of
 
 
 class Trial:
-    """A store, or none, and the work of one client over it. `others` has the files that stand beside the store at the end."""
+    """A store, or none, and one client's work on it. `others` has the files next to the store at the end."""
 
     def __init__(self, place, base, work, formats, others=()):
         self.place = place
@@ -30,7 +30,7 @@ class Trial:
         self.count = 0
 
     def started(self, **env):
-        """A server over the store as it was at the beginning."""
+        """A server on the store as it was at the beginning."""
         self.count += 1
         for file in os.listdir(self.place.folder):
             if file.startswith("store") or file.startswith("calls"):
@@ -47,7 +47,7 @@ class Trial:
         until(lambda: os.path.exists(server.socket) or not server.is_running(), 30, "the server serves or is killed")
 
     def calls(self):
-        """The calls of a run that is not killed, and how long it takes."""
+        """The calls of a run without a kill, and how long it takes."""
         server, began = self.recorded(), time.monotonic()
         self.begins(server)
         client = Client(server, self.work)
@@ -58,7 +58,7 @@ class Trial:
         return calls_of(self.place.path("calls")), seconds
 
     def points(self, calls):
-        """Before and behind each call that changes a file, and within each write. Of those that fill a file with zeros there are three."""
+        """Before and after each call that changes a file, and within each write; three of the writes that fill a file with zeros."""
         found = []
         for number, kind in fills_and_others(calls):
             found += [(number, how) for how in ("before", "half", "after") if how != "half" or "write" in kind]
@@ -75,9 +75,9 @@ class Trial:
         self.goes_on(server, client, f"killed {how} call {number}")
 
     def killed_behind(self, seconds):
-        """Killed at a moment that no call decides."""
+        """Kills the server after that time, whatever it is doing."""
         server = self.started()
-        # (where nobody listens any more it does not try for long)
+        # (after the kill it should not try to connect for long)
         client = Client(server, self.work, seconds=1)
         worker = threading.Thread(target=client.attempt, daemon=True)
         worker.start()
@@ -90,7 +90,7 @@ class Trial:
         self.goes_on(server, client, f"killed behind {seconds:.4f} seconds")
 
     def goes_on(self, server, client, name):
-        """The next start opens the store, with each answer, and does what was not answered once. Nothing is left over."""
+        """The next start opens the store with each answer, and does unanswered requests once. No other file is left."""
         if os.path.exists(server.socket):
             os.unlink(server.socket)
         told, client.answers = client.answers, []
@@ -105,7 +105,7 @@ class Trial:
         holds(left == self.others, f"{name}: files beside the store: {sorted(left)}")
 
     def kills(self):
-        """Kills the server as often as is asked: how often at a call, of how many, and at another moment."""
+        """Kills the server as often as --stops says. Returns how often at a call, of how many, and how often at random moments."""
         calls, seconds = self.calls()
         points, share = self.points(calls), self.place.options.stops
         chosen = points if len(points) <= share else sorted(random.sample(points, share))
@@ -128,13 +128,13 @@ def making(place):
 
 @within(300)
 def formatting(place):
-    """the same while it formats a file of zeros, of which no copy is left"""
+    """the same while it formats a file of zeros; no copy of it is left"""
     return Trial(place, bytes(store.SIZE), WORK, True).kills()
 
 
 @within(300)
 def keeping(place):
-    """the same while it formats what was a store, of which a whole copy is left beside it"""
+    """the same while it formats a former store; a whole copy of that is left"""
     device = bytearray(near_a_checkpoint()[0])
     device[store.SLOT] += 1
     return Trial(place, bytes(device), WORK, True, [("store.before-format", bytes(device))]).kills()
@@ -147,7 +147,7 @@ def checkpointing(place):
 
 
 def of_format_1(entries):
-    """A store of format 1 with a large array and so many entries in two groups."""
+    """A store of format 1 with a large array and that many entries in two groups."""
     state = State()
     for entry in (("attached", 9, 1), ("finished", 9, 1, ("create", b"big", 20000, 1), ("array", 1, 20000))):
         state.apply(entry)
@@ -162,7 +162,7 @@ def migrating(place):
 
 @within(300)
 def migrating_by_a_name(place):
-    """the same while it is moved for a name that format 1 has no record for"""
+    """the same while it is moved because of a name that has no record in format 1"""
     return Trial(place, of_format_1(10), [adding(1, 0, 1), ("find", b"seventeen_letters"), adding(1, 0, 1)], False).kills()
 
 

@@ -1,4 +1,4 @@
-"""Stores as bytes, from docs/formats.md alone: a reader that tells damage as femem has to, and a writer."""
+"""Stores as bytes, from docs/formats.md alone: a reader that reports damage as femem must, and a writer."""
 
 import struct
 
@@ -14,7 +14,7 @@ class Format:
     def __init__(self, number, magic, name, most_records, most_image):
         self.number = number
         self.magic = magic
-        self.name = name  # the bytes of a name's row
+        self.name = name  # the size of a name's field
         self.record = 48 + name
         self.most_records = most_records
         self.most_image = most_image
@@ -25,7 +25,7 @@ TWO = Format(2, b"FEMEMST2", 32, 13107, 774232)
 
 
 class Damaged(Exception):
-    """The store is wrong at that offset."""
+    """The store is damaged at that offset."""
 
     def __init__(self, offset):
         super().__init__(f"damaged at {offset}")
@@ -40,7 +40,7 @@ class Unformatted(Exception):
 
 
 def record_of(entry, form):
-    """The spelling of an entry."""
+    """The record of an entry."""
     kind, session, *rest = entry
     code = {"attached": 1, "closed": 2, "settled": 3, "finished": 4}[kind]
     if code != 4:
@@ -63,7 +63,7 @@ def record_of(entry, form):
 
 
 def entry_of(record, form):
-    """The entry that a record spells, or None."""
+    """The entry of a record, or None if it is not valid."""
     kind, code, answer, name_length, tag, flag, unused, session, number = struct.unpack(">BBBBBBHQQ", record[:24])
     row = record[24 : 24 + form.name]
     length, array_length, value, last = struct.unpack(">IIQQ", record[24 + form.name :])
@@ -96,7 +96,7 @@ def entry_of(record, form):
 
 
 def image_of(state, form):
-    """The spelling of a state."""
+    """The image of a state."""
     parts = [struct.pack(">QQII", state.place, state.next_id, len(state.arrays), len(state.sessions))]
     for id, array in sorted(state.arrays.items()):
         parts.append(struct.pack(">QB", id, len(array.name)) + array.name.ljust(form.name, b"\0") + struct.pack(">I", len(array.words)))
@@ -109,7 +109,7 @@ def image_of(state, form):
 
 
 class Reader:
-    """Fields one behind another; Damaged, by the offset in the image, at the first that is not allowed."""
+    """Reads fields in sequence. Raises Damaged, with the offset in the image, at the first that is not allowed."""
 
     def __init__(self, image):
         self.image = image
@@ -143,7 +143,7 @@ class Reader:
 
 
 def state_of(image, form):
-    """The state that an image spells."""
+    """The state of an image."""
     read = Reader(image)
     state = State()
     state.place = read.number(8, 0, TOP_PLACE)
@@ -184,7 +184,7 @@ def state_of(image, form):
 
 
 class Slot:
-    """A valid slot: where it stands, its format and its generation."""
+    """A valid slot: its offset, format and generation."""
 
     def __init__(self, device, at):
         magic, self.generation, self.length = struct.unpack(">8sQI", device[at : at + 20])
@@ -209,7 +209,7 @@ class Slot:
         return found
 
     def read(self):
-        """The state of the image, and the groups of entries behind it."""
+        """The state of the image, and the groups of entries after it."""
         if self.generation < 1:
             raise Damaged(self.at + 8)
         if not 24 <= self.length <= self.format.most_image:
@@ -225,7 +225,7 @@ class Slot:
 
 
 def slots_of(device):
-    """The valid slots, the one that counts first."""
+    """The valid slots, beginning with the one that counts."""
     if len(device) != SIZE:
         raise Unformatted
     device = bytes(device)

@@ -1,4 +1,4 @@
-"""Damaged stores, and what `femem look` shows of right ones."""
+"""Damaged stores, and what `femem look` shows of correct ones."""
 
 import random
 import struct
@@ -34,7 +34,7 @@ def full_state():
 
 
 def verdict(device):
-    """What `femem look` has to print of a device: status, output, errors."""
+    """What `femem look` must print for a device: status, output, errors."""
     try:
         return 0, store.read_store(device)[2].looks().encode(), b""
     except store.Unformatted:
@@ -54,7 +54,7 @@ def changed(device, at, piece):
 
 
 def damages():
-    """Devices, each with one change, and what is told of it: an offset, or None where it is unformatted."""
+    """Devices with one change each, and the reported offset, or None if the device counts as unformatted."""
     first = device_of(ONE)
     open_gate = lambda *entries: device_of(ONE, groups=[entries])
     cells = device_of(ONE, groups=[[ATTACHED], [CREATED]])
@@ -93,14 +93,14 @@ def damages():
 
 
 def slot_one():
-    """Slot 0 is right; slot 1 counts, and its image has an impossible length."""
+    """Slot 0 is correct; slot 1 counts, and its image has an impossible length."""
     device = device_of(TWO)
     put_slot(device, TWO, State(), [], 2, 1)
     return changed(device, SLOT + 16, struct.pack(">I", 23))
 
 
 def damaged(place):
-    """each kind of damage is told with its offset, and status 3, by `look` and by `serve`, which leave the store as it was"""
+    """each kind of damage is reported with its offset and status 3 by `look` and `serve`, which leave the store as it was"""
     count = 0
     for name, device, offset in damages():
         count += 1
@@ -116,7 +116,7 @@ def damaged(place):
 
 
 def right_stores(place):
-    """what is no damage: rubbish behind a closed gate, an unfinished slot, an older slot, any closed gate byte"""
+    """what is not damage: garbage after a closed gate, an unfinished slot, an older slot, any value of a closed gate"""
     groups = [[ATTACHED], [CREATED, WRITTEN], [FOUND]]
     for form in (ONE, TWO):
         device = device_of(form, groups=groups)
@@ -130,16 +130,16 @@ def right_stores(place):
         put_slot(device, form, state, [[("attached", 9, 1)]], 5, 1)
         same(look(place, device), verdict(device))
         holds(b"place 11\n" in verdict(device)[1], "slot 1 counts")
-        # the greater generation is unfinished
+        # the slot of the greater generation is unfinished
         same(look(place, changed(device, SLOT + GATE, b"\0")), (0, b"place 4\narray 1 cells 2\nsession 7 floor 1 kept 3\n", b""))
         same(look(place, changed(device, SLOT + 20, b"rubbish" * 9)), verdict(device))
-        # slot 0 counts of equal generations
+        # with equal generations slot 0 counts
         both = changed(device, SLOT + 8, struct.pack(">Q", 1))
         same(look(place, both)[1], b"place 4\narray 1 cells 2\nsession 7 floor 1 kept 3\n")
 
 
 def open_by_serve(place):
-    """stores of both formats, written by this check, are opened by `serve` and go on"""
+    """`serve` opens stores of both formats, written by this check, and continues them"""
     for form in (ONE, TWO):
         device = device_of(form, full_state(), [[("attached", 7, 1)]], 4)
         server = Server(place, f"f{form.number}", store=place.write(f"store{form.number}", bytes(device))).start()
@@ -159,7 +159,7 @@ def open_by_serve(place):
 
 
 def near_the_end(place):
-    """a history with one place left: one attach is done, and what would need another place is refused, by name and by code"""
+    """a history with one place left: one attach is done, and whatever would need another place is refused, by name and by code"""
     state = State()
     state.place = 9223372036854773758
     server = Server(place, store=place.write("store", bytes(device_of(TWO, state))), format=False).start()
@@ -175,7 +175,7 @@ def near_the_end(place):
 
 @within(60)
 def random_changes(place):
-    """of right stores with bytes changed at random, `look` tells what this check's own reader tells"""
+    """for correct stores with bytes changed at random, `look` reports what this check's own reader reports"""
     count = 150
     kinds = {}
     state = full_state()

@@ -1,8 +1,8 @@
-/* A preload for one kind of call, which CALL names: read, write, recv, send or fdatasync. The streams 0 and 1 are meant by
-   read and write, and any file by the others. With SHORT each such call passes at most that number of bytes, with BREAK each
-   second one is interrupted. With FAIL the one of that number, counted from 1, fails with EIO. The next one behind the
-   making of the file that HOLD names is held: a recv once its bytes came, the others before they begin. The file that MARK
-   names is made where a call fails or is held, and one that is held goes on once that file is gone. */
+/* A preload for one kind of call, named by CALL: read (of stream 0), write (to stream 1), recv, send or fdatasync (of any
+   file). SHORT is the maximum number of bytes for each call; with BREAK every second call is interrupted. The call of
+   number FAIL, counted from 1, fails with EIO. The next call after the file HOLD is created is held: a recv after its bytes
+   came, the others before they begin. The file MARK is created when a call fails or is held; a held call goes on once MARK
+   is removed. */
 #define _GNU_SOURCE
 #include <dlfcn.h>
 #include <errno.h>
@@ -42,7 +42,7 @@ static int is_broken(const char *kind) {
   return 1;
 }
 
-/* Whether this call of that kind fails. One that is held goes on from here, a minute later at the latest. */
+/* Whether this call fails. Holds the call if asked, for a minute at most. */
 static int fails(const char *kind) {
   if (strcmp(kind, call) != 0) return 0;
   if (++count == fail) {

@@ -14,10 +14,10 @@ READMES = ("packaging/README.md", "clients/c/README.md", "clients/python/README.
 
 # A word in backticks.
 NAME = re.compile(r"`([^`]+)`")
-# A path without the first slash, which one of the machine has.
+# A path without a leading slash (paths of the machine have one).
 PATH = re.compile(r"[A-Za-z0-9_*-][A-Za-z0-9_.*+-]*(?:/[A-Za-z0-9_.*+-]+)*/?")
 KINDS = (".rt", ".antt", ".py", ".c", ".h", ".md", ".toml", ".txt", ".out", ".edit", ".dot", ".svg", ".sh")
-# A word in a path that stands for any; what a build makes, and what an installation fills, is not in the repository.
+# A placeholder in a path. Files made by a build or filled in by an installation are not in the repository.
 ANY = re.compile(r"\b(?:NAME|CRATE|FILE)\b")
 MADE = re.compile(r"out/|PREFIX/|PATH\.")
 
@@ -29,7 +29,7 @@ def text_of(name):
 
 
 def split(text):
-    """The lines of a document that are prose, with their numbers, and its blocks of code as texts without their indent."""
+    """A document's lines of prose, with their numbers, and its blocks of code, without their indent."""
     prose, blocks, lines, at = [], [], text.split("\n"), 0
 
     def is_code(line):
@@ -43,7 +43,7 @@ def split(text):
             at = end + 1
         elif is_code(line) and not lines[at - 1].strip():
             end = at
-            # (an empty line between two lines of a block belongs to it)
+            # (an empty line between two lines of a block is part of the block)
             while end < len(lines) and (is_code(lines[end]) or not lines[end].strip() and is_code("".join(lines[end : end + 2]))):
                 end += 1
             blocks.append("".join(it[4:] + "\n" for it in lines[at:end]))
@@ -55,7 +55,7 @@ def split(text):
 
 
 def block(name, first):
-    """The one block of a document that begins so."""
+    """The one block of a document that has this beginning."""
     found = [it for it in split(text_of(name))[1] if it.startswith(first)]
     same(len(found), 1, f"{name}: blocks that begin with {first}")
     return found[0]
@@ -77,8 +77,8 @@ def exists(*parts):
 
 
 def bases(page, word, before):
-    """The folders in which a path may begin: the top, `crates`, the page's own, that of the checks, and those named before it
-    in its line. A folder alone, as `specs/`, is one of any crate."""
+    """The folders in which a path may begin: the top, `crates`, the page's own, the checks', and those named before it in its
+    line. A folder alone, such as `specs/`, may be in any crate."""
     found = ["", "crates", os.path.dirname(page), "scripts/check"]
     for named in before:
         for base in ("", "crates", *found[4:]):
@@ -91,7 +91,7 @@ def bases(page, word, before):
 
 
 def headings(name):
-    """What a link may name in a document: its headings as GitHub spells them."""
+    """The anchors that a link to a document may name: its headings as GitHub writes them."""
     lines = [line for _, line in split(text_of(name))[0]]
     titles = [re.sub(r"^#+ ", "", line) for line in lines if re.match(r"#+ ", line)]
     return {slug(it) for it in titles} | {slug(re.sub(r" \(`[^)]*\)$", "", it)) for it in titles}

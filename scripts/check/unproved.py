@@ -1,4 +1,4 @@
-"""The program that `make run` builds without proving it: it does what the proved one does, and the README's first lines."""
+"""The program that `make run` builds without proving it does what the proved one does; and the README's first commands work."""
 
 import os
 import re
@@ -11,7 +11,7 @@ UNPROVED = os.path.join(TOP, "out", "unproved", "femem-unproved")
 
 
 def built(place):
-    """Builds the unproved program where it is not up to date, as a user does."""
+    """Builds the unproved program as a user does, unless it is up to date."""
     process = place.start(["make", "-s", "-C", TOP, "run"], "make", stderr=subprocess.STDOUT, group=True)
     process.wait()
     said = place.read("make.out").decode(errors="replace")
@@ -23,7 +23,7 @@ def built(place):
 
 @within(900)
 def schedules_alike(place):
-    """`make run` builds a program that prints what the proved one prints, for every schedule of examples/"""
+    """`make run` builds a program that prints what the proved one prints, for every schedule in examples/"""
     built(place)
     count = 0
     folder = os.path.join(TOP, "examples")
@@ -41,7 +41,7 @@ def schedules_alike(place):
 
 @within(900)
 def first_lines(place):
-    """the README's first lines, run as they stand, but for the folder of their files"""
+    """the README's first commands run unchanged, except for the folder of their files"""
     built(place)
     with open(os.path.join(TOP, "README.md"), encoding="utf-8") as file:
         text = file.read()

@@ -17,7 +17,7 @@ REFUSALS = ("not-attached", "session-limit", "below-floor", "beyond-window", "nu
 
 
 class BadReply(Exception):
-    """The server wrote what is no frame of a server."""
+    """The server sent something that is not a server's frame."""
 
 
 class Ended(Exception):
@@ -65,7 +65,7 @@ def call(number, request):
 
 
 def request_of(words):
-    """The request that words of a schedule say, or None."""
+    """The request in words of a schedule, or None."""
     if words[0] == b"create" and len(words) == 4 and words[3] in (b"full", b"empty"):
         return ("create", words[1], int(words[2]), int(words[3] == b"full"))
     if words[0] == b"find" and len(words) == 2:
@@ -83,7 +83,7 @@ def request_of(words):
 
 
 def message_of(words):
-    """The frame of a line of a schedule without its `cN `, as words."""
+    """The frame for the words of a schedule's line, without its `cN `."""
     if words[0] in (b"bye", b"report"):
         return bye() if words[0] == b"bye" else report()
     if words[0] in (b"attach", b"cancel", b"settle"):
@@ -92,7 +92,7 @@ def message_of(words):
 
 
 def answer_of(code, value, length):
-    """The answer that these fields spell; BadReply where they spell none."""
+    """The answer in these fields. Raises BadReply if there is none."""
     if code == 1 and length == 0:
         return ("value", value)
     if code == 3:
@@ -105,7 +105,7 @@ def answer_of(code, value, length):
 
 
 def reply_of(frame):
-    """What a whole frame of a server says, without its four bytes of length."""
+    """The reply in a server's frame, given without its four bytes of length."""
     kind, body = frame[0], frame[1:]
     sizes = {65: ">QQ", 66: ">QBQI", 67: ">Q", 68: ">Q", 69: ">Q", 70: ">QB"}
     if kind == 71 and 1 <= len(body) <= 262144:
@@ -138,7 +138,7 @@ class Connection:
     """A connection to a server. Every wait on it ends after its deadline, as Ended."""
 
     def __init__(self, path, seconds=20.0):
-        """Connects; while nothing listens at the path it is tried again."""
+        """Connects; tries again while nothing listens at the path."""
         until = time.monotonic() + seconds
         self.got = b""
         while True:
@@ -172,11 +172,11 @@ class Connection:
             raise Ended(f"send: {error}") from None
 
     def finish(self):
-        """Sends no more; what is read stays open."""
+        """Ends the sending side. The receiving side stays open."""
         self.socket.shutdown(socket.SHUT_WR)
 
     def wait(self, seconds):
-        """How long each later wait takes at most."""
+        """Sets the limit of each later wait."""
         self.socket.settimeout(seconds)
 
     def more(self):
@@ -201,7 +201,7 @@ class Connection:
             self.more()
 
     def piece(self, size):
-        """The next bytes, so many."""
+        """The next `size` bytes."""
         while len(self.got) < size:
             self.more()
         piece, self.got = self.got[:size], self.got[size:]
@@ -211,12 +211,12 @@ class Connection:
         return reply_of(self.frame())
 
     def ask(self, frame):
-        """Sends a frame, and gives the next reply."""
+        """Sends a frame, and returns the next reply."""
         self.send(frame)
         return self.reply()
 
     def is_quiet(self, seconds=0.2):
-        """Whether nothing comes for that long, and the stream stays open."""
+        """Whether nothing comes for that long while the stream stays open."""
         if self.got:
             return False
         before = self.socket.gettimeout()
@@ -232,7 +232,7 @@ class Connection:
             self.socket.settimeout(before)
 
     def has_ended(self):
-        """Reads to the end: whether it came, with nothing before it."""
+        """Whether the stream ends, with no bytes before the end."""
         try:
             self.more()
         except Ended as why:

@@ -1,10 +1,10 @@
-"""Puts what is released into one folder: the Debian package, the Python client's wheel and source archive, the C library's archive,
-the proof's record, and the SHA-256 sums of all of them.
+"""Puts a release into one folder: the Debian package, the Python client's wheel and source archive, the C library's archive, the
+proof's record, and the SHA-256 sums of all of them.
 
 Usage: scripts/dist PROGRAM RECORD FOLDER
 
-It refuses a program whose record is not of the sources that are here. The same sources give the same files. Needs dpkg-deb, make
-and a C compiler, and no network.
+It refuses a program whose record is not of the present sources. The same sources give the same files. It needs dpkg-deb, make
+and a C compiler, but no network.
 """
 
 import gzip
@@ -43,7 +43,7 @@ def python(folder, env):
 
 
 def dated_wheel(path, epoch):
-    """The same wheel with one time for all of its files."""
+    """The wheel with the release's time on all of its files."""
     with zipfile.ZipFile(path) as archive:
         files = [(it.filename, archive.read(it)) for it in archive.infolist()]
     with zipfile.ZipFile(path, "w", zipfile.ZIP_DEFLATED) as archive:
@@ -55,7 +55,7 @@ def dated_wheel(path, epoch):
 
 
 def packed(path, files, epoch):
-    """An archive of these files, (name, info, content), which belong to root and have one time."""
+    """An archive of these files, (name, info, content), which belong to root and all have the release's time."""
     made = io.BytesIO()
     with tarfile.open(fileobj=made, mode="w") as archive:
         for name, info, content in files:
@@ -70,14 +70,14 @@ def packed(path, files, epoch):
 
 
 def dated_source(path, epoch):
-    """The same source archive with one time for all of its files."""
+    """The source archive with the release's time on all of its files."""
     with tarfile.open(path) as archive:
         files = [(it.name, it, archive.extractfile(it).read() if it.isreg() else b"") for it in archive]
     packed(path, files, epoch)
 
 
 def c(folder, version, epoch):
-    """What `make install` of the C client puts into a prefix, as an archive that is unpacked there."""
+    """What `make install` of the C client puts into a prefix, as an archive to unpack there."""
     name = f"femem-c-{version}-linux-amd64"
     with tempfile.TemporaryDirectory() as room:
         words = ["make", "-s", "-C", os.path.join(TOP, "clients", "c"), "install", "PREFIX=/usr/local", f"DESTDIR={room}"]

@@ -3,7 +3,7 @@
 Usage: scripts/make_deb PROGRAM FOLDER [RECORD]
 
 The same sources and the same program give the same bytes: files have the time of SOURCE_DATE_EPOCH, or of the last commit, and
-belong to root. RECORD, what the proof said, goes along. Needs dpkg-deb, and no network.
+belong to root. RECORD, the proof's record, is included. It needs dpkg-deb, but no network.
 """
 
 import gzip
@@ -55,7 +55,7 @@ class Tree:
         return sorted(it for it in found if not it.startswith("DEBIAN/"))
 
     def kibibytes(self):
-        """What the installed files take, in whole pages."""
+        """The size of the installed files, in KiB."""
         return sum((os.path.getsize(os.path.join(self.folder, it)) + 1023) // 1024 for it in self.files()) + 4 * len(self.files())
 
 
@@ -65,13 +65,13 @@ def read(*path):
 
 
 def needed_c_library(program):
-    """The least version of the C library that has all that the program names."""
+    """The lowest version of the C library that has everything the program uses."""
     found = {tuple(map(int, it.split(b"."))) for it in re.findall(rb"GLIBC_(2\.[0-9]+)", program)}
     return ".".join(map(str, max(found)))
 
 
 def changelog(version, epoch, maintainer):
-    """CHANGELOG.md's entries of this version, as Debian writes them."""
+    """CHANGELOG.md's entries for this version, in Debian's format."""
     text = read("CHANGELOG.md").decode()
     entries = re.search(rf"^## {re.escape(version)}\n\n(.*?)(?=\n## |\Z)", text, re.M | re.S)[1].strip()
     lines = "\n".join(
@@ -82,7 +82,7 @@ def changelog(version, epoch, maintainer):
 
 
 def licence():
-    """The licence as a field of Debian's copyright file has it."""
+    """The licence as a field of Debian's copyright file."""
     text = read("LICENSE").decode().split("\n\n", 2)[2].strip()
     return "\n".join(" " + (line or ".") for line in text.splitlines())
 
@@ -116,7 +116,7 @@ def fill(tree, program, record):
 
 
 def build(program, folder, record=None):
-    """Builds the package into the folder, and gives its path."""
+    """Builds the package in the folder. Returns its path."""
     if not shutil.which("dpkg-deb"):
         sys.exit("femem: dpkg-deb, of Debian's package dpkg, is not on the PATH")
     os.makedirs(folder, exist_ok=True)

@@ -1,9 +1,9 @@
-"""Makes the man pages from the documents in docs/, so that the two say the same.
+"""Makes the man pages from the documents in docs/, so that both say the same.
 
 Usage: scripts/man_pages FOLDER
 
-Each page is a list of sections of documents. A table whose columns are narrow stays a table; of any other each row becomes a
-paragraph under its first cell, with the heads of the columns behind the second before their cells. The date is that of
+Each page is a list of sections of documents. A table with narrow columns stays a table; in other tables each row becomes a
+paragraph under its first cell, in which the cells from the third on follow the heads of their columns. The date is that of
 SOURCE_DATE_EPOCH, or of the last commit.
 """
 
@@ -15,10 +15,10 @@ import time
 
 TOP = os.path.normpath(os.path.join(os.path.dirname(os.path.realpath(__file__)), "..", ".."))
 WIDTH = 70  # columns of text on a terminal of 80
-LONG_PAGE = ".if n .pl 1000i"  # on a terminal: no table meets the end of a page
+LONG_PAGE = ".if n .pl 1000i"  # on a terminal: long enough that no table is split over two pages
 LINKS = {"settings.md": "femem.toml(5)", "formats.md": "femem-format(5)"}
 
-# The page, its number, what it is in a line, and the documents with the sections that it has of them, or None for all.
+# The page, its number, its description in a line, and its documents, each with the sections taken from it, or None for all.
 PAGES = (
     (
         "femem", 1, "recoverable server of full/empty memory",
@@ -31,13 +31,13 @@ PAGES = (
 
 
 def epoch():
-    """The time that all that is made for a release has."""
+    """The time of everything in a release."""
     given = os.environ.get("SOURCE_DATE_EPOCH")
     return int(given or subprocess.check_output(["git", "-C", TOP, "log", "-1", "--format=%ct"]))
 
 
 def version():
-    """The version of program, clients and package: the first of CHANGELOG.md."""
+    """The version of program, clients and package: the first in CHANGELOG.md."""
     with open(os.path.join(TOP, "CHANGELOG.md"), encoding="utf-8") as file:
         return re.search(r"^## ([0-9]+\.[0-9]+\.[0-9]+)$", file.read(), re.M)[1]
 
@@ -48,7 +48,7 @@ def document(name):
 
 
 def sections_of(lines, wanted):
-    """The lines below the document's title, or those of the sections of these names."""
+    """The lines below the document's title, or those of the named sections."""
     body = lines[1:]
     if wanted is None:
         return body
@@ -74,7 +74,7 @@ def linked(found):
 
 
 def inline(text):
-    """A paragraph's text as roff: code and strong words bold, stressed ones italic, links as their text."""
+    """A paragraph's text as roff: code and strong text in bold, emphasis in italic, links as their text."""
     text = re.sub(r"\[([^\]]*)\]\(([^)]*)\)", lambda found: linked(found.groups()), text)
     out = []
     for at, piece in enumerate(re.split(r"(``.+?``|`[^`]+`)", text)):
@@ -89,7 +89,7 @@ def inline(text):
 
 
 def plain(text):
-    """What a reader sees of a cell."""
+    """A cell's text as a reader sees it."""
     text = re.sub(r"\[([^\]]*)\]\(([^)]*)\)", lambda found: linked(found.groups()), text)
     return re.sub(r"\*\*|`", "", text)
 
@@ -191,7 +191,7 @@ def roff(lines):
 
 
 def item(mark, body):
-    """An item of a list, with what stands within it."""
+    """An item of a list, with its nested blocks."""
     first, *rest = roff(body)
     return [f".IP {mark} 4", *rest[:1], *([".RS 4", *rest[1:], ".RE"] if rest[1:] else [])]
 

@@ -1,11 +1,11 @@
-"""The proof's record, out/proved/record: which program was proved from which sources, with which toolchain, and what was said last.
+"""The proof's record, out/proved/record: which program was proved from which sources, with which toolchain, and the last output.
 
 Usage: scripts/record sources
        scripts/record write PROGRAM RECORD SOURCES BY < LAST_LINES
        scripts/record check PROGRAM RECORD
 
-`sources` prints one sum over all that is proved, SOURCES. `write` is for scripts/gate and scripts/prove, which take the sum before
-they begin. `check` ends with status 1 where the record is of another program or of other sources than those that are here.
+`sources` prints SOURCES, one sum over everything that is proved. `write` is for scripts/gate and scripts/prove, which compute the
+sum before they begin. `check` ends with status 1 if the record is of another program or of other sources than the present ones.
 """
 
 import hashlib
@@ -23,7 +23,7 @@ def sum_of(path):
 
 
 def sources(top=TOP):
-    """One sum over the crates' text, their order and the handles that they may use."""
+    """One sum over the crates' sources, their order and the handles that they may use."""
     found = [os.path.join(top, "crates.txt"), os.path.join(top, "HANDLES")]
     for folder, folders, names in os.walk(os.path.join(top, "crates")):
         folders[:] = [it for it in folders if it != "out"]
@@ -42,7 +42,7 @@ def commit():
 
 
 def write(program, record, before, by):
-    """Writes the record, with the last lines from standard input, where the sources are what they were."""
+    """Writes the record, with the last lines from standard input, if the sources have not changed since."""
     last = sys.stdin.read()
     if sources() != before:
         sys.exit("femem: the sources changed while they were proved; nothing is recorded")
@@ -52,13 +52,13 @@ def write(program, record, before, by):
 
 
 def fields_of(record):
-    """The fields of a record, which stand before its first empty line."""
+    """The fields of a record: the lines before its first empty line."""
     with open(record, encoding="utf-8") as file:
         return dict(line.split(" ", 1) for line in file.read().split("\n\n", 1)[0].splitlines())
 
 
 def fault_of(program, record, top=TOP):
-    """Why a record does not speak of this program and the sources that are here, or None."""
+    """Why a record is not of this program and the present sources, or None."""
     if not os.path.isfile(record):
         return f"there is no record at {record}"
     found = fields_of(record)

@@ -1,4 +1,4 @@
-"""Client of femem, a server of words that are full or empty, and keeps them through stops.
+"""Client of femem, a server of words that are full or empty and survive its stops.
 
     from femem import Client
 

@@ -1,7 +1,7 @@
-"""The patterns for asyncio: as those of `femem.patterns`, each operation to be awaited. `femem.aio` has them.
+"""The patterns for asyncio: those of `femem.patterns`, with operations to be awaited. `femem.aio` exports them.
 
-Their arrays are made, or found, by the first operation. A task that is cancelled within one takes it back, and learns
-where it is done.
+The first operation makes or finds their arrays. A task that is cancelled within an operation takes it back, or gets its
+result if it is done.
 """
 
 from __future__ import annotations
@@ -205,7 +205,7 @@ class Future(_OneWord):
 
 
 class Once:
-    """As `patterns.Once`; what one of all does is a coroutine."""
+    """As `patterns.Once`; `work` is a coroutine function."""
 
     def __init__(self, client: AsyncClient, name: str) -> None:
         self._client = _client_of(client)

@@ -1,13 +1,13 @@
-"""The client for asyncio: the same operations, each to be awaited.
+"""The client for asyncio: the same operations, to be awaited.
 
     async with AsyncClient("/run/femem/femem.socket", session=7) as client:
         slot = await client.create("slot", 1)
         await client.writeef(slot, 0, 42)
         print(await client.readfe(slot, 0))
 
-What each operation answers, when it waits and which errors it has stands at the same name in `femem.Client`. A task that
-is cancelled while it awaits an operation takes it back and waits for the server's word on it: where the operation had
-happened the task gets its answer, and is not cancelled there. So `asyncio.wait_for` loses no value.
+`femem.Client` says under the same name what each operation returns, when it waits and which errors it has. A task that is
+cancelled while it awaits an operation takes it back and waits for the server's reply: if the operation had happened, the
+task gets its answer, and is not cancelled there. So `asyncio.wait_for` loses no value.
 """
 
 from __future__ import annotations
@@ -37,7 +37,7 @@ T = TypeVar("T")
 class AsyncClient:
     """A session of a femem server, for the tasks of one event loop. `femem.Client` says what the arguments are.
 
-    It connects as `async with` begins, or by `await client.open()`.
+    It connects at the start of `async with`, or by `await client.open()`.
     """
 
     def __init__(
@@ -110,7 +110,7 @@ class AsyncClient:
             raise
 
     async def _end_session(self, file: SessionFile) -> None:
-        """Its former process was ending the session: that is done first, and the file begins with another one."""
+        """Ends the session, as the file's former process was about to. The file then begins with another one."""
         async with AsyncClient(self.path, file.session, reconnect_timeout=self._patience) as former:
             await former.bye()
         file.start_over()
@@ -185,7 +185,7 @@ class AsyncClient:
         self._move()
         await future
 
-    # The operations, as of `Client`.
+    # The operations, as in `Client`.
 
     async def create(
         self, name: Union[str, bytes], length: int, full: bool = False, *, timeout: Timeout = DEFAULT
@@ -240,8 +240,8 @@ class AsyncClient:
     def submit(
         self, request: Request[T], *, timeout: Timeout = DEFAULT, key: Optional[Key] = None
     ) -> asyncio.Future[T]:
-        """Asks without waiting for the answer. A future that is cancelled takes its request back, and nobody learns
-        whether it had happened; whoever awaits an operation by its own name learns it. With a key, as `once`."""
+        """Asks without waiting for the answer. Cancelling the future takes its request back, without telling whether
+        it had happened; a cancelled `await` of an operation by its own name does tell. With a key, as `once`."""
         ticket: Ticket[T] = Ticket(request_of(request)) if key is None else self._keyed(key, request)
         return self._submit(ticket, timeout)
 
@@ -250,8 +250,8 @@ class AsyncClient:
         self._take_back((ticket_of(future, self),), False)
 
     async def submit_many(self, asked: Iterable[Request[Any]], *, timeout: Timeout = DEFAULT) -> List[Any]:
-        """As `Client.submit_many`. A task that is cancelled takes all of them back, and gets the answers where one had
-        happened."""
+        """As `Client.submit_many`. A task that is cancelled takes all of them back, and gets the answers if one of
+        them had happened."""
         tickets: List[Ticket[Any]] = [Ticket(request_of(request)) for request in asked]
         seconds = self._seconds(timeout)
         self._check_use()
@@ -280,7 +280,7 @@ class AsyncClient:
         if self._core.file is None:
             raise ValueError("a key needs a client with a session file")
 
-    # What stands behind these.
+    # How these are done.
 
     @staticmethod
     def _now() -> float:
@@ -310,7 +310,7 @@ class AsyncClient:
         return await self._told((ticket,), self._submit(ticket, timeout))
 
     async def _run_job(self, job: Job[T]) -> T:
-        """Runs an operation of several steps. A task that is cancelled takes it back, and learns where it is done."""
+        """Runs an operation of several steps. A task that is cancelled takes it back, or gets the result if it is done."""
         self._check_use()
         future = self._future(job)
         self._core.start(job, self._now())
@@ -318,7 +318,7 @@ class AsyncClient:
         return await self._told((job,), future)
 
     async def _told(self, tickets: Sequence[Ticket[Any]], future: asyncio.Future[T]) -> T:
-        """What the future of the tickets says. A task that is cancelled gets it too, unless nothing happened."""
+        """The result of the tickets' future. A task that is cancelled gets it too, unless nothing happened."""
         try:
             return await asyncio.shield(future)
         except asyncio.CancelledError:
@@ -329,7 +329,7 @@ class AsyncClient:
             try:
                 await asyncio.wait([future])
             except asyncio.CancelledError:
-                # Cancelled once more: nobody waits for the server's word.
+                # Cancelled once more: the task does not wait for the server's reply.
                 self._take_back(tickets, True)
                 future.cancel()
                 raise
@@ -366,7 +366,7 @@ class AsyncClient:
         return future
 
     def _move(self) -> None:
-        """After each change: sends, tells who is done, which may bring more, and sets the clock."""
+        """After each change: sends, completes the ended tickets, which may ask for more, and sets the timer."""
         while True:
             self._flush()
             ended = self._core.take_ended()
@@ -402,7 +402,7 @@ class AsyncClient:
             core.to_send.clear()
 
     def _move_waits(self) -> None:
-        """Has further sessions ask what has to wait."""
+        """Passes requests that have to wait to further sessions."""
         for ticket in self._core.take_moved():
             side = self._sides.choose()
             asked: Ticket[Any] = Ticket(ticket.request)
@@ -416,7 +416,7 @@ class AsyncClient:
         self._move()
 
     def _has_come_back(self, side: AsyncClient, ticket: Ticket[Any], asked: Ticket[Any]) -> None:
-        """A further session has done it. A session that is of no further use ends the client."""
+        """A further session has finished the request. If that session failed, the client ends."""
         self._sides.give_back(side)
         self._core.has_come_back(ticket, asked)
         if side.failure is not None:
@@ -443,7 +443,7 @@ class AsyncClient:
         self._move()
 
     def _forked(self) -> None:
-        """In a child of the process: as of `Client`. The loop is the parent's too, so its socket alone is closed."""
+        """In a child of the process: as in `Client`. The loop is the parent's too, so only the socket is closed."""
         self._core.failure = errors.Closed("a client is of the process that made it")
         self._core.phase = Phase.ENDED
         self._is_temporary = False
@@ -460,7 +460,7 @@ class AsyncClient:
         self._move()
 
     async def _keep_connected(self) -> None:
-        """Connects, and again once the connection broke, until the client ends, or its event loop."""
+        """Connects, and reconnects when the connection breaks, until the client or its event loop ends."""
         try:
             await self._connect_on()
         except asyncio.CancelledError:
@@ -508,7 +508,7 @@ class AsyncClient:
 
 
 def _is_seen(future: asyncio.Future[Any]) -> None:
-    """Its error is not logged, though nobody awaits it."""
+    """Its error is not logged even if it is never awaited."""
     if not future.cancelled():
         future.exception()
 
@@ -544,7 +544,7 @@ class _Connection(asyncio.Protocol):
             self._transport.abort()
 
 
-# The clients of this process, whose children close what they inherit of them.
+# The clients of this process. Its children close the ones that they inherit.
 _clients: weakref.WeakSet[AsyncClient] = weakref.WeakSet()
 
 

@@ -1,7 +1,7 @@
 """The client for threads.
 
-A thread of the client's own has the connection and the core. Whoever asks only appends to a list, in one step, and waits:
-so an exception out of a signal's handler, wherever it comes, leaves nothing half done.
+The client's own thread has the connection and the core. A caller only appends to a list, in one step, and waits: so an
+exception from a signal handler leaves nothing half done, wherever it comes.
 """
 
 from __future__ import annotations
@@ -35,7 +35,7 @@ T = TypeVar("T")
 
 log = logging.getLogger("femem")
 
-# How long the thread waits between attempts to connect, in seconds: the first time, and at most.
+# How long the thread waits between attempts to connect, in seconds: at first, and at most.
 FIRST_PAUSE = 0.01
 LONGEST_PAUSE = 0.25
 
@@ -47,17 +47,17 @@ _READ_BYTES = 65536
 # How long a client sleeps at most, in seconds.
 _LONGEST_SLEEP = 3600.0
 
-# How long the thread waits at its bell after the last answer, in seconds, before it looks at the connection again. A bell
-# is a lock, the cheapest thing to be woken at, and whoever calls in a row calls again soon.
+# How long the thread waits at its bell after the last answer, in seconds, before it looks at the connection again. The bell
+# is a lock, the cheapest way to wake a thread, and a caller that just got an answer often calls again soon.
 _LINGER = 0.01
 
-# How long after something happened the thread looks at the clock for what is due by it, in seconds: less than anything
-# takes that becomes due by what happened, except what the core calls urgent.
+# How long after an event the thread checks what is due by the clock, in seconds: sooner than anything that the event can
+# make due, except what the core calls urgent.
 _LOOK_AFTER = 0.02
 
 
 class _Default:
-    """Stands for "what the client was made with"."""
+    """Means "the client's own timeout"."""
 
 
 DEFAULT = _Default()
@@ -68,9 +68,9 @@ Key = Union[str, bytes, int]
 
 
 class Recovered(NamedTuple):
-    """A request that a former process with the same session file had no answer for: what it was, and under which key.
+    """A request that a former process with the same session file had no answer for: what it was, and its key.
 
-    `future` is done once its answer is there.
+    `future` is done once the answer has come.
     """
 
     what: str
@@ -78,12 +78,12 @@ class Recovered(NamedTuple):
     future: Any
 
     def result(self, timeout: Optional[float] = None) -> Any:
-        """The answer, or it is raised."""
+        """The answer. Raises it if it is an error."""
         return self.future.result(timeout)
 
 
 def seconds_of(timeout: object, what: str = "timeout") -> Optional[float]:
-    """A number of seconds, or `None` for ever."""
+    """A number of seconds, or `None` for no limit."""
     if timeout is None:
         return None
     if isinstance(timeout, bool) or not isinstance(timeout, (int, float)):
@@ -98,7 +98,7 @@ def seconds_of(timeout: object, what: str = "timeout") -> Optional[float]:
 
 
 def pause_of(probe_interval: object) -> float:
-    """A pause between two looks at the clock, in seconds, which is more than none."""
+    """A pause between two looks at the clock, in seconds, greater than 0."""
     seconds = seconds_of(probe_interval, "probe_interval")
     if seconds is not None and seconds <= 0.0:
         raise ValueError(f"probe_interval is more than 0: {probe_interval!r}")
@@ -106,7 +106,7 @@ def pause_of(probe_interval: object) -> float:
 
 
 def key_bytes(key: Key) -> bytes:
-    """A key as the session file has it. Keys that are equal as text are one."""
+    """A key as in the session file. Keys that are equal as text are the same key."""
     if isinstance(key, bool) or not isinstance(key, (str, bytes, int)):
         raise TypeError(f"a key is a str, bytes or an int: {key!r}")
     spelled = key if isinstance(key, bytes) else str(key).encode("utf-8")
@@ -122,7 +122,7 @@ def request_of(request: object) -> Request[Any]:
 
 
 def ticket_of(future: object, client: object) -> Ticket[Any]:
-    """What the client asked when it made this future."""
+    """The ticket behind this future of the client."""
     owner, ticket = getattr(future, "asked", (None, None))
     if not isinstance(ticket, Ticket):
         raise TypeError(f"not a future of submit: {future!r}")
@@ -141,7 +141,7 @@ class SessionChoice(NamedTuple):
 
 
 def choose_session(path: Path, session: Optional[int], session_file: Optional[Path], sessions: int) -> SessionChoice:
-    """A session that is given, or that of the file, or one that is chosen at random and ends with the client."""
+    """The given session, or the file's, or one chosen at random that ends with the client."""
     if not isinstance(path, (str, bytes, os.PathLike)):
         raise TypeError(f"the path of a socket is a str: {path!r}")
     number = None if session is None else requests.number_of_bits(session, 64, "session")
@@ -158,17 +158,16 @@ def choose_session(path: Path, session: Optional[int], session_file: Optional[Pa
 class Client:
     """A session of a femem server, over its Unix socket.
 
-    It may be used by several threads at once, by one process, and one client at a time should have a session. It connects
-    again by itself when the server was stopped and started, and sends again what has no answer.
+    Several threads of one process may use it at once. One client at a time should have a session. It reconnects by itself
+    when the server is restarted, and sends unanswered requests again.
 
-    Without a session, it has one of its own that ends with it. With `session_file` the session is that of the file, and
-    goes on when the process was killed and is started again.
+    Without `session`, it has one of its own that ends with it. With `session_file` the session is that of the file, and
+    continues when the process is killed and restarted.
 
-    `timeout`, in seconds, is that of each operation that names none: one that still waits then is taken back.
-    `reconnect_timeout` is how long the server may be unreachable, or owe a reply, while something is asked of it; `None`
-    is for ever.
+    `timeout`, in seconds, is for operations that name none: one that still waits then is taken back. `reconnect_timeout`
+    is how long the server may be unreachable, or owe a reply, while something is asked of it; `None` means no limit.
 
-    With `sessions=N` it has N sessions: what waits is asked over the further ones, 32 requests over each, and so holds up
+    With `sessions=N` it has N sessions: requests that wait are made over the further ones, 32 over each, and so hold up
     nothing else. They end with the client. Their numbers follow from that of its own session.
     """
 
@@ -185,8 +184,8 @@ class Client:
     ) -> None:
         """Connects and attaches.
 
-        Errors: `ServerUnreachable`, `SessionLimit`, `Closing`, `Spent`, `ProtocolError`; of the file `SessionInUse`,
-        `SessionFileError`.
+        Errors: `ServerUnreachable`, `SessionLimit`, `Closing`, `Spent`, `ProtocolError`; with a file also
+        `SessionInUse`, `SessionFileError`.
         """
         self.timeout = seconds_of(timeout)
         patience = seconds_of(reconnect_timeout, "reconnect_timeout")
@@ -212,9 +211,9 @@ class Client:
         self._sides: Sides[Client] = Sides(())
         self._process = os.getpid()
         self._longest_sleep = pause
-        # What is asked, in its order: each is called with the time by the thread.
+        # What callers ask, in order: the thread calls each with the time.
         self._asked: Deque[Callable[[float], object]] = deque()
-        # Where the thread sleeps, so that whoever asks knows what wakes it.
+        # Where the thread sleeps, so that a caller knows how to wake it.
         self._is_asleep = False
         self._is_at_bell = False
         self._bell = threading.Lock()
@@ -222,10 +221,10 @@ class Client:
         self._is_over = False
         # The thread's number while it runs.
         self._own_thread = 0
-        # The time when the thread saw it last, and when it looks what is due next.
+        # The time as the thread last read it, and when it next checks what is due.
         self._now = time.monotonic()
         self._look_at = 0.0
-        # Once the thread is no more, whoever asks does so in its place, one at a time.
+        # Once the thread has ended, callers do its work in its place, one at a time.
         self._ending = threading.RLock()
         self._socket: Optional[socket.socket] = None
         self._waker, self._woken = socket.socketpair()
@@ -266,7 +265,7 @@ class Client:
             raise
 
     def _end_session(self, file: SessionFile, patience: Optional[float]) -> None:
-        """Its former process was ending the session: that is done first, and the file begins with another one."""
+        """Ends the session, as the file's former process was about to. The file then begins with another one."""
         with Client(self.path, file.session, reconnect_timeout=patience) as former:
             former.bye()
         file.start_over()
@@ -295,7 +294,7 @@ class Client:
 
     @property
     def failure(self) -> Optional[errors.FememError]:
-        """Why this client is of no further use, or `None`. Each operation then raises it."""
+        """Why this client can't be used any more, or `None`. Each operation then raises this error."""
         return self._core.failure
 
     def close(self) -> None:
@@ -315,9 +314,9 @@ class Client:
             self._thread.join()
 
     def bye(self) -> None:
-        """Ends the session and closes the client. `StillWaiting` where a request has no answer yet.
+        """Ends the session and closes the client. `StillWaiting` if a request has no answer yet.
 
-        The server then keeps nothing of the session. Over a stop it is said again until it is so.
+        The server then keeps nothing of the session. After a stop of the server the client sends it again until it is done.
         """
         self._leave(False)
         self._is_temporary = False
@@ -333,7 +332,7 @@ class Client:
     # Arrays.
 
     def create(self, name: Union[str, bytes], length: int, full: bool = False, *, timeout: Timeout = DEFAULT) -> Array:
-        """A new array of `length` words of value 0, all full or all empty. Never waits.
+        """Creates an array of `length` words of value 0, all full or all empty. Never waits.
 
         Errors: `BadName`, `BadLength`, `NameTaken`, `ArrayLimit`, `WordLimit`; `NoMemory`, and then nothing was made.
         """
@@ -344,24 +343,24 @@ class Client:
         return self._call(requests.find(name), timeout)
 
     def remove(self, array: ArrayLike, *, timeout: Timeout = DEFAULT) -> None:
-        """Removes the array; all that waits on it is answered `NoArray`. Never waits. Errors: `NoArray`."""
+        """Removes the array; what waits on it ends with `NoArray`. Never waits. Errors: `NoArray`."""
         return self._call(requests.remove(array), timeout)
 
-    # Words. Each may end with `NoArray` or `BadIndex` besides what it says.
+    # Words. Each may also end with `NoArray` or `BadIndex`.
 
     def readfe(self, array: ArrayLike, index: int, *, nowait: bool = False, timeout: Timeout = DEFAULT) -> int:
-        """Waits until the word is full, empties it, and answers its value.
+        """Waits until the word is full, empties it, and returns its value.
 
-        With `nowait`, `NotNow` where it is empty. `TimedOut`: it was taken back, and the word was not touched.
+        With `nowait`, `NotNow` if it is empty. `TimedOut`: it was taken back, and the word was not touched.
         """
         return self._call(requests.readfe(array, index, nowait), timeout)
 
     def readff(self, array: ArrayLike, index: int, *, nowait: bool = False, timeout: Timeout = DEFAULT) -> int:
-        """Waits until the word is full, leaves it so, and answers its value. `nowait`, `timeout` as in `readfe`."""
+        """Waits until the word is full, leaves it full, and returns its value. `nowait`, `timeout` as in `readfe`."""
         return self._call(requests.readff(array, index, nowait), timeout)
 
     def readxx(self, array: ArrayLike, index: int, *, timeout: Timeout = DEFAULT) -> int:
-        """Answers the value, full or empty, and changes nothing. Never waits."""
+        """Returns the value, full or empty, and changes nothing. Never waits."""
         return self._call(requests.readxx(array, index), timeout)
 
     def writeef(
@@ -369,7 +368,7 @@ class Client:
     ) -> None:
         """Waits until the word is empty, and fills it with the value.
 
-        With `nowait`, `NotNow` where it is full. `TimedOut`: it was taken back, and the word was not touched.
+        With `nowait`, `NotNow` if it is full. `TimedOut`: it was taken back, and the word was not touched.
         """
         return self._call(requests.writeef(array, index, value, nowait), timeout)
 
@@ -390,7 +389,7 @@ class Client:
     def int_fetch_add(
         self, array: ArrayLike, index: int, value: int, *, nowait: bool = False, timeout: Timeout = DEFAULT
     ) -> int:
-        """Waits until the word is full, adds the value modulo 2^64, and answers the value of before.
+        """Waits until the word is full, adds the value modulo 2^64, and returns the old value.
 
         The word stays full. `nowait`, `timeout` as in `readfe`.
         """
@@ -401,9 +400,9 @@ class Client:
     def submit(self, request: Request[T], *, timeout: Timeout = DEFAULT, key: Optional[Key] = None) -> Future[T]:
         """Asks without waiting for the answer: `client.submit(requests.readfe(array, 0))`.
 
-        Up to 32 requests are under way; further ones wait here for room. The server takes them in the order in which
-        they are sent, which is that of these calls, except requests that wait: they may be taken back and called again
-        behind others, to make room. `Future.cancel` does nothing; use `withdraw`. With a key, as `once`.
+        Up to 32 requests are under way; further ones wait in the client for room. The server takes them in the
+        order of these calls, except requests that wait: they may be taken back and sent again after others.
+        `Future.cancel` does nothing; use `withdraw`. With a key, as `once`.
         """
         ticket: Ticket[T] = Ticket(request_of(request)) if key is None else self._keyed(key, request)
         future = self._future(ticket)
@@ -412,7 +411,7 @@ class Client:
         return future
 
     def submit_many(self, asked: Iterable[Request[Any]], *, timeout: Timeout = DEFAULT) -> List[Any]:
-        """Asks all of them in one step, and waits for all. The answers, in their order; an error stands for itself."""
+        """Asks all of them in one step, and waits for all. Returns the answers in order; errors are in the list too."""
         return self._ask_all([request_of(request) for request in asked], timeout)
 
     def _ask_all(self, asked: Sequence[Request[Any]], timeout: Timeout) -> List[Any]:
@@ -423,11 +422,11 @@ class Client:
         return [ticket.result if ticket.error is None else ticket.error for ticket in tickets]
 
     def pipeline(self) -> Pipeline:
-        """Requests that are put together first, and then asked in one step."""
+        """Collects requests, and then asks them in one step."""
         return Pipeline(self)
 
     def withdraw(self, future: Future[Any]) -> None:
-        """Takes back a request that waits. Its future ends with `Withdrawn`, or with its answer if it has happened."""
+        """Takes a waiting request back. Its future ends with `Withdrawn`, or with its answer if it has happened."""
         ticket = ticket_of(future, self)
         self._ask(lambda now: self._core.withdraw(ticket, now))
 
@@ -440,10 +439,10 @@ class Client:
     # Over the client's own restarts.
 
     def once(self, key: Key, request: Request[T], *, timeout: Timeout = DEFAULT) -> T:
-        """The answer to the request that was asked under this key first, in this process or a former one.
+        """The answer to the first request under this key, in this process or a former one.
 
-        It needs a session file, which keeps the answer until `forget`. `ValueError` where another request was asked
-        under the key. A request that was taken back, as after its time, was not asked.
+        It needs a session file, which keeps the answer until `forget`. `ValueError` if the key has another request. A
+        request that was taken back, for example after its timeout, does not count.
         """
         ticket = self._keyed(key, request)
         seconds = self._seconds(timeout)
@@ -451,7 +450,7 @@ class Client:
         return _result(ticket)
 
     def forget(self, key: Key) -> None:
-        """The key will not be asked again: the session file drops its answer."""
+        """Makes the session file drop the key's answer: the key will not be used again."""
         self._with_file()
         spelled = key_bytes(key)
         self._ask(lambda now: self._core.forget(spelled))
@@ -466,10 +465,10 @@ class Client:
         if self._core.file is None:
             raise ValueError("a key needs a client with a session file")
 
-    # What stands behind these.
+    # How these are done.
 
     def _check_thread(self) -> None:
-        """The client's own thread, which calls what futures were given, would wait for itself."""
+        """Raises if this is the client's own thread, which runs the futures' callbacks: it would wait for itself."""
         if get_ident() == self._own_thread:
             raise RuntimeError("a callback can't wait for its own client: use submit")
 
@@ -495,7 +494,7 @@ class Client:
         return ticket.result  # type: ignore[return-value]
 
     def _run_job(self, job: Job[T]) -> T:
-        """Runs an operation of several steps. Where this thread is interrupted, it is taken back and undone."""
+        """Runs an operation of several steps. If this thread is interrupted, it is taken back and undone."""
         self._check_thread()
         try:
             gate = threading.Lock()
@@ -511,11 +510,11 @@ class Client:
             raise
 
     def _abandon(self, job: Job[Any]) -> None:
-        """Nobody waits for it any more: it is taken back, or undone. Said twice it is done once."""
+        """Takes back, or undoes, a job that no caller waits for. Calling it twice has the effect of once."""
         self._ask(partial(self._core.abandon, job))
 
     def _wait_for(self, tickets: Sequence[Ticket[Any]], ask: Callable[[float], object]) -> None:
-        """Asks, and waits until all are done. Where this thread is interrupted, they are taken back."""
+        """Asks, and waits until all are done. If this thread is interrupted, they are taken back."""
         self._check_thread()
         try:
             gate = threading.Lock()
@@ -523,7 +522,7 @@ class Client:
             left = iter(tickets)
 
             def finished() -> None:
-                """The next one that is not done goes on from here."""
+                """Passes this callback on to the next ticket that is not done."""
                 for ticket in left:
                     if not ticket.done:
                         ticket.finished = finished
@@ -538,9 +537,9 @@ class Client:
             raise
 
     def _ask(self, what: Callable[[float], object]) -> None:
-        """Has the thread do something. The one step of it that counts is the append."""
+        """Makes the thread do something. The step that counts is the append."""
         self._asked.append(what)
-        # The thread alone says where it sleeps, and looks at the list before it does: an interruption here loses no call.
+        # Only the thread says where it sleeps, and it checks the list before that: an interruption here loses no call.
         if self._is_at_bell:
             self._ring()
         elif self._is_asleep:
@@ -568,15 +567,15 @@ class Client:
         try:
             self._bell.release()
         except RuntimeError:
-            pass  # somebody else has rung
+            pass  # another caller has rung
 
     def _wake(self) -> None:
         try:
             self._waker.send(b"w")
         except OSError:
-            pass  # it is awake, or it is no more
+            pass  # it is awake, or has ended
 
-    # The thread: it does what is asked, connects, reads, and looks at the clock.
+    # The thread: it does what callers ask, connects, reads, and looks at the clock.
 
     def _do_what_is_asked(self) -> None:
         asked = self._asked
@@ -590,13 +589,13 @@ class Client:
         self._move()
 
     def _something_happens(self) -> None:
-        """Notes the time, and that the clock has to be looked at soon."""
+        """Notes the time, and that what is due must be checked soon."""
         self._now = now = time.monotonic()
         if now + _LOOK_AFTER < self._look_at:
             self._look_at = now + _LOOK_AFTER
 
     def _move(self) -> None:
-        """Sends what is to be sent, and tells who is done, which may bring more."""
+        """Sends what is to be sent, and completes the ended tickets, which may ask for more."""
         self._flush()
         core = self._core
         while core.ended:
@@ -605,7 +604,7 @@ class Client:
             self._flush()
 
     def _flush(self) -> None:
-        """Sends what the socket takes now. What the session file has to hold stands in it before."""
+        """Sends what the socket accepts now. The session file is written before that."""
         core = self._core
         if core.file is not None and core.file.must_sync and core.failure is None:
             try:
@@ -623,10 +622,10 @@ class Client:
         except BlockingIOError:
             pass
         except OSError:
-            core.to_send.clear()  # the next read says so too
+            core.to_send.clear()  # the next read fails too
 
     def _move_waits(self) -> None:
-        """Has further sessions ask what has to wait."""
+        """Passes requests that have to wait to further sessions."""
         for ticket in self._core.take_moved():
             side = self._sides.choose()
             asked: Ticket[Any] = Ticket(ticket.request)
@@ -639,14 +638,14 @@ class Client:
         self._ask(lambda now: self._core.withdraw(ticket, now, why))
 
     def _has_come_back(self, side: Client, ticket: Ticket[Any], asked: Ticket[Any], now: float) -> None:
-        """A further session has done it. A session that is of no further use ends the client."""
+        """A further session has finished the request. If that session failed, the client ends."""
         self._sides.give_back(side)
         self._core.has_come_back(ticket, asked)
         if side.failure is not None:
             self._core.fail(type(side.failure)(*side.failure.args))
 
     def _close_sides(self) -> None:
-        """Ends the further sessions, as long as the server is there; what waits over them is withdrawn in any case."""
+        """Ends the further sessions, if the server is there; what waits over them is withdrawn in any case."""
         is_there = isinstance(self._core.failure, errors.Closed)
         for side in self._sides:
             side._is_temporary = is_there
@@ -654,7 +653,7 @@ class Client:
             is_there = is_there and isinstance(side.failure, errors.Closed)
 
     def _fence_all(self) -> None:
-        """Attaches the sessions anew, each from a thread of its own, since that waits for the server."""
+        """Attaches the sessions again, each in its own thread, since that waits for the server."""
         fences, self._core.fences = self._core.fences, []
         for session, ticket in fences:
             threading.Thread(target=self._fence, args=(session, ticket), daemon=True).start()
@@ -713,13 +712,13 @@ class Client:
         return connection
 
     def _sleep(self, seconds: float) -> None:
-        """Without a connection: until the next attempt."""
+        """Waits without a connection, until the next attempt."""
         end = time.monotonic() + seconds
         while self._tick() and time.monotonic() < end:
             self._select(end)
 
     def _serve(self, connection: socket.socket) -> bool:
-        """Until the connection breaks or the client ends. Whether the session was attached."""
+        """Serves until the connection breaks or the client ends. Returns whether the session was attached."""
         core = self._core
         core.connected(time.monotonic())
         core.is_urgent = True
@@ -743,7 +742,7 @@ class Client:
         return was_ready
 
     def _tick(self) -> bool:
-        """Does what is asked and what is due by the clock. Whether the client goes on."""
+        """Does what callers ask and what is due. Returns whether the client goes on."""
         core = self._core
         if self._asked:
             self._do_what_is_asked()
@@ -761,7 +760,7 @@ class Client:
         return core.failure is None
 
     def _select(self, end: float) -> bool:
-        """Sleeps until something is due or comes, or until the end. Whether it came over the connection."""
+        """Sleeps until something is due or comes, or until the end. Returns whether the connection has something."""
         self._is_asleep = True
         seconds = 0.0
         if not self._asked and not self._core.is_urgent:
@@ -776,10 +775,10 @@ class Client:
         return came
 
     def _linger(self) -> None:
-        """Nothing is asked any more: tells who is done, and sleeps at the bell for a moment.
+        """With nothing left to do: completes the ended tickets, and sleeps at the bell for a moment.
 
-        Telling is the last thing before it sleeps, since its caller wants the interpreter's lock at once. Whatever
-        comes over the connection meanwhile, nobody waits for it.
+        It completes them just before it sleeps, since their caller wants the interpreter's lock at once. No caller
+        waits for what comes over the connection meanwhile.
         """
         core = self._core
         seconds = min(_LINGER, self._look_at - self._now)
@@ -797,7 +796,7 @@ class Client:
             pass
 
     def _read(self, connection: socket.socket) -> bool:
-        """Takes what came. Whether the connection stands."""
+        """Reads what came. Returns whether the connection is still up."""
         try:
             piece = connection.recv(_READ_BYTES)
         except BlockingIOError:
@@ -817,10 +816,10 @@ class Client:
         return True
 
     def _forked(self) -> None:
-        """In a child of the process: what it inherited is the parent's, and is closed here without a word to anybody."""
+        """In a child of the process: closes what it inherited, which is the parent's, without sending anything."""
         self._core.failure = errors.Closed("a client is of the process that made it")
         self._core.phase = Phase.ENDED
-        self._core.to_send = bytearray()  # the thread may have been sending the other one
+        self._core.to_send = bytearray()  # the thread may have been sending from the old one
         self._is_over = True
         self._own_thread = 0
         self._ending = threading.RLock()
@@ -835,7 +834,7 @@ class Client:
 
 
 class Pipeline:
-    """Requests of one client that are asked together: `submit_many` of what the methods put in.
+    """Requests of one client that are asked together: `submit_many` of what its methods collect.
 
         with client.pipeline() as pipe:
             pipe.int_fetch_add(hits, 0, 1)
@@ -846,11 +845,11 @@ class Pipeline:
     def __init__(self, client: Client) -> None:
         self._client = client
         self._requests: List[Request[Any]] = []
-        # The answers, once it was asked; an error stands for itself.
+        # The answers, once asked; errors are in the list too.
         self.results: List[Any] = []
 
     def add(self, request: Request[Any]) -> Pipeline:
-        """One more request."""
+        """Adds a request."""
         self._requests.append(request_of(request))
         return self
 
@@ -859,7 +858,7 @@ class Pipeline:
         def __getattr__(self, name: str) -> Callable[..., Pipeline]: ...
 
     def run(self, *, timeout: Timeout = DEFAULT) -> List[Any]:
-        """Asks what was put in since the last time; the answers."""
+        """Asks what was added since the last time. Returns the answers."""
         asked, self._requests = self._requests, []
         self.results = self._client._ask_all(asked, timeout)
         return self.results
@@ -890,7 +889,7 @@ for _name in ("create", "find", "remove", *(what for what, _, _ in requests.OPER
     setattr(Pipeline, _name, _adder(getattr(requests, _name)))
 
 
-# What makes the lock at which a caller waits for its answer.
+# Makes the lock at which a caller waits for its answer.
 _new_gate = threading.Lock
 
 _READY = Phase.READY
@@ -903,7 +902,7 @@ def _result(ticket: Ticket[T]) -> T:
     return ticket.result  # type: ignore[return-value]
 
 
-# The clients of this process, whose children close what they inherit of them.
+# The clients of this process. Its children close the ones that they inherit.
 _clients: weakref.WeakSet[Client] = weakref.WeakSet()
 
 

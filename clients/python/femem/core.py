@@ -1,8 +1,8 @@
 """The client without sockets and clocks: what to send, what a reply means, and when to do something unasked.
 
-`Core` learns what happened (connected, bytes came, the connection broke, the time), and says what to send, when it
-wants to be called again, and which requests ended. Both clients, of threads and of asyncio, are thin shells round it.
-docs/formats.md, "What a client has to know", has the rules of the server that it rests on.
+`Core` is told what happened (connected, bytes came, the connection broke, the time), and says what to send, when it wants
+to be called again, and which requests ended. Both clients, for threads and for asyncio, are thin shells around it. It
+relies on the server's rules in docs/formats.md, "What a client has to know".
 """
 
 from __future__ import annotations
@@ -29,11 +29,11 @@ T = TypeVar("T")
 
 log = logging.getLogger("femem")
 
-# How often a client with a session file attaches again that another connection has its session: what its former process
-# had on its way may take it.
+# How often a client with a session file attaches again after another connection took its session: a late attach of its
+# former process may take it.
 _FIGHTS = 20
 
-# How long a client waits about before it attaches once more a session that it could not get, in seconds.
+# About how long a client waits before it again attaches a session that it could not get, in seconds.
 _ATTACH_PAUSE = 0.03
 
 
@@ -45,7 +45,7 @@ class Phase(enum.Enum):
     ENDED = "the client is of no further use"
 
 
-# A member's name costs a call each time in some versions.
+# In some versions of Python each use of a member's name costs a call.
 _DOWN = Phase.DOWN
 _ATTACHING = Phase.ATTACHING
 _MEETING = Phase.MEETING
@@ -73,13 +73,13 @@ class Core:
         self.phase = _DOWN
         self.failure: Optional[errors.FememError] = None
         self.to_send = bytearray()
-        # Why the last attempt to connect failed, if it did; whoever connects says so.
+        # Why the last attempt to connect failed, if it did. The client sets it.
         self.trouble = ""
         self.file = file
         self.clock = clock
-        # The sessions that patterns want to have taken from whoever has them; whoever connects does it.
+        # The sessions that patterns want taken from their owners. The client does it.
         self.fences: List[Tuple[int, Ticket[None]]] = []
-        # What the patterns of this client hold: the generation of each lock, by the id of its array.
+        # What this client's patterns hold: the generation of each lock, by the id of its array.
         self.holdings: Dict[int, int] = {}
         self.releasing: Set[int] = set()
         self._presence: Optional[Ticket[int]] = None
@@ -89,10 +89,10 @@ class Core:
         self._probes = itertools.count(FIRST_PROBE)
         # What has ended since `take_ended`.
         self.ended: List[Ticket[Any]] = []
-        # What has to wait, for `take_moved`.
+        # The requests that have to wait, for `take_moved`.
         self.moved: List[Ticket[Any]] = []
         self._flow = Flow(self.to_send, self.ended, file, self.moved if moves_waits else None)
-        # What another session asks, and how that takes it back.
+        # The requests made over another session, and how that takes each back.
         self._elsewhere: Dict[Ticket[Any], Callable[[errors.Withdrawn], object]] = {}
         self._reports: Deque[Ticket[reports.Report]] = deque()
         self._pauses: Set[Ticket[None]] = set()
@@ -105,19 +105,19 @@ class Core:
             self.recovered = self._flow.resume(file)
         # Whether the session was attached more than once by this client.
         self._was_away = self._flow.window is not None
-        # Whether something may be due sooner than `next_time` said. Whoever looks at the clock clears it.
+        # Whether something may be due sooner than `next_time` said. The client clears it when it calls `tick`.
         self.is_urgent = True
-        # Since when something is asked that is not done.
+        # Since when something is asked and not done.
         self._asked_at = 0.0
-        # Whether it is known that nothing is asked: it was so after the last reply, and nothing was asked since.
+        # Whether nothing is known to be open: nothing was after the last reply, and nothing was asked since.
         self.is_idle = False
-        # Whether the server is there; else, since when it is not.
+        # Whether the server is there; if not, since when.
         self._in_contact = False
         self._lost_at = 0.0
         self._start_over()
 
     def _start_over(self) -> None:
-        """What is of one connection: what was sent over it and is owed, and since when."""
+        """Resets the state of one connection: what was sent over it and is owed, and since when."""
         self.to_send.clear()
         self._flow.start_over()
         self._decoder = frames.ReplyDecoder()
@@ -125,12 +125,12 @@ class Core:
         self._attach_at: Optional[float] = None
         self._is_closing = False
         self._probes_sent: Set[int] = set()
-        self._probe: Optional[int] = None  # the one whose echo is waited for
+        self._probe: Optional[int] = None  # the probe whose echo is due
         self._probed_at = 0.0
         self._report_sent: Optional[float] = None
         self._bye_sent: Optional[float] = None
 
-    # What is asked of the client.
+    # What callers ask.
 
     def open(self, now: float) -> Ticket[None]:
         """A ticket that is done once the session is attached for the first time."""
@@ -140,7 +140,7 @@ class Core:
         return self._opening
 
     def begin_anew(self) -> None:
-        """Before it is opened: the file has another session, and nothing was asked of that one."""
+        """Before it is opened: takes the file's new session, which has no requests yet."""
         assert self.file is not None
         self.session = self.file.session
         self._flow = Flow(self.to_send, self.ended, self.file)
@@ -155,7 +155,7 @@ class Core:
         return ticket
 
     def take(self, tickets: Sequence[Ticket[Any]], timeout: Optional[float], now: float) -> None:
-        """As `submit`, for tickets that somebody made. Where nothing can be asked any more they end with the error."""
+        """As `submit`, for existing tickets. If nothing can be asked any more, they end with the error."""
         admitted = self._admit(tickets, now)
         if timeout is not None:
             self.is_urgent = True
@@ -174,7 +174,7 @@ class Core:
     def leave(
         self, now: float, ticket: Optional[Ticket[None]] = None, at_any_rate: bool = False
     ) -> Ticket[None]:
-        """Ends the session. `StillWaiting` where something has no answer yet, unless it is to end at any rate."""
+        """Ends the session. `StillWaiting` if something has no answer yet, unless `at_any_rate`."""
         asked: Ticket[None] = ticket or Ticket(None)
         if self.failure is None and self.is_busy() and not at_any_rate:
             error = errors.StillWaiting("a request of this client has no answer yet")
@@ -189,7 +189,7 @@ class Core:
         return asked
 
     def close_file(self) -> None:
-        """At the end of the client. A session that was ended leaves nothing to be held."""
+        """At the end of the client: closes the file, or removes it if the session was ended."""
         if self.file is not None:
             if self._leaving is not None and self._leaving.done and self._leaving.error is None:
                 self.file.remove()
@@ -197,18 +197,18 @@ class Core:
                 self.file.close()
 
     def forget(self, key: bytes) -> None:
-        """The answer that is kept under this key is not asked for again."""
+        """Drops the answer under this key."""
         assert self.file is not None
         self.file.forget(key)
 
     def withdraw(self, ticket: Ticket[Any], now: float, why: Optional[errors.Withdrawn] = None) -> None:
-        """Takes a request back, if it waits. It ends with `why`, or with its answer where it has happened."""
+        """Takes a request back, if it waits. It ends with `why`, or with its answer if it has happened."""
         if ticket.done or ticket.request is None:
             return
         ticket.taken_back = why or errors.Withdrawn(ticket.request.what)
         if not ticket.taken:
             ticket.taken = True
-            self._end(ticket, error=ticket.taken_back)  # whoever asked was interrupted before it got here
+            self._end(ticket, error=ticket.taken_back)  # its caller was interrupted before it got here
             return
         if ticket in self._elsewhere:
             self._elsewhere[ticket](ticket.taken_back)
@@ -216,7 +216,7 @@ class Core:
             self._flow.withdraw(ticket, now, self.phase is _READY)
 
     def withdraw_all(self, tickets: Sequence[Ticket[Any]], now: float) -> None:
-        """Takes these back; some of them may not have come here yet."""
+        """Takes these back. Some of them may not have been asked yet."""
         for ticket in tickets:
             if ticket.request is not None:
                 self.withdraw(ticket, now)
@@ -225,7 +225,7 @@ class Core:
         self.fail(errors.Closed("the client is closed"))
 
     def fail(self, failure: errors.FememError) -> None:
-        """The client ends, and everything that is under way with it."""
+        """Ends the client and everything under way."""
         if self.failure is not None:
             return
         self.failure = failure
@@ -245,29 +245,29 @@ class Core:
                 self._end(ticket, error=self._failure_again())
 
     def take_ended(self) -> List[Ticket[Any]]:
-        """The tickets that ended since the last call. Whoever takes them calls `finished` of each."""
+        """The tickets that ended since the last call. The caller must call `finished` of each."""
         ended = self.ended[:]
         del self.ended[: len(ended)]
         return ended
 
-    # What waits, where the client has further sessions.
+    # Requests that wait, if the client has further sessions.
 
     def take_moved(self) -> List[Ticket[Any]]:
-        """What has to wait. Whoever takes it has another session ask it, and says so by `moved_to`."""
+        """The requests that have to wait. The caller makes them over another session, and notes that by `moved_to`."""
         moved = [ticket for ticket in self.moved if not ticket.done]
         self.moved.clear()
         return moved
 
     def moved_to(self, ticket: Ticket[Any], take_back: Callable[[errors.Withdrawn], object]) -> None:
-        """Another session asks it, and takes it back by this."""
+        """Notes that another session makes the request, and how that takes it back."""
         self._elsewhere[ticket] = take_back
 
     def has_come_back(self, ticket: Ticket[Any], asked: Ticket[Any]) -> None:
-        """It has ended there, as what that session was asked in its place."""
+        """Ends the ticket like `asked`, the one made over the other session."""
         if self._elsewhere.pop(ticket, None) is not None:
             self._end(ticket, asked.result, asked.error)
 
-    # What happens to the connection.
+    # Events of the connection.
 
     def connected(self, now: float) -> None:
         if self.phase is not _ENDED:
@@ -276,7 +276,7 @@ class Core:
             self._attach(now)
 
     def disconnected(self, now: float) -> None:
-        """The connection is gone, or could not be made."""
+        """The connection was lost, or could not be made."""
         if self.phase is _ENDED:
             return
         self.phase = _DOWN
@@ -305,10 +305,10 @@ class Core:
             self._pump(now)
             self.is_idle = not self.is_busy()
 
-    # What happens by the clock.
+    # Events of the clock.
 
     def next_time(self) -> Optional[float]:
-        """When `tick` has something to do, if nothing else happens before."""
+        """When `tick` has something to do, if nothing happens before."""
         if self.phase is _ENDED:
             return None
         times = [self._timeouts.first(), self._attach_at, self._probe_at()]
@@ -341,7 +341,7 @@ class Core:
         self._pump(now)
 
     def is_busy(self) -> bool:
-        """Whether something is asked that is not done."""
+        """Whether something is asked and not done."""
         if self._flow.is_busy() or self._elsewhere or self._reports:
             return True
         opening, leaving = self._opening, self._leaving
@@ -350,17 +350,17 @@ class Core:
     def _probe_at(self) -> Optional[float]:
         """When to ask whether the server is there, and whether the session is still this client's.
 
-        Nobody tells a client that its session was taken over, not even one that waits for its welcome.
+        The server does not tell a client that its session was taken over, even while the client waits for its welcome.
         """
         if self._probe is not None or self._attach_at is not None or self.phase is _DOWN:
             return None
         if self._bye_sent is not None:
-            return None  # it would be refused for the closing
+            return None  # it would be refused, since the session is closing
         is_ready = self.phase is _READY
         return self._probed_at + (self._probe_interval if is_ready else min(1.0, self._probe_interval))
 
     def _give_up_at(self) -> float:
-        """When the server counts as unreachable: counted from the oldest thing that it owes, while something is asked."""
+        """When to give up: `reconnect_timeout` after the oldest thing that the server owes, while something is asked."""
         owed: List[Optional[float]] = [] if self._in_contact else [self._lost_at]
         if self.phase is _READY:
             owed += [*self._flow.owed(), self._report_sent, self._bye_sent]
@@ -379,14 +379,14 @@ class Core:
     # Tickets.
 
     def _check(self) -> None:
-        """Raises why nothing can be asked any more."""
+        """Raises the reason if nothing can be asked any more."""
         if self.failure is not None:
             raise self._failure_again()
         if self._leaving is not None:
             raise errors.Closed("the session is being ended")
 
     def _admit(self, tickets: Sequence[Ticket[Any]], now: float) -> Sequence[Ticket[Any]]:
-        """Those of the tickets that may be asked. Any other one ends, or has ended before it came here."""
+        """The tickets that may be asked. The others end here, or have ended before."""
         admitted: List[Ticket[Any]] = []
         for ticket in tickets:
             if not ticket.done and not ticket.taken:
@@ -405,7 +405,7 @@ class Core:
         return admitted
 
     def _failure_again(self) -> errors.FememError:
-        """A new one for each ticket, since an error that two threads raise gets the traces of both."""
+        """A new error for each ticket, since an error that two threads raise gets the traces of both."""
         assert self.failure is not None
         return type(self.failure)(*self.failure.args)
 
@@ -420,7 +420,7 @@ class Core:
             self._advance(job, lambda: next(job.steps))
 
     def abandon(self, job: Job[Any], now: float) -> None:
-        """Nobody waits for it any more: it is taken back where it waits, and undone where it is done."""
+        """No caller waits for the job any more: takes it back if it waits, and undoes it if it is done."""
         job.is_abandoned = True
         if job.done:
             self._undo(job, now)
@@ -428,7 +428,7 @@ class Core:
             self.interrupt(job, now)
 
     def interrupt(self, job: Job[Any], now: float) -> None:
-        """Takes back what it waits for. It ends with `Withdrawn`, or is done where all had happened."""
+        """Takes back what the job waits for. It ends with `Withdrawn`, or is done if everything had happened."""
         if not job.taken:
             job.taken = True
             self._end(job, error=errors.Withdrawn("it was not begun"))
@@ -446,7 +446,7 @@ class Core:
             self.start(Job(undo(job.result)), now)
 
     def _advance(self, job: Job[Any], go_on: Callable[[], Step]) -> None:
-        """Lets it run to its next step, or to its end."""
+        """Runs the job to its next step, or to its end."""
         while True:
             try:
                 step = go_on()
@@ -523,7 +523,7 @@ class Core:
             self.take((self._presence,), None, now)
 
     def fenced(self, ticket: Ticket[None], error: Optional[BaseException]) -> None:
-        """Whoever connects has done what `fences` says, or could not."""
+        """The client has attached the session of a fence, or could not."""
         if not ticket.done:
             self._end(ticket, error=error)
 
@@ -537,7 +537,7 @@ class Core:
         self.to_send += frames.attach(self.session)
 
     def _attach_later(self, now: float) -> None:
-        """Not at a fixed time, so that two clients that want one session do not keep it from each other."""
+        """Attaches at a random time, so that two clients that want one session do not keep it from each other."""
         self.phase = _ATTACHING
         self._meeting = None
         self._probe = None
@@ -576,7 +576,7 @@ class Core:
         elif self._flow.window is None:
             self._take_stranger(reply, now)
         elif self.phase is _ATTACHING and isinstance(reply, (frames.Answer, frames.Settled)):
-            # It may be to whoever had the session in between, if the welcome tells of one. Else it comes again.
+            # It may be for a client that had the session in between, as the welcome will show. Otherwise it comes again.
             pass
         elif isinstance(reply, frames.Answer):
             if self._flow.answered(reply):
@@ -594,7 +594,7 @@ class Core:
             self._take_goodbye(reply)
 
     def _take_stranger(self, reply: frames.Reply, now: float) -> None:
-        """A reply before the session is this client's: it may be to whoever had it before."""
+        """A reply before the session is this client's: it may be for the session's former client."""
         if self._meeting is not None:
             self._meeting.take(reply)
             self._go_on_meeting(self._meeting)
@@ -629,7 +629,7 @@ class Core:
         self._flow.settled(floor)
 
     def _take_welcome(self, floor: int, now: float) -> None:
-        # While the session is being ended it may be gone, and another one attached in its place.
+        # While the session is being ended it may be gone, and begun again by this attach.
         if self._leaving is None:
             self._flow.welcomed(floor)
         if self.phase is _ATTACHING:
@@ -658,7 +658,7 @@ class Core:
         self.fail(errors.Closed("the session is ended"))
 
     def _heard(self, now: float) -> None:
-        """The server did something for this client: it is there, and the session is this client's."""
+        """The server did something for this client: so it is there, and this client has the session."""
         self._in_contact = True
         if self._probe is None:
             self._probed_at = now
@@ -692,7 +692,7 @@ class Core:
     def _take_not_attached(self, number: int, now: float) -> None:
         """Another connection has the session.
 
-        Before this client asked anything that may be what a former process still had on its way: it attaches again.
+        If this client has asked nothing yet, that may be a late attach of a former process: it attaches again.
         """
         if self._flow.window is not None:
             if self.file is None or self._fights >= _FIGHTS:
@@ -719,7 +719,7 @@ class Core:
             raise unexpected(refusal)
 
     def _take_other_refusal(self, refusal: frames.Refusal) -> None:
-        """Of a report or a bye, whose number is 0."""
+        """The refusal of a report or a bye, with number 0."""
         if refusal == frames.Refusal(0, frames.NO_MEMORY) and self._report_sent is not None:
             self._report_sent = None
             self._end(self._reports.popleft(), error=errors.NoMemory("report"))

@@ -1,4 +1,4 @@
-"""The errors of the client, one by name for each way in which something can end."""
+"""The errors of the client: one for each way in which something can fail."""
 
 from __future__ import annotations
 
@@ -10,14 +10,14 @@ class FememError(Exception):
 
 
 class AnswerError(FememError):
-    """The server carried the request out, and the answer is none that the operation is for.
+    """The server carried the request out, and its answer is an error.
 
-    The answer is kept like any other one: no word was changed by it.
+    The answer is kept like any other. No word was changed.
     """
 
 
 class NoArray(AnswerError):
-    """There is no such array; also the answer to what waited on an array that was removed."""
+    """There is no such array. Also the answer to what waits on an array when it is removed."""
 
 
 class BadIndex(AnswerError):
@@ -29,7 +29,7 @@ class NameTaken(AnswerError):
 
 
 class ArrayLimit(AnswerError):
-    """64 arrays are there."""
+    """There are 64 arrays."""
 
 
 class WordLimit(AnswerError):
@@ -45,7 +45,7 @@ class BadLength(AnswerError):
 
 
 class NotNow(AnswerError):
-    """The operation would wait, and was asked not to."""
+    """The operation would have to wait, and `nowait` was given."""
 
 
 class Refused(FememError):
@@ -61,15 +61,15 @@ class SessionLimit(Refused):
 
 
 class BelowFloor(Refused):
-    """The number is below the session's floor: somebody else uses the session."""
+    """The number is below the session's floor: another client uses the session."""
 
 
 class BeyondWindow(Refused):
-    """The number is beyond the session's window: somebody else uses the session."""
+    """The number is beyond the session's window: another client uses the session."""
 
 
 class NumberUsed(Refused):
-    """Another request has the number: somebody else uses the session."""
+    """Another request has the number: another client uses the session."""
 
 
 class StillWaiting(Refused):
@@ -77,15 +77,15 @@ class StillWaiting(Refused):
 
 
 class Closing(Refused):
-    """The session is being ended, and that is not stored yet."""
+    """The session is being ended; this is not stored yet."""
 
 
 class NoMemory(Refused):
-    """The server has no memory for it now."""
+    """The server has no memory for this now."""
 
 
 class Spent(Refused):
-    """The server's store has no place for a further entry, ever."""
+    """The server's store has no place for further entries, ever."""
 
 
 class NotWaiting(Refused):
@@ -93,27 +93,27 @@ class NotWaiting(Refused):
 
 
 class TakenOver(NotAttached):
-    """Another connection attached the session. This client is of no further use.
+    """Another connection attached the session. This client can't be used any more.
 
-    What it had no answer for happened once or not at all.
+    A request without an answer happened once or not at all.
     """
 
 
 class SessionLost(FememError):
     """The server does not keep the session any more: it was ended, or the store is another one.
 
-    What had no answer happened once or not at all, and is not sent again.
+    A request without an answer happened once or not at all, and is not sent again.
     """
 
 
 class ProtocolError(FememError):
-    """The server sent what no server sends. This client is of no further use."""
+    """The server broke the protocol. This client can't be used any more."""
 
 
 class ServerUnreachable(FememError, ConnectionError):
     """The server could not be reached, or was silent, for `reconnect_timeout` seconds.
 
-    This client is of no further use. What had no answer happened once or not at all.
+    This client can't be used any more. A request without an answer happened once or not at all.
     """
 
 
@@ -126,7 +126,7 @@ class TimedOut(Withdrawn, TimeoutError):
 
 
 class SessionFileError(FememError):
-    """The session file can't be read or written, or is none. Nothing was sent that it does not have."""
+    """The session file can't be read or written, or is not a session file. Nothing was sent that it does not have."""
 
 
 class SessionInUse(SessionFileError):
@@ -134,11 +134,11 @@ class SessionInUse(SessionFileError):
 
 
 class NotOwner(FememError):
-    """The lock is free, or another one's: whoever releases it does not hold it, or not any more."""
+    """The lock or permit is not held by the session that releases it, or is no longer."""
 
 
 class Closed(FememError):
-    """The client is closed. What it had no answer for happened once or not at all."""
+    """The client is closed. A request without an answer happened once or not at all."""
 
 
 # By the codes of docs/formats.md.

@@ -1,4 +1,4 @@
-"""The requests of a session, over its connections: they are numbered, sent, sent again, and taken back."""
+"""The requests of a session, over its connections: numbering, sending, sending again, and taking back."""
 
 from __future__ import annotations
 
@@ -13,7 +13,7 @@ from .sessionfile import Asked, SessionFile
 from .tickets import Ticket
 from .window import Window
 
-# How long a request waits before it may be moved out of the window's way, in seconds.
+# How long a request waits before it may be moved to make room in the window, in seconds.
 PATIENCE = 0.05
 
 _OF_CALL = (frames.BELOW_FLOOR, frames.BEYOND_WINDOW, frames.NUMBER_USED, frames.NO_MEMORY, frames.SPENT)
@@ -21,9 +21,9 @@ _OF_SETTLE = (frames.BELOW_FLOOR, frames.BEYOND_WINDOW, frames.STILL_WAITING, fr
 
 
 class Flow:
-    """What is sent goes to `to_send`, and tickets that end go to `ended`.
+    """Appends what it sends to `to_send`, and tickets that end to `ended`.
 
-    There is no window, and nothing is sent, until `begin`. Where there is a list `moved`, what would wait goes there.
+    There is no window, and nothing is sent, until `begin`. Requests that would wait go to `moved`, if it is a list.
     """
 
     def __init__(
@@ -36,7 +36,7 @@ class Flow:
         self._moved = moved
         self.window: Optional[Window[Ticket[Any]]] = None
         self._file = file
-        # What was asked under a key and has no answer yet.
+        # Requests under keys that have no answer yet.
         self._keys: Dict[bytes, Ticket[Any]] = {}
         self._to_send = to_send
         self._ended = ended
@@ -44,18 +44,18 @@ class Flow:
         self.start_over()
 
     def start_over(self) -> None:
-        """Another connection: nothing was cancelled or settled over it."""
+        """Begins with a new connection, over which nothing was cancelled or settled."""
         self._cancelled: Set[int] = set()
         self._settle_sent: Optional[float] = None
 
     def begin(self, floor: int) -> None:
-        """From this floor on no number was used."""
+        """Begins at this floor. No number from there on was used."""
         self.window = Window(floor)
         if self._file is not None:
             self._file.begin(floor)
 
     def resume(self, file: SessionFile) -> List[Ticket[Any]]:
-        """Goes on where the file's former process ended: its requests that have no answer, which are sent again."""
+        """Continues after the file's former process. Returns its unanswered requests, which are sent again."""
         assert file.floor is not None
         tickets: Dict[int, Ticket[Any]] = {}
         for number, asked in sorted(file.unanswered.items()):
@@ -76,12 +76,12 @@ class Flow:
             if ticket.key is None or not self._is_known(ticket, ticket.key):
                 if self._moved is not None:
                     may_wait = ticket.request is not None and ticket.request.may_wait
-                    # Reports show under which session a client is there.
+                    # A presence stays in the client's own session, for reports to show.
                     ticket.asks_first = may_wait and not ticket.is_presence
                 self._queue.append(ticket)
 
     def _is_known(self, ticket: Ticket[Any], key: bytes) -> bool:
-        """Whether somebody asked under the key before: then the ticket ends as that one did, or does."""
+        """Whether the key was used before. Then the ticket ends like the earlier one."""
         assert self._file is not None and ticket.request is not None
         first = self._keys.get(key)
         known = self._file.keyed.get(key)
@@ -98,7 +98,7 @@ class Flow:
         return True
 
     def is_busy(self) -> bool:
-        """Whether something is asked that somebody waits for."""
+        """Whether something is open that a caller waits for."""
         if self._queue:
             return True
         if self.window is not None:
@@ -108,14 +108,14 @@ class Flow:
         return False
 
     def owed(self) -> List[float]:
-        """Since when the server owes what it owes."""
+        """The times since when the server owes replies."""
         if self.window is None:
             return []
         times = [ticket.sent_at for ticket in self.window.unanswered.values() if ticket.must_end()]
         return times if self._settle_sent is None else [*times, self._settle_sent]
 
     def take_all(self) -> List[Ticket[Any]]:
-        """Everything that is under way, which is given up."""
+        """Gives up and returns everything that is under way."""
         tickets = [*self._queue, *(self._moved or ())]
         if self._moved is not None:
             self._moved.clear()
@@ -128,7 +128,7 @@ class Flow:
     # Sending.
 
     def send(self, now: float) -> None:
-        """Requests as far as the window has room, and what makes more room."""
+        """Sends requests as far as the window has room, and messages that make more room."""
         window = self.window
         if window is None:
             return
@@ -160,17 +160,17 @@ class Flow:
             self._send(ticket, now)
 
     def in_the_way(self) -> List[Ticket[Any]]:
-        """What keeps the window from moving, while something is queued: requests that wait under its lowest numbers.
+        """The requests that hold up the queue: those that wait under the window's lowest numbers.
 
-        They are cancelled, and called again under new numbers: of a request that is withdrawn nothing happened. So what
-        waits long keeps nobody else from being sent.
+        They are cancelled and sent again under new numbers, since a withdrawn request has not happened. So long
+        waits do not keep other requests from being sent.
         """
         if not self._queue or self.window is None or not self.window.is_stuck():
             return []
         return [ticket for ticket in self.window.lower_half() if not ticket.cancel_sent]
 
     def send_again(self, now: float) -> None:
-        """All that has no answer, under its old number, behind the floor that is asked for; and what is taken back."""
+        """Sends the settle that is due, every unanswered request under its old number, and the cancels."""
         window = self.window
         assert window is not None
         if window.asked != window.floor:
@@ -182,7 +182,7 @@ class Flow:
                 self._cancel(ticket, now)
 
     def withdraw(self, ticket: Ticket[Any], now: float, is_ready: bool) -> None:
-        """Takes a ticket back, which says what it then ends with. Where nothing can be sent now, `send_again` does it."""
+        """Takes a ticket back; it has the error to end with. If nothing can be sent now, `send_again` does it."""
         if ticket.number is None:
             if ticket in self._queue:
                 self._queue.remove(ticket)
@@ -219,7 +219,7 @@ class Flow:
                     self._end(follower, result, None if error is None else type(error)(*error.args))
 
     def _end_by(self, ticket: Ticket[Any], answer: frames.Answer) -> None:
-        """Ends it as the answer says. `ProtocolError` is raised besides."""
+        """Ends the ticket by its answer. `ProtocolError` is raised too."""
         assert ticket.request is not None
         try:
             result = ticket.request.result(answer)
@@ -234,7 +234,7 @@ class Flow:
     # Replies.
 
     def answered(self, answer: frames.Answer) -> bool:
-        """Whether a request ended by it; else it came before."""
+        """Whether it ended a request. Otherwise it came before."""
         assert self.window is not None
         ticket = self.window.answer(answer)
         if ticket is None:
@@ -290,13 +290,13 @@ class Flow:
             self._file.settled(window.floor)
 
     def refused(self, refusal: frames.Refusal) -> bool:
-        """Whether it is of a request, a cancel or a settle. That of a settle is raised: then nothing can go on."""
+        """Whether it refuses a request, a cancel or a settle. A settle's is raised, since nothing can go on then."""
         window = self.window
         number, code = refusal.number, refusal.code
         if window is None:
             return False
         if code == frames.NOT_WAITING and number in self._cancelled:
-            self._cancelled.discard(number)  # it has happened, and its answer comes
+            self._cancelled.discard(number)  # the request has happened, and its answer comes
         elif number == window.asked != window.floor and code in _OF_SETTLE:
             raise errors.REFUSALS[code](f"settle {number}")
         elif number in window.unanswered and code in _OF_CALL:

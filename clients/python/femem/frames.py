@@ -1,7 +1,7 @@
 """Messages and replies as bytes (docs/formats.md, "Frames", version 2).
 
-Messages are spelled by one function each. Replies are read by a strict decoder, which refuses every byte that no server
-sends and holds at most one frame.
+Each message has a function that encodes it. A strict decoder reads replies: it refuses every byte that no correct server
+sends, and holds at most one frame.
 """
 
 from __future__ import annotations
@@ -34,7 +34,7 @@ def attach(session: int) -> bytes:
 
 
 def create(number: int, name: bytes, length: int, full: bool) -> bytes:
-    """A name of up to 16 bytes has a kind of its own, and a longer one another."""
+    """Names of up to 16 bytes and longer ones have different kinds."""
     kind, row = (2, 16) if len(name) <= 16 else (12, 32)
     return _frame(kind, struct.pack(f">QB{row}sIB", number, len(name), name, length, full))
 
@@ -53,7 +53,7 @@ pack_access = struct.Struct(">IBQBQIQ").pack
 
 
 def access(number: int, code: int, array: int, index: int, operand: int, nowait: bool) -> bytes:
-    """`struct.error` where an argument is no whole number or has too many bits."""
+    """`struct.error` if an argument is not a whole number or has too many bits."""
     return pack_access(30, 11 if nowait else 5, number, code, array, index, operand)
 
 
@@ -61,9 +61,9 @@ _NUMBER = struct.Struct(">Q")
 
 
 def append_under(stream: bytearray, frame: bytes, number: int, nowait: bool = False) -> None:
-    """Appends a frame of a request that was spelled under number 0, under this number.
+    """Appends the frame of a request, encoded under number 0, under this number.
 
-    With `nowait`, of an operation that may wait: so that it does not.
+    `nowait` is for operations that may wait: it then does not wait.
     """
     at = len(stream) + 5
     stream += frame
@@ -94,7 +94,7 @@ class Welcome(NamedTuple):
 
 
 class Answer(NamedTuple):
-    """`value` is the value of *value* and the id of *array*; `length` is that of *array*; else both are 0."""
+    """`value` is the value of *value* or the id of *array*; `length` is that of *array*; otherwise they are 0."""
 
     number: int
     code: int
@@ -125,7 +125,7 @@ class Report(NamedTuple):
 
 Reply = Union[Welcome, Answer, Withdrawn, Settled, Goodbye, Refusal, Report]
 
-# The length of each kind but a report's, which is 2 to 262,145.
+# The length of each kind, except a report, which has 2 to 262,145.
 _LENGTHS = {65: 17, 66: 22, 67: 9, 68: 9, 69: 9, 70: 10}
 _REPORT = 71
 
@@ -136,9 +136,9 @@ _unpack_answer = struct.Struct(">IBQBQI").unpack_from
 
 
 def _read_plain_answers(stream: Union[bytes, bytearray], at: int, replies: List[Reply]) -> int:
-    """Appends the answers that are *value* or *done*, as most are, from `at` on. Where they end.
+    """Appends the *value* and *done* answers, the most common, from `at` on. Returns where they end.
 
-    At anything else it stops, right or wrong, and leaves it to the reader of each kind.
+    It stops at anything else, correct or not, which the other readers handle.
     """
     end = at + (len(stream) - at) // 26 * 26
     for here in range(at, end, 26):
@@ -150,7 +150,7 @@ def _read_plain_answers(stream: Union[bytes, bytearray], at: int, replies: List[
 
 
 class ReplyDecoder:
-    """Reads replies from the pieces of a stream, however it is cut.
+    """Reads replies from a stream, in whatever pieces it comes.
 
     It holds less than a frame between pieces, and a frame has at most 262,149 bytes.
     """
@@ -162,7 +162,7 @@ class ReplyDecoder:
     def feed(self, piece: bytes) -> List[Reply]:
         """The replies that the piece completes.
 
-        `ProtocolError` names the offset of the first frame that no server sends; of that piece nothing is handed out.
+        `ProtocolError` has the offset of the first invalid frame; nothing of that piece is then returned.
         """
         replies: List[Reply] = []
         stream: Union[bytes, bytearray] = piece
@@ -187,7 +187,7 @@ class ReplyDecoder:
         return ProtocolError(f"bad frame at offset {self._offset + at}: {what}")
 
     def _end_of_frame(self, stream: Union[bytes, bytearray], at: int) -> int:
-        """Where the frame at `at` ends, or 0 where it is not whole. It is refused as soon as its head is wrong."""
+        """Where the frame at `at` ends, or 0 if it is not whole. It is refused as soon as its head is wrong."""
         have = len(stream) - at
         if have < 4:
             return 0

@@ -1,7 +1,7 @@
-"""Several requests that are one operation of a pattern, as the steps of a generator that the client itself runs.
+"""Several requests that make one operation of a pattern, as the steps of a generator that the client itself runs.
 
-A generator yields what it wants and is sent what came of it. It runs where the client reads its replies, not in the
-thread or task that asked, so whoever asked may be interrupted anywhere and nothing is left half done by that.
+A generator yields what it wants and is sent the result. It runs where the client reads its replies, not in the thread or
+task that asked, so that one may be interrupted anywhere and nothing is left half done.
 """
 
 from __future__ import annotations
@@ -15,9 +15,9 @@ T = TypeVar("T")
 
 
 class Wait:
-    """A request that may wait, for `seconds` at most: it ends with its result, or the error is raised in the generator.
+    """A request that may wait, for `seconds` at most. Its result is sent to the generator, or its error raised there.
 
-    The next process with the same session file takes it back.
+    After a restart, the next process with the same session file takes it back.
     """
 
     def __init__(self, request: Request[Any], seconds: Optional[float] = None) -> None:
@@ -26,14 +26,14 @@ class Wait:
 
 
 class Batch:
-    """Requests that are sent together, in this order. The outcome is a list of results and of errors."""
+    """Requests that are sent together, in this order. The outcome is a list of results and errors."""
 
     def __init__(self, requests: Sequence[Request[Any]]) -> None:
         self.requests = requests
 
 
 class Pause:
-    """Seconds in which nothing is asked."""
+    """Does nothing for that many seconds."""
 
     def __init__(self, seconds: float) -> None:
         self.seconds = seconds
@@ -44,14 +44,14 @@ class Look:
 
 
 class Present:
-    """This client waits at word 0 of the array from now on, so that reports show that it is there."""
+    """Keeps a request waiting at word 0 of the array from now on, so that reports show this client."""
 
     def __init__(self, array: Array) -> None:
         self.array = array
 
 
 class Fence:
-    """Whoever has the session has it no more: what it has under way is never carried out from now on."""
+    """Takes the session from its client: nothing that this has under way is carried out from now on."""
 
     def __init__(self, session: int) -> None:
         self.session = session
@@ -67,9 +67,9 @@ class Job(Ticket[T]):
     def __init__(self, steps: Steps[T], undo: Optional[Callable[[T], Steps[Any]]] = None) -> None:
         super().__init__(None)
         self.steps = steps
-        # What the step that runs has asked for.
+        # The tickets of the current step.
         self.asked: List[Ticket[Any]] = []
         self.is_interrupted = False
-        # Whether nobody waits for it any more; `undo` then makes steps that undo what was done.
+        # Whether its caller no longer waits; `undo` then makes steps that undo what was done.
         self.is_abandoned = False
         self.undo = undo

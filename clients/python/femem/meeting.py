@@ -1,12 +1,12 @@
 """How a new client begins in a session that may have been used before.
 
-A process that had the session may be no more, and nobody knows which of the 32 numbers from the floor on it used. So the
-floor is raised by 32: the numbers from there on were never used, and no old answer can be taken for one of a new request.
+A former process may have used any of the 32 numbers from the floor on. So the client raises the floor by 32: the numbers
+from there on were never used, and no old answer can be taken for one of a new request.
 
-The floor has to be the newest for that. Mails of entries that the former user made, and that were not stored yet when the
-session was attached, come to the new connection, an older welcome among them. So the floor of a welcome is tried first:
-`settle` of the floor that stands changes nothing, and that of an older one is refused at once. A cancel of a number that
-nobody uses, sent behind it, is refused at once too, so when that refusal is there the other one has come, or never comes.
+For that it must know the newest floor. Replies to the former process for entries that were not yet stored at the attach
+come to the new connection, perhaps an older welcome among them. So the client first tries a welcome's floor: `settle` of
+the current floor changes nothing, and of an older one is refused at once. A cancel of an unused number, sent after it, is
+refused at once too; when that refusal has come, the settle's has come before or never will.
 """
 
 from __future__ import annotations
@@ -16,8 +16,8 @@ from typing import Iterator, Optional, Set
 from . import errors, frames
 from .errors import ProtocolError
 
-# A cancel of a number from here on is always refused, at once: the numbers of requests are below. A client that sends one
-# asks "are you there?".
+# A cancel of a number from here on is always refused at once, since requests have lower numbers. Clients send one to ask
+# "are you there?".
 FIRST_PROBE = 2**63
 
 
@@ -27,7 +27,7 @@ def unexpected(refusal: frames.Refusal) -> ProtocolError:
 
 
 class Meeting:
-    """From the first welcome to the floor from which on no number was used."""
+    """From the first welcome to a floor from which on no number was used."""
 
     def __init__(self, floor: int, probes: Iterator[int]) -> None:
         self.to_send = bytearray()
@@ -50,7 +50,7 @@ class Meeting:
 
     def take(self, reply: frames.Reply) -> None:
         if isinstance(reply, frames.Answer):
-            return  # to a request of the former user
+            return  # to a request of the former process
         if isinstance(reply, frames.Settled):
             if self._is_newest and reply.floor == self._target:
                 self.new_floor = reply.floor
@@ -70,7 +70,7 @@ class Meeting:
         self._try_newer()
 
     def _try_newer(self) -> None:
-        """Another floor, once the one that was tried is known to be old and a newer one is there."""
+        """Tries another floor, once the tried one is known to be old and there is a newer one."""
         if self._is_old and self._probe is None and self._newest > self._tried:
             self._try(self._newest)
 
@@ -95,7 +95,7 @@ class Meeting:
             raise unexpected(refusal)
 
     def _clear(self) -> None:
-        """A request of the former user waits yet. The session is another's now, so what waits is taken back."""
+        """Takes back what still waits from the former process."""
         self._has_cleared = True
         for number in range(self._tried, self._target):
             self._cancelled.add(number)

@@ -1,7 +1,7 @@
-"""Looking at a server without taking part: what waits, as rows, as a graph, as metrics and as a page.
+"""Looking at a server without taking part: what waits, as text, as a graph, as metrics and as a page.
 
-An `Observer` attaches no session. It asks for reports, which a connection without a session may do, so it changes nothing,
-needs none of the 64 sessions, and is not one of those of whom `all-wait` speaks.
+An `Observer` attaches no session. It asks for reports, which a connection without a session may do. So it changes nothing,
+needs none of the 64 sessions, and does not count for `all-wait`.
 """
 
 from __future__ import annotations
@@ -30,17 +30,17 @@ _SESSION = re.compile(r"session ([0-9]+) floor [0-9]+ kept ([0-9]+)")
 
 @dataclass(frozen=True)
 class Look:
-    """What `femem look` shows: of each array its name and length, and of each session how many answers are kept."""
+    """What `femem look` shows: each array's name and length, and how many answers each session keeps."""
 
     arrays: Dict[int, Tuple[str, int]] = field(default_factory=dict)
     sessions: Dict[int, int] = field(default_factory=dict)
 
     def name(self, array: int) -> str:
-        """The array's name where it is known."""
+        """The array's name, if it is known."""
         return self.arrays[array][0] if array in self.arrays else f"array {array}"
 
     def present(self) -> Optional[int]:
-        """The array at which clients wait to be seen."""
+        """The array at which clients wait to show that they are there."""
         return next((id for id, (name, _) in self.arrays.items() if name == PRESENCE), None)
 
 
@@ -51,9 +51,9 @@ def parse_look(text: str) -> Look:
 
 
 class Observer:
-    """Reports of a server. With the path of its store, names of arrays and sessions too, where `femem look` shows them.
+    """Reports of a server. With the path of its store also names of arrays, and sessions, if `femem look` shows them.
 
-    `program` is the program `femem`. `trouble` is why the last look showed nothing, or empty.
+    `program` is the path of `femem`. `trouble` is why the last look showed nothing, or empty.
     """
 
     def __init__(
@@ -65,7 +65,7 @@ class Observer:
         self._timeout = seconds_of(timeout)
         self.trouble = ""
         self._socket: Optional[socket.socket] = None
-        # The array at which clients wait to be seen, once `owners` found it.
+        # The array at which clients show that they are there, once `owners` found it.
         self._presence: Optional[int] = None
 
     def __repr__(self) -> str:
@@ -88,7 +88,7 @@ class Observer:
             self._socket = None
 
     def report(self) -> Report:
-        """What waits now. `ServerUnreachable` where no server answers there; `NoMemory`."""
+        """What waits now. Errors: `ServerUnreachable`, `NoMemory`."""
         was_connected = self._socket is not None
         try:
             return self._ask()
@@ -96,7 +96,7 @@ class Observer:
             self.close()
             if not was_connected:
                 raise errors.ServerUnreachable(f"{self.path}: {error.strerror or error}") from None
-        # The server was stopped and started since the last time.
+        # The server was restarted since the last time.
         try:
             return self._ask()
         except OSError as error:
@@ -134,8 +134,8 @@ class Observer:
             return None
 
     def look(self) -> Look:
-        """What the store has, as far as `femem look` shows it; else nothing but where clients wait to be seen, where
-        `owners` found that."""
+        """What the store has, if `femem look` shows it. Otherwise only the array at which clients show that they are
+        there, if `owners` found it."""
         look = self._look()
         if self._presence is not None:
             look.arrays.setdefault(self._presence, (PRESENCE, 1))
@@ -155,9 +155,9 @@ class Observer:
         return parse_look(done.stdout) if done.returncode == 0 else Look()
 
     def owners(self, report: Report) -> Dict[int, int]:
-        """Whose the locks are that somebody waits for, by their arrays. This alone needs a session, for a moment.
+        """The owners of the locks that clients wait for, by array. Only this needs a session, for a moment.
 
-        Nobody can be told apart from a lock's owner who fills word 0 of an array of two words with another number.
+        A client that fills word 0 of an array of two words with some number looks like the owner of a lock.
         """
         locks = {w.array for w in report.waiters if w.index == 0 and w.operation == "writeef"}
         found: Dict[int, int] = {}
@@ -168,7 +168,7 @@ class Observer:
                 self._presence = self._find_presence(client)
                 for array in sorted(locks):
                     try:
-                        client.readxx(array, 1)  # the count, which a lock has
+                        client.readxx(array, 1)  # the count of a lock
                         found[array] = client.readff(array, 0, nowait=True)
                     except errors.AnswerError:
                         pass
@@ -178,18 +178,18 @@ class Observer:
 
 
 def blocked(report: Report, look: Look) -> List[Waiter]:
-    """Those that wait for something, and not only to be seen."""
+    """The requests that wait for something, and not only to show a client."""
     present = look.present()
     return [waiter for waiter in report.waiters if waiter.array != present]
 
 
 def all_wait(report: Report, look: Look) -> bool:
-    """Whether every attached session waits for something, where one that waits to be seen does not count as waiting."""
+    """Whether every attached session waits for something, not counting requests that only show a client."""
     return report.all_wait and set(report.sessions) == {waiter.session for waiter in blocked(report, look)}
 
 
 def overview(report: Report, look: Optional[Look] = None) -> str:
-    """Who waits at which word, and for which tag of it."""
+    """Which sessions wait at which word, and for which tag."""
     known = look or Look()
     waiters = blocked(report, known)
     if not waiters:
@@ -215,8 +215,8 @@ _HELD = 'color="#b3261e", fontcolor="#b3261e"'
 def graph(report: Report, look: Optional[Look] = None, owners: Optional[Dict[int, int]] = None) -> str:
     """The waits as a graph for Graphviz: from each session to the words that it waits at, and from a lock to its owner.
 
-    So sessions that wait for each other's locks are a cycle. What an owner waits for over further sessions of its client
-    stands at the owner's. Who will fill or empty another word is not known.
+    So sessions that wait for each other's locks are a cycle. What an owner's client waits for over its further sessions is
+    drawn at the owner. Who will fill or empty other words is not known.
     """
     known, held = look or Look(), owners or {}
     whose = {number: owner for owner in set(held.values()) for number in numbers(owner, MOST)}
@@ -240,7 +240,7 @@ def graph(report: Report, look: Optional[Look] = None, owners: Optional[Dict[int
 
 
 def svg(dot: str) -> Optional[str]:
-    """The graph as a picture, by the program `dot`, where there is one."""
+    """The graph as a picture, made by the program `dot`, if it is installed."""
     if shutil.which("dot") is None:
         return None
     try:
@@ -278,7 +278,7 @@ def _gauge(name: str, what: str, values: Dict[str, int]) -> List[str]:
 
 
 def page(report: Report, look: Look, owners: Dict[int, int], refresh: float) -> str:
-    """One page that stands for itself and refreshes itself: the picture, and the waits as a table."""
+    """A self-contained page that refreshes itself: the picture, and the waits as a table."""
     picture = svg(graph(report, look, owners))
     rows = "".join(
         "<tr>" + "".join(f"<td>{html.escape(str(cell))}</td>" for cell in _row(w, look)) + "</tr>\n"

@@ -1,11 +1,11 @@
 """Locks, queues and the like over full and empty words.
 
-Each has a name, and whoever gives the same name (and the same size) shares it. The first to come makes its arrays; each
-array is made in one step that either happened or not, so it does not matter who is first or when a server stops.
+Each has a name, and clients that give the same name (and the same size) share it. The first one makes its arrays. Each
+array is made in one step that either happens or not, so it does not matter who is first or when a server stops.
 
-A stop of the server loses nothing that was answered, and a client that goes on waits again by itself, so all of them go on
-over stops. What a client leaves that is gone for good, each says. What takes several operations is run by the client's own
-thread (femem/steps.py), so an interruption of the caller leaves nothing half done; it has no time-out of its client.
+A stop of the server loses nothing that was answered, and clients wait again by themselves, so all patterns survive stops.
+Each says what a client leaves behind that is gone for good. The client's own thread runs what takes several operations
+(femem/steps.py), so an interruption of the caller leaves nothing half done. The client's `timeout` does not apply to it.
 """
 
 from __future__ import annotations
@@ -23,7 +23,7 @@ from .requests import Array, number_of_bits
 
 T = TypeVar("T")
 
-# How long a client that is in the middle of a change may not be seen before another one goes on in its place, in seconds.
+# How long a client in the middle of a change may be absent before another one continues in its place, in seconds.
 REPAIR_AFTER = 5.0
 
 
@@ -34,7 +34,7 @@ def client_of(client: object) -> Client:
 
 
 def end_of(timeout: Optional[float]) -> Optional[float]:
-    """The time at which the timeout is over."""
+    """The time at which the timeout ends."""
     seconds = seconds_of(timeout)
     return None if seconds is None else time.monotonic() + seconds
 
@@ -47,7 +47,7 @@ def size_of(size: int, what: str) -> int:
 
 
 def shared_array(client: Client, name: str, length: int, full: bool) -> Array:
-    """The array of that name; it is made where it is not there. `ValueError` where it has another length."""
+    """The array of that name, made if it is missing. `ValueError` if it has another length."""
     return _run(client, steps.shared_array(name, length, full))
 
 
@@ -56,10 +56,10 @@ def _run(client: Client, work: Steps[T], undo: Optional[Callable[[T], Steps[None
 
 
 class Lock:
-    """Held by one at a time. Its word has the session of whoever holds it.
+    """Held by one client at a time. Its word has the session of its owner.
 
-    A client that is gone for good while it held the lock leaves it held. `owner` says whose it is, `break_open` frees it,
-    and `acquire(takeover_after=..)` does so where the owner is not to be seen.
+    A client that is gone for good while it holds the lock leaves it held. `owner` says whose it is, `break_open` frees it,
+    and `acquire(takeover_after=..)` does so if the owner is absent.
     """
 
     def __init__(self, client: Client, name: str) -> None:
@@ -68,10 +68,10 @@ class Lock:
         _run(client, self._steps.find())
 
     def acquire(self, timeout: Optional[float] = None, *, takeover_after: Optional[float] = None) -> bool:
-        """Waits for the lock. Whether it was got in time.
+        """Waits for the lock. Returns whether it was acquired in time.
 
-        With `takeover_after`, an owner that was not to be seen for that long loses the lock; `broke` is its session
-        then. It may be connecting again only, and go on with what the lock was for: `generation` tells the two apart.
+        With `takeover_after`, an owner that was absent for that long loses the lock; `broke` is then its session. It
+        may only be reconnecting, and continue with what the lock protects: `generation` tells the two apart.
         """
         patience = seconds_of(takeover_after, "takeover_after")
         return self._acquire(end_of(timeout), False, patience)
@@ -91,7 +91,7 @@ class Lock:
             raise
 
     def release(self) -> None:
-        """Gives the lock back. `NotOwner` at once where it is free, or not this client's session's."""
+        """Releases the lock. `NotOwner` at once if it is free, or held by another session."""
         _run(self._client, self._steps.release())
 
     @property
@@ -105,14 +105,14 @@ class Lock:
         return self._steps.broke
 
     def owner(self) -> Optional[int]:
-        """The session that holds the lock, or `None`. It may be this client's own, of a process before this one."""
+        """The session that holds the lock, or `None`. It may be this client's, held by an earlier process."""
         return _run(self._client, self._steps.owner())
 
     def locked(self) -> bool:
         return self.owner() is not None
 
     def break_open(self) -> None:
-        """Frees the lock, whoever holds it. The owner's `release` is `NotOwner` then."""
+        """Frees the lock, whoever holds it. The owner's `release` then raises `NotOwner`."""
         _run(self._client, self._steps.break_open())
 
     def __enter__(self) -> Lock:
@@ -136,11 +136,11 @@ class Lock:
 
 
 class Semaphore:
-    """Held by `permits` at a time. Each permit's word has the session of whoever holds it.
+    """Held by up to `permits` at a time. Each permit's word has the session of its holder.
 
-    A client that is gone for good while it held a permit leaves it held: `holders` says whose they are, and
-    `release(holder=..)` gives one back. One that is gone within `acquire` or `release` did it wholly or not at all; the
-    next one goes on in its place, `repair_after` seconds after it was last seen.
+    A client that is gone for good while it holds a permit leaves it held: `holders` says whose they are, and
+    `release(holder=..)` gives one back. One that disappears within `acquire` or `release` did it wholly or not at all; the
+    next client continues in its place, `repair_after` seconds after it was last seen.
     """
 
     def __init__(self, client: Client, name: str, permits: int, *, repair_after: float = REPAIR_AFTER) -> None:
@@ -152,7 +152,7 @@ class Semaphore:
         _run(client, self._steps.find())
 
     def acquire(self, timeout: Optional[float] = None) -> bool:
-        """Waits for a permit. Whether one was got in time."""
+        """Waits for a permit. Returns whether it got one in time."""
         return _run(self._client, self._steps.acquire(end_of(timeout), False), self._steps.release_if_got)
 
     def try_acquire(self) -> bool:
@@ -160,11 +160,11 @@ class Semaphore:
         return _run(self._client, self._steps.acquire(None, True), self._steps.release_if_got)
 
     def release(self, holder: Optional[int] = None) -> None:
-        """Gives a permit back: this client's, or that of the session which is named. `NotOwner` where it has none."""
+        """Gives a permit back: this client's, or that of the session `holder`. `NotOwner` if it has none."""
         _run(self._client, self._steps.release(holder))
 
     def holders(self) -> List[int]:
-        """The sessions that hold a permit, each as often as it holds one."""
+        """The sessions that hold permits, each once for every permit."""
         return _run(self._client, self._steps.holders())
 
     def __enter__(self) -> Semaphore:
@@ -183,7 +183,7 @@ class Semaphore:
 class BoundedQueue:
     """At most `capacity` values of 64 bits, first in, first out, each taken once.
 
-    A `put` or `get` of a client that is gone for good happened wholly or not at all, and the next one goes on in its
+    A `put` or `get` of a client that is gone for good happened wholly or not at all, and the next client continues in its
     place, `repair_after` seconds after it was last seen.
     """
 
@@ -195,19 +195,19 @@ class BoundedQueue:
         _run(client, self._steps.find())
 
     def put(self, value: int, timeout: Optional[float] = None) -> None:
-        """Waits for room, and adds a value. `TimedOut` where there is none in time."""
+        """Waits for room, and adds a value. `TimedOut` if there is none in time."""
         _run(self._client, self._steps.put(number_of_bits(value, 64, "value"), end_of(timeout), False))
 
     def put_nowait(self, value: int) -> None:
-        """Adds a value. `NotNow` where there is no room."""
+        """Adds a value. `NotNow` if there is no room."""
         _run(self._client, self._steps.put(number_of_bits(value, 64, "value"), None, True))
 
     def get(self, timeout: Optional[float] = None) -> int:
-        """Waits for a value, and takes it. `TimedOut` where there is none in time."""
+        """Waits for a value, and takes it. `TimedOut` if there is none in time."""
         return _run(self._client, self._steps.get(end_of(timeout), False))
 
     def get_nowait(self) -> int:
-        """Takes a value. `NotNow` where there is none."""
+        """Takes a value. `NotNow` if there is none."""
         return _run(self._client, self._steps.get(None, True))
 
     def qsize(self) -> int:
@@ -218,7 +218,7 @@ class BoundedQueue:
 class Barrier:
     """`parties` wait for each other, again and again. Its arrays are NAME and NAME_n.
 
-    Who arrived counts, even if its client is gone since or its time was over; who is gone for good before it arrives is
+    An arrival counts even if its client is gone since or its time ran out. A client that is gone before it arrives is
     waited for.
     """
 
@@ -228,22 +228,22 @@ class Barrier:
         _run(client, self._steps.find())
 
     def wait(self, timeout: Optional[float] = None) -> int:
-        """Waits until all have arrived. The number of this arrival, 0 to `parties` - 1; the last one opens the gate.
+        """Waits until all have arrived. Returns the number of this arrival, 0 to `parties` - 1; the last one opens the gate.
 
-        `TimedOut` where not all arrive in time. This one has arrived all the same.
+        `TimedOut` if not all arrive in time. This arrival still counts.
         """
         return _run(self._client, self._steps.wait(end_of(timeout)))
 
 
 class Counter:
-    """A number modulo 2^64. Each addition counts once, whatever stops; nothing of it waits for a client."""
+    """A number modulo 2^64. Each addition counts once, whatever stops. It never waits for another client."""
 
     def __init__(self, client: Client, name: str) -> None:
         self._client = client_of(client)
         self._word = shared_array(client, name, 1, full=True)
 
     def add(self, amount: int = 1) -> int:
-        """Adds, and answers the number of before. An amount below 0 is taken off."""
+        """Adds, and returns the old number. A negative amount is subtracted."""
         return self._client.int_fetch_add(self._word, 0, operator.index(amount) % 2**64)
 
     def value(self) -> int:
@@ -251,9 +251,9 @@ class Counter:
 
 
 class Future:
-    """A value that is set once, and that any number may wait for.
+    """A value that is set once, and that any number of clients may wait for.
 
-    A client that is gone for good before it set the value leaves those that wait waiting, until another one sets it.
+    If the client that should set the value is gone for good, the others wait until another one sets it.
     """
 
     def __init__(self, client: Client, name: str) -> None:
@@ -261,7 +261,7 @@ class Future:
         self._word = shared_array(client, name, 1, full=False)
 
     def set(self, value: int) -> bool:
-        """Sets the value. Whether it was this one that set it."""
+        """Sets the value. Returns whether this call set it."""
         try:
             self._client.writeef(self._word, 0, value, nowait=True)
         except NotNow:
@@ -269,7 +269,7 @@ class Future:
         return True
 
     def get(self, timeout: Optional[float] = None) -> int:
-        """Waits for the value. `TimedOut` where it does not come in time."""
+        """Waits for the value. `TimedOut` if it does not come in time."""
         return self._client.readff(self._word, 0, timeout=timeout)
 
     def is_set(self) -> bool:
@@ -281,9 +281,9 @@ class Future:
 
 
 class Once:
-    """Something that one of all does, and whose result all get. Who makes the array is the one.
+    """Something that one client does, and whose result all get. The client that makes the array does it.
 
-    A client that is gone for good while it does it leaves the others waiting; `done` sets the result in its place.
+    If that client is gone for good before it is done, the others wait; `done` sets the result in its place.
     """
 
     def __init__(self, client: Client, name: str) -> None:
@@ -301,5 +301,5 @@ class Once:
         return result
 
     def done(self, result: int) -> None:
-        """Sets the result, where whoever began is gone."""
+        """Sets the result, if the client that began is gone."""
         self._client.writexf(self._client.find(self._name), 0, result)

@@ -1,4 +1,4 @@
-"""The wait report of the server, as text and as rows."""
+"""The server's wait report, as text and as rows."""
 
 from __future__ import annotations
 
@@ -24,7 +24,7 @@ _SESSION = re.compile(f"session {_N} waits {_N}")
 
 @dataclass(frozen=True)
 class Waiter:
-    """A request that waits: at which word, of whom, and for which operation."""
+    """A waiting request: its word, its session and number, and its operation."""
 
     array: int
     index: int
@@ -42,8 +42,8 @@ class Waiter:
 class Report:
     """What waits now.
 
-    `waiters` by array, index, session and number; `sessions` says how many requests of each session wait; `all_wait`
-    is whether a session is attached and each attached one waits for something.
+    `waiters` are in order of array, index, session and number; `sessions` has how many requests of each session wait;
+    `all_wait` is whether a session is attached and each attached one waits for something.
     """
 
     text: str
@@ -53,7 +53,7 @@ class Report:
 
 
 def parse(text: str) -> Report:
-    """`ProtocolError` where the text is no report."""
+    """`ProtocolError` if the text is not a report."""
     lines = text.split("\n")
     if lines.pop() != "" or not lines:
         raise ProtocolError("a report that does not end with its line")

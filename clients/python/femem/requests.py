@@ -1,6 +1,6 @@
-"""What can be asked of the server, as values: `client.submit(requests.readfe(array, 0))`.
+"""Requests to the server, as values: `client.submit(requests.readfe(array, 0))`.
 
-A request is spelled as it is made, so a wrong argument is an error here, before the client has done anything for it.
+A request is encoded when it is made, so a wrong argument is an error here, before the client has done anything.
 """
 
 from __future__ import annotations
@@ -28,7 +28,7 @@ class Array:
 ArrayLike = Union[Array, int]
 
 class Request(Generic[T]):
-    """A request. `frame` is its frame under number 0, `read` makes a result of an answer that is no error."""
+    """A request. `frame` is its frame under number 0, `read` makes the result of an answer that is not an error."""
 
     __slots__ = ("frame", "read", "may_wait")
 
@@ -39,14 +39,14 @@ class Request(Generic[T]):
 
     @property
     def what(self) -> str:
-        """The request in words: its operation and what it is asked of."""
+        """The request in words: its operation and its arguments."""
         return _in_words(self.frame)
 
     def __repr__(self) -> str:
         return f"<femem request: {self.what}>"
 
     def result(self, answer: frames.Answer) -> T:
-        """The result, or the answer's error; `ProtocolError` where the answer is none of this request."""
+        """The result. Raises the answer's error, or `ProtocolError` if the answer can't be to this request."""
         if answer.code in ANSWER_ERRORS:
             raise ANSWER_ERRORS[answer.code](self.what)
         return self.read(answer)
@@ -70,7 +70,7 @@ def _array(answer: frames.Answer) -> Array:
 
 
 def _name_bytes(name: Union[str, bytes]) -> bytes:
-    """Names that are not plain are the server's to refuse, except those that no frame has room for."""
+    """Names that are not plain are refused by the server, except those too long for a frame."""
     if not isinstance(name, (str, bytes)):
         raise TypeError(f"a name is a str or bytes: {name!r}")
     spelled = name.encode("utf-8") if isinstance(name, str) else name
@@ -80,7 +80,7 @@ def _name_bytes(name: Union[str, bytes]) -> bytes:
 
 
 def number_of_bits(number: SupportsIndex, bits: int, what: str) -> int:
-    """The number, as an `int`. `TypeError` where it is no whole number, `ValueError` where it has more bits."""
+    """The number, as an `int`. `TypeError` if it is not a whole number, `ValueError` if it has more bits."""
     try:
         found = operator.index(number)
     except TypeError:
@@ -129,13 +129,13 @@ def _access(
         id: Any = array.id if isinstance(array, Array) else array
         frame = pack_access(30, 11 if nowait else 5, 0, code, id, index, operand)
     except (struct.error, TypeError):
-        # One of them is wrong: this says which.
+        # One of them is wrong: this raises for which.
         at, value = number_of_bits(index, 32, "index"), number_of_bits(operand, 64, "value")
         frame = frames.access(0, code, _id(array), at, value, nowait)
     return Request(frame, read, may_wait and not nowait)
 
 
-# Of each operation: its name, how its answer is read, and whether it may wait.
+# For each operation: its name, how its answer is read, and whether it may wait.
 OPERATIONS: Dict[int, Tuple[str, Callable[[frames.Answer], Any], bool]] = {
     frames.READFE: ("readfe", _value, True),
     frames.READFF: ("readff", _value, True),

@@ -1,10 +1,10 @@
-"""The session file: what a client has to know of its session when its own process is started again.
+"""The session file: what a client must know about its session when its own process is restarted.
 
-It holds the session's number, its floor, the next number, each request that has no answer, and the answers that were
-asked for under a key. README.md, "The session file", has its format.
+It holds the session's number, its floor, the next number, each request without an answer, and the answers to requests
+under keys. README.md, "The session file", has its format.
 
-An entry is written and synced before what it tells of is sent. So whatever the server may have seen stands in the file,
-and a request that is in the file and has no answer there may be sent again: it is carried out once.
+An entry is written and synced before the message that it is about is sent. So the file has everything that the server may
+have seen, and a request in the file without an answer may be sent again: it is carried out once.
 """
 
 from __future__ import annotations
@@ -22,7 +22,7 @@ from .errors import SessionFileError, SessionInUse
 
 MAGIC = b"femempy1"
 
-# The file is written anew once it has `_SHORT` bytes, and `_GROWTH` times what it has to hold.
+# The file is rewritten once it has `_SHORT` bytes, and `_GROWTH` times what it must hold.
 _SHORT = 65536
 _GROWTH = 4
 
@@ -34,7 +34,7 @@ _HAS_KEY = 2
 
 
 class Asked(NamedTuple):
-    """A request as the file has it: its frame under number 0, its key if any, and whether it ends with its process."""
+    """A request in the file: its frame under number 0, its key if any, and whether it ends with its process."""
 
     frame: bytes
     key: Optional[bytes]
@@ -42,11 +42,11 @@ class Asked(NamedTuple):
 
 
 class SessionFile:
-    """A file of one session, open and locked. `floor` is `None` as long as nothing was asked."""
+    """The file of one session, open and locked. `floor` is `None` as long as nothing was asked."""
 
     def __init__(self, path: str) -> None:
-        """`SessionInUse` where another client has it, `SessionFileError` where it is no session file."""
-        # Whole, and that of a link's file, since that is what is renamed: the program may change its folder.
+        """`SessionInUse` if another client has it, `SessionFileError` if it is not a session file."""
+        # Absolute, since the program may change its folder, and a link's target, since a rename would replace the link.
         self.path = os.path.realpath(path)
         self._file = -1
         self.session = 0
@@ -72,7 +72,7 @@ class SessionFile:
             raise
 
     def _open(self) -> None:
-        """Opens and locks it. The file may be put in another's place in between, so it is looked for again then."""
+        """Opens and locks it. Tries again if another file took its path in between."""
         while True:
             self._file = os.open(self.path, os.O_RDWR | os.O_CREAT | os.O_CLOEXEC | os.O_NOCTTY, 0o600)
             if not stat.S_ISREG(os.fstat(self._file).st_mode):
@@ -89,38 +89,38 @@ class SessionFile:
             os.close(self._file)
 
     def close(self) -> None:
-        """Writes what is not written, and lets another client have the file."""
+        """Writes what is not yet written, and releases the file to other clients."""
         if self._file >= 0:
             try:
                 if self._pending:
                     self._write(self._file, self._block(bytes(self._pending)))
             except OSError:
-                pass  # answers, which the server gives again
-            fcntl.flock(self._file, fcntl.LOCK_UN)  # a child may have it open for a moment yet
+                pass  # unwritten answers, which the server gives again
+            fcntl.flock(self._file, fcntl.LOCK_UN)  # a child may still have it open for a moment
             self.abandon()
 
     def remove(self) -> None:
-        """The session is ended: nothing is left to be held."""
+        """Removes the file, since the session is ended."""
         if self._file >= 0:
             try:
                 os.unlink(self.path)
             except OSError:
-                pass  # the next process finds that it was being ended
+                pass  # the next process finds that the session was being ended
             self.abandon()
 
     def abandon(self) -> None:
-        """Closes it as it is, as a child does of its parent's."""
+        """Closes it as it is, as a child does with its parent's."""
         if self._file >= 0:
             file, self._file = self._file, -1
             os.close(file)
 
     def __del__(self) -> None:
-        """A client that was not made whole has nobody who closes it."""
+        """If a client's constructor fails, nothing else closes it."""
         if self._file >= 0:
             os.close(self._file)
 
     def start_over(self) -> None:
-        """Another session, after the end of this one."""
+        """Begins with another session, after the end of this one."""
         self.floor = None
         self.is_ending = False
         self.unanswered.clear()
@@ -156,7 +156,7 @@ class SessionFile:
         self._limit = max(_SHORT, _GROWTH * len(self._snapshot()))
 
     def _take_blocks(self, content: bytes) -> int:
-        """Where the whole blocks end. What stands behind was being written when a process ended, and nothing of it sent."""
+        """Where the whole blocks end. What follows was being written when a process ended, and nothing of it was sent."""
         at = len(MAGIC)
         while True:
             end = block_end(content, at)
@@ -164,7 +164,7 @@ class SessionFile:
                 break
             self._take_entries(content[at + _HEAD.size : end])
             at = end
-        # A whole block behind one that is not means damage.
+        # A whole block after one that is not whole means damage.
         for behind in range(at + 1, len(content) - _HEAD.size):
             if block_end(content, behind) is not None:
                 raise SessionFileError(f"{self.path} is damaged at byte {at}")
@@ -247,7 +247,7 @@ class SessionFile:
         self._asked = {number: asked for number, asked in self._asked.items() if number >= floor}
         self.ended = [number for number in self.ended if number >= floor]
 
-    # Writing: what happens is noted at once, and stands in the file from the next `commit` on.
+    # Writing: what happens is noted at once, and is in the file after the next `commit`.
 
     def begin(self, floor: int) -> None:
         self.floor = self.asked_floor = self.next = floor
@@ -259,7 +259,7 @@ class SessionFile:
         self.must_sync = True
 
     def settling(self, floor: int) -> None:
-        """The floor is asked for. Answers below it stand in the file before, since the server then drops them."""
+        """Notes that the floor is asked for. The file gets the answers below it first, since the server then drops them."""
         self.asked_floor = floor
         self._pending += b"F" + struct.pack(">Q", floor)
         self.must_sync = True
@@ -269,9 +269,9 @@ class SessionFile:
         self._pending += _answer_entry(answer)
 
     def has_ended(self, number: int) -> None:
-        """The request was withdrawn or refused: nothing of it happened."""
+        """Notes that the request was withdrawn or refused: nothing of it happened."""
         self._note_end(number)
-        self.must_sync = True  # whoever asked learns it, and the next process must not ask it again
+        self.must_sync = True  # its caller learns this, and the next process must not ask it again
         self._pending += b"E" + struct.pack(">Q", number)
 
     def settled(self, floor: int) -> None:
@@ -289,7 +289,7 @@ class SessionFile:
         self.must_sync = True
 
     def commit(self) -> None:
-        """Everything noted so far is on the disk. `SessionFileError` where it can't be: then nothing may be sent."""
+        """Writes and syncs everything noted so far. `SessionFileError` if it can't: then nothing may be sent."""
         try:
             if self._size + len(self._pending) > self._limit:
                 self.compact()
@@ -298,14 +298,14 @@ class SessionFile:
             self._write(self._file, block)
             os.fsync(self._file)
         except OSError as error:
-            self._pending.clear()  # its client ends, and nobody may ask what stands there
+            self._pending.clear()  # its client ends, and nothing that is noted may be sent
             raise SessionFileError(f"{self.path}: {error}") from error
         self._size += len(block)
         self._pending.clear()
         self.must_sync = False
 
     def compact(self) -> None:
-        """Writes what is to be held into a new file, and puts it in the place of the old one."""
+        """Writes what must be kept into a new file, and replaces the old one with it."""
         new = f"{self.path}.new"
         file = os.open(new, os.O_RDWR | os.O_CREAT | os.O_TRUNC | os.O_CLOEXEC, 0o600)
         try:
@@ -346,7 +346,7 @@ class SessionFile:
         for number, asked in sorted(self._asked.items()):
             out += _asked_entry(number, asked)
         for number, answer in self.answers.items():
-            # A key that was forgotten stays so.
+            # A forgotten key stays forgotten.
             forgotten = self._asked[number].key
             out += _answer_entry(answer)
             if forgotten is not None and forgotten not in self.keyed:

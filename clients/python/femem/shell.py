@@ -1,6 +1,6 @@
-"""The shell: an operation a line, or one from the command line; what waits, as text, graph, page and metrics.
+"""The shell: an operation on each line, or one on the command line; what waits, as text, graph, page and metrics.
 
-What only looks attaches no session. The first operation attaches one, which ends with the shell.
+Commands that only look attach no session. The first operation attaches one, which ends with the shell.
 """
 
 from __future__ import annotations
@@ -54,18 +54,18 @@ Words = List[str]
 
 
 class Usage(Exception):
-    """A line that says nothing."""
+    """A line that is not a command."""
 
 
-# The statuses, as the program `femem` has them, and 1 for an answer that is an error.
+# The statuses of the program `femem`, and 1 for an answer that is an error.
 FAILED, USAGE, SOCKET = 1, 2, 4
 
-# How long the shell waits for a server that does not answer, in seconds.
+# How long the shell waits for an unresponsive server, in seconds.
 PATIENCE = 30.0
 
 
 def main(arguments: Optional[Words] = None) -> int:
-    """The shell's status: 0, 1 where an operation failed, 2 for wrong words, 4 where the server can't be used."""
+    """Returns the status: 0; 1 if an operation failed; 2 for a wrong command line; 4 if the server can't be used."""
     words = sys.argv[1:] if arguments is None else arguments
     parser = argparse.ArgumentParser(
         prog="femem-shell",
@@ -110,7 +110,7 @@ def main(arguments: Optional[Words] = None) -> int:
 
 
 def split(words: Words) -> Tuple[Optional[str], Words]:
-    """The socket, and the command behind it."""
+    """The socket, and the command after it."""
     if words and not is_command(words[0]):
         return words[0], words[1:]
     return os.environ.get("FEMEM_SOCKET"), words
@@ -121,13 +121,13 @@ def is_command(word: str) -> bool:
 
 
 def describe(error: BaseException) -> str:
-    """An error as its name in the server's spelling, and what it says."""
+    """An error's name in the server's spelling, and its text."""
     name = re.sub(r"(?<!^)(?=[A-Z])", "-", type(error).__name__).lower()
     return f"{name}: {error}" if str(error) else name
 
 
 class Shell:
-    """Lines of one client."""
+    """Runs commands with one client."""
 
     def __init__(self, path: str, given: argparse.Namespace) -> None:
         self._path = path
@@ -152,7 +152,7 @@ class Shell:
 
     @property
     def _client(self) -> Client:
-        """The client of the shell's operations, which attaches at the first one."""
+        """The client for operations, which attaches at the first one."""
         if self._own is None:
             self._observer.report()  # a wrong path is an error at once
             self._own = Client(
@@ -176,7 +176,7 @@ class Shell:
         return self._status
 
     def run(self) -> int:
-        """Takes lines until the input ends or one says so, or the client is of no further use, which it raises."""
+        """Takes lines until the input ends, until `quit`, or until the client fails; it raises that error."""
         self._observer.report()
         if self._is_terminal:
             prepare_readline(self._completions)
@@ -293,7 +293,7 @@ class Shell:
     # The others.
 
     def _look(self) -> Look:
-        """What the store says; why it says nothing is printed once."""
+        """What `femem look` shows. If it shows nothing, prints why, once."""
         look = self._observer.look()
         if self._observer.trouble and self._observer.trouble != self._trouble:
             print(f"femem: the store shows no names: {self._observer.trouble}", file=sys.stderr)
@@ -370,7 +370,7 @@ class Shell:
             raise Usage("queue is queue put NAME VALUE, or queue get NAME")
 
     def _queue_of(self, name: str, capacity: Words) -> BoundedQueue:
-        """The queue of that name, of the capacity that it has."""
+        """The queue of that name, with its present capacity."""
         try:
             found = self._client.find(name).length - 3
         except NoArray:
@@ -391,7 +391,7 @@ class Shell:
 
 MAY_WAIT = ("readfe", "readff", "writeef", "writeff", "int_fetch_add")
 
-# How many words stand behind an operation.
+# How many words follow an operation.
 OPERANDS = {
     "readfe": 2,
     "readff": 2,
@@ -416,7 +416,7 @@ COMMANDS = (
 
 
 def write(path: str, text: str) -> None:
-    """Puts the text into the file in one step, so that whoever reads it sees all of it."""
+    """Replaces the file's text in one step, so that readers see all of it or none."""
     try:
         with open(path + ".new", "w") as file:
             file.write(text)

@@ -1,7 +1,7 @@
-"""The further sessions of a client, over which it asks what waits.
+"""The further sessions of a client, for requests that wait.
 
-Such a client asks each request without waiting first, over its own session, where requests are in order. What would wait
-goes to the further session that has the least of them. So its own session's numbers are always free soon.
+Such a client first makes each request without waiting, over its own session, in order. A request that would wait goes to
+the further session with the fewest. So numbers of its own session are always free soon.
 """
 
 from __future__ import annotations
@@ -18,7 +18,7 @@ MOST = 64
 
 
 def count_of(sessions: SupportsIndex, has_file: bool) -> int:
-    """How many sessions a client is to have."""
+    """How many sessions a client shall have."""
     count = number_of_bits(sessions, 16, "sessions")
     if not 1 <= count <= MOST:
         raise ValueError(f"sessions is 1 to {MOST}: {count}")
@@ -28,7 +28,7 @@ def count_of(sessions: SupportsIndex, has_file: bool) -> int:
 
 
 def numbers(session: int, count: int) -> List[int]:
-    """The further sessions of one: always the same, so that whoever is started again takes them over, and far from others."""
+    """A session's further sessions: always the same ones, which a restarted client takes over, and far from others."""
     spelled = [b"femem %d further %d" % (session, k) for k in range(1, count)]
     return [int.from_bytes(hashlib.sha256(each).digest()[:8], "big") | 2**63 for each in spelled]
 
@@ -47,7 +47,7 @@ class Sides(Generic[C]):
         return len(self._clients)
 
     def choose(self) -> C:
-        """The one that has the least, which has one more now."""
+        """The one with the fewest requests, counted as having one more."""
         client = min(self._clients, key=lambda client: self._loads[id(client)])
         self._loads[id(client)] += 1
         return client

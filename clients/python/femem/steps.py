@@ -1,10 +1,11 @@
 """The patterns as steps (femem/jobs.py), which the clients of threads and of asyncio both run.
 
-What several words say together is changed by one client at a time, whose session stands in a word, the turn. Two sends do
-it: the first takes the turn and looks, the second changes the words and gives the turn back. A client that is gone in the
-middle left its change undone or done, apart from the turn and the signals. The next one sees whose turn it is, makes sure
-that this session is heard no more, and takes the turn's array away: one of all who try does that, and its id never comes
-back. Whoever has the turn sets the signals as the words say, and who waits for a signal looks again now and then.
+A state of several words is changed by one client at a time, whose session is in a word, the turn. It takes two sends: the
+first takes the turn and reads, the second changes the words and gives the turn back. If a client disappears in between,
+its change is done or not, apart from the turn and the signals. The next one sees whose turn it is, makes sure that nothing
+more comes from this session, and removes the turn's array: only one of those that try succeeds, and the id never comes
+back. The client with the turn sets the signals to match the words; a client that waits for a signal looks again now and
+then.
 """
 
 from __future__ import annotations
@@ -19,15 +20,15 @@ from .core import Core
 from .reports import Report
 from .requests import Array, Request
 
-# The array at whose word each client waits that uses a lock or what has turns, so that reports show that it is there.
+# Each client that uses a lock or a pattern with turns waits at this array's word, so that reports show that it is there.
 PRESENCE = "presence"
 
-# How many acquisitions of one array of a lock its generation has room for.
+# How many acquisitions the generation has room for, in each array of a lock.
 GENERATIONS = 2**40
 
 
 def shared_array(name: str, length: int, full: bool) -> Steps[Array]:
-    """The array of that name; it is made where it is not there. `ValueError` where it has another length."""
+    """The array of that name, made if it is missing. `ValueError` if it has another length."""
     create, find = requests.create(name, length, full), requests.find(name)
     while True:
         try:
@@ -46,7 +47,7 @@ def shared_array(name: str, length: int, full: bool) -> Steps[Array]:
 
 
 def is_there(report: Report, presence: Array, session: int) -> bool:
-    """Whether the session's client shows itself."""
+    """Whether the session's client shows that it is there."""
     return any(w.array == presence.id and w.session == session for w in report.waiters)
 
 
@@ -55,14 +56,14 @@ def left(end: Optional[float]) -> Optional[float]:
 
 
 class _WithPresence:
-    """What is shared under a name, whose users show that they are there."""
+    """A pattern whose users show that they are there."""
 
     def __init__(self, core: Core) -> None:
         self.core = core
         self.presence: Optional[Array] = None
 
     def show(self) -> Steps[Array]:
-        """This client waits where reports show it."""
+        """Makes this client wait where reports show it."""
         if self.presence is None:
             self.presence = yield from shared_array(PRESENCE, 1, False)
         yield Present(self.presence)
@@ -70,7 +71,7 @@ class _WithPresence:
 
 
 class LockSteps(_WithPresence):
-    """Word 0 is empty while the lock is free, and has its owner's session else. Word 1 counts acquisitions."""
+    """Word 0 is empty while the lock is free, and otherwise has its owner's session. Word 1 counts acquisitions."""
 
     OWNER, COUNT = 0, 1
 
@@ -94,7 +95,7 @@ class LockSteps(_WithPresence):
         return array
 
     def acquire(self, end: Optional[float], nowait: bool, takeover_after: Optional[float]) -> Steps[bool]:
-        """Whether it was got in time."""
+        """Returns whether it was acquired in time."""
         self.broke = None
         yield from self.show()
         while True:
@@ -115,7 +116,7 @@ class LockSteps(_WithPresence):
                     outcomes = yield from batch([requests.readxx(array, self.OWNER), add])
                 count = outcomes[1]
             except NoArray:
-                self.array = None  # it was broken open, or taken over
+                self.array = None  # the lock was broken open, or taken over
                 continue
             self.generation = array.id * GENERATIONS + int(count) + 1
             self.core.holdings[array.id] = self.generation
@@ -129,7 +130,7 @@ class LockSteps(_WithPresence):
         return True
 
     def _watch(self, array: Array, end: Optional[float], patience: float) -> Steps[bool]:
-        """Waits, and looks whether the owner is there. One that was not, for so long, loses the lock."""
+        """Waits, and looks whether the owner is there. An owner that was absent for that long loses the lock."""
         away: Tuple[Optional[int], float] = (None, 0.0)
         while True:
             pause = max(0.01, patience / 4)
@@ -164,7 +165,7 @@ class LockSteps(_WithPresence):
                 self.array = None
 
     def release(self) -> Steps[None]:
-        """`NotOwner` where this session does not hold it. Only its own client empties a word that has its session."""
+        """`NotOwner` if this session does not hold it. Only a session's own client empties a word with that session."""
         array = yield from self.find()
         if array.id in self.core.releasing:
             raise NotOwner(f"{self.name} is being released")
@@ -186,7 +187,7 @@ class LockSteps(_WithPresence):
             raise NotOwner(f"{self.name} was taken over") from None
 
     def release_if_got(self, got: bool) -> Steps[None]:
-        """After an acquisition that nobody waits for any more."""
+        """Releases the lock after an acquisition that no caller waits for any more."""
         if got:
             try:
                 yield from self.release()
@@ -194,7 +195,7 @@ class LockSteps(_WithPresence):
                 pass
 
     def break_open(self, array: Optional[Array] = None) -> Steps[None]:
-        """The array goes, and with it whatever its owner may still do to it. Who waits goes to the next one."""
+        """Removes the array, and with it whatever its owner may still do to it. Waiting clients go to the next one."""
         if array is None:
             array = yield from self.find()
         yield from batch([requests.remove(array)], NoArray)
@@ -202,7 +203,7 @@ class LockSteps(_WithPresence):
 
 
 def batch(asked: List[Request[Any]], *allowed: type) -> Steps[List[Any]]:
-    """Sends them together. An error that is not allowed is raised."""
+    """Sends them together. Raises errors that are not allowed."""
     outcomes: List[Any] = yield Batch(asked)
     for outcome in outcomes:
         if isinstance(outcome, BaseException) and not isinstance(outcome, allowed):
@@ -211,7 +212,7 @@ def batch(asked: List[Request[Any]], *allowed: type) -> Steps[List[Any]]:
 
 
 class SharedSteps(_WithPresence):
-    """Words that are changed together, by whoever has the turn: word 0 of NAME_t is empty, or has a session."""
+    """Words that are changed together, by the client with the turn: word 0 of NAME_t is empty, or has its session."""
 
     def __init__(self, core: Core, name: str, length: int, repair_after: float) -> None:
         super().__init__(core)
@@ -229,11 +230,11 @@ class SharedSteps(_WithPresence):
         return self.words
 
     def looks(self, words: Array) -> List[Request[Any]]:
-        """What is read with the turn."""
+        """What is read along with taking the turn."""
         raise NotImplementedError
 
     def take_turn(self, words: Array, end: Optional[float]) -> Steps[List[Any]]:
-        """What was read once the turn is this client's. `TimedOut` where it does not come in time."""
+        """Takes the turn. Returns what was read with it. `TimedOut` if it does not come in time."""
         yield from self.show()
         while True:
             if self.turn is None:
@@ -251,7 +252,7 @@ class SharedSteps(_WithPresence):
             except NoArray as error:
                 if (yield from self._are_gone(words)):
                     raise error
-                self.turn = None  # somebody took it away, from a client that is gone
+                self.turn = None  # another client removed it, since its holder is gone
                 continue
             return outcomes[1:]
 
@@ -260,7 +261,7 @@ class SharedSteps(_WithPresence):
         return isinstance(outcomes[0], NoArray)
 
     def _wait_for_turn(self, turn: Array, end: Optional[float]) -> Steps[None]:
-        """`NoArray` where the turn was taken away."""
+        """`NoArray` if the turn's array was removed."""
         away: Tuple[Optional[int], float] = (None, 0.0)
         pause = max(0.02, self.repair_after / 4)
         while True:
@@ -286,11 +287,11 @@ class SharedSteps(_WithPresence):
 
     def _is_here(self, turn: Array, holder: int, report: Report, presence: Array) -> bool:
         if holder == self.core.session:
-            return turn.id in self.core.holdings  # else it is what a former process left
+            return turn.id in self.core.holdings  # otherwise a former process left it
         return is_there(report, presence, holder)
 
     def give_turn(self, words: Array, *before: Request[Any]) -> Steps[List[Any]]:
-        """Does these, and then it is the next one's turn."""
+        """Makes these requests, and then gives the turn back."""
         assert self.turn is not None
         turn = self.turn
         outcomes = yield from batch([*before, requests.readfe(turn, 0, nowait=True)], NoArray)
@@ -298,7 +299,7 @@ class SharedSteps(_WithPresence):
         return outcomes
 
     def wait_for(self, words: Array, signal: int, end: Optional[float]) -> Steps[None]:
-        """Until the signal is full, or it is time to look again. `TimedOut` at the end."""
+        """Waits until the signal is full, or it is time to look again. `TimedOut` at the end."""
         rest = left(end)
         pause = max(1.0, self.repair_after)
         try:
@@ -309,7 +310,7 @@ class SharedSteps(_WithPresence):
 
 
 class QueueSteps(SharedSteps):
-    """Word 0 has the first value's place and the number of values; 1 and 2 are full where a value is there, and room."""
+    """Word 0 has the first value's place and the number of values. Word 1 is full if there is a value, 2 if there is room."""
 
     STATE, VALUES, ROOM, SLOTS = 0, 1, 2, 3
 
@@ -324,7 +325,7 @@ class QueueSteps(SharedSteps):
         return requests.writexf(words, signal, 0) if is_full else requests.purge(words, signal)
 
     def signals(self, words: Array, count: int) -> List[Request[Any]]:
-        """What makes the signals say what the state says."""
+        """The requests that make the signals match the state."""
         return [
             self._signal(words, self.VALUES, count > 0),
             self._signal(words, self.ROOM, count < self.capacity),
@@ -371,7 +372,7 @@ class QueueSteps(SharedSteps):
 
 
 class SemaphoreSteps(SharedSteps):
-    """Word 0 is full where a permit is free; from word 1 on each permit's word has its holder's session, or is empty."""
+    """Word 0 is full if a permit is free. From word 1 on each permit's word has its holder's session, or is empty."""
 
     FREE, PERMITS = 0, 1
 
@@ -408,7 +409,7 @@ class SemaphoreSteps(SharedSteps):
                 return False
 
     def release(self, holder: Optional[int] = None) -> Steps[None]:
-        """`NotOwner` where this session, or the one that is named, has no permit."""
+        """`NotOwner` if this session, or the one given, has no permit."""
         words = yield from self.find()
         looked = yield from self.take_turn(words, None)
         whose = self.core.session if holder is None else holder
@@ -429,7 +430,7 @@ class SemaphoreSteps(SharedSteps):
 
 
 class BarrierSteps:
-    """NAME has two gates, one for the rounds of even number and one for those of odd; NAME_n counts arrivals."""
+    """NAME has two gates, for rounds of even and of odd number; NAME_n counts arrivals."""
 
     def __init__(self, core: Core, name: str, parties: int) -> None:
         self.name = name
@@ -444,7 +445,7 @@ class BarrierSteps:
         return self._gates, self._arrived
 
     def wait(self, end: Optional[float]) -> Steps[int]:
-        """`TimedOut` where not all come in time: this one has arrived all the same."""
+        """`TimedOut` if not all come in time. This arrival still counts."""
         gates, arrived = yield from self.find()
         (turn,) = yield from batch([requests.int_fetch_add(arrived, 0, 1)])
         round, arrival = divmod(turn, self.parties)

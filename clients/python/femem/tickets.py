@@ -13,35 +13,35 @@ T = TypeVar("T")
 
 
 def _nobody() -> None:
-    """Nobody wants to know."""
+    """No caller waits."""
 
 
 class Ticket(Generic[T]):
     """Something asked of the server. Once `done`, it has a `result` or an `error`.
 
-    It is made by whoever asks, then taken by the core, then numbered and sent, and then done. What most tickets never
-    have stands in the class, since one is made for each request.
+    A caller makes it, the core takes it, numbers and sends it, and then it is done. Attributes that most tickets never
+    set are in the class, since there is a ticket for each request.
     """
 
     number: Optional[int] = None
     sent_at = 0.0
-    # Whether the core knows of it.
+    # Whether the core has it.
     taken = False
     done = False
     result: Optional[T] = None
     error: Optional[BaseException] = None
-    # What it ends with where it is taken back, once somebody wants that.
+    # The error that it ends with when it is taken back, once that is asked for.
     taken_back: Optional[Withdrawn] = None
     # Whether a cancel of it was sent over this connection.
     cancel_sent = False
-    # Whether it only shows that this client is there: nobody waits for it.
+    # Whether it only shows that this client is there: no caller waits for it.
     is_presence = False
-    # Whether the next process with the session file takes it back, and does not go on to wait.
+    # Whether the next process with the session file takes it back instead of waiting on.
     ends_with_process = False
-    # Under which key the session file keeps its answer, and who else asked under that key meanwhile.
+    # The key under which the session file keeps its answer, and tickets asked under that key meanwhile.
     key: Optional[bytes] = None
     followers: Optional[List[Ticket[T]]] = None
-    # Whether it is asked so that it does not wait: where it would, another session waits for it.
+    # Whether it is first asked without waiting. If it would wait, another session asks it again.
     asks_first = False
 
     def __init__(self, request: Optional[Request[T]], finished: Callable[[], None] = _nobody) -> None:
@@ -50,7 +50,7 @@ class Ticket(Generic[T]):
         self.finished = finished
 
     def must_end(self) -> bool:
-        """Whether the server owes an end of it, whatever others do."""
+        """Whether the server must end it, whatever other clients do."""
         return self.cancel_sent or self.asks_first or self.request is None or not self.request.may_wait
 
     def end(self, result: Optional[T] = None, error: Optional[BaseException] = None) -> None:
@@ -62,7 +62,7 @@ class Ticket(Generic[T]):
 class Timeouts:
     """Tickets by the time at which they are to be taken back."""
 
-    # How many there are before those that are done are looked for.
+    # From how many on those that are done are dropped.
     _FEW = 1024
 
     def __init__(self) -> None:
@@ -78,12 +78,12 @@ class Timeouts:
             self._many = max(self._FEW, 2 * len(self._heap))
 
     def first(self) -> Optional[float]:
-        """The first time, of those that are not done."""
+        """The earliest time of those that are not done."""
         while self._heap and self._heap[0][2].done:
             heapq.heappop(self._heap)
         return self._heap[0][0] if self._heap else None
 
     def take(self, now: float) -> Optional[Ticket[Any]]:
-        """A ticket whose time has come."""
+        """A ticket whose time is over."""
         first = self.first()
         return heapq.heappop(self._heap)[2] if first is not None and first <= now else None

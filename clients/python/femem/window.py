@@ -1,8 +1,8 @@
 """The numbers of a session: which are in use, which are answered, and how far the floor may rise.
 
 The server lets a session use 32 numbers from its floor on, and keeps the answer under each. `settle` raises the floor.
-A `Window` gives each request the next number, never one twice; it knows which of its numbers have no answer, and keeps
-the answers of the others until the server has dropped them, since an answer may come again and is then equal.
+A `Window` gives each request the next number, and none twice. It knows which of its numbers have no answer, and keeps the
+others' answers until the server has dropped them, since an answer may come again and must then be equal.
 """
 
 from __future__ import annotations
@@ -14,11 +14,11 @@ from .errors import ProtocolError, SessionLost, TakenOver
 
 T = TypeVar("T")
 
-# The floor is raised at the latest once this many numbers are answered.
+# The floor is raised once this many numbers are answered, or earlier.
 _STEP = 16
 
-# The floor asked is less than a whole window above the one that stands. A client that takes the session over raises the
-# floor by a whole one, so the floor then tells that it was there.
+# The floor is raised by less than a whole window. A client that takes the session over raises it by a whole one, so the
+# floor shows that it was there.
 _LONGEST_STEP = frames.WINDOW - 1
 
 _WINDOW = frames.WINDOW
@@ -27,7 +27,7 @@ _SETTLED_OTHERWISE = "no answer is due"
 
 
 class Window(Generic[T]):
-    """`floor` is the floor that stands, and `asked` the one that is asked for: the same, or up to 31 above."""
+    """`floor` is the current floor, and `asked` the one that is asked for: the same, or up to 31 above."""
 
     def __init__(self, floor: int) -> None:
         self.floor = floor
@@ -57,22 +57,22 @@ class Window(Generic[T]):
         return window
 
     def room(self) -> int:
-        """How many requests it has numbers for."""
+        """How many more requests it has numbers for."""
         return self.asked + _WINDOW - self._next
 
     def give(self, item: T) -> int:
-        """The next number, for this request. There is room."""
+        """The next number, for this request. There must be room."""
         number = self._next
         self._next += 1
         self.unanswered[number] = item
         return number
 
     def lowest(self) -> int:
-        """The lowest number without an answer, or the next one where each has its own."""
+        """The lowest number without an answer, or the next number if there is none."""
         return next(iter(self.unanswered), self._next)
 
     def answer(self, answer: frames.Answer) -> Optional[T]:
-        """Whose answer this is, or `None` where it came before. `ProtocolError` where none is due, or it is another."""
+        """The request of this answer, or `None` if it came before. `ProtocolError` if none is due, or if it differs."""
         number = answer.number
         if number in self.unanswered:
             self._answers[number] = answer
@@ -87,7 +87,7 @@ class Window(Generic[T]):
         return self.unanswered.pop(number)
 
     def next_floor(self) -> Optional[int]:
-        """The floor to ask for now, if it should rise. One is asked for at a time."""
+        """The floor to ask for now, or `None`. Only one is asked for at a time."""
         if self.asked != self.floor or self._next - self.floor < _STEP:
             return None
         floor = min(self.lowest(), self.floor + _LONGEST_STEP, frames.GREATEST_FLOOR)
@@ -97,16 +97,16 @@ class Window(Generic[T]):
         return floor
 
     def is_stuck(self) -> bool:
-        """Whether there is no room, and none comes before the request of the lowest number ends."""
+        """Whether there is no room until the request of the lowest number ends."""
         return not self.room() and self.asked == self.floor == self.lowest()
 
     def lower_half(self) -> List[T]:
-        """What has no answer among the lower half of the window's numbers."""
+        """The unanswered requests in the lower half of the window's numbers."""
         half = self.floor + frames.WINDOW // 2
         return [item for number, item in self.unanswered.items() if number < half]
 
     def settled(self, floor: int) -> None:
-        """The server says that this floor stands."""
+        """The server reports that this is the floor."""
         if floor == self.floor:
             return
         if floor != self.asked:
@@ -118,8 +118,7 @@ class Window(Generic[T]):
     def welcomed(self, floor: int) -> None:
         """The session was attached again, with this floor.
 
-        `SessionLost` where it fell, which happens to no session that is kept; `TakenOver` where it rose by another's
-        hand.
+        `SessionLost` if it fell, which no kept session's does; `TakenOver` if another client raised it.
         """
         if floor < self.floor:
             raise SessionLost(f"the floor was {self.floor} and is {floor}")
