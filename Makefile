@@ -7,7 +7,7 @@ UNPROVED := out/unproved/femem-unproved
 PROVED := out/proved/femem
 RECORD := out/proved/record
 SOURCES := crates.txt $(shell find crates -name out -prune -o \( -name '*.rt' -o -name '*.antt' \) -print)
-# The proved program where it is up to date, else the unproved one.
+# The proved program if it is up to date, otherwise the unproved one.
 PROGRAM := $(shell [ -x $(PROVED) ] && [ -z "$$(find $(SOURCES) -newer $(PROVED))" ] && echo $(PROVED) || echo $(UNPROVED))
 PREFIX ?= /usr/local
 DATA := femem-data
@@ -53,8 +53,8 @@ $(UNPROVED): $(SOURCES) scripts/quick | toolchain
 $(PROVED): $(SOURCES) | toolchain
 	@scripts/prove
 
-# The settings are those of the example, with its paths in a folder of their own and without `format`: the store is made before. A
-# socket at which nobody listens was left by a server that was stopped.
+# The settings are the example's, with the paths in femem-data/ and without `format`, since the store is made first. A socket at
+# which nothing listens was left by a server that was stopped.
 serve: $(PROGRAM) ## starts a server by examples/femem.toml, whose socket and store are in femem-data/
 	@mkdir -p $(DATA)
 	@[ -e $(DATA)/femem.toml ] || sed 's|/tmp/femem|$(DATA)/femem|; /^format/d' examples/femem.toml > $(DATA)/femem.toml
