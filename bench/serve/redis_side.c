@@ -1,5 +1,5 @@
-/* The side of load.c for Redis: a counter is a key, a place is a list. Unlike femem, a request that is sent again may take
-   effect twice. Redis does not wait with a PUT, so load.c keeps producers from running away. */
+/* The side of load.c for Redis: a counter is a key, a place is a list. Unlike in femem, a request that is sent again
+   may take effect twice. Redis does not wait with a PUT, so load.c keeps producers from running away. */
 #include "side.h"
 
 #include <errno.h>

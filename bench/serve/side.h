@@ -1,5 +1,5 @@
-/* load.c's interface to a server: femem_side.c is for femem, redis_side.c for Redis. The loop, the workloads, the checks
-   and the clock are the same for both. */
+/* load.c's interface to a server: femem_side.c is for femem, redis_side.c for Redis. The loop, the workloads, the
+   checks and the clock are the same for both. */
 #ifndef SIDE_H
 #define SIDE_H
 
@@ -8,8 +8,8 @@
 
 enum { MOST_CLIENTS = 64, MOST_WINDOW = 32 };
 
-/* ADD raises a counter by one and returns its old value. PUT puts a value into a place; TAKE waits for a value and takes
-   it. In femem a place is a word, and a PUT waits until it is empty; in Redis a place is a list. */
+/* ADD raises a counter by one and returns its old value. PUT puts a value into a place; TAKE waits for a value and
+   takes it. In femem a place is a word, and a PUT waits until it is empty; in Redis a place is a list. */
 enum action { ADD, PUT, TAKE };
 
 extern const char *side_name;

@@ -43,7 +43,7 @@ femem_close(client);
 
 
 def text(words):
-    """A comment's words as the page has them."""
+    """A comment's text in the page's format."""
     plain = re.sub(r"\s*\n\s*", " ", words.strip()).replace("\\", "\\\\")
     plain = re.sub(r"\b(FEMEM_[A-Z_]+|femem_[a-z_]+)\b", r"\\fB\1\\fR", plain)
     return re.sub(r"^([.'])", r"\\&\1", plain).replace("-", "\\-")
@@ -58,7 +58,7 @@ def prototype(words):
 
 
 def sections(header):
-    """Of each part of the header from the settings on: its title, its words, and its declarations with their comments."""
+    """For each part of the header, from opening on: its title, its text, and its declarations with their comments."""
     part = header[header.index("/* ---- opening") :]
     for title, rest, body in re.findall(r"/\* ---- (.*?) ----(.*?)\*/\n(.*?)(?=/\* ---- |#ifdef __GNUC__|\Z)", part, re.DOTALL):
         found = re.findall(r"(/\*(?:(?!\*/).)*\*/)\n((?!/\*).*?;)\n(?=\n|/\*|\Z)", body, re.DOTALL)
@@ -66,7 +66,7 @@ def sections(header):
 
 
 def errors(header):
-    """The errors with what each means, where the header says it."""
+    """The errors, each with its meaning if the header has one."""
     listed = header[header.index("typedef enum femem_error") : header.index("} femem_error;")]
     return re.findall(r"(FEMEM_[A-Z_]+) = (\d+),?[^\S\n]*(?:/\* (.*?) \*/)?", listed)
 

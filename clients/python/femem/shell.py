@@ -439,7 +439,7 @@ def save_history() -> None:
 
 
 def prepare_readline(completions: Callable[[str, str], List[str]]) -> None:
-    """History and completion, where the system has them."""
+    """Sets up history and completion, if the system has them."""
     try:
         import readline
     except ImportError:

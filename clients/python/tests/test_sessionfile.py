@@ -1,4 +1,4 @@
-"""At most once over the client's own restarts: a client with a session file is killed at each point, and its successor continues."""
+"""At most once over the client's own restarts: a client with a session file is killed at each point, and continues."""
 
 import asyncio
 import itertools

@@ -18,7 +18,7 @@ class Strangers(unittest.TestCase):
         return world.conns
 
     def test_an_old_welcome_comes_first(self):
-        """The former client attached, raised the floor and made a request, all in one send; its replies come to the new client."""
+        """The former client attached, raised the floor and sent a request, all in one; its replies come to the new client."""
         add = ("access", 23, 1, 0, 1, False)
         for settles in ([20], [20, 50], [20, 33, 65], [33], [2]):
             with self.subTest(settles=settles):

@@ -86,7 +86,7 @@ class World:
             self.lose(core)
 
     def die(self, core):
-        """The process of a client ends. The server sees it now, or later and perhaps after receiving what was on the way."""
+        """The process of a client ends. The server sees it now, or later and perhaps after more of its bytes."""
         link = self.links.pop(core, None)
         core.close()
         if link is not None:
