@@ -7,7 +7,7 @@ UNPROVED := out/unproved/femem-unproved
 PROVED := out/proved/femem
 RECORD := out/proved/record
 SOURCES := crates.txt $(shell find crates -name out -prune -o \( -name '*.rt' -o -name '*.antt' \) -print)
-# The proved program where it is up to date, else the unproved one.
+# The proved program if it is up to date, otherwise the unproved one.
 PROGRAM := $(shell [ -x $(PROVED) ] && [ -z "$$(find $(SOURCES) -newer $(PROVED))" ] && echo $(PROVED) || echo $(UNPROVED))
 PREFIX ?= /usr/local
 DATA := femem-data
@@ -29,7 +29,7 @@ test: toolchain ## test it: the gate, with every proof, must-fail edit and test,
 prove: $(PROVED) ## prove it: proves the program's crates, and builds the proved program (30 minutes)
 	@echo "$(PROVED) is proved"
 
-install: $(PROVED) ## install it: puts the proved program and its man pages below PREFIX, /usr/local where it is not given
+install: $(PROVED) ## install it: puts the proved program and its man pages below PREFIX (default /usr/local)
 	@install -D -m 755 $(PROVED) $(DESTDIR)$(PREFIX)/bin/femem
 	@scripts/man_pages out/man
 	@for page in out/man/*; do install -D -m 644 $$page $(DESTDIR)$(PREFIX)/share/man/man$${page##*.}/$${page##*/}; done
@@ -53,9 +53,9 @@ $(UNPROVED): $(SOURCES) scripts/quick | toolchain
 $(PROVED): $(SOURCES) | toolchain
 	@scripts/prove
 
-# The settings are those of the example, with its paths in a folder of their own and without `format`: the store is made before. A
-# socket at which nobody listens was left by a server that was stopped.
-serve: $(PROGRAM) ## starts a server by examples/femem.toml, whose socket and store are in femem-data/
+# The settings are the example's, with the paths in femem-data/ and without `format`, since the store is made first. A socket at
+# which nothing listens was left by a server that was stopped.
+serve: $(PROGRAM) ## starts a server with the settings of examples/femem.toml, and its socket and store in femem-data/
 	@mkdir -p $(DATA)
 	@[ -e $(DATA)/femem.toml ] || sed 's|/tmp/femem|$(DATA)/femem|; /^format/d' examples/femem.toml > $(DATA)/femem.toml
 	@[ -e $(DATA)/femem.store ] || FEMEM=$(PROGRAM) packaging/make-store $(abspath $(DATA)/femem.store)
@@ -63,23 +63,23 @@ serve: $(PROGRAM) ## starts a server by examples/femem.toml, whose socket and st
 	@echo "$(PROGRAM) serves at $(DATA)/femem.socket, until it is stopped"
 	@exec $(PROGRAM) serve --settings $(DATA)/femem.toml
 
-examples: $(PROGRAM) ## runs every schedule of examples/, and compares what it prints
+examples: $(PROGRAM) ## runs every schedule of examples/, and compares its output
 	@scripts/run_examples $(PROGRAM)
 
-faults: $(PROGRAM) ## the same, with each allocation refused in turn, and the tests of what happens when memory ends
+faults: $(PROGRAM) ## the same, with each allocation refused in turn, and the tests of refused memory
 	@scripts/refuse_each $(PROGRAM)
 	@scripts/refuse_test
 
-check-programs: $(PROGRAM) ## real processes: crowds, kills under load, damaged stores, faults, clients, what is installed (4 minutes)
+check-programs: $(PROGRAM) ## real processes: crowds, kills under load, damaged stores, faults, clients, installations (4 minutes)
 	@scripts/check_programs $(PROGRAM)
 
-check-deb: $(PROGRAM) ## the package, in a clean Debian with a systemd of its own: installed, killed, removed, purged; needs root (2 minutes)
+check-deb: $(PROGRAM) ## the package, in a clean Debian with its own systemd: installed, killed, removed, purged; needs root (2 minutes)
 	@scripts/check_programs $(PROGRAM) deb
 
-check-hosts: $(PROGRAM) ## a store on two hosts that die in turns (docs/replication.md); needs root and some packages (2 minutes)
+check-hosts: $(PROGRAM) ## a store on two hosts that fail in turn (docs/replication.md); needs root and some packages (2 minutes)
 	@scripts/check_programs $(PROGRAM) hosts
 
-lint-deb: deb ## lintian, of Debian, over the package
+lint-deb: deb ## checks the package with Debian's lintian
 	@lintian --fail-on error,warning out/dist/*.deb
 
 client: ## builds the C client, and runs the tests of both clients; needs no toolchain (1 minute)
@@ -90,7 +90,7 @@ client: ## builds the C client, and runs the tests of both clients; needs no too
 bench: $(PROVED) ## measures a long schedule
 	@bench/run $(PROVED)
 
-bench-serve: $(PROVED) ## measures a server, and Redis where it is installed
+bench-serve: $(PROVED) ## measures a server, and Redis if it is installed
 	@bench/serve/run $(PROVED)
 
 toolchain:

@@ -1,4 +1,4 @@
-/* `calls FEMEM REDIS ROUNDS`: the C client and hiredis in turns; a line of JSON for each load. */
+/* `calls FEMEM REDIS ROUNDS`: the C client and hiredis in turns. Prints a line of JSON for each load. */
 #include "femem.h"
 
 #include <hiredis/hiredis.h>

@@ -1,4 +1,4 @@
-"""`calls.py FEMEM REDIS ROUNDS`: the Python client and redis-py in turns; a line of JSON for each load."""
+"""`calls.py FEMEM REDIS ROUNDS`: the Python client and redis-py in turns. Prints a line of JSON for each load."""
 
 import json
 import pathlib
@@ -13,7 +13,7 @@ from femem import Client  # noqa: E402
 
 
 def cost(work, times, operations):
-    """Microseconds of this process's time for each operation."""
+    """Microseconds of this process's processor time for each operation."""
     before = resource.getrusage(resource.RUSAGE_SELF)
     for _ in range(times):
         work()
@@ -48,7 +48,7 @@ def main(femem_path, redis_path, rounds):
             mine(), theirs()
             told = [[cost(work, times, operations) for work in (mine, theirs)] for _ in range(rounds)]
             print(f"{name}\t{json.dumps(told)}", flush=True)
-        # Each of them was carried out, by both.
+        # Both servers carried out every operation.
         done = sum((1 + rounds * times) * operations for _, _, times, operations in loads.values())
         assert (client.readff(word, 0), int(other.get("word"))) == (done, done), "an addition is missing"
 

@@ -1,8 +1,8 @@
-"""The clients of this repository beside redis-py and hiredis: prints a Markdown table.
+"""Compares the clients of this repository with redis-py and hiredis. Prints a Markdown table.
 
-Both servers run at once, on Unix sockets: femem over a store in /dev/shm, Redis with neither log nor snapshots. What is
-compared is the processor time of the client's own process, user and system, not what the servers do or promise. The two
-clients of a language are in one process and work in turns, for a moment each.
+Both servers run at once, on Unix sockets: femem with a store in /dev/shm, Redis with neither log nor snapshots. It compares
+the processor time, user and system, of the client's own process, not what the servers do or promise. The two clients of a
+language are in one process and work in short turns.
 """
 
 import argparse
@@ -23,7 +23,7 @@ LOADS = {"call": "a call that waits for its answer", "batch 32": "32 in a batch"
 
 
 def started(words, socket):
-    """A server, once its socket is there."""
+    """Starts a server, and waits for its socket."""
     process = subprocess.Popen(words, stdin=subprocess.DEVNULL, stdout=subprocess.DEVNULL)
     end = time.monotonic() + 20
     while not os.path.exists(socket):
@@ -50,7 +50,7 @@ def c_program(folder):
 
 
 def rounds_of(words):
-    """Of each load what each round told, as (ours, theirs) in microseconds of processor time for an operation."""
+    """The results of each load's rounds: (ours, theirs), in microseconds of processor time for an operation."""
     said = subprocess.run(words, check=True, stdout=subprocess.PIPE, text=True, timeout=600).stdout
     return {name: json.loads(rounds) for name, rounds in (line.split("\t") for line in said.splitlines())}
 

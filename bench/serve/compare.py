@@ -1,7 +1,7 @@
 #!/usr/bin/env python3
-"""femem beside Redis and the C stand-in, in turns on one file system, and the disk's own limit. A Markdown table goes
-to standard output. A ratio is made in each round from runs that lie next to each other; of the rounds' ratios the
-median is told, with the least and the most. Above 1 femem is ahead. Status 1 where femem gave a wrong answer or none.
+"""Compares femem with Redis and the C stand-in, in turns on one file system, and with the disk's own limit. A Markdown
+table goes to standard output. Each round's ratio is of runs next to each other; the table has the median, the least
+and the greatest of the rounds' ratios. Above 1 femem is ahead. Status 1 if femem gave a wrong answer or none.
 """
 import argparse
 import os
@@ -13,7 +13,7 @@ import time
 
 from servers import Calm, Femem, Redis, Skip, build, file_system, run_json, tool
 
-# work, clients, window, what counts, aim of it beside Redis (of the first: beside the limit)
+# load, clients, window, what is measured, aim of its ratio to Redis (for the first: to the limit)
 LOADS = [
     ("own", 1, 1, "p50_us", 1.25),
     ("own", 64, 1, "ops_per_s", 0.75),
@@ -28,7 +28,7 @@ MORE = [
 
 
 def limits(folder, slower_us):
-    """The two-sync group and the way through three threads, p50 in microseconds."""
+    """The p50 of a group of two syncs and of the way through three threads, in microseconds."""
     more = dict(os.environ)
     if slower_us:
         more.update(LD_PRELOAD=tool("slow_sync.so"), SLOW_SYNC_US=str(slower_us))
@@ -49,7 +49,7 @@ def ratio(what, own, other):
 
 
 def ratios(rounds, what, other):
-    """The median, least and most of femem's ratio to the other."""
+    """The median, least and greatest of femem's ratios to the other."""
     both = [got for got in rounds if is_good(got.get("femem")) and is_good(got.get(other))]
     found = [ratio(what, got["femem"], got[other]) for got in both]
     return f"{statistics.median(found):.2f} ({min(found):.2f} to {max(found):.2f})" if found else "-"
@@ -67,7 +67,7 @@ def shown(value, what):
 
 
 def run(options, loads, slower_us):
-    """All rounds: a dict for each load with a list of dicts by server, and the limits of the rounds."""
+    """Runs all rounds. Returns a dict for each load with a list of dicts by server, and the limits of the rounds."""
     base = options.folder
     stand_in = tool("stand_in")
     made = [Femem(base, options.program, slower_us=slower_us), Redis(base, slower_us),

@@ -1,4 +1,4 @@
-/* load.c's side that speaks to femem, over clients/c. The client settles by itself, each 16 answers. */
+/* The side of load.c for femem, with clients/c. The client settles by itself, after every 16 answers. */
 #include "../../clients/c/femem.h"
 #include "side.h"
 
@@ -25,7 +25,7 @@ bool side_open(const char *path, int wanted, bool counters) {
     if (!is_ok("open", femem_open(&clients[count], path, session + (uint64_t)count, &settings))) return false;
   femem_error error = femem_create(clients[0], "load", MOST_CLIENTS, counters, &array);
   if (error != FEMEM_NAME_TAKEN) return is_ok("create", error);
-  /* A load that was broken off has left it. */
+  /* An interrupted load may have left it. */
   return is_ok("find", femem_find(clients[0], "load", &array, NULL)) &&
          is_ok("remove", femem_remove(clients[0], array)) &&
          is_ok("create", femem_create(clients[0], "load", MOST_CLIENTS, counters, &array));

@@ -1,10 +1,9 @@
-/* What growth asks of a server beside a load:
-     growth sessions SOCKET COUNT        so many sessions come, make a call each, and go
-     growth words SOCKET                 makes arrays until but 64 words are left
-     growth waiting SOCKET COUNT         63 sessions attach, and so many requests of theirs wait, until standard input
-                                         ends
-     growth check SOCKET STORE SECONDS   calls one by one, and tells those while a checkpoint is under way from the
-                                         others: one line of JSON */
+/* What growth does on a server besides a load:
+     growth sessions SOCKET COUNT        COUNT sessions come, make a call each, and leave
+     growth words SOCKET                 creates arrays until only 64 words are left
+     growth waiting SOCKET COUNT         63 sessions attach, and COUNT of their requests wait until standard input ends
+     growth check SOCKET STORE SECONDS   makes calls one by one, and separates those during a checkpoint from the others:
+                                         one line of JSON */
 #define _GNU_SOURCE
 #include "../../clients/c/femem.h"
 #include "measure.h"
@@ -80,7 +79,7 @@ static uint64_t get8(const uint8_t *at) {
   return __builtin_bswap64(number);
 }
 
-/* A slot that has the next generation and is not open yet is a checkpoint's. */
+/* A slot with the next generation that is not open yet belongs to a checkpoint. */
 static bool is_checking(int store) {
   uint8_t head[2][16], gate[2];
   for (int slot = 0; slot < 2; slot++) {

@@ -1,7 +1,7 @@
-/* What no server of this shape can be faster than, in one line of JSON:
+/* Limits on the speed of any server of this design, in one line of JSON:
      limits group FILE RECORDS SECONDS    a group of the journal: a write, fdatasync, its gate's write, fdatasync
      limits sync FILE RECORDS SECONDS     one write and one fdatasync
-     limits watch FILE SECONDS            the processor time of what ends each sync: the status and the path of an open file
+     limits watch FILE SECONDS            the processor time of the checks after each sync: an open file's status and path
      limits relay SOCKET SECONDS          a frame from a client through a reading, a committing and a writing thread,
                                           and back, with nothing in between */
 #define _GNU_SOURCE
@@ -40,7 +40,7 @@ static void write_at(int file, const void *bytes, size_t count, long at) {
   if (pwrite(file, bytes, count, at) != (ssize_t)count || fdatasync(file)) give_up("write");
 }
 
-/* A file of a store's size, written and synced, so that a later fdatasync has no metadata to write. */
+/* Makes a file of a store's size, written and synced, so that a later fdatasync has no metadata to write. */
 static int make_file(const char *path) {
   static char zeros[65536];
   int file = open(path, O_RDWR | O_CREAT | O_TRUNC, 0600);

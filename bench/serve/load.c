@@ -8,10 +8,10 @@
                                                                write to the answer of its read
    hand-off  pairs, two words: to the other and back           an operation: one round
 
-   One line of JSON is printed. `valid` is true only where every answer was checked and is right: what a counter was
-   rises by one in its own client, what a shared one was comes once each, from 0 to the end that is read at last; a
-   lock's value rises by one; each item comes once; a round comes back as it went. Anything else, a refusal, and 10
-   seconds without an answer end it with status 1. */
+   It prints one line of JSON. `valid` is true only if every answer was checked and is right: the values of a client's
+   own counter rise by one; those of the shared counter come once each, from 0 to the end that is read last; a lock's
+   value rises by one; each item comes once; a round comes back as it went. Anything else, a refusal, and 10 seconds
+   without an answer end it with status 1. */
 #define _GNU_SOURCE
 #include "measure.h"
 #include "side.h"
@@ -26,7 +26,7 @@
 typedef enum work { OWN, SHARED, LOCK, ITEMS, HAND_OFF, WORKS } work;
 static const char *const names[WORKS] = {"own", "shared", "lock", "items", "hand-off"};
 
-enum { AHEAD = 1024 };  /* items that a producer may be ahead of its consumer */
+enum { AHEAD = 1024 };  /* how many items a producer may be ahead of its consumer */
 
 typedef struct asked {
   enum action action;
@@ -40,7 +40,7 @@ typedef struct seat {
   uint64_t count, last, began;
 } seat;
 
-/* A set of values that are not far above how many there are. */
+/* A set of values, which are not much greater than their number. */
 typedef struct values {
   uint8_t *bits;
   uint64_t end;
@@ -60,7 +60,7 @@ static pair pairs[MOST_CLIENTS / 2];
 static latencies noted;
 static uint64_t operations, checked, freed, holders;
 static uint64_t raised;
-static values counted; /* what the shared counter was */
+static values counted; /* the shared counter's old values */
 static bool failed;
 static char why[200];
 
@@ -117,7 +117,7 @@ static void fill_consumer(int client, pair *line) {
   }
 }
 
-/* As many requests as the window lets out. */
+/* Sends as many requests as the window allows. */
 static void fill(int client) {
   if (kind == ITEMS && client % 2 == 0) fill_producer(client, &pairs[client / 2]);
   if (kind == ITEMS && client % 2 == 1) fill_consumer(client, &pairs[client / 2]);
@@ -144,7 +144,7 @@ static bool has_come(const values *in, uint64_t value) {
   return value / 8 < in->end && (in->bits[value / 8] >> value % 8 & 1);
 }
 
-/* Takes a value that has not come before. */
+/* Takes a value that must not have come before. */
 static void take_once(values *in, uint64_t value) {
   if (has_come(in, value)) fail("%llu came twice", (unsigned long long)value);
   while (value / 8 >= in->end) {
@@ -181,7 +181,7 @@ static void locked(int client, uint64_t value, uint64_t got) {
 
 static void consumed(int client, uint64_t item, uint64_t got) {
   pair *line = &pairs[client / 2];
-  /* Which of several waiting writes is served is open, so items come in any order. */
+  /* Any of several waiting writes may be served, so items come in any order. */
   if (item >= line->made) fail("item %llu was not made", (unsigned long long)item);
   take_once(&line->came, item);
   note(line->sent[item % AHEAD], got);
@@ -223,11 +223,11 @@ void answered(int client, uint64_t id, uint64_t value) {
 
 /* ---- the loop ---- */
 
-/* Writes what each client has, and answers how much is out. */
+/* Writes each client's output. Returns how many requests are out. */
 static int flush_all(void) {
   int out = 0;
   for (int i = 0; i < clients; i++) {
-    if (kind == ITEMS) fill(i); /* the end of the time, and its partner, move a client of a pair */
+    if (kind == ITEMS) fill(i); /* a pair's client may go on because time is up or its partner acted */
     if (seats[i].dirty) side_flush(i);
     seats[i].dirty = false;
     out += seats[i].out;
@@ -252,7 +252,7 @@ static void run(int epoll) {
   }
 }
 
-/* The ends of the counters are exact. */
+/* Checks that the counters' final values are exact. */
 static void check_ends(void) {
   if (kind == OWN)
     for (int i = 0; i < clients && !failed; i++)

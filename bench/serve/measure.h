@@ -28,7 +28,7 @@ static inline void note_latency(latencies *noted, uint64_t nanoseconds) {
   noted->count++;
 }
 
-/* The middle of the bucket that the share (0 to 1) of all latencies reaches, in microseconds; 0 where there is none. */
+/* The latency at a share (0 to 1) of all latencies: the middle of its bucket, in microseconds; 0 if there are none. */
 static inline double latency_us(const latencies *noted, double share) {
   if (noted->count == 0) return 0;
   uint64_t due = (uint64_t)(share * (double)(noted->count - 1)) + 1, seen = 0;

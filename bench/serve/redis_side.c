@@ -1,5 +1,5 @@
-/* load.c's side that speaks to Redis: a counter is a key, a place is a list. It makes no request sent again take effect
-   once; femem does. Redis does not wait with a PUT, so load.c keeps producers from running away. */
+/* The side of load.c for Redis: a counter is a key, a place is a list. Unlike in femem, a request that is sent again
+   may take effect twice. Redis does not wait with a PUT, so load.c keeps producers from running away. */
 #include "side.h"
 
 #include <errno.h>
@@ -16,7 +16,7 @@ const char *side_name = "redis";
 
 typedef struct line {
   int descriptor;
-  uint64_t asked, told;  /* answers come in the order of the requests */
+  uint64_t asked, told;  /* replies come in the order of the requests */
   enum action kinds[64];
   size_t input_end, output_begin, output_end;
   char input[16384], output[8192];
@@ -48,7 +48,7 @@ static void put(line *to, const char *format, unsigned place, unsigned long long
   to->output_end += (size_t)snprintf(to->output + to->output_end, room, format, place, value);
 }
 
-/* The number of a reply at the head of the bytes: how many it took, 0 where more have to come, -1 for an error. */
+/* Reads a reply's number at the start of the bytes. Returns its size, 0 if more bytes must come, -1 for an error. */
 static int read_reply(const char *bytes, size_t size, uint64_t *value) {
   const char *end = memchr(bytes, '\n', size);
   if (!end) return 0;
@@ -87,7 +87,7 @@ static bool receive(line *from) {
   return true;
 }
 
-/* One command and its reply, waited for. */
+/* Sends one command and waits for its reply. */
 static uint64_t call(line *with, const char *command) {
   uint64_t value = 0;
   put(with, command, 0, 0);

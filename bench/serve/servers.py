@@ -1,4 +1,4 @@
-"""Servers to measure, each in a temporary folder of its own on a Unix socket, and the tools of out/."""
+"""Servers to measure, each in its own temporary folder, on a Unix socket; and the tools in out/."""
 import json
 import os
 import shutil
@@ -14,7 +14,7 @@ TICK = os.sysconf("SC_CLK_TCK")
 
 
 class Skip(Exception):
-    """What can't be measured here; its text says why."""
+    """Something can't be measured here; the text says why."""
 
 
 def tool(name):
@@ -22,7 +22,7 @@ def tool(name):
 
 
 def run_json(words, limit, **more):
-    """The dict of a tool's line of JSON; one with `valid` false where there is none."""
+    """The dict of a tool's line of JSON, or one with `valid` false if there is none."""
     try:
         ended = subprocess.run(words, capture_output=True, text=True, timeout=limit, **more)
     except subprocess.TimeoutExpired:
@@ -34,9 +34,9 @@ def run_json(words, limit, **more):
 
 
 class Calm:
-    """Waits until the disk gives its quick syncs again: a virtual disk lends a burst of them and then stalls, and a
-    load right behind another would be measured in the stall. First a rest, then a probe of small syncs, at most
-    `most` seconds."""
+    """Waits until the disk syncs quickly again: a virtual disk allows a burst and then stalls, and a load right after
+    another would be measured in the stall. First it rests, then it probes with small syncs, for at most `most`
+    seconds."""
 
     def __init__(self, folder, rest, most=15.0):
         self.rest, self.most, self.best, self.slow = rest, most, None, 0
@@ -97,7 +97,7 @@ class Server:
         raise Skip(f"{self.label} did not come up: {open(self.log.name, errors='replace').read().strip()[-200:]}")
 
     def measure(self, work, clients, window, seconds, warm=0.3):
-        """A load's dict, with the processor time that the server took for an operation."""
+        """A load's dict, with the server's processor time for an operation."""
         before = self.busy()
         words = [tool(self.load), self.path, work, clients, window, seconds, warm]
         got = run_json([str(word) for word in words], seconds + 40)
@@ -130,7 +130,7 @@ class Server:
 
 
 class Femem(Server):
-    """`PROGRAM serve --settings FILE`; the stand-in is started the same way."""
+    """`PROGRAM serve --settings FILE`. The stand-in is started the same way."""
     label = "femem"
 
     def __init__(self, base, program, label="femem", slower_us=0):
@@ -148,7 +148,7 @@ class Femem(Server):
 
 
 class Redis(Server):
-    """One sync a group, no snapshots; else as Redis comes."""
+    """One sync a group, no snapshots, otherwise Redis's defaults."""
     label, load = "redis", "redis_load"
 
     def words(self):

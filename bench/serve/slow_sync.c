@@ -13,7 +13,7 @@ __attribute__((constructor)) static void begin(void) {
   slower = text ? atol(text) : 0;
   *(void **)&real_fsync = dlsym(RTLD_NEXT, "fsync");
   *(void **)&real_fdatasync = dlsym(RTLD_NEXT, "fdatasync");
-  prctl(PR_SET_TIMERSLACK, 1000, 0, 0, 0); /* of all threads: a short sleep is as long as it was asked for */
+  prctl(PR_SET_TIMERSLACK, 1000, 0, 0, 0); /* for all threads: makes a short sleep as short as requested */
 }
 
 static int slowly(int (*real)(int), int descriptor) {

@@ -1,11 +1,11 @@
-/* A stand-in for the server, to measure beside it: the same frames, the same two threads a connection and one that
-   commits, the same writes and syncs of the same bytes, and nothing proved. It shows what C gives in this shape.
+/* A stand-in for the server, to compare it with: the same frames, the same two threads for each connection and one that
+   commits, the same writes and syncs of the same bytes, and no proofs. It shows what C achieves with this design.
 
-   It is not the program: it does not recover, keeps no answers, sends nothing twice, takes no cancel and no report, and
-   trusts its clients. Nothing is claimed of it.
+   It is no replacement: it does not recover, keeps no answers, sends nothing twice, takes no cancel and no report, and
+   trusts its clients. Nothing is promised of it.
 
-     stand_in serve --settings FILE     `socket` and `store` are read, one to a line, and nothing else
-     STAND_IN_WRONG=N                   each Nth value that is answered is wrong, to try the checks of a load */
+     stand_in serve --settings FILE     reads `socket` and `store`, each on a line of its own, and nothing else
+     STAND_IN_WRONG=N                   every Nth value answered is wrong, to test the checks of a load */
 #define _GNU_SOURCE
 #include "stand_in_store.h"
 
@@ -40,7 +40,7 @@ typedef struct word {
 typedef struct array {
   uint64_t id;
   uint32_t length;
-  uint8_t name[17]; /* its length, and the bytes */
+  uint8_t name[17]; /* the frame's length, then its bytes */
   word *words;
 } array;
 
@@ -53,7 +53,7 @@ typedef struct connection {
   pthread_cond_t mail;
 } connection;
 
-/* What is pending: records, and the replies that go once they are stored. */
+/* What is pending: records, and the replies to send once they are stored. */
 typedef struct batch {
   uint8_t *records;
   uint32_t count, room;
@@ -138,7 +138,7 @@ static call call_of(const waiter *from, uint64_t of, uint32_t index) {
   return (call){from->connection, from->session, from->number, of, from->operand, index, from->operation};
 }
 
-/* Serves those that wait on a word until none may be served. */
+/* Serves the requests that wait on a word, until none can be served. */
 static void cascade(word *at, uint64_t of, uint32_t index) {
   for (bool again = true; again;) {
     again = false;
@@ -233,7 +233,7 @@ static void remove_array(const call *with) {
   *old = (array){0};
 }
 
-/* A session's own messages. False for what the stand-in does not take. */
+/* Handles a session's messages. False for those that the stand-in does not take. */
 static bool handle_session(int from, uint8_t kind, uint64_t number) {
   connection *line = &connections[from];
   if (kind == 1) {
@@ -279,7 +279,7 @@ static bool handle(int from, const uint8_t *frame, uint32_t length) {
   return true;
 }
 
-/* What waits of a connection is withdrawn. */
+/* Withdraws a connection's waiting requests. */
 static void withdraw(int of) {
   for (int i = 0; i < ARRAYS; i++)
     for (uint32_t index = 0; arrays[i].id != 0 && index < arrays[i].length; index++) {
@@ -308,7 +308,7 @@ static uint32_t image_length(void) {
 
 /* ---- the threads ---- */
 
-/* Handles the whole frames of what was read, each in a hold of the lock: how many bytes they took, or -1. */
+/* Handles the whole frames in the input, taking the lock for each. Returns their size in bytes, or -1. */
 static ssize_t handle_all(int from, const uint8_t *bytes, size_t count) {
   size_t at = 0;
   while (count - at >= 5) {
@@ -382,7 +382,7 @@ static void *writing(void *given) {
   return NULL;
 }
 
-/* Puts the letters of a stored batch into the connections' bytes. */
+/* Puts the replies of a stored batch into the connections' output. */
 static void post(const batch *stored) {
   for (uint32_t i = 0; i < stored->letter_count; i++) {
     const struct letter *letter = &stored->letters[i];

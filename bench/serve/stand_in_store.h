@@ -1,5 +1,5 @@
-/* The stand-in's store: the writes and syncs of docs/store.md, of records that nobody reads back. Only the committing
-   thread is here. */
+/* The stand-in's store: the writes and syncs of docs/store.md, of records that are never read back. Only the committing
+   thread uses it. */
 #ifndef STAND_IN_STORE_H
 #define STAND_IN_STORE_H
 
@@ -54,7 +54,7 @@ static uint32_t used;               /* of the slot's journal area */
 static uint64_t generation = 1;
 static bool checking;               /* a checkpoint is under way in the other slot */
 static uint32_t image, sliced;      /* its image's length, and how much of it is written */
-static uint8_t *catch_up;           /* the groups since its beginning, as one */
+static uint8_t *catch_up;           /* the groups since the checkpoint's beginning, as one group */
 static uint32_t caught;
 static uint8_t blank[SLICE];
 
@@ -104,7 +104,7 @@ static void check_on(uint32_t length) {
   } else if (checking) finish_check();
 }
 
-/* `group` has 4 bytes before its records and 1 behind them. */
+/* `group` has 4 bytes before its records and 1 after them. */
 static void append(uint8_t *group, uint32_t records) {
   uint32_t payload = RECORD * records;
   uint8_t open = 1;

@@ -9,17 +9,16 @@ ABOUT = """\
 .PP
 A client has one session of a
 .BR femem (1)
-server, over a Unix socket. It numbers its requests, keeps each until its answer is there, and, where
+server, over a Unix socket. It numbers its requests, and keeps each until its answer has come. If
 .I reconnect
-of its settings says so, comes back when the server was stopped and started: what is unanswered is sent again under its
-number, so each request takes effect once. Nobody else may use the session meanwhile.
+of its settings says so, it reconnects when the server is restarted, and sends unanswered requests again under their
+numbers, so each request takes effect once. No other program may use the session meanwhile.
 .PP
-A client is used by one thread at a time. No call raises a signal. None takes memory but those that open a client, the
-first
+A client is used by one thread at a time. No call raises a signal. Only the calls that open a client, the first
 .BR femem_report ,
-and what says so below. Times are milliseconds, and
+and the calls that say so below take memory. Times are in milliseconds;
 .B FEMEM_FOREVER
-has no end.
+is no limit.
 """
 
 EXAMPLE = r"""
@@ -43,7 +42,7 @@ femem_close(client);
 
 
 def text(words):
-    """A comment's words as the page has them."""
+    """A comment's text in the page's format."""
     plain = re.sub(r"\s*\n\s*", " ", words.strip()).replace("\\", "\\\\")
     plain = re.sub(r"\b(FEMEM_[A-Z_]+|femem_[a-z_]+)\b", r"\\fB\1\\fR", plain)
     return re.sub(r"^([.'])", r"\\&\1", plain).replace("-", "\\-")
@@ -58,7 +57,7 @@ def prototype(words):
 
 
 def sections(header):
-    """Of each part of the header from the settings on: its title, its words, and its declarations with their comments."""
+    """For each part of the header, from opening on: its title, its text, and its declarations with their comments."""
     part = header[header.index("/* ---- opening") :]
     for title, rest, body in re.findall(r"/\* ---- (.*?) ----(.*?)\*/\n(.*?)(?=/\* ---- |#ifdef __GNUC__|\Z)", part, re.DOTALL):
         found = re.findall(r"(/\*(?:(?!\*/).)*\*/)\n((?!/\*).*?;)\n(?=\n|/\*|\Z)", body, re.DOTALL)
@@ -66,7 +65,7 @@ def sections(header):
 
 
 def errors(header):
-    """The errors with what each means, where the header says it."""
+    """The errors, each with its meaning if the header has one."""
     listed = header[header.index("typedef enum femem_error") : header.index("} femem_error;")]
     return re.findall(r"(FEMEM_[A-Z_]+) = (\d+),?[^\S\n]*(?:/\* (.*?) \*/)?", listed)
 
@@ -90,7 +89,7 @@ def main():
                 out += [".TP", f".BR {name[1]} ()", comment(said)]
             elif words.startswith("typedef"):
                 out += [".PP", ".nf", words.replace("-", "\\-"), ".fi", ".PP", comment(said)]
-    out += [".SH ERRORS", ".PP", "Each call answers one of these; 0 is no error:"]
+    out += [".SH ERRORS", ".PP", "Each call returns one of these; 0 is no error:"]
     for name, code, meaning in errors(header):
         out += [".TP", f".BR {name} \" ({code})\"", text(meaning or name[6:].lower().replace("_", " "))]
     print("\n".join(out) + EXAMPLE.rstrip())

@@ -122,7 +122,7 @@ def request_of(request: object) -> Request[Any]:
 
 
 def ticket_of(future: object, client: object) -> Ticket[Any]:
-    """The ticket behind this future of the client."""
+    """The ticket of this future, which the client made."""
     owner, ticket = getattr(future, "asked", (None, None))
     if not isinstance(ticket, Ticket):
         raise TypeError(f"not a future of submit: {future!r}")

@@ -181,7 +181,7 @@ def int_fetch_add(array: ArrayLike, index: int, value: int, nowait: bool = False
 
 
 def of_frame(frame: bytes) -> Request[Any]:
-    """The request that has this frame under number 0, as `Request.frame` gives it."""
+    """The request whose `Request.frame` this is."""
     kind = frame[4]
     if kind in (5, 11):
         _, read, may_wait = OPERATIONS[frame[13]]

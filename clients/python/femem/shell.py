@@ -27,7 +27,7 @@ from .requests import Array, ArrayLike, Request
 HELP = """\
 create NAME LENGTH [full|empty]     a new array; its words are empty, or full with value 0
 find NAME                           the array of that name
-remove ARRAY                        the array goes
+remove ARRAY                        removes the array
 readfe ARRAY INDEX                  waits for full, leaves empty
 readff ARRAY INDEX                  waits for full, leaves full
 readxx ARRAY INDEX                  the value, full or empty
@@ -39,15 +39,15 @@ int_fetch_add ARRAY INDEX VALUE     waits for full, adds, leaves full
 lock NAME -- COMMAND ..             runs the command while it holds the lock
 queue put NAME VALUE [CAPACITY]     adds a value to a queue (of 8, if it is new)
 queue get NAME [CAPACITY]           takes a value from it
-report                              what waits, as the server says it
+report                              what waits, as the server reports it
 watch [SECONDS] [--html FILE]       what waits, again and again, until Ctrl-C; or as a page
 graph [FILE] [--owners]             what waits, as a graph for Graphviz; FILE.svg is a picture
 metrics                             what waits, as text for Prometheus
-help                                this
-quit                                the end (also Ctrl-D)
+help                                this text
+quit                                ends the shell (also Ctrl-D)
 
-ARRAY is an id or a name. `nowait` behind an operation that may wait: it answers not-now instead.
-`timeout=SECONDS` behind an operation, or Ctrl-C while it waits: it is taken back, if it has not happened.
+ARRAY is an id or a name. `nowait` after an operation that may wait: it answers not-now instead.
+`timeout=SECONDS` after an operation, or Ctrl-C while it waits: it is taken back, if it has not happened.
 """
 
 Words = List[str]
@@ -70,20 +70,20 @@ def main(arguments: Optional[Words] = None) -> int:
     parser = argparse.ArgumentParser(
         prog="femem-shell",
         usage="python3 -m femem [OPTION ..] [SOCKET] [COMMAND ..]",
-        description="A shell for a femem server. Without SOCKET it is that of the environment's FEMEM_SOCKET.",
+        description="A shell for a femem server. SOCKET is by default that of the environment's FEMEM_SOCKET.",
         epilog=HELP,
         formatter_class=argparse.RawDescriptionHelpFormatter,
     )
     parser.add_argument(
-        "--session", type=int, help="the session, which is kept; without it, one that is ended with the shell"
+        "--session", type=int, help="the session, which is kept; without it, a session that ends with the shell"
     )
-    parser.add_argument("--store", help="the server's store, for names of arrays and sessions")
-    parser.add_argument("--program", default="femem", help="the program femem (femem)")
-    parser.add_argument("--timeout", type=float, help="of each operation that names none, in seconds")
-    parser.add_argument("--json", action="store_true", help="answers as JSON, one a line")
-    parser.add_argument("--reconnect-timeout", type=float, default=PATIENCE, help="in seconds (30)")
-    parser.add_argument("--html", metavar="FILE", help="of watch: a page in place of lines")
-    parser.add_argument("--owners", action="store_true", help="of graph: whose the locks are that somebody waits for")
+    parser.add_argument("--store", help="the server's store, to show names of arrays and sessions")
+    parser.add_argument("--program", default="femem", help="the program femem (default: femem)")
+    parser.add_argument("--timeout", type=float, help="for each operation that names none, in seconds")
+    parser.add_argument("--json", action="store_true", help="answers as JSON, one on each line")
+    parser.add_argument("--reconnect-timeout", type=float, default=PATIENCE, help="in seconds (default: 30)")
+    parser.add_argument("--html", metavar="FILE", help="for watch: a page instead of lines")
+    parser.add_argument("--owners", action="store_true", help="for graph: the owners of the locks that clients wait for")
     parser.add_argument("words", nargs="*", help=argparse.SUPPRESS)
     at = words.index("--") if "--" in words else len(words)
     given = parser.parse_intermixed_args(words[:at])
@@ -439,7 +439,7 @@ def save_history() -> None:
 
 
 def prepare_readline(completions: Callable[[str, str], List[str]]) -> None:
-    """History and completion, where the system has them."""
+    """Sets up history and completion, if the system has them."""
     try:
         import readline
     except ImportError:

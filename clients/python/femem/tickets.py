@@ -13,7 +13,7 @@ T = TypeVar("T")
 
 
 def _nobody() -> None:
-    """No caller waits."""
+    """Called if no caller waits."""
 
 
 class Ticket(Generic[T]):

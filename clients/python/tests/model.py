@@ -1,6 +1,6 @@
 """A small model of the server, written from docs/formats.md, docs/patterns.md and docs/schedules.md.
 
-`Model` has no sockets: messages go in by connection, replies come out as bytes. What was not posted is lost by `stop`.
+`Model` has no sockets: messages go in by connection, replies come out as bytes. `stop` loses what was not posted.
 """
 
 import random
@@ -21,7 +21,7 @@ class BadFrame(Exception):
 
 
 def read_messages(stream):
-    """The whole messages at the head of a bytearray, which loses them."""
+    """Removes the whole messages at the start of a bytearray, and returns them."""
     messages = []
     while len(stream) >= 5:
         length, kind = struct.unpack(">IB", stream[:5])
@@ -71,7 +71,7 @@ def report_frame(text):
 
 
 class State:
-    """What is stored: arrays of [value, is full], and sessions with their floors and kept answers."""
+    """The stored state: arrays of [value, is full], and sessions with their floors and kept answers."""
 
     def __init__(self):
         self.arrays = {}
@@ -86,7 +86,7 @@ class State:
         return other
 
     def answer(self, request):
-        """The answer (code, value, length), or None where the request waits."""
+        """The answer (code, value, length), or None if the request waits."""
         kind = request[0]
         if kind in ("create", "find"):
             name = request[1]
@@ -156,7 +156,7 @@ class State:
 
 
 class Model:
-    """The server: a front over what is stored, with entries that are not stored yet."""
+    """The server: the stored state, and a front ahead of it, with the entries that are not stored yet."""
 
     BOX = 128
 
@@ -166,7 +166,7 @@ class Model:
         self.stop()
 
     def stop(self):
-        """What is not posted is lost, and all connections and waiting requests."""
+        """Loses what is not posted, and all connections and waiting requests."""
         self.state = self.stored.copy()
         self.pending = []
         self.place = self.durable = 0
@@ -198,7 +198,7 @@ class Model:
                 self.boxes[conn].append(reply)
 
     def post(self):
-        """Everything that is pending is stored, and told to whoever has the sessions now."""
+        """Stores everything pending, and sends the replies to the connections that have the sessions now."""
         entries, self.pending = self.pending, []
         for entry in entries:
             self.stored.apply(entry)
@@ -303,7 +303,7 @@ class Model:
         return None
 
     def serve(self):
-        """Waiting requests that may be served now are served, in any order."""
+        """Serves the waiting requests that can be served now, in any order."""
         while True:
             eligible = [key for key, r in self.waiting.items() if self.state.answer(r) is not None]
             if not eligible:

@@ -1,4 +1,4 @@
-"""Lets the tests find the package beside them, whether or not it is installed. Each test imports this first."""
+"""Lets the tests find the package in this repository, whether or not it is installed. Each test imports this first."""
 
 import pathlib
 import sys

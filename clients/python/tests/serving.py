@@ -1,4 +1,4 @@
-"""The model behind a socket, in a thread; and servers that do what no server does."""
+"""The model at a socket, in a thread; and servers that break the protocol."""
 
 import os
 import selectors
@@ -11,12 +11,12 @@ from model import BadFrame, Model, read_messages
 
 
 class ModelServer:
-    """A model that listens at a path. `kill` loses what was not posted; `start` goes on with what was stored."""
+    """A model that listens at a path. `kill` loses what was not posted; `start` continues with what was stored."""
 
     def __init__(self, path, seed=0):
         self.path = path
         self.model = Model(seed)
-        self.posts = True  # whether what is pending is posted after each round
+        self.posts = True  # whether pending entries are posted after each round
         self._thread = None
 
     def start(self):
@@ -93,7 +93,7 @@ class ModelServer:
 
 
 class BadServer:
-    """A server that answers each piece that comes by what `answer(piece, count)` says; `None` ends the connection."""
+    """A server that answers each piece with the result of `answer(piece, count)`; `None` ends the connection."""
 
     def __init__(self, path, answer):
         self._answer = answer
@@ -130,7 +130,7 @@ class BadServer:
 
 
 class WithFolder(unittest.TestCase):
-    """Each test has a folder of its own for its socket."""
+    """Gives each test its own folder for its socket."""
 
     def setUp(self):
         folder = tempfile.TemporaryDirectory()

@@ -1,4 +1,4 @@
-"""The client for asyncio, over the model behind a socket."""
+"""The client for asyncio, with the model at a socket."""
 
 import asyncio
 import gc
@@ -86,7 +86,7 @@ class Asyncio(WithFolder):
                 got = await asyncio.wait_for(client.submit_many(batch), 0.05)
                 self.assertEqual(got[0], turn)
                 self.assertIsInstance(got[1], femem.Withdrawn)
-            # Where nothing happened it is cancelled, and nothing of it waits on.
+            # If nothing happened it is cancelled, and nothing of it goes on waiting.
             with self.assertRaises(asyncio.TimeoutError):
                 await asyncio.wait_for(client.submit_many(batch), 0.05)
             self.assertEqual((await client.report()).waiters, [])
@@ -241,7 +241,7 @@ class Asyncio(WithFolder):
         async def work(client):
             word = await client.create("word", 1)
             future = client.submit(requests.readfe(word, 0))
-            client._core._reconnect_timeout = 0.4  # it was attached in good time
+            client._core._reconnect_timeout = 0.4  # only now, so that it had enough time to attach
             server.kill()
             with self.assertRaises(femem.ServerUnreachable):
                 await future

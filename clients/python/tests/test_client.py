@@ -1,4 +1,4 @@
-"""The client for threads, over the model behind a socket."""
+"""The client for threads, with the model at a socket."""
 
 import resource
 import threading
@@ -232,7 +232,7 @@ class Stops(WithFolder):
         server = self.server()
         with Client(self.path, 7) as client:
             word = client.create("word", 1)
-            client._core._reconnect_timeout = 0.5  # it was attached in good time
+            client._core._reconnect_timeout = 0.5  # only now, so that it had enough time to attach
             futures = [client.submit(requests.readfe(word, 0)) for _ in range(40)]
             server.kill()
             begin = time.monotonic()

@@ -1,7 +1,7 @@
-"""The core over the model of the server, by random schedules: streams in pieces, breaks, stops, take-overs.
+"""The core with the model of the server, in random schedules: streams in pieces, breaks, stops, take-overs.
 
-What is looked at is what a user sees: each request that ended with a result happened once, each that was withdrawn not at
-all, and what was under way when a client ended, once at most.
+The tests check what a user sees: each request that ended with a result happened once, each withdrawn one not at all, and
+those under way when a client ended at most once.
 """
 
 import os
@@ -41,7 +41,7 @@ class Schedules(unittest.TestCase):
                 self.assertEqual(run(world, cores[0], requests.readff(array, 0)), len(values))
 
     def test_each_value_is_taken_once(self):
-        """Producers and consumers of a word, which wait for each other all the time, and times that run out."""
+        """Producers and consumers of a word, which often wait for each other, with timeouts that run out."""
         for seed in range(self.SEEDS):
             with self.subTest(seed=seed):
                 world = World(1000 + seed)
@@ -57,7 +57,7 @@ class Schedules(unittest.TestCase):
                         else:
                             gets.append(core.submit(requests.readfe(array, 0), world.now, timeout))
                     world.any_step(cores)
-                # Whoever is left over is let through.
+                # Lets the remaining ones through.
                 more = 0
                 while True:
                     try:
@@ -82,7 +82,7 @@ class Schedules(unittest.TestCase):
                 self.assertEqual(sorted(got), put)
 
     def test_a_session_goes_from_process_to_process(self):
-        """Clients end in the middle, and others begin in the same session."""
+        """Clients end in the middle, and others start in the same session."""
         for seed in range(self.SEEDS):
             with self.subTest(seed=seed):
                 world = World(2000 + seed)
@@ -102,7 +102,7 @@ class Schedules(unittest.TestCase):
                     world.any_step(cores)
                 world.settle_down(cores)
                 values = [t.result for t in tickets if t.error is None]
-                # An attach that a process had on its way when it ended may take the session from the next one.
+                # A late attach of a process that has ended may take the session from the next one.
                 unknown = [t for t in tickets if isinstance(t.error, (errors.Closed, errors.TakenOver))]
                 self.assertEqual(len(values) + len(unknown), len(tickets))
                 self.assertEqual(len(set(values)), len(values))
@@ -111,7 +111,7 @@ class Schedules(unittest.TestCase):
                 self.assertLessEqual(end, len(values) + len(unknown))
 
     def test_of_two_clients_in_a_session_one_is_told(self):
-        """Whoever is taken over is told so, and what was answered to either was done once."""
+        """A client whose session is taken over is told, and what was answered to either client was done once."""
         for seed in range(self.SEEDS):
             with self.subTest(seed=seed):
                 world = World(3000 + seed)

@@ -1,4 +1,4 @@
-"""What whoever uses the clients met, each as one test: it names no part of the library that is not needed for it."""
+"""Problems that users could meet, each as one test, which uses only the parts of the library that it needs."""
 
 import asyncio
 import pathlib
@@ -24,7 +24,7 @@ ROOT = pathlib.Path(paths.__file__).resolve().parents[1]
 
 
 def until(condition, seconds=60):
-    """Waits until the condition holds. Whether it did."""
+    """Waits until the condition holds. Returns whether it did."""
     end = time.monotonic() + seconds
     while not condition():
         if time.monotonic() > end:
@@ -34,7 +34,7 @@ def until(condition, seconds=60):
 
 
 def quiet(work):
-    """The work, whose error nobody wants to see."""
+    """Does the work, and ignores its error."""
     try:
         work()
     except femem.FememError:
@@ -43,7 +43,7 @@ def quiet(work):
 
 class Spoilt(WithFolder):
     def test_a_fraction_ends_no_client(self):
-        """A counter is given a fraction, which is refused; the client counts on."""
+        """A counter refuses a fraction, and the client goes on counting."""
         self.server()
         with Client(self.path, 7, reconnect_timeout=5.0) as client:
             counter = Counter(client, "counter")
@@ -62,7 +62,7 @@ class Spoilt(WithFolder):
         asyncio.run(main())
 
     def test_ctrl_c_ends_no_client(self):
-        """`submit` is broken off before each of its bytecodes, and the client answers each time."""
+        """`submit` is interrupted before each of its bytecodes, and the client still works each time."""
         self.server()
         with Client(self.path, 7, reconnect_timeout=5.0) as client:
             word = client.create("word", 1, full=True)
@@ -75,7 +75,7 @@ class Spoilt(WithFolder):
             self.assertEqual([client.int_fetch_add(word, 0, 1, timeout=30) for _ in range(40)], list(range(40)))
 
     def test_a_child_that_says_bye_leaves_its_parent_alone(self):
-        """A child of `fork` uses the client that it inherited; its parent's waits on, and answers."""
+        """A child of `fork` uses the client that it inherited; its parent's goes on waiting, and gets its answer."""
         self.server()
         uses = {
             "report": lambda client, waiting: client.report(),
@@ -90,7 +90,7 @@ class Spoilt(WithFolder):
                 self.assertTrue(until(lambda: client.report().waiters))
 
                 def in_child():
-                    # It may never come back where the client is not the child's to use.
+                    # It might never return, since the client is not the child's to use.
                     thread = threading.Thread(target=quiet, args=(lambda: use(client, waiting),), daemon=True)
                     thread.start()
                     thread.join(0.5)
@@ -101,7 +101,7 @@ class Spoilt(WithFolder):
                 self.assertEqual(waiting.result(10), 3, name)
 
     def test_wait_for_loses_nothing(self):
-        """300 values are written, each about when the time of whoever waits for it is over: each is got by somebody."""
+        """300 values are written, each about when its reader's time is over: every value reaches a reader."""
         self.server()
 
         async def main():
@@ -132,7 +132,7 @@ class Spoilt(WithFolder):
         asyncio.run(main())
 
     def test_a_thousand_that_wait_do_not_hold_up_the_next(self):
-        """While 1,000 tasks wait, an operation that never waits moves none of them out of its way."""
+        """While 1,000 tasks wait, an operation that never waits does not have to move any of them."""
         server = self.server()
         heard = []
         take = server.model.take
@@ -157,7 +157,7 @@ class Spoilt(WithFolder):
         asyncio.run(main())
 
     def test_a_batch_is_asked_in_one_step(self):
-        """32 requests of one batch cost the client's thread one step, where 32 calls of `submit` cost it 32."""
+        """32 requests in one batch cost the client's thread one step; 32 calls of `submit` cost it 32."""
         self.server()
         with Client(self.path, 7) as client:
             hits = client.create("hits", 1, full=True)
@@ -192,7 +192,7 @@ with Client(path, session_file=file, reconnect_timeout=100.0) as client:
 """
 
     def test_a_worker_that_is_killed_counts_exactly(self):
-        """A worker that a supervisor starts again counts to 600, however often it is killed on the way."""
+        """A worker that a supervisor restarts counts to 600, however often it is killed on the way."""
         self.server()
         chance = random.Random(3)
         kills = 0
@@ -266,7 +266,7 @@ class Seen(WithFolder):
             pass  # its client was closed
 
     def test_what_a_client_can_not_tell_is_said(self):
-        """The README says that a session which another client ended and began anew is not noticed."""
+        """The README says that a client does not notice if another one ends its session and begins it again."""
         promise = re.search(r"\*\*At most once\.\*\*.*?\n\n(.*?)\n\n", (ROOT / "README.md").read_text(), re.DOTALL)[1]
         self.assertIn("a second time, unnoticed", promise)
         self.assertIn("a session belongs to one client", promise)

@@ -1,4 +1,4 @@
-"""Servers that do what no server does: a named error, no hang, and bounded memory."""
+"""Servers that break the protocol: a named error, no hang, and bounded memory."""
 
 import itertools
 import os
@@ -18,7 +18,7 @@ FIRST = 33  # the first number of a client whose session has floor 1
 
 
 def echoes(piece):
-    """Refusals, not-waiting, of all cancels of a piece of the client's stream."""
+    """Not-waiting refusals of all cancels in a piece of the client's stream."""
     out = b""
     while piece:
         length, kind = struct.unpack(">IB", piece[:5])
@@ -29,7 +29,7 @@ def echoes(piece):
 
 
 def attached(then):
-    """Attaches session 7 as a server does, and then answers by `then(piece, count)`."""
+    """Attaches session 7 like a server, and then answers with `then(piece, count)`."""
 
     def answer(piece, count):
         if count == 0:
@@ -54,7 +54,7 @@ class Malice(WithFolder):
         return client
 
     def impatient(self):
-        """A client that is attached in good time, and then gives up soon."""
+        """A client with enough time to attach, which later gives up soon."""
         client = self.client()
         client._core._reconnect_timeout = 0.3
         return client
@@ -138,7 +138,7 @@ class Malice(WithFolder):
             self.assertLess(time.monotonic() - begin, 15)
 
     def test_a_server_that_only_says_that_it_is_there(self):
-        """It echoes each cancel of nobody's number, and answers nothing that it owes."""
+        """It refuses each probe, as it should, but sends no other reply that is due."""
         self.serve(attached(lambda piece, count: echoes(piece)))
         for ask in (
             lambda client: client.readxx(1, 0),
@@ -158,7 +158,7 @@ class Malice(WithFolder):
             client.readfe(1, 0)
 
     def test_an_endless_report(self):
-        """A report that never ends is refused at its length, and one that is as long as may be is held, and no more."""
+        """A report that is too long is refused by its length; of one with the longest length no more than that is held."""
         long = struct.pack(">IB", 2**31, 71)
         self.serve(attached(lambda piece, count: itertools.chain([long], itertools.repeat(b"a" * 65536))))
         with self.assertRaises(femem.ProtocolError):
@@ -200,7 +200,7 @@ class Malice(WithFolder):
                     self.client().report()
 
     def test_answers_without_end_take_no_memory(self):
-        """One answer again and again, for a second: what the client holds does not grow."""
+        """One answer again and again, for a second: the client's memory does not grow."""
         again = frame(66, FIRST, frames.VALUE, 1, 0) * 1000
         stop = threading.Event()
         self.addCleanup(stop.set)

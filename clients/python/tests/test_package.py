@@ -1,4 +1,4 @@
-"""The package as it is installed: built without a network, put into an environment of its own, and run once."""
+"""The installed package: built without a network, installed in its own environment, and run once."""
 
 import os
 import pathlib
@@ -15,7 +15,7 @@ import femem
 
 ROOT = pathlib.Path(paths.__file__).resolve().parents[1]
 
-# No package index may be asked.
+# No package index may be used.
 ALONE = {"PIP_NO_INDEX": "1", "PIP_DISABLE_PIP_VERSION_CHECK": "1"}
 
 

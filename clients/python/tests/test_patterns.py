@@ -1,4 +1,4 @@
-"""The patterns, with threads that each have a client, over the model behind a socket that is killed in between."""
+"""The patterns, with threads that each have a client, and the model at a socket, which is killed in between."""
 
 import os
 import random
@@ -19,7 +19,7 @@ class Patterns(WithFolder):
     CLIENTS = 5
 
     def run_all(self, work, kills=2):
-        """`work(client, k)` in as many threads as there are clients; what each gave, in their order."""
+        """Runs `work(client, k)` in a thread for each client. Returns the results in order."""
         server = self.server()
         results = {}
 
@@ -231,7 +231,7 @@ class Patterns(WithFolder):
             one = Client(self.path, 1)
             first = Lock(one, "lock")
             first.acquire()
-            # While its owner is to be seen it is not taken over.
+            # While its owner is there it is not taken over.
             self.assertFalse(lock.acquire(timeout=1.0, takeover_after=0.2))
             one.close()
             self.assertTrue(lock.acquire(timeout=60, takeover_after=0.2))
@@ -292,11 +292,11 @@ class Patterns(WithFolder):
                 self.assertIsNone(lock.owner())
 
     def test_a_put_and_a_get_are_two_sends_each(self):
-        """Where there is room, or a value: one that takes the turn and looks, and one that changes and gives it back."""
+        """If there is room, or a value: one takes the turn and reads, and one changes the words and gives the turn back."""
         self.server()
         with Client(self.path, 7, probe_interval=100.0) as client:
             queue = BoundedQueue(client, "queue", 4)
-            queue.put(4)  # the first one finds the queue's arrays
+            queue.put(4)  # the first operation finds the queue's arrays
             inner, sent = client._socket, []
 
             class Counting:
@@ -308,7 +308,7 @@ class Patterns(WithFolder):
             for work in (lambda: queue.put(5), queue.get):
                 sent.clear()
                 work()
-                # A floor that rises may be sent by itself.
+                # A settle may be sent by itself.
                 self.assertEqual(len([size for size in sent if size != 13]), 2, sent)
             client._socket = inner
 
@@ -347,7 +347,7 @@ class Patterns(WithFolder):
             self.assertEqual(sorted(mine.holders()), [1, 2])
 
     def test_a_queue_that_killed_clients_leave_goes_on(self):
-        """40 clients are killed anywhere within put and get; the next one goes on, and values come in their order."""
+        """40 clients are killed at any point of put and get; the next one continues, and values come in order."""
         server = self.server()
         chance = random.Random(4)
         begun = os.path.join(os.path.dirname(self.path), "begun")

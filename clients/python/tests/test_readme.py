@@ -1,4 +1,4 @@
-"""The examples of the README run as they stand, but for the path."""
+"""The examples of the README run unchanged, except for the path."""
 
 import contextlib
 import io
@@ -27,7 +27,7 @@ class Readme(WithFolder):
         self.assertEqual([t.name for t in threading.enumerate() if t.name.startswith("femem session")], [])
 
     def test_each_test_that_is_named_is_there(self):
-        """The README names the tests that show its promises."""
+        """The tests that the README names exist."""
         tests = "".join(path.read_text() for path in (ROOT / "tests").glob("test_*.py"))
         named = set(re.findall(r"`(test_[a-z0-9_]+)`", README.read_text()))
         self.assertGreater(len(named), 30)

@@ -1,4 +1,4 @@
-"""At most once over the client's own restarts: a client with a session file is killed at each point, and goes on."""
+"""At most once over the client's own restarts: a client with a session file is killed at each point, and continues."""
 
 import asyncio
 import itertools
@@ -41,7 +41,7 @@ def die():
 
 
 def dies(point, after):
-    """From now on this process is killed at that point, at its time number `after`."""
+    """Makes this process die at that point, the `after`th time that it comes there."""
     where, name, moment = POINTS[point]
     todo = getattr(where, name)
     count = 0
@@ -71,7 +71,7 @@ class Killed(WithFolder):
         self.progress = self.path + ".progress"
 
     def child(self, work, *words):
-        """Runs the work in a child. Whether it came to its end, and was not killed."""
+        """Runs the work in a child. Returns whether it came to its end without being killed."""
         pid = os.fork()
         if pid == 0:
             status = 1
@@ -92,7 +92,7 @@ class Killed(WithFolder):
         return True
 
     def count(self, word, steps):
-        """Adds 1 so many times, four at a time, and notes how far it has come."""
+        """Adds 1 `steps` times, four at a time, and notes its progress."""
         done = 0
         if os.path.exists(self.progress):
             with open(self.progress) as file:
@@ -189,7 +189,7 @@ class Files(WithFolder):
         self.file = self.path + ".session"
 
     def abandon(self, client):
-        """As if the client's process were killed now."""
+        """Acts as if the client's process were killed now."""
         client._core.file.abandon()
         client._core.file = None
         client._core._flow._file = None
@@ -240,7 +240,7 @@ class Files(WithFolder):
             client.writeef(word, 0, 10)
             client.writeef(word, 1, 11)
             found = [(one.what, one.key, one.result(30)) for one in client.recovered]
-            # What was answered may stand there too, where the file does not know it yet.
+            # Answered requests may be there too, if the file does not yet have the answer.
             self.assertEqual(found[:2], [("readfe 1 0", None, 10), ("readfe 1 1", b"second", 11)])
             self.assertEqual(client.once("second", requests.readfe(word, 1)), 11)
 
@@ -333,7 +333,7 @@ class Files(WithFolder):
                 self.assertEqual(file.read(), damaged)
 
     def any_step(self, chance, file, out):
-        """One thing that may happen to a session, drawn by lot. `out` is what has no end yet."""
+        """One random event of a session. `out` has the requests that have not ended."""
         drawn = chance.random()
         if drawn < 0.35 and file.next < file.asked_floor + 32:
             number, key = file.next, chance.choice([None, b"one", b"two", b"three"])
@@ -362,7 +362,7 @@ class Files(WithFolder):
         return numbers, file.unanswered, file.answers, sorted(file.ended), keyed
 
     def test_what_is_read_is_what_was_kept(self):
-        """Whatever happens to a session, and however often the file is written anew, the next process reads it."""
+        """Whatever happens to a session, and however often the file is rewritten, the next process reads it."""
         self.addCleanup(setattr, sessionfile, "_SHORT", sessionfile._SHORT)
         for seed in range(60):
             chance = random.Random(seed)
@@ -416,7 +416,7 @@ class Files(WithFolder):
                 self.assertEqual(client.once("key", requests.int_fetch_add(word, 0, 1)), 0)
 
     def test_a_client_that_is_not_made_leaves_the_file_free(self):
-        """The constructor is broken off at bytecodes all over it, by an exception out of a signal's handler."""
+        """The constructor is interrupted at bytecodes all over it, by an exception from a signal handler."""
         server = self.server()
         broken = 0
         for at in itertools.count(1, 23):
@@ -430,7 +430,7 @@ class Files(WithFolder):
         self.assertGreater(broken, 20)
 
     def test_what_a_full_disk_kept_out_is_not_written_later(self):
-        """A client whose request is refused by the disk ends; the next process does not ask that request."""
+        """A client whose request the disk refuses ends; the next process does not make that request."""
         server = self.server()
         with Client(self.path, session_file=self.file) as client:
             word = client.create("word", 1, full=True)
@@ -494,7 +494,7 @@ class Files(WithFolder):
         self.assertEqual(word.length, 1)
 
     def test_a_file_whose_session_is_lost_is_removed_to_begin_anew(self):
-        """A server with another store does not have the session, and the file goes on to say so until it is removed."""
+        """A server with another store does not have the session; the file raises this error until it is removed."""
         server = self.server()
         Client(self.path, session_file=self.file).close()
         server.kill()
@@ -570,7 +570,7 @@ class Files(WithFolder):
         file.ending()
         file.commit()
         file.close()
-        # Where the server is not there, the file is free again.
+        # Without a server, the file is free again.
         for _ in range(2):
             with self.assertRaises(femem.ServerUnreachable):
                 asyncio.run(alone())

@@ -1,4 +1,4 @@
-"""A client of several sessions: what waits is asked over further ones, and holds up nothing else."""
+"""A client with several sessions: requests that wait go over further ones, and hold up nothing else."""
 
 import asyncio
 import os
@@ -25,13 +25,13 @@ def until(condition, seconds=60):
 
 
 def unanswered(client):
-    """What stands under numbers of the client's own session."""
+    """The unanswered requests of the client's own session."""
     return list(client._core._flow.window.unanswered.values())
 
 
 class Sessions(WithFolder):
     def test_a_thousand_tasks_that_wait_hold_nobody_up(self):
-        """Over one session an operation that never waits takes more than a second here."""
+        """With one session an operation that never waits would take more than a second here."""
         self.server()
 
         async def main():
@@ -51,7 +51,7 @@ class Sessions(WithFolder):
         asyncio.run(main())
 
     def test_waits_that_fit_move_nobody(self):
-        """As many as the further sessions have numbers: none is taken back to make room for another."""
+        """As many waits as the further sessions have numbers: none is taken back to make room for another."""
         server = self.server()
 
         async def main():
@@ -176,7 +176,7 @@ class Sessions(WithFolder):
             self.assertEqual(client.readxx(total, 0), 40)
             lock.acquire()
             self.assertEqual(lock.owner(), 7)
-            # It shows itself under the session that owns.
+            # Its presence is under the owning session.
             presence = client.find("presence")
             self.assertIn((presence.id, 7), [(w.array, w.session) for w in client.report().waiters])
             lock.release()
@@ -280,7 +280,7 @@ class Ends(WithFolder):
         others = [Client(self.path, 1000 + k) for k in range(62)]
         with self.assertRaises(femem.SessionLimit):
             Client(self.path, 7, sessions=3)
-        self.assertEqual(len(server.model.state.sessions), 63)  # its own is kept, since it was named
+        self.assertEqual(len(server.model.state.sessions), 63)  # its own session is kept, since it was given
         Client(self.path, 7).bye()
         with self.assertRaises(femem.SessionLimit):
             Client(self.path, sessions=3)
@@ -291,7 +291,7 @@ class Ends(WithFolder):
 
         with self.assertRaises(femem.SessionLimit):
             asyncio.run(main())
-        self.assertEqual(len(server.model.state.sessions), 62)  # what it had chosen has ended
+        self.assertEqual(len(server.model.state.sessions), 62)  # the session that it chose has ended
         for other in others:
             other.close()
 

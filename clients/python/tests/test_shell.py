@@ -1,4 +1,4 @@
-"""The shell: lines in, lines out, over the model behind a socket."""
+"""The shell: lines in, lines out, with the model at a socket."""
 
 import os
 import pathlib
@@ -28,7 +28,7 @@ class Shell(WithFolder):
             stdout=subprocess.PIPE,
             stderr=subprocess.PIPE,
             text=True,
-            # Who runs the tests in the background may have it ignored.
+            # It may be ignored if the tests run in the background.
             preexec_fn=lambda: signal.signal(signal.SIGINT, signal.SIG_DFL),
         )
 
@@ -151,7 +151,7 @@ class Shell(WithFolder):
         self.assertTrue(err.startswith("femem: server-unreachable: "))
 
     def one(self, *words, env=None, status=0):
-        """One command of the command line: what it printed."""
+        """Runs one command of the command line. Returns its output."""
         done = subprocess.run(
             [sys.executable, "-m", "femem", *words],
             cwd=ROOT,
@@ -205,7 +205,7 @@ class Shell(WithFolder):
 
 
 class Looking(WithFolder):
-    """What an observer sees: it attaches nothing."""
+    """What an observer sees. It attaches no session."""
 
     def wait_for(self, observer, count):
         deadline = time.monotonic() + 60
@@ -231,7 +231,7 @@ class Looking(WithFolder):
             first, second, presence = [one.find(name).id for name in ("lock_a", "lock_b", "presence")]
             owners = observer.owners(report)
             self.assertEqual(owners, {first: 7, second: 8})
-            # Those that wait to be seen are known without the store.
+            # Requests that only show a client are known even without the store.
             self.assertEqual(observer.look().present(), presence)
             self.assertEqual(len(blocked(report, observer.look())), 2)
             look = parse_look(
@@ -245,7 +245,7 @@ class Looking(WithFolder):
             shown = femem.observer.metrics(report, look)
             for line in ("femem_waiting 2", "femem_all_wait 1", "femem_arrays 2", 'femem_session_waiting{session="7"} 1'):
                 self.assertIn(line + "\n", shown)
-            # Without those that wait only to be seen, nobody says that all wait.
+            # Requests that only show a client do not count for `all-wait`.
             b.release()
             threads[0].join(60)
             self.assertFalse(femem.observer.all_wait(observer.report(), look))

@@ -1,4 +1,4 @@
-"""The core where somebody else had its session before, or has it now."""
+"""The core when another client had its session before, or has it now."""
 
 import unittest
 
@@ -10,7 +10,7 @@ from femem import errors, requests
 
 class Strangers(unittest.TestCase):
     def stranger(self, world, *messages):
-        """A connection that sends these and is gone, with nothing posted."""
+        """A connection that sends these messages and is gone, with nothing posted."""
         world.conns += 1
         world.model.connect(world.conns)
         for message in messages:
@@ -18,7 +18,7 @@ class Strangers(unittest.TestCase):
         return world.conns
 
     def test_an_old_welcome_comes_first(self):
-        """The former user attached, raised the floor and asked, all in one; its mails come to the new client."""
+        """The former client attached, raised the floor and sent a request, all in one; its replies come to the new client."""
         add = ("access", 23, 1, 0, 1, False)
         for settles in ([20], [20, 50], [20, 33, 65], [33], [2]):
             with self.subTest(settles=settles):
@@ -49,7 +49,7 @@ class Strangers(unittest.TestCase):
         self.assertEqual(world.model.waiting, {})
 
     def test_a_session_that_another_client_ended_and_began_anew_is_not_told(self):
-        """The request is carried out twice, and no client can tell. README.md says so."""
+        """The request is carried out twice, and no client can detect it. README.md says so."""
         world = World(1)
         word = run(world, world.core(8), requests.create("counter", 1, True))
         core = world.core(7)
@@ -74,7 +74,7 @@ class Strangers(unittest.TestCase):
         self.assertEqual(run(world, core, requests.readff(word, 0)), 2)
 
     def met(self, world, ask):
-        """A client with all of its first window answered, whose floor and further requests are lost on the way."""
+        """A client whose first window is all answered, and whose settle and further requests are lost on the way."""
         core = world.core(7)
         array = run(world, world.core(8), requests.create("counter", 1, True))
         world.settle_down([core])
@@ -111,7 +111,7 @@ class Strangers(unittest.TestCase):
                 self.assertEqual(len([t for t in others if t.result is not None]), 0)
 
     def test_a_session_that_is_taken_is_left(self):
-        """Even by somebody who leaves the floor where it was."""
+        """Even if the other client does not raise the floor."""
         world = World(1)
         core = world.core(7)
         array = run(world, core, requests.create("counter", 1, True))

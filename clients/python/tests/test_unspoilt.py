@@ -1,4 +1,4 @@
-"""Nothing from outside spoils a client: wrong arguments, exceptions out of signal handlers, forks, cancelled tasks."""
+"""Nothing from outside breaks a client: wrong arguments, exceptions from signal handlers, forks, cancelled tasks."""
 
 import asyncio
 import itertools
@@ -25,7 +25,7 @@ NO_SECONDS = ["3", b"", [], object(), float("nan"), True]
 
 
 def wrong_calls(client, word):
-    """Each function with each parameter of a wrong type, one at a time."""
+    """Calls of each function with a wrong type for one parameter at a time."""
     numbers = {
         "readfe": 2,
         "readff": 2,
@@ -129,22 +129,22 @@ class Stop(BaseException):
 
 
 def interrupted(work, at):
-    """Runs the work, and raises `Stop` before its bytecode number `at`. Whether it came so far.
+    """Runs the work, and raises `Stop` before its bytecode number `at`. Returns whether it got that far.
 
-    Of the library's functions only: the standard library's own are as the interpreter's.
+    It counts only the library's functions, not those of the standard library.
     """
     count = 0
 
     def trace(frame, event, _):
         nonlocal count
-        # (what is raised out of a `__del__` nobody hears)
+        # (exceptions from a `__del__` are ignored)
         if not frame.f_code.co_filename.startswith(os.path.dirname(femem.__file__)) or frame.f_code.co_name == "__del__":
             return None
         frame.f_trace = trace
         frame.f_trace_opcodes = True
         frame.f_trace_lines = False
         if event == "opcode":
-            # Nothing can come between a value that is returned and whoever called.
+            # No exception can come between the return of a value and its caller.
             code = frame.f_code.co_code[frame.f_lasti]
             if code not in LAST:
                 count += 1
@@ -153,7 +153,7 @@ def interrupted(work, at):
                     raise Stop()
         return trace
 
-    # Later versions count bytecodes only where a frame asked for it before.
+    # Later versions trace opcodes only if a frame has asked for it before.
     sys._getframe().f_trace_opcodes = True
     sys.settrace(trace)
     try:
@@ -173,7 +173,7 @@ LAST = {dis.opmap[name] for name in ("RETURN_VALUE", "RETURN_CONST", "RESUME", "
 class Interrupts(WithFolder):
     def each_bytecode(self, client, work, well):
         for _ in range(2):
-            interrupted(work, 10**9)  # some versions count a function's bytecodes from its second call on only
+            interrupted(work, 10**9)  # some versions trace a function's opcodes only from its second call on
             well()
         for at in itertools.count(1):
             was = interrupted(work, at)
@@ -210,7 +210,7 @@ class Interrupts(WithFolder):
             lock = patterns.Lock(client, "lock")
 
             def free():
-                # What was interrupted is undone by the client's thread, a moment later.
+                # The client's thread undoes the interrupted operation a moment later.
                 self.assertTrue(lock.acquire(timeout=60))
                 lock.release()
                 deadline = time.monotonic() + 60
@@ -257,7 +257,7 @@ class Interrupts(WithFolder):
             self.each_bytecode(client, queue.get, full)
 
     def test_signals_within_submit(self):
-        """Exceptions out of a signal's handler, at whatever moment they come."""
+        """Exceptions from a signal handler, at random moments."""
         self.server()
 
         def boom(*_):
@@ -287,7 +287,7 @@ INHERITED = []
 
 
 def ask_inherited(_):
-    """What a process of a pool is told by the client that it inherited."""
+    """What a pool's process gets from the client that it inherited."""
     ((client, word),) = INHERITED
     try:
         client.int_fetch_add(word, 0, 1)
@@ -298,7 +298,7 @@ def ask_inherited(_):
 
 class Forks(WithFolder):
     def in_child(self, work):
-        """What the work answers in a child of this process."""
+        """The result of the work in a child of this process."""
         read, write = os.pipe()
         child = os.fork()
         if child == 0:
@@ -345,7 +345,7 @@ class Forks(WithFolder):
             waiting = client.submit(requests.readfe(word, 0))
             while not client.report().waiters:
                 time.sleep(0.01)
-            # So it is while the thread sends.
+            # As in the middle of the thread's send.
             for sending in [client, *client._sides]:
                 with memoryview(sending._core.to_send):
                     self.assertEqual(self.in_child(lambda: client.readxx(word, 0)), "Closed")

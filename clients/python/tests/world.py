@@ -8,7 +8,7 @@ from femem.core import Core
 
 
 class World:
-    """Clients over a model. What happens next is drawn by lot."""
+    """Clients with a model. What happens next is random."""
 
     def __init__(self, seed):
         self.random = random.Random(seed)
@@ -16,7 +16,7 @@ class World:
         self.now = 100.0
         self.conns = 0
         self.links = {}  # core: (conn, bytes to the server); the bytes to the client
-        self.half_open = []  # connections that the client gave up and the server still has
+        self.half_open = []  # connections that the client has given up and the server still has
 
     def core(self, session, timeout=None):
         core = Core(session, timeout, 1.0)
@@ -30,7 +30,7 @@ class World:
         core.connected(self.now)
 
     def push(self, core, most=10**6):
-        """A piece from the client to the server, and replies that are there onto their way."""
+        """Moves a piece from the client to the server, and puts the server's replies on their way."""
         link = self.links.get(core)
         if link is None:
             return
@@ -44,7 +44,7 @@ class World:
     def feed(self, conn, there, taken):
         piece = there[:taken]
         rest = there[taken:]
-        # The server holds what is not whole: here the stream is cut only for the client's sake.
+        # The server keeps incomplete messages; the stream is cut here only to test the client.
         held = bytearray(piece)
         for message in read_messages(held):
             self.model.take(conn, message)
@@ -76,7 +76,7 @@ class World:
             core.disconnected(self.now)
 
     def break_off(self, core):
-        """The server drops a connection, and may have got some of what was on the way."""
+        """The server drops a connection, and may have received part of what was on the way."""
         link = self.links.get(core)
         if link is not None:
             conn, there, _ = link
@@ -86,7 +86,7 @@ class World:
             self.lose(core)
 
     def die(self, core):
-        """The process of a client ends. The server sees it now or later, and may get what was on the way then."""
+        """The process of a client ends. The server sees it now, or later and perhaps after more of its bytes."""
         link = self.links.pop(core, None)
         core.close()
         if link is not None:
@@ -96,7 +96,7 @@ class World:
                 self.model.gone(link[0])
 
     def late(self):
-        """What the connection of a process that ended still brings to the server, and its end."""
+        """An ended process's connection ends at the server, perhaps after bringing what was on the way."""
         if self.half_open:
             conn, there = self.half_open.pop(0)
             if self.random.random() < 0.5:
@@ -110,7 +110,7 @@ class World:
             self.lose(core)
 
     def settle_down(self, cores, rounds=4000):
-        """Everything runs on until nothing moves."""
+        """Runs everything until nothing moves."""
         for _ in range(rounds):
             self.now += 0.03
             while self.half_open:
