@@ -30,8 +30,8 @@ pub fn other_words_stay()
     ensures { KeepsOtherWords }
 {}
 
-/// An array gets an id that no array had before, and none gets it later, whether the first is removed or not. Entries are
-/// legal one after another where `IsHistory` says so, as the groups of a store do.
+/// No array gets an id that another array had, whether that one is still there or not. Legal is what `State::check` tests, and
+/// the state after an entry is what `apply` and `advance` leave.
 pub fn ids_never_return()
     ensures { IdsNeverReturn }
 {}
