@@ -1,9 +1,9 @@
 -- Elements of lists by their places.
-use Rattle.std.proofs.Common.{◌≡◌, ℕ, zero, suc, ◌+◌, ◌<◌, ◌≤◌, List, [], ◌∷◌, ◌++◌, length, take, get_or, Option, Some, None, sym, subst, ◌∙◌, arith}
+use Rattle.std.proofs.Common.{◌≡◌, ℕ, zero, suc, ◌+◌, ◌<◌, ◌≤◌, List, [], ◌∷◌, ◌++◌, length, take, drop, get_or, Option, Some, None, sym, ap, subst, ◌∙◌, arith}
 use Rattle.std.specs.Prelude.{slice_get}
 use Rattle.std.specs.List.{AllByRecursion}
 use Rattle.std.specs.Option.{option_map}
-use Rattle.std.proofs.lemmas.List.{take_more, take_all}
+use Rattle.std.proofs.lemmas.List.{take_more, take_all, drop_more, length-drop}
 use Rattle.std.proofs.lemmas.Option.{same_Some, none-some, slice_get-get_or, slice_get_within, get_or_from_slice_get}
 
 -- what holds of each element holds of the one at a place
@@ -17,6 +17,17 @@ pub found_within : {X Y : Type 0} (f : X → Y) (o : Option X) (xs : List Y) (i 
 found_within f (Some x) xs i e lt none = none-some x (sym none)
 found_within f None [] i e lt none = omega arith
 found_within f None (y ∷ ys) i e lt none = none-some _ (e ∙ slice_get-get_or (y ∷ ys) i y lt)
+
+-- what is left of a list begins with the element at its place, and goes on with the rest
+module _ {X : Type 0} (xs : List X) (k : ℕ) (x : X) (rest : List X) (is : drop k xs ≡ x ∷ rest) where
+  pub front_within : k < length xs
+  front_within = omega (arith, ap length is, length-drop k xs)
+
+  pub front_at : slice_get xs k ≡ Some x
+  front_at = let more = drop_more xs k x front_within in let same : get_or xs k x ≡ x = cc in slice_get-get_or xs k x front_within ∙ ap Some same
+
+  pub front_rest : rest ≡ drop (k + 1) xs
+  front_rest = let more = drop_more xs k x front_within in cc
 
 -- what holds of the elements so far, and of one more
 module _ {X : Type 0} (P : X → Type 0) where

@@ -1,7 +1,7 @@
--- What is kept for the numbers of a window, number by number.
-use Rattle.std.proofs.Common.{◌≡◌, ℕ, zero, suc, ◌+◌, ◌<◌, ◌≤◌, ◌≢◌, ◌⊎◌, Bool, true, false, cond, ◌&&◌, List, [], ◌∷◌, ◌++◌, length, take, get_or, Option, Some, None, T, eqb-true, refl, sym, ap, subst, ◌∙◌, arith, inl, inr}
-use Rattle.std.specs.Prelude.{flat_map, ◌==◌, is_some}
-use Rattle.std.specs.List.{range_with_len, AllByRecursion}
+-- What is found in the entries of a map by numbers, and what holds of each of them.
+use Rattle.std.proofs.Common.{◌≡◌, ℕ, ◌<◌, ◌≢◌, Bool, true, false, cond, ◌&&◌, List, [], ◌∷◌, Option, Some, None, T, eqb-true, refl, sym, ap, subst, ◌∙◌, arith}
+use Rattle.std.specs.Prelude.{◌==◌, slice_get}
+use Rattle.std.specs.List.{AllByRecursion}
 use Rattle.std.specs.Ordering.{nat_cmp, is_lt}
 use Rattle.std.specs.declared.cmp.Ordering.{Ordering}
 use Rattle.std.specs.declared.cmp.Ordering.TheVariants.{Less, Equal, Greater}
@@ -11,11 +11,7 @@ use Rattle.std.specs.FinMap.Entries.{below_all}
 use Rattle.std.proofs.lemmas.Cmp.{ranked}
 use Rattle.std.proofs.lemmas.Bool.Decides.{nat_tests}
 use Rattle.std.proofs.lemmas.Option.{same_Some, none-some}
-use Rattle.std.proofs.lemmas.Grind.{flat_map-append}
-use Rattle.std.proofs.lemmas.List.{take_more, append-nil, length-append}
-use Rattle.std.proofs.lemmas.List.FromFn.{get_or-range_with_len}
-use Rattle.fe_state.specs.Sessions.{IsInWindow}
-use Rattle.fe_codec.specs.Image.{slot_text}
+use Rattle.fe_codec.proofs.Elements.{all_at}
 
 both_first : (a b : Bool) → T (a && b) → T a
 both_first true b p = tt
@@ -36,9 +32,6 @@ same_number a b is = grind (arith, nat_tests)
 other_number : (a b : ℕ) → a ≢ b → (a == b) ≡ false
 other_number a b is = grind (arith, nat_tests)
 
-below_or : (a b : ℕ) → a ≤ b → (a ≡ b) ⊎ (a < b)
-below_or a b le = grind (arith, nat_tests)
-
 module _ {X : Type 0} where
   abbrev pub AllAbove : ℕ → List (ℕ × X) → Type 0
   AllAbove k es = AllByRecursion (λ e. k < e.0) es
@@ -58,15 +51,6 @@ module _ {X : Type 0} where
 
   find_there : (q : ℕ) (e : ℕ × X) (es : List (ℕ × X)) → q ≢ e.0 → find nat_cmp q (e ∷ es) ≡ find nat_cmp q es
   find_there q e es is = ap (λ (b : Bool). cond b (Some e.1) (find nat_cmp q es)) (unsigned_tied q e.0 ∙ other_number q e.0 is)
-
-  -- nothing is found below all keys
-  find_below : (k : ℕ) (es : List (ℕ × X)) → AllAbove k es → find nat_cmp k es ≡ None
-  find_below k [] h = refl
-  find_below k (e ∷ es) h = find_there k e es (λ is. omega (arith, h.0)) ∙ find_below k es h.1
-
-  weaker : (j k : ℕ) (es : List (ℕ × X)) → j ≤ k → AllAbove k es → AllAbove j es
-  weaker j k [] le h = tt
-  weaker j k (e ∷ es) le h = (omega (arith, h.0), weaker j k es le h.1)
 
   -- what holds of each entry holds of the one that is found
   pub holds_found : (P : ℕ × X → Type 0) (es : List (ℕ × X)) (q : ℕ) (x : X) → AllByRecursion P es → find nat_cmp q es ≡ Some x → P (q, x)
@@ -90,71 +74,7 @@ module _ {X : Type 0} where
         h q x (find_there q e es (λ same. omega (arith, later, same)) ∙ is)),
   )
 
-  module _ (f : ℕ × X → List ℕ) (g : ℕ → Option X) where
-    abbrev pub text_of : ℕ → List ℕ
-    text_of q = slot_text f q (g q)
-
-    abbrev InWindow : ℕ → ℕ → List (ℕ × X) → Type 0
-    InWindow floor n es = AllByRecursion (λ e. (floor ≤ e.0) × (e.0 < floor + n)) es
-
-    later : (floor n : ℕ) (es : List (ℕ × X)) → AllAbove floor es → InWindow floor (suc n) es → InWindow (floor + 1) n es
-    later floor n [] above h = tt
-    later floor n (e ∷ es) above h = ((omega (arith, above.0), omega (arith, h.0.1)), later floor n es above.1 h.1)
-
-    -- the texts of the numbers of a window are those of the entries
-    pub window_text : (n floor : ℕ) (es : List (ℕ × X)) → T (is_sorted nat_cmp es) → ((q : ℕ) → floor ≤ q → g q ≡ find nat_cmp q es) → InWindow floor n es → flat_map text_of (range_with_len floor n) ≡ flat_map f es
-    window_text zero floor [] rises same h = refl
-    window_text zero floor (e ∷ es) rises same h = absurd (omega (arith, h.0.0, h.0.1))
-    window_text (suc n) floor [] rises same h =
-        ap (λ (o : Option X). slot_text f floor o ++ flat_map text_of (range_with_len (floor + 1) n)) (same floor (omega arith)) ∙ window_text n (floor + 1) [] rises (λ q le. same q (omega arith)) tt
-    window_text (suc n) floor (e ∷ es) rises same h =
-        elim (below_or floor e.0 h.0.0) [
-          | inl key ↦
-              let above : AllAbove floor es = subst (λ (k : ℕ). AllAbove k es) (sym key) (rises_first e es rises) in
-              let rest = window_text n (floor + 1) es (rises_rest e es rises) (λ q le. same q (omega arith) ∙ find_there q e es (λ is. omega (arith, is, key))) (later floor n es above h.1) in
-              ap (λ (o : Option X). slot_text f floor o ++ flat_map text_of (range_with_len (floor + 1) n)) (same floor (omega arith) ∙ find_here floor e es key)
-              ∙ ap (λ (k : ℕ). f (k, e.1) ++ flat_map text_of (range_with_len (floor + 1) n)) key
-              ∙ ap (λ (t : List ℕ). f e ++ t) rest
-          | inr lt ↦
-              let above : AllAbove floor (e ∷ es) = (lt, weaker floor e.0 es (omega (arith, lt)) (rises_first e es rises)) in
-              let rest = window_text n (floor + 1) (e ∷ es) rises (λ q le. same q (omega arith)) (later floor n (e ∷ es) above h) in
-              ap (λ (o : Option X). slot_text f floor o ++ flat_map text_of (range_with_len (floor + 1) n)) (same floor (omega arith) ∙ find_below floor (e ∷ es) above)
-              ∙ rest
-        ]
-
--- what a session keeps, number by number
-module _ {X : Type 0} (f : ℕ × X → List ℕ) (kept : FinMap nat_cmp X) where
-  pub window_entries : (floor : ℕ) → ((q : ℕ) (x : X) → get kept q ≡ Some x → IsInWindow floor q) → flat_map (text_of f (get kept)) (range_with_len floor 32) ≡ flat_map f (entries kept)
-  window_entries floor within =
-      let rises = entries_sorted kept in
-      window_text f (get kept) 32 floor (entries kept) rises (λ q le. get-entries kept q)
-      (holds_each (λ e. (floor ≤ e.0) × (e.0 < floor + 32)) (entries kept) rises (λ q x is. let w = within q x (get-entries kept q ∙ is) in (w.not_below, w.not_beyond)))
-
-  -- the text of the number at a place of the window
-  pub slot_at : (floor i : ℕ) (o : Option X) → i < 32 → o ≡ get kept (floor + i) → slot_text f (floor + i) o ≡ text_of f (get kept) (get_or (range_with_len floor 32) i 0)
-  slot_at floor i o lt is =
-      ap (slot_text f (floor + i)) is ∙ ap (text_of f (get kept)) (sym (get_or-range_with_len floor 32 i 0 lt))
-
--- a byte for each entry
-abbrev pub one_byte : {X : Type 0} → ℕ × X → List ℕ
-one_byte e = 0 ∷ []
-
-pub length-one_byte : {X : Type 0} (es : List (ℕ × X)) → length (flat_map one_byte es) ≡ length es
-length-one_byte [] = refl
-length-one_byte (e ∷ es) = ap suc (length-one_byte es)
-
-one_or_none : {X : Type 0} (number : ℕ) (o : Option X) → length (slot_text one_byte number o) ≡ cond (is_some o) 1 0
-one_or_none number (Some x) = refl
-one_or_none number None = refl
-
--- one number more adds one where something is kept for it
-pub counts_more : {X : Type 0} (kept : FinMap nat_cmp X) (floor i count one : ℕ) (o : Option X) → i < 32 → o ≡ get kept (floor + i) → one ≡ cond (is_some o) 1 0
-    → count ≡ length (flat_map (text_of one_byte (get kept)) (take i (range_with_len floor 32)))
-    → count + one ≡ length (flat_map (text_of one_byte (get kept)) (take (i + 1) (range_with_len floor 32)))
-counts_more kept floor i count one o lt is one_is h =
-    let f : ℕ → List ℕ = text_of one_byte (get kept) in
-    let xs : List ℕ = range_with_len floor 32 in
-    let more : flat_map f (take (i + 1) xs) ≡ flat_map f (take i xs) ++ f (get_or xs i 0) =
-    ap (flat_map f) (take_more xs i 0 lt) ∙ flat_map-append f (take i xs) (get_or xs i 0 ∷ []) ∙ ap (λ (t : List ℕ). flat_map f (take i xs) ++ t) (append-nil (f (get_or xs i 0))) in
-    let last : length (f (get_or xs i 0)) ≡ cond (is_some o) 1 0 = ap length (sym (slot_at one_byte kept floor i o lt is)) ∙ one_or_none (floor + i) o in
-    omega (arith, ap length more, length-append (flat_map f (take i xs)) (f (get_or xs i 0)), last, h, one_is)
+-- the entry at a place is what the map has at its number
+pub get_at : {X : Type 0} (m : FinMap nat_cmp X) (k : ℕ) (e : ℕ × X) → slice_get (entries m) k ≡ Some e → get m e.0 ≡ Some e.1
+get_at m k e is =
+    get-entries m e.0 ∙ all_at (λ d. find nat_cmp d.0 (entries m) ≡ Some d.1) (entries m) k e (holds_each _ (entries m) (entries_sorted m) (λ q x found. found)) is

@@ -31,7 +31,7 @@ use Rattle.fe_codec.proofs.ImageNames.{id_takes, new_name_takes, short_of, plain
 use Rattle.fe_codec.proofs.ImageWords.{insert_twice, loads_words, words_again}
 use Rattle.fe_codec.proofs.Loads.{Walk, Loads, load_all}
 use Rattle.fe_codec.proofs.LoadingLemmas.{fresh_next}
-use Rattle.fe_codec.proofs.Windows.{holds_each}
+use Rattle.fe_codec.proofs.Found.{holds_each}
 
 abbrev pub load_array : ServerState → ℕ × Array → ServerState
 load_array s e = with_arrays s (insert s.arrays e.0 e.1)

@@ -24,7 +24,7 @@ use Rattle.fe_codec.proofs.ImageFields.{ok_is, field32, field64, goes_from, numb
 use Rattle.fe_codec.proofs.ImageArrays.{load_array, arrays_loaded, Remains, remains_next}
 use Rattle.fe_codec.proofs.ImageSessions.{load_session, sessions_loaded, MayKeep, MayHave, SessionsRemain, session_next, window_few}
 use Rattle.fe_codec.proofs.Loads.{Walk, load_all, last_key, again_all}
-use Rattle.fe_codec.proofs.Windows.{holds_each}
+use Rattle.fe_codec.proofs.Found.{holds_each}
 
 -- ---- lists of facts
 

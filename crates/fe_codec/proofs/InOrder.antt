@@ -10,7 +10,7 @@ use Rattle.std.specs.FinMap.Entries.{by_order}
 use Rattle.std.proofs.lemmas.Bool.{ltb-true, lt-ltb}
 use Rattle.std.proofs.lemmas.List.{append-nil}
 use Rattle.fe_codec.specs.FirstFault.{is_after}
-use Rattle.fe_codec.proofs.Windows.{AllAbove, rises_first, rises_rest}
+use Rattle.fe_codec.proofs.Found.{AllAbove, rises_first, rises_rest}
 
 module _ {X : Type 0} where
   -- keys that rise, the first of them above the one before

@@ -4,7 +4,7 @@ pub mod GroupLaws
 pub mod GroupReading
 pub mod Appends
 pub mod Elements
-pub mod Windows
+pub mod Found
 pub mod Repeats
 pub mod LoadingLemmas
 pub mod InOrder

@@ -1,5 +1,5 @@
 -- The one spelling of each state as an image, and which states have one in a format.
-use Rattle.std.specs.Prelude.{ℕ, ◌^◌, ◌<◌, List, [], ◌∷◌, ◌++◌, length, flat_map, Option, Some, None}
+use Rattle.std.specs.Prelude.{ℕ, ◌^◌, ◌<◌, List, ◌∷◌, ◌++◌, length, flat_map}
 use Rattle.std.specs.List.{AllByRecursion}
 use Rattle.std.specs.Int.{w32, w64, to_be_bytes}
 use Rattle.std.specs.FinMap.{entries, len}
@@ -35,15 +35,6 @@ kept_spelling format session e = to_be_bytes w64 e.1.place ++ entry_spelling for
 abbrev pub KeptOfFormat : Format → ℕ → ℕ × Kept → Type 0
 KeptOfFormat format session e = IsOfFormat format (entry_of_kept session e)
 
--- the text of what is kept for a number, nothing where nothing is
-abbrev pub slot_text : {X : Type 0} → (ℕ × X → List ℕ) → ℕ → Option X → List ℕ
-slot_text f number None = []
-slot_text f number (Some x) = f (number, x)
-
-abbrev pub SlotOfFormat : Format → ℕ → ℕ → Option Kept → Type 0
-SlotOfFormat format session number None = Unit {0}
-SlotOfFormat format session number (Some kept) = KeptOfFormat format session (number, kept)
-
 -- a session: its number, its floor, how many answers are kept, and these
 abbrev pub session_spelling : Format → ℕ × Session → List ℕ
 session_spelling format e =
@@ -75,10 +66,6 @@ StateOfFormat Two s = Unit {0}
 -- the words of an array, and the fields of a session and of what it keeps, fit the bytes that they have
 abbrev pub ArrayFits : ℕ × Array → Type 0
 ArrayFits e = AllByRecursion (λ w. w.value < 2 ^ 64) e.1.words
-
-abbrev pub SlotFits : ℕ → ℕ → Option Kept → Type 0
-SlotFits session number None = Unit {0}
-SlotFits session number (Some kept) = FieldsFit (entry_of_kept session (number, kept))
 
 abbrev pub SessionFits : ℕ × Session → Type 0
 SessionFits e = (e.0 < 2 ^ 64) × AllByRecursion (λ k. FieldsFit (entry_of_kept e.0 k)) (entries e.1.kept)

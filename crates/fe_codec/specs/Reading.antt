@@ -13,10 +13,7 @@ use Rattle.fe_codes.specs.Reading.{tag_of, op_of, answer_of}
 use Rattle.fe_codec.specs.Record.{entry_spelling}
 use Rattle.fe_format.specs.declared.format.Format.{Format}
 use Rattle.fe_format.specs.declared.format.Format.TheVariants.{One, Two}
-
--- the number in the bytes from an offset on
-abbrev pub field_at : Width → List ℕ → ℕ → ℕ
-field_at w bytes at = from_be_bytes w (take (byte_len w) (drop at bytes))
+pub use Rattle.fe_fields.specs.Fields.{field_at}
 
 -- the name in the row of a record
 unfoldable pub name_of : Format → List ℕ → Option (List ℕ)

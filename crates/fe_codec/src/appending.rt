@@ -6,10 +6,13 @@ ghost use Rattle.std.specs.Int.{w32, w64, to_be_bytes};
 ghost use Rattle.fe_codec.specs.Appending.{Appends};
 ghost use Rattle.fe_codec.specs.Image.{word_spelling};
 
-use byteorder::{BigEndian, ByteOrder};
 use fe_codes::tag_code;
+use fe_fields::{Fields, u32_bytes, u64_bytes};
 use fe_words::Word;
 use std::alloc::AllocError;
+
+/// How many bytes a word has in an image: its tag and its value.
+const WORD_BYTES: usize = 9;
 
 pub fn put_bytes(out: &mut Vec<u8>, bytes: &[u8]) -> Result<(), AllocError>
     ensures { Appends out.old.items out.new.items (vec_capacity out.old) (vec_capacity out.new) (is_ok result) bytes.now }
@@ -20,26 +23,23 @@ pub fn put_bytes(out: &mut Vec<u8>, bytes: &[u8]) -> Result<(), AllocError>
 pub fn put_u32(out: &mut Vec<u8>, value: u32) -> Result<(), AllocError>
     ensures { Appends out.old.items out.new.items (vec_capacity out.old) (vec_capacity out.new) (is_ok result) (to_be_bytes w32 value) }
 {
-    let mut bytes = [0; 4];
-    BigEndian::write_u32(&mut bytes, value);
-    put_bytes(out, &bytes)
+    put_bytes(out, &u32_bytes(value))
 }
 
 pub fn put_u64(out: &mut Vec<u8>, value: u64) -> Result<(), AllocError>
     ensures { Appends out.old.items out.new.items (vec_capacity out.old) (vec_capacity out.new) (is_ok result) (to_be_bytes w64 value) }
 {
-    let mut bytes = [0; 8];
-    BigEndian::write_u64(&mut bytes, value);
-    put_bytes(out, &bytes)
+    put_bytes(out, &u64_bytes(value))
 }
 
 pub fn put_word(out: &mut Vec<u8>, word: Word) -> Result<(), AllocError>
     ensures appends { Appends out.old.items out.new.items (vec_capacity out.old) (vec_capacity out.new) (is_ok result) (word_spelling word) }
     ensures fits { word.value < 2 ^ 64 }
 {
-    let mut bytes = [tag_code(word.tag), 0, 0, 0, 0, 0, 0, 0, 0];
-    BigEndian::write_u64(&mut bytes[1..], word.value);
-    put_bytes(out, &bytes)
+    let mut fields = Fields::<WORD_BYTES>::new();
+    fields.put_u8(tag_code(word.tag));
+    fields.put_u64(word.value);
+    put_bytes(out, fields.bytes())
 }
 
 pub fn put_words(out: &mut Vec<u8>, words: &[Word]) -> Result<(), AllocError>

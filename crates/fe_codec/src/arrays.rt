@@ -15,7 +15,7 @@ use crate::Format;
 use crate::fault::Fault;
 use crate::header::{is_after, row, u32_next, u64_in, u64_next};
 use fe_codes::tag_of;
-use fe_state::{Answer, Name, Request, State};
+use fe_state::{ARRAYS, Answer, Name, Request, State, WORDS};
 use fe_words::{Tag, Word};
 
 #[tactic(auto, unfolding(crate::specs::FirstFault::id_at))]
@@ -113,8 +113,8 @@ fn new_name_at<'a>(
 fn has_room(state: &State, name: &Name, length: u32) -> bool
     requires plain { is_plain name.now ≡ true }
     requires free { is_some (named state.now.arrays name.now) ≡ false }
-    requires few { len state.now.arrays < 64 }
-    ensures { result ≡ (nat_le 1 length && nat_lt length (65537 - word_count state.now.arrays)) }
+    requires few { len state.now.arrays < ARRAYS }
+    ensures { result ≡ (nat_le 1 length && nat_lt length (WORDS + 1 - word_count state.now.arrays)) }
 {
     let request = Request::Create {
         name: *name,
@@ -128,10 +128,10 @@ fn has_room(state: &State, name: &Name, length: u32) -> bool
 fn length_at<'a>(state: &State, name: &Name, bytes: &'a [u8]) -> Result<(u32, &'a [u8]), Fault>
     requires plain { is_plain name.now ≡ true }
     requires free { is_some (named state.now.arrays name.now) ≡ false }
-    requires few { len state.now.arrays < 64 }
-    ensures given { Gives (λ x. (x.0, x.1.now)) result (number_in w32 1 (65537 - word_count state.now.arrays) bytes.now) }
+    requires few { len state.now.arrays < ARRAYS }
+    ensures given { Gives (λ x. (x.0, x.1.now)) result (number_in w32 1 (WORDS + 1 - word_count state.now.arrays) bytes.now) }
     ensures least { IfOk result (λ x. 1 ≤ x.0) }
-    ensures room { IfOk result (λ x. word_count state.now.arrays + x.0 ≤ 65536) }
+    ensures room { IfOk result (λ x. word_count state.now.arrays + x.0 ≤ WORDS) }
 {
     let (length, rest) = u32_next(bytes)?;
     if has_room(state, name, length) {
@@ -209,7 +209,7 @@ fn next_array<'a>(
     bytes: &'a [u8],
 ) -> Result<(u64, &'a [u8]), Fault>
     requires fresh { IsFresh previous state.old.arrays }
-    requires few { len state.old.arrays < 64 }
+    requires few { len state.old.arrays < ARRAYS }
     ensures given { Gives (λ x. (Some x.0, state.new, x.1.now)) result (next_array format (previous, state.old, bytes.now)) }
     ensures fresh { IfOk result (λ x. IsFresh (Some x.0) state.new.arrays) }
     ensures few { OnOk result (len state.new.arrays ≤ len state.old.arrays + 1) }
@@ -235,7 +235,7 @@ pub fn read_arrays<'a>(
 ) -> Result<(Option<u64>, &'a [u8]), Fault>
     requires fresh { IsFresh None state.old.arrays }
     requires none { len state.old.arrays ≡ 0 }
-    requires few { count ≤ 64 }
+    requires few { count ≤ ARRAYS }
     ensures given { Gives (λ x. (x.0, state.new, x.1.now)) result (repeated (next_array format) count (None, state.old, bytes.now)) }
     ensures sessions { OnOk result (state.new.sessions ≡ state.old.sessions) }
 {

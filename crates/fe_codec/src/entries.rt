@@ -8,7 +8,7 @@ ghost use Rattle.fe_state.specs.declared.entry.Entry.{Entry as Step};
 
 use crate::Format;
 use crate::entry_of::entry_of;
-use crate::record::Record;
+use crate::record::record_of;
 use fe_state::Entry;
 use std::alloc::AllocError;
 
@@ -27,7 +27,7 @@ pub fn put_entry(format: Format, entry: &Entry, out: &mut Vec<u8>) -> Result<(),
     // What is put is in the grammar, so that it is read again.
     ensures fits { FitsRecord format entry.now }
 {
-    out.extend_from_slice(Record::of(format, entry).bytes())
+    out.extend_from_slice(record_of(format, entry).bytes())
 }
 
 /// Whether the number or floor is below 2^63.
@@ -58,7 +58,7 @@ fn is_record(format: Format, entry: &Entry, bytes: &[u8]) -> bool
     ensures value { result ≡ is_record format entry.now bytes.now }
     ensures fact { IsTrue result ↔ (FitsRecord format entry.now × (bytes.now ≡ entry_spelling format entry.now)) }
 {
-    is_numbered(entry) && is_of_format(format, entry) && Record::of(format, entry).bytes() == bytes
+    is_numbered(entry) && is_of_format(format, entry) && record_of(format, entry).bytes() == bytes
 }
 
 /// The entry whose record the bytes are, or `None` where they are no entry's.

@@ -5,8 +5,9 @@ ghost use Rattle.fe_format.specs.Layout.{record_bytes};
 ghost use Rattle.fe_codec.specs.Reading.{create_of, find_of, access_of, request_of, finished_of, entry_of};
 
 use crate::Format;
-use crate::fields::{name_of, u32_at, u64_at};
+use crate::fields::name_of;
 use fe_codes::{answer_of, op_of, tag_of};
+use fe_fields::{u32_at, u64_at};
 use fe_state::{Entry, Request};
 
 #[tactic(auto, unfolding(crate::specs::Reading::create_of))]

@@ -6,13 +6,17 @@ ghost use Rattle.fe_codec.specs.FirstFault.{row, number, number_in, is_after, se
 ghost use Rattle.fe_codec.specs.Given.{Gives};
 
 use crate::fault::Fault;
-use byteorder::{BigEndian, ByteOrder};
+use fe_fields::{next_bytes, next_u32, next_u64};
+use fe_state::{ARRAYS, GREATEST_PLACE, SESSIONS};
 
 /// Places are below this.
-const PLACE_LIMIT: u64 = 9223372036854775808;
+const PLACE_LIMIT: u64 = GREATEST_PLACE + 1;
 
-/// There are fewer arrays than this, and fewer sessions.
-const COUNT_LIMIT: u32 = 65;
+/// There are fewer arrays than this.
+const ARRAY_LIMIT: u32 = ARRAYS as u32 + 1;
+
+/// There are fewer sessions than this.
+const SESSION_LIMIT: u32 = SESSIONS as u32 + 1;
 
 /// The first fields of an image: its place, the next id, and how many arrays and sessions follow.
 #[derive(Clone, Copy)]
@@ -29,10 +33,7 @@ pub fn row(count: usize, bytes: &[u8]) -> Result<(&[u8], &[u8]), Fault>
     ensures given { Gives (λ x. (x.0.now, x.1.now)) result (row count bytes.now) }
     ensures length { IfOk result (λ x. length x.0.now ≡ count) }
 {
-    if bytes.len() < count {
-        return Err(Fault::Left(0));
-    }
-    Ok(bytes.split_at(count))
+    next_bytes(count, bytes).ok_or(Fault::Left(0))
 }
 
 #[tactic(auto, unfolding(crate::specs::FirstFault::number))]
@@ -40,11 +41,7 @@ pub fn u32_next(bytes: &[u8]) -> Result<(u32, &[u8]), Fault>
     ensures given { Gives (λ x. (x.0, x.1.now)) result (number w32 bytes.now) }
     ensures memory { IfErr result (λ fault. fault ≢ Fault.NoMemory) }
 {
-    if bytes.len() < 4 {
-        return Err(Fault::Left(0));
-    }
-    let (front, rest) = bytes.split_at(4);
-    Ok((BigEndian::read_u32(front), rest))
+    next_u32(bytes).ok_or(Fault::Left(0))
 }
 
 #[tactic(auto, unfolding(crate::specs::FirstFault::number))]
@@ -52,11 +49,7 @@ pub fn u64_next(bytes: &[u8]) -> Result<(u64, &[u8]), Fault>
     ensures given { Gives (λ x. (x.0, x.1.now)) result (number w64 bytes.now) }
     ensures memory { IfErr result (λ fault. fault ≢ Fault.NoMemory) }
 {
-    if bytes.len() < 8 {
-        return Err(Fault::Left(0));
-    }
-    let (front, rest) = bytes.split_at(8);
-    Ok((BigEndian::read_u64(front), rest))
+    next_u64(bytes).ok_or(Fault::Left(0))
 }
 
 /// A number from the least on, and below the limit.
@@ -108,15 +101,15 @@ pub fn header_at(bytes: &[u8]) -> Result<(Header, &[u8]), Fault>
     ensures place { IfOk result (λ x. x.0.place < 2 ^ 63) }
     ensures least { IfOk result (λ x. 1 ≤ x.0.next_id) }
     ensures most { IfOk result (λ x. x.0.next_id ≤ x.0.place + 1) }
-    ensures arrays { IfOk result (λ x. x.0.arrays ≤ 64) }
-    ensures sessions { IfOk result (λ x. x.0.sessions ≤ 64) }
+    ensures arrays { IfOk result (λ x. x.0.arrays ≤ ARRAYS) }
+    ensures sessions { IfOk result (λ x. x.0.sessions ≤ SESSIONS) }
     // None is taken here.
     ensures memory { IfErr result (λ fault. fault ≢ Fault.NoMemory) }
 {
     let (place, rest) = u64_in(0, PLACE_LIMIT, bytes)?;
     let (next_id, rest) = u64_in(1, place + 2, rest)?;
-    let (arrays, rest) = u32_in(0, COUNT_LIMIT, rest)?;
-    let (sessions, rest) = u32_in(0, COUNT_LIMIT, rest)?;
+    let (arrays, rest) = u32_in(0, ARRAY_LIMIT, rest)?;
+    let (sessions, rest) = u32_in(0, SESSION_LIMIT, rest)?;
     let header = Header {
         place,
         next_id,

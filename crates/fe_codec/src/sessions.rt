@@ -12,16 +12,13 @@ use crate::Format;
 use crate::entries::read_entry;
 use crate::fault::Fault;
 use crate::header::{is_after, row, u32_in, u64_in, u64_next};
-use fe_state::{Entry, Kept, State};
-
-/// How many numbers a session may use, from its floor on.
-const WINDOW: u64 = 32;
+use fe_state::{Entry, GREATEST_FLOOR, Kept, SESSIONS, State, WINDOW};
 
 /// Floors are below this.
-const FLOOR_LIMIT: u64 = 9223372036854775777;
+const FLOOR_LIMIT: u64 = GREATEST_FLOOR + 1;
 
 /// Fewer answers than this are kept.
-const KEPT_LIMIT: u32 = 33;
+const KEPT_LIMIT: u32 = WINDOW as u32 + 1;
 
 /// Whether a number is in the window, and above the one before it.
 fn is_next_number(floor: u64, previous: Option<u64>, number: u64) -> bool
@@ -163,7 +160,7 @@ fn next_session<'a>(
     bytes: &'a [u8],
 ) -> Result<(u64, &'a [u8]), Fault>
     requires fresh { IsFresh previous state.old.sessions }
-    requires few { len state.old.sessions < 64 }
+    requires few { len state.old.sessions < SESSIONS }
     ensures given { Gives (λ x. (Some x.0, state.new, x.1.now)) result (next_session format (previous, state.old, bytes.now)) }
     ensures fresh { IfOk result (λ x. IsFresh (Some x.0) state.new.sessions) }
     ensures few { OnOk result (len state.new.sessions ≤ len state.old.sessions + 1) }
@@ -185,7 +182,7 @@ pub fn read_sessions<'a>(
 ) -> Result<(Option<u64>, &'a [u8]), Fault>
     requires fresh { IsFresh None state.old.sessions }
     requires none { len state.old.sessions ≡ 0 }
-    requires few { count ≤ 64 }
+    requires few { count ≤ SESSIONS }
     ensures { Gives (λ x. (x.0, state.new, x.1.now)) result (repeated (next_session format) count (None, state.old, bytes.now)) }
 {
     let mut previous = None;

@@ -1,22 +1,19 @@
 //! Images of states, written.
 
-ghost use Rattle.std.specs.Prelude.{◌≡◌, ◌+◌, ◌<◌, ◌≤◌, ◌++◌, length, flat_map, if◌then◌else◌, is_some, is_ok, OnOk, OnErr, IsOk, Some, slice_get, vec_len, vec_capacity};
-ghost use Rattle.std.specs.FinMap.{entries, len};
+ghost use Rattle.std.specs.Prelude.{◌≡◌, ◌+◌, ◌<◌, ◌≤◌, ◌++◌, length, flat_map, is_ok, OnOk, OnErr, IsOk, Some, slice_get, vec_len, vec_capacity};
+ghost use Rattle.std.specs.FinMap.{entries};
 ghost use Rattle.std.specs.List.{AllByRecursion};
 ghost use Rattle.fe_state.specs.declared.array.Array.{Array as Held};
 ghost use Rattle.fe_codec.specs.Appending.{Appends};
 ghost use Rattle.fe_format.specs.Layout.{longest_image};
 ghost use Rattle.fe_codec.specs.Record.{IsShort, IsOfFormat, FieldsFit};
-ghost use Rattle.fe_codec.specs.Image.{array_spelling, kept_spelling, slot_text, session_spelling, image_spelling, ArrayOfFormat, KeptOfFormat, SlotOfFormat, SessionOfFormat, HasRoomFor, StateOfFormat, entry_of_kept, ArrayFits, SlotFits, SessionFits, FitsImage};
+ghost use Rattle.fe_codec.specs.Image.{array_spelling, kept_spelling, session_spelling, image_spelling, ArrayOfFormat, KeptOfFormat, SessionOfFormat, HasRoomFor, StateOfFormat, entry_of_kept, ArrayFits, SessionFits, FitsImage};
 
 use crate::Format;
 use crate::appending::{put_bytes, put_u32, put_u64, put_words};
-use crate::record::Record;
+use crate::record::{name_record, record_of};
 use fe_state::{Array, Entry, Kept, Session, State};
 use std::alloc::AllocError;
-
-/// How many numbers a session may use, from its floor on.
-const WINDOW: u64 = 32;
 
 fn put_array(format: Format, id: u64, array: &Array, out: &mut Vec<u8>) -> Result<(), AllocError>
     requires { ArrayOfFormat format (id, array.now) }
@@ -24,7 +21,7 @@ fn put_array(format: Format, id: u64, array: &Array, out: &mut Vec<u8>) -> Resul
     ensures fits { OnOk result (ArrayFits (id, array.now)) }
 {
     put_u64(out, id)?;
-    put_bytes(out, Record::of_name(format, &array.name).bytes())?;
+    put_bytes(out, name_record(format, &array.name).bytes())?;
     put_u32(out, array.words.len())?;
     put_words(out, array.words.as_slice())
 }
@@ -60,29 +57,11 @@ fn put_kept(
         request: kept.request,
         answer: kept.answer,
     };
-    put_bytes(out, Record::of(format, &entry).bytes())
-}
-
-/// What is kept for a number, if anything is.
-fn put_slot(
-    format: Format,
-    session: u64,
-    number: u64,
-    kept: Option<Kept>,
-    out: &mut Vec<u8>,
-) -> Result<(), AllocError>
-    requires { SlotOfFormat format session number kept }
-    ensures appends { Appends out.old.items out.new.items (vec_capacity out.old) (vec_capacity out.new) (is_ok result) (slot_text (kept_spelling format session) number kept) }
-    ensures fits { OnOk result (SlotFits session number kept) }
-{
-    match kept {
-        Some(kept) => put_kept(format, session, number, &kept, out),
-        None => Ok(()),
-    }
+    put_bytes(out, record_of(format, &entry).bytes())
 }
 
 /// What is kept for the numbers of a session.
-fn put_window(
+fn put_answers(
     format: Format,
     session: u64,
     window: &Session,
@@ -92,38 +71,10 @@ fn put_window(
     ensures appends { Appends out.old.items out.new.items (vec_capacity out.old) (vec_capacity out.new) (is_ok result) (flat_map (kept_spelling format session) (entries window.now.kept)) }
     ensures fits { OnOk result (AllByRecursion (λ k. FieldsFit (entry_of_kept session k)) (entries window.now.kept)) }
 {
-    let floor = window.floor();
-    for step in 0..WINDOW {
-        put_slot(
-            format,
-            session,
-            floor + step,
-            window.kept(floor + step),
-            out,
-        )?;
+    for (number, kept) in window.answers() {
+        put_kept(format, session, number, kept, out)?;
     }
     Ok(())
-}
-
-fn slot_count(kept: Option<Kept>) -> u32
-    ensures { result ≡ (if is_some kept then 1 else 0) }
-{
-    match kept {
-        Some(_) => 1,
-        None => 0,
-    }
-}
-
-/// For how many numbers of a session something is kept.
-fn kept_count(window: &Session) -> u32
-    ensures { result ≡ len window.now.kept }
-{
-    let floor = window.floor();
-    let mut count = 0;
-    for step in 0..WINDOW {
-        count += slot_count(window.kept(floor + step));
-    }
-    count
 }
 
 fn put_session(
@@ -138,8 +89,8 @@ fn put_session(
 {
     put_u64(out, session)?;
     put_u64(out, window.floor())?;
-    put_u32(out, kept_count(window))?;
-    put_window(format, session, window, out)
+    put_u32(out, window.kept_count() as u32)?;
+    put_answers(format, session, window, out)
 }
 
 fn put_sessions(format: Format, state: &State, out: &mut Vec<u8>) -> Result<(), AllocError>

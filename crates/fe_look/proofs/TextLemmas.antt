@@ -10,7 +10,7 @@ use Rattle.std.proofs.lemmas.List.{take_all, take_more}
 use Rattle.std.proofs.lemmas.Option.{slice_get_within, get_or_from_slice_get}
 use Rattle.std.proofs.lemmas.Str.{IsUtf8-from_ascii}
 use Rattle.fe_codec.proofs.Elements.{all_at}
-use Rattle.fe_codec.proofs.Windows.{holds_each}
+use Rattle.fe_codec.proofs.Found.{holds_each}
 use Rattle.fe_state.specs.Directory.{Directory, IsDirectory}
 use Rattle.fe_state.specs.Name.{is_plain, is_plain_byte}
 use Rattle.fe_state.specs.declared.array.Array.{Array}

@@ -1,0 +1,8 @@
+//! Fields of fixed width in bytes, big-endian: written one after another, and read.
+#![tactic(auto)]
+
+mod fields;
+mod reading;
+
+pub use fields::{Fields, u32_bytes, u64_bytes};
+pub use reading::{next_byte, next_bytes, next_u32, next_u64, u32_at, u64_at};
