@@ -87,6 +87,14 @@ impl Seats {
         Some(place.seat)
     }
 
+    /// Looks for a session, so that the look-ups of it that follow take one comparison each, and gives its place in the
+    /// order of the numbers. Nothing is said of the place of one that has no seat.
+    pub fn aim(&mut self, session: u64) -> usize
+        ensures { self.new ≡ self.old }
+    {
+        self.places.aim(session, 0)
+    }
+
     /// A session takes a seat, which nobody has yet.
     pub fn sit(&mut self, session: u64)
         requires new { map.get self.old.seats session ≡ None }
