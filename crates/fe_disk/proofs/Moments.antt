@@ -8,9 +8,9 @@ module _ {D : Type 0} (moment : D → ℕ) (left_since : D → ℕ → List ℕ 
   started old P here = record { later = omega arith; each = here; before = λ t image le left. inl left }
 
   -- one call more, after which a stop leaves what has P
-  pub goes_on : (old mid new : D) (P may_leave : List ℕ → Type 0) → LeavesOnly moment left_since old mid P → Elapses (moment mid) (moment new) (left_since mid) (left_since new) may_leave
-      → ((image : List ℕ) → may_leave image → P image) → LeavesOnly moment left_since old new P
-  goes_on old mid new P may_leave so_far time here =
+  pub goes_on : (may_leave : D → List ℕ → Type 0) (old mid new : D) (P : List ℕ → Type 0) → LeavesOnly moment left_since old mid P → Elapses moment left_since may_leave mid new
+      → ((image : List ℕ) → may_leave new image → P image) → LeavesOnly moment left_since old new P
+  goes_on may_leave old mid new P so_far time here =
       record {
         later = omega (arith, so_far.later, time.later);
         each = λ image left. ⊎_elim (so_far.each image) (here image) (time.nothing_else (moment old) image so_far.later left);

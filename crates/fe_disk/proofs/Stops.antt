@@ -1,8 +1,9 @@
 -- What the calls of a `MemoryDisk` do to the images that a stop may leave.
-use Rattle.std.proofs.Common.{◌≡◌, ◌⊎◌, ℕ, ◌+◌, ◌-◌, ◌^◌, ◌<◌, ◌≤◌, List, ◌∷◌, length, get_or, inl, inr, ⊎_elim, sym, ◌∙◌, ap, subst, arith, Result, OnOk, OnErr}
+use Rattle.std.proofs.Common.{refl, ◌≡◌, ◌⊎◌, ℕ, ◌+◌, ◌-◌, ◌^◌, ◌<◌, ◌≤◌, List, ◌∷◌, length, get_or, inl, inr, ⊎_elim, sym, ◌∙◌, ap, subst, arith, Result, OnOk, OnErr}
 use Rattle.std.proofs.lemmas.Bool.{cases_lt}
 use Rattle.fe_disk.specs.Disk.{IsImage, IsTorn, Follows, Elapses, bytes_at, after_write}
-use Rattle.fe_disk.specs.Memory.{Event, Write, MemoryState, MayLeave, LeftSince, image_before, disk_after_write, disk_after_fault}
+use Rattle.fe_disk.specs.Memory.{Event, Write, MemoryState, MayLeave, LeftSince, LeavesNow, LeavesSince, moment_of, image_before, disk_after_write, disk_after_fault}
+use Rattle.fe_disk.specs.declared.calls.Calls.{Calls}
 use Rattle.fe_disk.specs.Ranges.{AreWithin}
 use Rattle.fe_disk.proofs.Outcomes.{either}
 use Rattle.fe_disk.proofs.Images.{length-bytes_at, get_or-bytes_at, length-after_write, after_write_below, after_write_inside, after_write_above, written_back, IsImage-after_write, small_at, IsTorn-same, IsTorn-back, IsTorn-after_write}
@@ -19,22 +20,22 @@ put_keeps old new events later at bytes fits small is within now then =
     )
 
 -- the step back in time that a new call adds
-elapses_push : (size : ℕ) (old new : List ℕ) (events : List Event) (event : Event) → image_before event new ≡ old
-    → Elapses (length events) (length (event ∷ events)) (LeftSince size old events) (LeftSince size new (event ∷ events)) (MayLeave size new (event ∷ events))
-elapses_push size old new events event back =
+elapses_push : (old : MemoryState) (image : List ℕ) (event : Event) (calls : Calls) → length image ≡ length old.image → image_before event image ≡ old.image
+    → Elapses moment_of LeavesSince LeavesNow old (record { image = image; events = event ∷ old.events; calls = calls; failures = old.failures })
+elapses_push old image event calls whole back =
     record {
       later = omega arith;
-      nothing_else = λ t left le since. ⊎_elim (λ now. inr now.1) (λ before. inl (subst (λ (l : List ℕ). LeftSince size l events t left) back before)) since;
-      keeps = λ t left le past. inr (subst (λ (l : List ℕ). LeftSince size l events t left) (sym back) past);
+      nothing_else = λ t left le since. ⊎_elim (λ now. inr now.1) (λ before. inl (subst (λ (n : ℕ). LeftSince n old.image old.events t left) whole (subst (λ (l : List ℕ). LeftSince (length image) l old.events t left) back before))) since;
+      keeps = λ t left le past. inr (subst (λ (l : List ℕ). LeftSince (length image) l old.events t left) (sym back) (subst (λ (n : ℕ). LeftSince n old.image old.events t left) (sym whole) past));
     }
 
-elapses_same : (size : ℕ) (image : List ℕ) (events : List Event) → Elapses (length events) (length events) (LeftSince size image events) (LeftSince size image events) (MayLeave size image events)
-elapses_same size image events = record { later = omega arith; nothing_else = λ t left le since. inl since; keeps = λ t left le past. past }
+elapses_same : (old : MemoryState) (calls : Calls) (failures : ℕ)
+    → Elapses moment_of LeavesSince LeavesNow old (record { image = old.image; events = old.events; calls = calls; failures = failures })
+elapses_same old calls failures = record { later = omega arith; nothing_else = λ t left le since. inl since; keeps = λ t left le past. past }
 
 module _ (old : MemoryState) (at : ℕ) (bytes : List ℕ) (fits : at + length bytes ≤ length old.image) (honest : IsImage (length old.image) old.image) where
-  pub written_time : Elapses (length old.events) (length (disk_after_write old at bytes).events) (LeftSince (length old.image) old.image old.events)
-      (LeftSince (length old.image) (disk_after_write old at bytes).image (disk_after_write old at bytes).events) (MayLeave (length old.image) (disk_after_write old at bytes).image (disk_after_write old at bytes).events)
-  written_time = elapses_push (length old.image) old.image (after_write old.image at bytes) old.events (Write at (bytes_at old.image at (length bytes))) (written_back old.image at bytes fits)
+  pub written_time : Elapses moment_of LeavesSince LeavesNow old (disk_after_write old at bytes)
+  written_time = elapses_push old (after_write old.image at bytes) (Write at (bytes_at old.image at (length bytes))) (disk_after_write old at bytes).calls (length-after_write old.image at bytes fits) (written_back old.image at bytes fits)
 
   -- an image that may be left after the write, with the bytes from before the write in its range, might have been left before it
   was_left : (left : List ℕ) → MayLeave (length old.image) (disk_after_write old at bytes).image (disk_after_write old at bytes).events left
@@ -91,17 +92,16 @@ module _ {T E : Type 0} (result : Result T E) (old new : MemoryState) (at : ℕ)
       (sym (length-after_write old.image at bytes fits)) (written_stop old at bytes fits honest))
       (λ left may. (left, may, IsTorn-same at (length bytes) left))
 
-  pub put_time : OnOk result (new ≡ disk_after_write old at bytes) → OnErr result (new ≡ disk_after_fault old) → IsImage (length old.image) old.image
-      → Elapses (length old.events) (length new.events) (LeftSince (length old.image) old.image old.events) (LeftSince (length new.image) new.image new.events) (MayLeave (length new.image) new.image new.events)
+  pub put_time : OnOk result (new ≡ disk_after_write old at bytes) → OnErr result (new ≡ disk_after_fault old) → IsImage (length old.image) old.image → Elapses moment_of LeavesSince LeavesNow old new
   put_time ok err honest =
-      after_either (λ s. Elapses (length old.events) (length s.events) (LeftSince (length old.image) old.image old.events) (LeftSince (length s.image) s.image s.events) (MayLeave (length s.image) s.image s.events)) ok err
-      (subst (λ (k : ℕ). Elapses (length old.events) (length (disk_after_write old at bytes).events) (LeftSince (length old.image) old.image old.events)
-      (LeftSince k (disk_after_write old at bytes).image (disk_after_write old at bytes).events) (MayLeave k (disk_after_write old at bytes).image (disk_after_write old at bytes).events))
-      (sym (length-after_write old.image at bytes fits)) (written_time old at bytes fits honest))
-      (elapses_same (length old.image) old.image old.events)
+      after_either (λ s. Elapses moment_of LeavesSince LeavesNow old s) ok err (written_time old at bytes fits honest)
+      (elapses_same old (disk_after_fault old).calls (disk_after_fault old).failures)
 
   pub put_honest : OnOk result (new ≡ disk_after_write old at bytes) → OnErr result (new ≡ disk_after_fault old) → ((i : ℕ) → get_or bytes i 0 < 2 ^ 8) → IsImage (length old.image) old.image → IsImage (length new.image) new.image
   put_honest ok err small honest =
       after_either (λ s. IsImage (length s.image) s.image) ok err
       (subst (λ (k : ℕ). IsImage k (disk_after_write old at bytes).image) (sym (length-after_write old.image at bytes fits)) (IsImage-after_write old.image at bytes fits small honest))
       honest
+
+  pub put_size : OnOk result (new ≡ disk_after_write old at bytes) → OnErr result (new ≡ disk_after_fault old) → length new.image ≡ length old.image
+  put_size ok err = after_either (λ s. length s.image ≡ length old.image) ok err (length-after_write old.image at bytes fits) refl

@@ -34,10 +34,10 @@ abbrev pub LeavesJust : List ℕ → (List ℕ → Type 0) → Type 0
 LeavesJust image may_leave = (left : List ℕ) → may_leave left → left ≡ image
 
 -- Time goes on through a call: what a stop since a moment before it may have left is what it might have left then already, or what it may leave now.
-pub record Elapses (before now : ℕ) (past since : ℕ → List ℕ → Type 0) (may_leave : List ℕ → Type 0) : Type 0 where
-  pub later : before ≤ now
-  pub nothing_else : (t : ℕ) (image : List ℕ) → t ≤ before → since t image → past t image ⊎ may_leave image
-  pub keeps : (t : ℕ) (image : List ℕ) → t ≤ before → past t image → since t image
+pub record Elapses {D : Type 0} (moment : D → ℕ) (left_since : D → ℕ → List ℕ → Type 0) (may_leave : D → List ℕ → Type 0) (old new : D) : Type 0 where
+  pub later : moment old ≤ moment new
+  pub nothing_else : (t : ℕ) (image : List ℕ) → t ≤ moment old → left_since new t image → left_since old t image ⊎ may_leave new image
+  pub keeps : (t : ℕ) (image : List ℕ) → t ≤ moment old → left_since old t image → left_since new t image
 
 -- A count of faults rose in a call. At the top of a `u64` it stands still, and that counts as a rise.
 abbrev pub Rises : ℕ → ℕ → Type 0

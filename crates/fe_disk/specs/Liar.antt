@@ -1,11 +1,14 @@
 -- What a `Liar` shows.
-use Rattle.std.specs.Prelude.{ℕ, List}
+use Rattle.std.specs.Prelude.{ℕ, List, length}
 use Rattle.fe_disk.specs.declared.calls.Calls.{Calls}
 use Rattle.fe_disk.specs.declared.liar.Liar.{Liar}
 
 -- the bytes that it reads, whatever is written
 abbrev pub told : Liar → List ℕ
 told disk = disk.bytes.items
+
+abbrev pub byte_count : Liar → ℕ
+byte_count disk = length (told disk)
 
 -- the calls that were made of it
 abbrev pub calls_of : Liar → Calls

@@ -18,6 +18,23 @@ pub record MemoryState : Type 0 where
   pub calls : Calls
   pub failures : ℕ
 
+-- what the trait `Disk` asks of it, with `IsHonest`, `LeavesNow` and `LeavesSince` below
+abbrev pub size_of : MemoryState → ℕ
+size_of disk = length disk.image
+
+abbrev pub failures_of : MemoryState → ℕ
+failures_of disk = disk.failures
+
+abbrev pub calls_of : MemoryState → Calls
+calls_of disk = disk.calls
+
+abbrev pub seen_of : MemoryState → List ℕ
+seen_of disk = disk.image
+
+-- the moment is the number of writes and syncs
+abbrev pub moment_of : MemoryState → ℕ
+moment_of disk = length disk.events
+
 -- the image before a call, from the one after it
 abbrev pub image_before : Event → List ℕ → List ℕ
 image_before (Write at before) image = after_write image at before
@@ -70,13 +87,17 @@ IsLeftBy Kept image events left = left ≡ image
 IsLeftBy Lost image events left = left ≡ synced_image image events
 IsLeftBy (Byte byte) image events left = IsFilled byte image events left
 
+-- no call was made of it, and none has failed
+pub record IsFresh (disk : MemoryState) : Type 0 where
+  pub events : disk.events ≡ []
+  pub calls : disk.calls ≡ none
+  pub failures : disk.failures ≡ 0
+
 -- a new disk: zeros, with no call and no fault
 pub record IsBlank (size : ℕ) (disk : MemoryState) : Type 0 where
   pub whole : length disk.image ≡ size
   pub zeros : (i : ℕ) → slice_index disk.image i ≡ 0
-  pub events : disk.events ≡ []
-  pub calls : disk.calls ≡ none
-  pub failures : disk.failures ≡ 0
+  pub fresh : IsFresh disk
 
 -- the disk after a read that succeeds
 abbrev pub disk_after_read : MemoryState → MemoryState

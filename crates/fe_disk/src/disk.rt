@@ -1,6 +1,7 @@
 // A disk as its users see it. `docs/model.md` has the model in plain words.
-ghost use Rattle.std.specs.Prelude.{◌≡◌, ◌↔◌, ◌+◌, ◌≤◌, ℕ, List, length, IsErr, OnOk};
-ghost use Rattle.fe_disk.specs.Disk.{IsImage, bytes_at, after_write, IsTorn, Follows, AddsNone, LeavesJust, Elapses, Rises, MakesAtMost, MakesJust};
+ghost use Rattle.std.specs.Prelude.{◌≡◌, ◌+◌, ◌≤◌, ℕ, List, length, OnOk};
+ghost use Rattle.fe_disk.specs.Disk.{IsImage, bytes_at, after_write, IsTorn, Follows, AddsNone, LeavesJust, Elapses};
+ghost use Rattle.fe_disk.specs.Outcome.{Asks};
 ghost use Rattle.fe_disk.specs.declared.calls.Calls.{Calls};
 
 /// The device did not do what it was asked to. It says no more than that.
@@ -53,15 +54,8 @@ pub trait Disk {
         // A read changes nothing, whether it fails or not.
         ensures same { honest self.old → seen self.new ≡ seen self.old }
         ensures stop { honest self.old → AddsNone (may_leave self.old) (may_leave self.new) }
-        ensures time { honest self.old → Elapses (moment self.old) (moment self.new) (left_since self.old) (left_since self.new) (may_leave self.new) }
-
-        ensures fault { IsErr result ↔ Rises (failures self.old) (failures self.new) }
-        ensures still { OnOk result (failures self.new ≡ failures self.old) }
-        ensures one_fault { failures self.new ≤ failures self.old + 1 }
-        ensures made { OnOk result (MakesJust 1 0 0 (calls self.old) (calls self.new)) }
-        ensures calls { MakesAtMost 1 0 0 (calls self.old) (calls self.new) }
-        ensures honesty { honest self.new ↔ honest self.old }
-        ensures size { size self.new ≡ size self.old };
+        ensures time { honest self.old → Elapses moment left_since may_leave self.old self.new }
+        ensures device { Asks size failures calls honest 1 0 0 result self.old self.new };
 
     /// Writes the bytes from `at` on. Until a sync succeeds, a stop may leave any bytes in their place.
     /// A write that fails counts as written: a read may give anything in its range, and a stop leave anything there.
@@ -70,16 +64,10 @@ pub trait Disk {
 
         ensures written { honest self.old → OnOk result (seen self.new ≡ after_write (seen self.old) at bytes.now) }
         ensures torn { honest self.old → IsTorn at (length bytes.now) (seen self.old) (seen self.new) }
-        ensures stop { honest self.old → Follows (IsTorn at (length bytes.now)) (may_leave self.old) (may_leave self.new) }
-        ensures time { honest self.old → Elapses (moment self.old) (moment self.new) (left_since self.old) (left_since self.new) (may_leave self.new) }
-
-        ensures fault { IsErr result ↔ Rises (failures self.old) (failures self.new) }
-        ensures still { OnOk result (failures self.new ≡ failures self.old) }
-        ensures one_fault { failures self.new ≤ failures self.old + 1 }
-        ensures made { OnOk result (MakesJust 0 1 0 (calls self.old) (calls self.new)) }
-        ensures calls { MakesAtMost 0 1 0 (calls self.old) (calls self.new) }
-        ensures honesty { honest self.new ↔ honest self.old }
-        ensures size { size self.new ≡ size self.old };
+        ensures stop { honest self.old
+            → Follows (IsTorn at (length bytes.now)) (may_leave self.old) (may_leave self.new) }
+        ensures time { honest self.old → Elapses moment left_since may_leave self.old self.new }
+        ensures device { Asks size failures calls honest 0 1 0 result self.old self.new };
 
     /// Puts on the disk all that was written. A sync that fails counts for nothing.
     fn sync(&mut self) -> Result<(), DeviceFault>
@@ -87,28 +75,24 @@ pub trait Disk {
         ensures durable { honest self.old → OnOk result (LeavesJust (seen self.new) (may_leave self.new)) }
         ensures same { honest self.old → seen self.new ≡ seen self.old }
         ensures stop { honest self.old → AddsNone (may_leave self.old) (may_leave self.new) }
-        ensures time { honest self.old → Elapses (moment self.old) (moment self.new) (left_since self.old) (left_since self.new) (may_leave self.new) }
-
-        ensures fault { IsErr result ↔ Rises (failures self.old) (failures self.new) }
-        ensures still { OnOk result (failures self.new ≡ failures self.old) }
-        ensures one_fault { failures self.new ≤ failures self.old + 1 }
-        ensures made { OnOk result (MakesJust 0 0 1 (calls self.old) (calls self.new)) }
-        ensures calls { MakesAtMost 0 0 1 (calls self.old) (calls self.new) }
-        ensures honesty { honest self.new ↔ honest self.old }
-        ensures size { size self.new ≡ size self.old };
+        ensures time { honest self.old → Elapses moment left_since may_leave self.old self.new }
+        ensures device { Asks size failures calls honest 0 0 1 result self.old self.new };
 
     /// A read gives bytes, as many as the disk has.
     ghost seen_is_image: { (disk : Self) → honest disk → IsImage (size disk) (seen disk) };
 
     /// So does each image that a stop may have left.
-    ghost left_is_image: { (disk : Self) (t : ℕ) (image : List ℕ) → honest disk → left_since disk t image → IsImage (size disk) image };
+    ghost left_is_image: { (disk : Self) (t : ℕ) (image : List ℕ) → honest disk
+        → left_since disk t image → IsImage (size disk) image };
 
     /// The disk as it reads is one of the images that a stop now may leave.
     ghost seen_may_stay: { (disk : Self) → honest disk → may_leave disk (seen disk) };
 
     /// This moment is one of those since an earlier one.
-    ghost counts_now: { (disk : Self) (t : ℕ) (image : List ℕ) → honest disk → t ≤ moment disk → may_leave disk image → left_since disk t image };
+    ghost counts_now: { (disk : Self) (t : ℕ) (image : List ℕ) → honest disk
+        → t ≤ moment disk → may_leave disk image → left_since disk t image };
 
     /// Since this moment there is no other.
-    ghost only_now: { (disk : Self) (image : List ℕ) → honest disk → left_since disk (moment disk) image → may_leave disk image };
+    ghost only_now: { (disk : Self) (image : List ℕ) → honest disk
+        → left_since disk (moment disk) image → may_leave disk image };
 }

@@ -1,6 +1,7 @@
 //! A disk that says whatever it was told to, so that a store can be tried over any bytes.
-ghost use Rattle.std.specs.Prelude.{◌≡◌, ◌⊎◌, ◌↔◌, ◌+◌, ◌-◌, ◌^◌, ◌≤◌, length, IsErr, OnOk};
-ghost use Rattle.fe_disk.specs.Disk.{bytes_at, Rises, MakesAtMost, MakesJust};
+ghost use Rattle.std.specs.Prelude.{◌≡◌, ◌⊎◌, ◌+◌, ◌-◌, ◌^◌, ◌≤◌, length, IsErr, OnOk};
+ghost use Rattle.fe_disk.specs.Disk.{bytes_at};
+ghost use Rattle.fe_disk.specs.Outcome.{Asks};
 
 use crate::faults::fault;
 use crate::{Calls, DeviceFault, Disk};
@@ -32,9 +33,9 @@ impl Liar {
 }
 
 impl Disk for Liar {
-    ghost use Rattle.fe_disk.specs.Liar.{told, calls_of, fault_count};
+    ghost use Rattle.fe_disk.specs.Liar.{told, byte_count, calls_of, fault_count};
 
-    ghost size = { λ disk. length (told disk) };
+    ghost size = { byte_count };
 
     ghost failures = { fault_count };
 
@@ -69,15 +70,12 @@ impl Disk for Liar {
     }
 
     fn read_at(&mut self, at: usize, buffer: &mut [u8]) -> Result<(), DeviceFault>
-        requires { at + length buffer.old ≤ length (told self.old) }
+        requires { at + length buffer.old ≤ byte_count self.old }
         ensures told { OnOk result (buffer.new ≡ bytes_at (told self.old) at (length buffer.old)) }
-        ensures fault { IsErr result ↔ Rises (fault_count self.old) (fault_count self.new) }
-        ensures still { OnOk result (fault_count self.new ≡ fault_count self.old) }
-        ensures one_fault { fault_count self.new ≤ fault_count self.old + 1 }
         ensures same { told self.new ≡ told self.old }
-        ensures only_at_top { IsErr result → (fault_count self.old ≡ 2 ^ 64 - 1) ⊎ ((calls_of self.old).reads ≡ 2 ^ 64 - 1) }
-        ensures made { OnOk result (MakesJust 1 0 0 (calls_of self.old) (calls_of self.new)) }
-        ensures calls { MakesAtMost 1 0 0 (calls_of self.old) (calls_of self.new) }
+        ensures only_at_top { IsErr result
+            → (fault_count self.old ≡ 2 ^ 64 - 1) ⊎ ((calls_of self.old).reads ≡ 2 ^ 64 - 1) }
+        ensures device { Asks byte_count fault_count calls_of (λ disk. ⊥) 1 0 0 result self.old self.new }
     {
         if self.failures == u64::MAX || self.calls.reads == u64::MAX {
             return Err(fault(&mut self.failures));
@@ -88,14 +86,11 @@ impl Disk for Liar {
     }
 
     fn write_at(&mut self, _at: usize, bytes: &[u8]) -> Result<(), DeviceFault>
-        requires { _at + length bytes.now ≤ length (told self.old) }
-        ensures fault { IsErr result ↔ Rises (fault_count self.old) (fault_count self.new) }
-        ensures still { OnOk result (fault_count self.new ≡ fault_count self.old) }
-        ensures one_fault { fault_count self.new ≤ fault_count self.old + 1 }
+        requires { _at + length bytes.now ≤ byte_count self.old }
         ensures same { told self.new ≡ told self.old }
-        ensures only_at_top { IsErr result → (fault_count self.old ≡ 2 ^ 64 - 1) ⊎ ((calls_of self.old).writes ≡ 2 ^ 64 - 1) }
-        ensures made { OnOk result (MakesJust 0 1 0 (calls_of self.old) (calls_of self.new)) }
-        ensures calls { MakesAtMost 0 1 0 (calls_of self.old) (calls_of self.new) }
+        ensures only_at_top { IsErr result
+            → (fault_count self.old ≡ 2 ^ 64 - 1) ⊎ ((calls_of self.old).writes ≡ 2 ^ 64 - 1) }
+        ensures device { Asks byte_count fault_count calls_of (λ disk. ⊥) 0 1 0 result self.old self.new }
     {
         if self.failures == u64::MAX || self.calls.writes == u64::MAX {
             return Err(fault(&mut self.failures));
@@ -105,13 +100,10 @@ impl Disk for Liar {
     }
 
     fn sync(&mut self) -> Result<(), DeviceFault>
-        ensures fault { IsErr result ↔ Rises (fault_count self.old) (fault_count self.new) }
-        ensures still { OnOk result (fault_count self.new ≡ fault_count self.old) }
-        ensures one_fault { fault_count self.new ≤ fault_count self.old + 1 }
         ensures same { told self.new ≡ told self.old }
-        ensures only_at_top { IsErr result → (fault_count self.old ≡ 2 ^ 64 - 1) ⊎ ((calls_of self.old).syncs ≡ 2 ^ 64 - 1) }
-        ensures made { OnOk result (MakesJust 0 0 1 (calls_of self.old) (calls_of self.new)) }
-        ensures calls { MakesAtMost 0 0 1 (calls_of self.old) (calls_of self.new) }
+        ensures only_at_top { IsErr result
+            → (fault_count self.old ≡ 2 ^ 64 - 1) ⊎ ((calls_of self.old).syncs ≡ 2 ^ 64 - 1) }
+        ensures device { Asks byte_count fault_count calls_of (λ disk. ⊥) 0 0 1 result self.old self.new }
     {
         if self.failures == u64::MAX || self.calls.syncs == u64::MAX {
             return Err(fault(&mut self.failures));

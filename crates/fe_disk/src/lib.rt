@@ -2,18 +2,19 @@
 #![tactic(auto)]
 
 mod calls;
-mod counted;
 mod disk;
 mod fail_once;
 mod faults;
 mod file_disk;
 mod file_fault;
 mod fuse;
+mod guarded;
 mod held;
 mod hold;
 mod liar;
 mod memory_disk;
 mod names;
+mod policy;
 mod record;
 mod watch;
 
@@ -23,8 +24,10 @@ pub use fail_once::FailOnce;
 pub use file_disk::FileDisk;
 pub use file_fault::FileFault;
 pub use fuse::Fuse;
+pub use guarded::Guarded;
 pub use held::Held;
 pub use hold::Hold;
 pub use liar::Liar;
 pub use memory_disk::{MemoryDisk, Torn};
 pub use names::{add_name, remove_name};
+pub use policy::{Asked, Policy};

@@ -1,8 +1,8 @@
 //! A disk in memory that keeps the record of its calls, so that each stop it allows can be made.
-ghost use Rattle.std.specs.Prelude.{◌≡◌, ◌⊎◌, ◌+◌, ◌-◌, ◌^◌, ◌≤◌, ◌↔◌, [], length, IfOk, IsErr, OnOk, OnErr};
-ghost use Rattle.fe_disk.specs.Disk.{bytes_at, after_write, IsTorn, Follows, AddsNone, LeavesJust, Elapses, Rises, MakesAtMost, MakesJust};
-ghost use Rattle.fe_disk.specs.Memory.{IsHonest, LeavesNow, LeavesSince, IsLeftBy, IsBlank, disk_after_read, disk_after_write, disk_after_sync, disk_after_fault};
-ghost use Rattle.fe_disk.specs.Calls.{none};
+ghost use Rattle.std.specs.Prelude.{◌≡◌, ◌⊎◌, ◌+◌, ◌-◌, ◌^◌, ◌≤◌, ◌↔◌, length, IfOk, IsErr, OnOk, OnErr};
+ghost use Rattle.fe_disk.specs.Disk.{bytes_at, after_write, IsTorn, Follows, AddsNone, LeavesJust, Elapses, Rises};
+ghost use Rattle.fe_disk.specs.Outcome.{Asks};
+ghost use Rattle.fe_disk.specs.Memory.{size_of, failures_of, calls_of, seen_of, moment_of, IsHonest, LeavesNow, LeavesSince, IsLeftBy, IsFresh, IsBlank, disk_after_read, disk_after_write, disk_after_sync, disk_after_fault};
 ghost use Rattle.fe_disk.specs.within.MemoryLaws.{seen_may_stay_law, left_is_image_law, counts_now_law, only_now_law};
 
 use crate::faults::fault;
@@ -64,9 +64,7 @@ impl MemoryDisk {
     /// A disk of these bytes, with no calls and no faults. It has room for the record of a call, which takes no memory then.
     pub fn over(alloc: Global, bytes: Vec<u8>) -> Result<MemoryDisk, AllocError>
         ensures image { IfOk result (λ disk. disk.image ≡ bytes.items) }
-        ensures events { IfOk result (λ disk. disk.events ≡ []) }
-        ensures calls { IfOk result (λ disk. disk.calls ≡ none) }
-        ensures failures { IfOk result (λ disk. disk.failures ≡ 0) }
+        ensures fresh { IfOk result IsFresh }
         ensures honest { IfOk result IsHonest }
         ensures durable { IfOk result (λ disk. LeavesJust disk.image (LeavesNow disk)) }
     {
@@ -88,9 +86,7 @@ impl MemoryDisk {
         ensures allowed { IfOk result (λ disk. LeavesNow self.now disk.image) }
 
         ensures size { IfOk result (λ disk. length disk.image ≡ length self.now.image) }
-        ensures events { IfOk result (λ disk. disk.events ≡ []) }
-        ensures calls { IfOk result (λ disk. disk.calls ≡ none) }
-        ensures failures { IfOk result (λ disk. disk.failures ≡ 0) }
+        ensures fresh { IfOk result IsFresh }
         ensures honest { IfOk result IsHonest }
         ensures durable { IfOk result (λ disk. LeavesJust disk.image (LeavesNow disk)) }
     {
@@ -107,7 +103,6 @@ impl MemoryDisk {
         requires { at + length buffer.old ≤ length self.old.image }
         ensures ok { OnOk result (self.new ≡ disk_after_read self.old) }
         ensures read { OnOk result (buffer.new ≡ bytes_at self.old.image at (length buffer.old)) }
-        ensures made { OnOk result (MakesJust 1 0 0 self.old.calls self.new.calls) }
         ensures err { OnErr result (self.new ≡ disk_after_fault self.old) }
         ensures fault { IsErr result ↔ Rises self.old.failures self.new.failures }
         ensures only_at_top { IsErr result ↔ ((self.old.failures ≡ 2 ^ 64 - 1) ⊎ (self.old.calls.reads ≡ 2 ^ 64 - 1)) }
@@ -123,7 +118,6 @@ impl MemoryDisk {
     fn put(&mut self, at: usize, bytes: &[u8]) -> Result<(), DeviceFault>
         requires { at + length bytes.now ≤ length self.old.image }
         ensures ok { OnOk result (self.new ≡ disk_after_write self.old at bytes.now) }
-        ensures made { OnOk result (MakesJust 0 1 0 self.old.calls self.new.calls) }
         ensures err { OnErr result (self.new ≡ disk_after_fault self.old) }
         ensures fault { IsErr result ↔ Rises self.old.failures self.new.failures }
         ensures honest { IsHonest self.old }
@@ -141,7 +135,6 @@ impl MemoryDisk {
 
     fn settle(&mut self) -> Result<(), DeviceFault>
         ensures ok { OnOk result (self.new ≡ disk_after_sync self.old) }
-        ensures made { OnOk result (MakesJust 0 0 1 self.old.calls self.new.calls) }
         ensures err { OnErr result (self.new ≡ disk_after_fault self.old) }
         ensures fault { IsErr result ↔ Rises self.old.failures self.new.failures }
     {
@@ -157,19 +150,19 @@ impl MemoryDisk {
 }
 
 impl Disk for MemoryDisk {
-    ghost size = { λ disk. length disk.image };
+    ghost size = { size_of };
 
-    ghost failures = { λ disk. disk.failures };
+    ghost failures = { failures_of };
 
-    ghost calls = { λ disk. disk.calls };
+    ghost calls = { calls_of };
 
     ghost honest = { IsHonest };
 
-    ghost seen = { λ disk. disk.image };
+    ghost seen = { seen_of };
 
     ghost may_leave = { LeavesNow };
 
-    ghost moment = { λ disk. length disk.events };
+    ghost moment = { moment_of };
 
     ghost left_since = { LeavesSince };
 
@@ -196,15 +189,8 @@ impl Disk for MemoryDisk {
         ensures read { IsHonest self.old → OnOk result (buffer.new ≡ bytes_at self.old.image at (length buffer.old)) }
         ensures same { IsHonest self.old → self.new.image ≡ self.old.image }
         ensures stop { IsHonest self.old → AddsNone (LeavesNow self.old) (LeavesNow self.new) }
-        ensures time { IsHonest self.old → Elapses (length self.old.events) (length self.new.events) (LeavesSince self.old) (LeavesSince self.new) (LeavesNow self.new) }
-
-        ensures fault { IsErr result ↔ Rises self.old.failures self.new.failures }
-        ensures still { OnOk result (self.new.failures ≡ self.old.failures) }
-        ensures one_fault { self.new.failures ≤ self.old.failures + 1 }
-        ensures made { OnOk result (MakesJust 1 0 0 self.old.calls self.new.calls) }
-        ensures calls { MakesAtMost 1 0 0 self.old.calls self.new.calls }
-        ensures honesty { IsHonest self.new ↔ IsHonest self.old }
-        ensures size { length self.new.image ≡ length self.old.image }
+        ensures time { IsHonest self.old → Elapses moment_of LeavesSince LeavesNow self.old self.new }
+        ensures device { Asks size_of failures_of calls_of IsHonest 1 0 0 result self.old self.new }
 
         // A read takes no memory, so it fails only once the count of faults, or that of reads, is at its top.
         ensures only_at_top { IsErr result ↔ ((self.old.failures ≡ 2 ^ 64 - 1) ⊎ (self.old.calls.reads ≡ 2 ^ 64 - 1)) }
@@ -218,16 +204,10 @@ impl Disk for MemoryDisk {
         requires { at + length bytes.now ≤ length self.old.image }
         ensures written { IsHonest self.old → OnOk result (self.new.image ≡ after_write self.old.image at bytes.now) }
         ensures torn { IsHonest self.old → IsTorn at (length bytes.now) self.old.image self.new.image }
-        ensures stop { IsHonest self.old → Follows (IsTorn at (length bytes.now)) (LeavesNow self.old) (LeavesNow self.new) }
-        ensures time { IsHonest self.old → Elapses (length self.old.events) (length self.new.events) (LeavesSince self.old) (LeavesSince self.new) (LeavesNow self.new) }
-
-        ensures fault { IsErr result ↔ Rises self.old.failures self.new.failures }
-        ensures still { OnOk result (self.new.failures ≡ self.old.failures) }
-        ensures one_fault { self.new.failures ≤ self.old.failures + 1 }
-        ensures made { OnOk result (MakesJust 0 1 0 self.old.calls self.new.calls) }
-        ensures calls { MakesAtMost 0 1 0 self.old.calls self.new.calls }
-        ensures honesty { IsHonest self.new ↔ IsHonest self.old }
-        ensures size { length self.new.image ≡ length self.old.image }
+        ensures stop { IsHonest self.old
+            → Follows (IsTorn at (length bytes.now)) (LeavesNow self.old) (LeavesNow self.new) }
+        ensures time { IsHonest self.old → Elapses moment_of LeavesSince LeavesNow self.old self.new }
+        ensures device { Asks size_of failures_of calls_of IsHonest 0 1 0 result self.old self.new }
 
         // The record has one write more, or nothing was done.
         ensures ok { OnOk result (self.new ≡ disk_after_write self.old at bytes.now) }
@@ -240,15 +220,8 @@ impl Disk for MemoryDisk {
         ensures durable { IsHonest self.old → OnOk result (LeavesJust self.new.image (LeavesNow self.new)) }
         ensures same { IsHonest self.old → self.new.image ≡ self.old.image }
         ensures stop { IsHonest self.old → AddsNone (LeavesNow self.old) (LeavesNow self.new) }
-        ensures time { IsHonest self.old → Elapses (length self.old.events) (length self.new.events) (LeavesSince self.old) (LeavesSince self.new) (LeavesNow self.new) }
-
-        ensures fault { IsErr result ↔ Rises self.old.failures self.new.failures }
-        ensures still { OnOk result (self.new.failures ≡ self.old.failures) }
-        ensures one_fault { self.new.failures ≤ self.old.failures + 1 }
-        ensures made { OnOk result (MakesJust 0 0 1 self.old.calls self.new.calls) }
-        ensures calls { MakesAtMost 0 0 1 self.old.calls self.new.calls }
-        ensures honesty { IsHonest self.new ↔ IsHonest self.old }
-        ensures size { length self.new.image ≡ length self.old.image }
+        ensures time { IsHonest self.old → Elapses moment_of LeavesSince LeavesNow self.old self.new }
+        ensures device { Asks size_of failures_of calls_of IsHonest 0 0 1 result self.old self.new }
 
         // The record has one sync more, or nothing was done.
         ensures ok { OnOk result (self.new ≡ disk_after_sync self.old) }

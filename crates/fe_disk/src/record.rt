@@ -24,7 +24,8 @@ pub fn record_write(
     size: usize,
 ) -> Result<(), AllocError>
     requires { at + size ≤ length image.now }
-    ensures ok { OnOk result (newest_first calls.new.items ≡ Write at (bytes_at image.now at size) ∷ newest_first calls.old.items) }
+    ensures ok { OnOk result
+        (newest_first calls.new.items ≡ Write at (bytes_at image.now at size) ∷ newest_first calls.old.items) }
     ensures err { OnErr result (calls.new.items ≡ calls.old.items) }
 {
     let before = image[at..at + size].to_vec(alloc)?;

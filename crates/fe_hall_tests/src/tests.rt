@@ -8,7 +8,7 @@ use crate::rows::{
 };
 use crate::stage::{Played, perform};
 use crate::stores::{new_disk, new_store};
-use fe_disk::{Disk, Fuse, Held, Hold, MemoryDisk};
+use fe_disk::{Disk, Fuse, Guarded, Held, Hold, MemoryDisk};
 use fe_front::Books;
 use fe_hall::{ReadEnd, WriteEnd};
 use fe_keeper::Keeper;
@@ -128,7 +128,10 @@ fn full_box(rt: HostRuntime) {
 #[test]
 fn resend_between(rt: HostRuntime) -> Result<(), Fail> {
     let hold = Arc::new(rt.alloc(), Hold::new())?;
-    let disk = Held::new(new_disk(&rt, rt.alloc()), rt, Arc::try_clone(&hold)?);
+    let disk = Guarded::new(
+        new_disk(&rt, rt.alloc()),
+        Held::new(rt, Arc::try_clone(&hold)?),
+    );
     let keeper = Keeper::format(rt.alloc(), disk)
         .ok()
         .expect(&rt, "formatted");
@@ -138,7 +141,7 @@ fn resend_between(rt: HostRuntime) -> Result<(), Fail> {
 
 /// Plays over a store whose disk fails with the second group.
 fn play_until_fault<R: Abort + Clock + Threads + Wait + Sync>(rt: &R, alloc: Global, play: &Play) {
-    let disk = Fuse::new(new_store(rt, alloc).into_disk(), CALLS);
+    let disk = Guarded::new(new_store(rt, alloc).into_disk(), Fuse::new(CALLS));
     let keeper = Keeper::open(alloc, disk).ok().expect(rt, "opened");
     drop(keeper_after(rt, alloc, play, &Hold::new(), keeper));
 }

@@ -95,9 +95,9 @@ module _ {D : Type 0} (moment : D → ℕ) (left_since : D → ℕ → List ℕ 
     slice_leaves draft was image torn left = slice_left c draft d was image at (length slice) (omega (arith, there)) (omega (arith, there, within, short)) torn left
 
     pub write_moments : (new : D) → ((image : List ℕ) → left_since j.disk (moment j.disk) image → may_leave j.disk image) → Follows (IsTorn at (length slice)) (may_leave j.disk) (may_leave new)
-        → Elapses (moment j.disk) (moment new) (left_since j.disk) (left_since new) (may_leave new) → LeavesOnly moment left_since j.disk new (Holds c)
+        → Elapses moment left_since may_leave j.disk new → LeavesOnly moment left_since j.disk new (Holds c)
     write_moments new only_now follows time =
-        goes_on moment left_since j.disk j.disk new (Holds c) (may_leave new) (nothing_done moment left_since seen may_leave j c (Some d) (Holds c) keeps only_now (λ image holds. holds)) time
+        goes_on moment left_since may_leave j.disk j.disk new (Holds c) (nothing_done moment left_since seen may_leave j c (Some d) (Holds c) keeps only_now (λ image holds. holds)) time
         (λ image now. let from = follows image now in (slice_leaves (Some d) from.0 image from.2 (keeps.left from.0 from.1)).holds)
 
     pub write_keeps : (new : D) (failed : Bool) → Follows (IsTorn at (length slice)) (may_leave j.disk) (may_leave new) → seen new ≡ after_write (seen j.disk) at slice

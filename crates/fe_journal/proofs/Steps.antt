@@ -1,9 +1,11 @@
 -- What a stop leaves in the steps of `commit` and of `shut`.
-use Rattle.std.proofs.Common.{◌≡◌, ℕ, ◌≤◌, List, length, get_or, inl, add-zero, sym, ◌∙◌, ap, subst, arith}
-use Rattle.fe_disk.specs.Disk.{IsTorn, Follows, LeavesJust, bytes_at}
+use Rattle.std.proofs.Common.{◌≡◌, ℕ, ◌+◌, ◌≤◌, List, length, get_or, inl, add-zero, sym, ◌∙◌, ap, subst, arith}
+use Rattle.fe_disk.specs.Disk.{IsTorn, Follows, LeavesJust, MakesJust, bytes_at}
+use Rattle.fe_disk.specs.declared.calls.Calls.{Calls}
+use Rattle.fe_disk.proofs.Outcomes.{just_joined}
 use Rattle.fe_disk.proofs.Images.{IsTorn-same, torn_left, torn_again, torn_wider, get_or-bytes_at}
 use Rattle.fe_journal.specs.Layout.{header_of, gate_of, IsShut}
-use Rattle.fe_journal.specs.Steps.{IsLeftInCommit, IsLeftInShutting, IsHeaderTorn}
+use Rattle.fe_journal.specs.Steps.{IsLeftInCommit, IsLeftInShutting, IsHeaderTorn, Shuts}
 
 module _ (before : List ℕ → Type 0) (seen : List ℕ) (at : ℕ) (bytes : List ℕ) (gate : ℕ) where
   pub not_begun : (image : List ℕ) → before image → IsLeftInCommit before seen at bytes gate image
@@ -43,3 +45,8 @@ pub header_left : (seen mid : List ℕ) (slot : ℕ) (fields : List ℕ) (old ne
     → (image : List ℕ) → new image → IsHeaderTorn seen slot image
 header_left seen mid slot fields old new twenty torn shut just follows image may =
     header_torn seen mid image slot (length fields) (omega arith) torn shut (torn_left mid (header_of slot) (length fields) old new just follows image may)
+
+-- a write after a gate was closed
+pub shuts_then : (seen : List ℕ) (gate n : ℕ) (old mid new : Calls) → Shuts seen gate n old mid → MakesJust 0 1 0 mid new → Shuts seen gate (n + 1) old new
+shuts_then seen gate n old mid new shut wrote =
+    record { opened = λ is_open. just_joined 1 (n + 1) 1 0 1 0 old mid new (shut.opened is_open) wrote; closed = λ is_shut. just_joined 1 n 0 0 1 0 old mid new (shut.closed is_shut) wrote }

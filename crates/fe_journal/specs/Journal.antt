@@ -1,12 +1,15 @@
 -- A journal as its callers see it, and how it stands to the images that its disk may leave.
-use Rattle.std.specs.Prelude.{◌≡◌, ◌+◌, ◌≤◌, ℕ, Bool, List, [], ◌∷◌, ◌++◌, length, Option, Some, None, IsSome, false}
-use Rattle.fe_disk.specs.Disk.{bytes_at, LeavesJust}
+use Rattle.std.specs.Prelude.{◌≡◌, ◌↔◌, ◌+◌, ◌≤◌, ℕ, Bool, List, [], ◌∷◌, ◌++◌, length, Option, Some, None, IsSome, Result, IsTrue, IsErrOf, OnOk, OnErr, false, true}
+use Rattle.fe_disk.specs.Disk.{bytes_at, LeavesJust, Rises, MakesAtMost}
+use Rattle.fe_disk.specs.declared.calls.Calls.{Calls}
 use Rattle.fe_journal.specs.Layout.{header_of, gate_of, image_of, other_than, number_at, IsShut}
 use Rattle.fe_format.specs.Layout.{magic_of, IsImageLength, IsPayloadLength}
 use Rattle.fe_journal.specs.Groups.{end_of}
 use Rattle.fe_journal.specs.Contents.{Contents, Holds, generation_at, image_length_at}
 use Rattle.fe_format.specs.declared.format.Format.{Format}
 use Rattle.fe_journal.specs.declared.begun.Begun.{Begun}
+use Rattle.fe_journal.specs.declared.fault.JournalFault.{JournalFault}
+use Rattle.fe_journal.specs.declared.fault.JournalFault.TheVariants.{Device, Failed}
 
 -- a journal's disk and what it knows of the slot that counts, of the slot begun, and whether its disk has failed
 pub record JournalState (D : Type 0) : Type 0 where
@@ -26,6 +29,16 @@ new_journal format disk = record { disk = disk; slot = 0; format = format; gener
 pub record IsReady {D : Type 0} (journal : JournalState D) : Type 0 where
   pub none_begun : journal.begun ≡ None
   pub works : journal.has_failed ≡ false
+
+-- How a call of a journal ends that makes at most so many device calls: after a fault of the device the journal has failed, and a journal that had failed does nothing.
+pub record Ends {D T : Type 0} (failures : D → ℕ) (calls : D → Calls) (honest : D → Type 0) (reads writes syncs : ℕ) (result : Result T JournalFault) (old new : JournalState D) : Type 0 where
+  pub device : old.has_failed ≡ false → (IsErrOf result Device ↔ Rises (failures old.disk) (failures new.disk))
+  pub still : OnOk result (failures new.disk ≡ failures old.disk)
+  pub failed : IsErrOf result Failed ↔ IsTrue old.has_failed
+  pub untouched : IsErrOf result Failed → new ≡ old
+  pub failing : OnErr result (new ≡ record old { disk = new.disk; has_failed = true })
+  pub most : MakesAtMost reads writes syncs (calls old.disk) (calls new.disk)
+  pub honesty : honest new.disk ↔ honest old.disk
 
 -- a slot begun and not finished, with the bytes of its image that were written so far
 pub record Draft : Type 0 where

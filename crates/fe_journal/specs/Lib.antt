@@ -9,4 +9,5 @@ pub mod Store
 pub mod Found
 pub mod Cursor
 pub mod Steps
+pub mod Formatting
 pub mod within

@@ -1,14 +1,13 @@
 -- What single steps of the journal do to a disk, byte by byte.
-use Rattle.std.specs.Prelude.{◌≡◌, ◌⊎◌, ℕ, List, [], ◌∷◌, ◌++◌, length}
+use Rattle.std.specs.Prelude.{◌≡◌, ◌⊎◌, ℕ, ◌+◌, List, [], ◌∷◌, ◌++◌, length}
 use Rattle.byteorder.specs.Endian.{big_bytes}
-use Rattle.fe_disk.specs.Disk.{IsTorn, AddsNone, LeavesOnly, bytes_at, after_write}
+use Rattle.fe_disk.specs.Disk.{IsTorn, AddsNone, LeavesOnly, MakesJust, bytes_at, after_write}
+use Rattle.fe_disk.specs.declared.calls.Calls.{Calls}
 use Rattle.fe_journal.specs.Layout.{IsOpen, IsShut, header_of, gate_of, image_of}
 use Rattle.fe_format.specs.Layout.{magic_of}
 use Rattle.fe_journal.specs.Groups.{behind_gate}
 use Rattle.fe_journal.specs.Contents.{empty_image}
 use Rattle.fe_format.specs.declared.format.Format.{Format}
-use Rattle.fe_journal.specs.declared.fault.StoreFault.{StoreFault}
-use Rattle.fe_journal.specs.declared.fault.StoreFault.TheVariants.{Unformatted, Device, NoMemory}
 
 -- the spelling of a header's fields
 abbrev pub header_fields : Format → ℕ → ℕ → List ℕ
@@ -39,6 +38,11 @@ pub record IsLeftInShutting (seen : List ℕ) (gate : ℕ) (image : List ℕ) : 
   pub torn : IsTorn gate 1 seen image
   pub opens_none : IsOpen image gate → IsOpen seen gate
 
+-- which calls a gate is closed with, and so many writes after that: a read, and where it was open a write and a sync
+pub record Shuts (seen : List ℕ) (gate writes : ℕ) (before now : Calls) : Type 0 where
+  pub opened : IsOpen seen gate → MakesJust 1 (writes + 1) 1 before now
+  pub closed : IsShut seen gate → MakesJust 1 writes 0 before now
+
 -- the slot's header may have changed, and its gate is closed
 pub record IsHeaderTorn (seen : List ℕ) (slot : ℕ) (image : List ℕ) : Type 0 where
   pub torn : IsTorn (header_of slot) 4096 seen image
@@ -63,7 +67,3 @@ pub record IsFirst (format : Format) (image : List ℕ) : Type 0 where
   pub cleared : IsCleared image
   pub fields_are : bytes_at image (header_of 0) 20 ≡ header_fields format 1 24
   pub image_is : bytes_at image (image_of 0) 24 ≡ empty_image
-
--- what may come of formatting
-abbrev pub IsFormatFault : StoreFault → Type 0
-IsFormatFault fault = (fault ≡ Unformatted) ⊎ ((fault ≡ Device) ⊎ (fault ≡ NoMemory))

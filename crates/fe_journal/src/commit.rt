@@ -1,8 +1,9 @@
 // The two orders of writing on which all crash promises rest.
-ghost use Rattle.std.specs.Prelude.{◌≡◌, ◌↔◌, ◌+◌, ◌≤◌, [], ◌∷◌, length, IsErr, OnOk};
-ghost use Rattle.fe_disk.specs.Disk.{IsTorn, LeavesJust, LeavesOnly, Rises, MakesAtMost, MakesJust, after_write};
+ghost use Rattle.std.specs.Prelude.{◌≡◌, ◌+◌, ◌≤◌, [], ◌∷◌, length, OnOk};
+ghost use Rattle.fe_disk.specs.Disk.{IsTorn, LeavesJust, LeavesOnly, after_write};
+ghost use Rattle.fe_disk.specs.Outcome.{Asks, AsksAtMost};
 ghost use Rattle.fe_journal.specs.Layout.{IsShut};
-ghost use Rattle.fe_journal.specs.Steps.{after_commit, IsLeftInCommit, IsLeftInShutting};
+ghost use Rattle.fe_journal.specs.Steps.{after_commit, IsLeftInCommit, IsLeftInShutting, Shuts};
 
 use fe_disk::{DeviceFault, Disk};
 
@@ -21,12 +22,7 @@ pub fn commit<D: Disk>(
     ensures committed { D.honest disk.old → OnOk result (D.seen disk.new ≡ after_commit (D.seen disk.old) at bytes.now gate) }
     ensures durable { D.honest disk.old → OnOk result (LeavesJust (D.seen disk.new) (D.may_leave disk.new)) }
 
-    ensures fault { IsErr result ↔ Rises (D.failures disk.old) (D.failures disk.new) }
-    ensures still { OnOk result (D.failures disk.new ≡ D.failures disk.old) }
-    ensures made { OnOk result (MakesJust 0 2 2 (D.calls disk.old) (D.calls disk.new)) }
-    ensures calls { MakesAtMost 0 2 2 (D.calls disk.old) (D.calls disk.new) }
-    ensures honesty { D.honest disk.new ↔ D.honest disk.old }
-    ensures size { D.size disk.new ≡ D.size disk.old }
+    ensures device { Asks D.size D.failures D.calls D.honest 0 2 2 result disk.old disk.new }
 {
     disk.write_at(at, bytes)?;
     disk.sync()?;
@@ -41,12 +37,7 @@ fn open_gate<D: Disk>(disk: &mut D, gate: usize) -> Result<(), DeviceFault>
     ensures opened { D.honest disk.old → OnOk result (D.seen disk.new ≡ after_write (D.seen disk.old) gate (1 ∷ [])) }
     ensures durable { D.honest disk.old → OnOk result (LeavesJust (D.seen disk.new) (D.may_leave disk.new)) }
 
-    ensures fault { IsErr result ↔ Rises (D.failures disk.old) (D.failures disk.new) }
-    ensures still { OnOk result (D.failures disk.new ≡ D.failures disk.old) }
-    ensures made { OnOk result (MakesJust 0 1 1 (D.calls disk.old) (D.calls disk.new)) }
-    ensures calls { MakesAtMost 0 1 1 (D.calls disk.old) (D.calls disk.new) }
-    ensures honesty { D.honest disk.new ↔ D.honest disk.old }
-    ensures size { D.size disk.new ≡ D.size disk.old }
+    ensures device { Asks D.size D.failures D.calls D.honest 0 1 1 result disk.old disk.new }
 {
     disk.write_at(gate, &[1])?;
     disk.sync()
@@ -64,11 +55,8 @@ pub fn shut<D: Disk>(disk: &mut D, gate: usize) -> Result<(), DeviceFault>
     ensures closed { D.honest disk.old → OnOk result (IsShut (D.seen disk.new) gate) }
     ensures torn { D.honest disk.old → IsTorn gate 1 (D.seen disk.old) (D.seen disk.new) }
 
-    ensures fault { IsErr result ↔ Rises (D.failures disk.old) (D.failures disk.new) }
-    ensures still { OnOk result (D.failures disk.new ≡ D.failures disk.old) }
-    ensures calls { MakesAtMost 1 1 1 (D.calls disk.old) (D.calls disk.new) }
-    ensures honesty { D.honest disk.new ↔ D.honest disk.old }
-    ensures size { D.size disk.new ≡ D.size disk.old }
+    ensures made { D.honest disk.old → OnOk result (Shuts (D.seen disk.old) gate 0 (D.calls disk.old) (D.calls disk.new)) }
+    ensures device { AsksAtMost D.size D.failures D.calls D.honest 1 1 1 result disk.old disk.new }
 {
     let mut byte = [0];
     disk.read_at(gate, &mut byte)?;

@@ -1,12 +1,12 @@
-ghost use Rattle.std.specs.Prelude.{◌≡◌, ◌↔◌, ◌⊎◌, ◌+◌, ◌-◌, ◌≤◌, ◌<◌, ◌^◌, ℕ, [], ◌∷◌, ◌++◌, List, length, Option, Some, None, false, true, vec_len, IsTrue, IsSome, IfSome, OnOk, OnErr, IsErrOf};
+ghost use Rattle.std.specs.Prelude.{◌≡◌, ◌+◌, ◌≤◌, ◌<◌, length, Option, Some, None, false, vec_len, IsSome, IfSome, OnOk};
 ghost use Rattle.std.specs.Option.{ForSome};
-ghost use Rattle.fe_disk.specs.Disk.{LeavesOnly, Rises, MakesAtMost, MakesJust};
-ghost use Rattle.fe_journal.specs.Layout.{device_bytes, area_bytes, other_than};
+ghost use Rattle.fe_disk.specs.Disk.{LeavesOnly, MakesJust};
+ghost use Rattle.fe_journal.specs.Layout.{device_bytes, area_bytes, other_than, gate_of};
 ghost use Rattle.fe_format.specs.Layout.{IsPayloadLength, IsImageLength};
 ghost use Rattle.fe_journal.specs.Groups.{room_at, end_of};
 ghost use Rattle.fe_journal.specs.Contents.{Contents, HoldsEither, Holds, with_group};
-ghost use Rattle.fe_journal.specs.Journal.{Draft, Keeps, new_draft, with_slice, IsCatchUp, catch_up_groups, finished};
-ghost use Rattle.fe_journal.specs.declared.fault.JournalFault.TheVariants.{Device, Failed};
+ghost use Rattle.fe_journal.specs.Steps.{Shuts};
+ghost use Rattle.fe_journal.specs.Journal.{Draft, Keeps, Ends, new_draft, with_slice, IsCatchUp, catch_up_groups, finished};
 
 use crate::begun::Begun;
 use crate::commit::commit;
@@ -145,14 +145,8 @@ impl<D: Disk> Journal<D> {
             → OnOk result (Keeps D.seen D.may_leave self.new (with_group c payload.now) draft) }
 
         ensures value { OnOk result (self.new ≡ record self.old { disk = self.new.disk; used = self.old.used + (5 + length payload.now) }) }
-        ensures device { self.old.has_failed ≡ false → (IsErrOf result Device ↔ Rises (D.failures self.old.disk) (D.failures self.new.disk)) }
-        ensures still { OnOk result (D.failures self.new.disk ≡ D.failures self.old.disk) }
-        ensures failed { IsErrOf result Failed ↔ IsTrue self.old.has_failed }
-        ensures untouched { IsErrOf result Failed → self.new ≡ self.old }
-        ensures err { OnErr result (self.new ≡ record self.old { disk = self.new.disk; has_failed = true }) }
         ensures made { OnOk result (MakesJust 0 2 2 (D.calls self.old.disk) (D.calls self.new.disk)) }
-        ensures calls { MakesAtMost 0 2 2 (D.calls self.old.disk) (D.calls self.new.disk) }
-        ensures honesty { D.honest self.new.disk ↔ D.honest self.old.disk }
+        ensures ends { Ends D.failures D.calls D.honest 0 2 2 result self.old self.new }
     {
         if self.has_failed {
             return Err(JournalFault::Failed);
@@ -190,13 +184,9 @@ impl<D: Disk> Journal<D> {
           disk = self.new.disk;
           begun = Some (record { format = format; generation = generation; image_length = image_length; written = 0 });
         }) }
-        ensures device { self.old.has_failed ≡ false → (IsErrOf result Device ↔ Rises (D.failures self.old.disk) (D.failures self.new.disk)) }
-        ensures still { OnOk result (D.failures self.new.disk ≡ D.failures self.old.disk) }
-        ensures failed { IsErrOf result Failed ↔ IsTrue self.old.has_failed }
-        ensures untouched { IsErrOf result Failed → self.new ≡ self.old }
-        ensures err { OnErr result (self.new ≡ record self.old { disk = self.new.disk; has_failed = true }) }
-        ensures calls { MakesAtMost 1 2 1 (D.calls self.old.disk) (D.calls self.new.disk) }
-        ensures honesty { D.honest self.new.disk ↔ D.honest self.old.disk }
+        ensures made { D.honest self.old.disk
+            → OnOk result (Shuts (D.seen self.old.disk) (gate_of (other_than self.old.slot)) 1 (D.calls self.old.disk) (D.calls self.new.disk)) }
+        ensures ends { Ends D.failures D.calls D.honest 1 2 1 result self.old self.new }
     {
         if self.has_failed {
             return Err(JournalFault::Failed);
@@ -232,14 +222,8 @@ impl<D: Disk> Journal<D> {
           disk = self.new.disk;
           begun = Some (record b { written = b.written + length slice.now });
         })) }
-        ensures device { self.old.has_failed ≡ false → (IsErrOf result Device ↔ Rises (D.failures self.old.disk) (D.failures self.new.disk)) }
-        ensures still { OnOk result (D.failures self.new.disk ≡ D.failures self.old.disk) }
-        ensures failed { IsErrOf result Failed ↔ IsTrue self.old.has_failed }
-        ensures untouched { IsErrOf result Failed → self.new ≡ self.old }
-        ensures err { OnErr result (self.new ≡ record self.old { disk = self.new.disk; has_failed = true }) }
         ensures made { OnOk result (MakesJust 0 1 0 (D.calls self.old.disk) (D.calls self.new.disk)) }
-        ensures calls { MakesAtMost 0 1 0 (D.calls self.old.disk) (D.calls self.new.disk) }
-        ensures honesty { D.honest self.new.disk ↔ D.honest self.old.disk }
+        ensures ends { Ends D.failures D.calls D.honest 0 1 0 result self.old self.new }
     {
         if self.has_failed {
             return Err(JournalFault::Failed);
@@ -280,14 +264,8 @@ impl<D: Disk> Journal<D> {
           used = end_of (catch_up_groups catch_up.now);
           begun = None;
         })) }
-        ensures device { self.old.has_failed ≡ false → (IsErrOf result Device ↔ Rises (D.failures self.old.disk) (D.failures self.new.disk)) }
-        ensures still { OnOk result (D.failures self.new.disk ≡ D.failures self.old.disk) }
-        ensures failed { IsErrOf result Failed ↔ IsTrue self.old.has_failed }
-        ensures untouched { IsErrOf result Failed → self.new ≡ self.old }
-        ensures err { OnErr result (self.new ≡ record self.old { disk = self.new.disk; has_failed = true }) }
         ensures made { OnOk result (MakesJust 0 2 2 (D.calls self.old.disk) (D.calls self.new.disk)) }
-        ensures calls { MakesAtMost 0 2 2 (D.calls self.old.disk) (D.calls self.new.disk) }
-        ensures honesty { D.honest self.new.disk ↔ D.honest self.old.disk }
+        ensures ends { Ends D.failures D.calls D.honest 0 2 2 result self.old self.new }
     {
         if self.has_failed {
             return Err(JournalFault::Failed);

@@ -1,5 +1,6 @@
-ghost use Rattle.std.specs.Prelude.{◌≡◌, ◌⊎◌, ◌↔◌, IfOk, IfErr, OnOk, IsErrAnd};
-ghost use Rattle.fe_disk.specs.Disk.{LeavesJust, Rises, MakesAtMost};
+ghost use Rattle.std.specs.Prelude.{◌≡◌, ◌⊎◌, ◌↔◌, IfOk, IfErr, IsErrAnd, IsErrOf};
+ghost use Rattle.fe_disk.specs.Disk.{LeavesJust, Rises};
+ghost use Rattle.fe_disk.specs.Outcome.{Runs, told};
 ghost use Rattle.fe_journal.specs.Contents.{Contents, Holds};
 ghost use Rattle.fe_journal.specs.Damage.{TellsFound, IsUnformatted};
 ghost use Rattle.fe_journal.specs.Layout.{device_bytes};
@@ -46,12 +47,8 @@ impl<D: Disk> Journal<D> {
         // Over any disk: a journal with no slot begun that has not failed.
         ensures ready { IfOk result (λ found. IsReady found.journal) }
         ensures listed { IfOk result AreListed }
-        ensures device { IfErr result (λ e. (e.0 ≡ Device) ↔ Rises (D.failures disk) (D.failures e.1)) }
-        ensures still { IfOk result (λ found. D.failures found.journal.disk ≡ D.failures disk) }
-        ensures works { IfOk result (λ found. Rises (D.failures disk) (D.failures found.journal.disk) → ⊥) }
-        ensures calls { MakesAtMost 4 0 1 (D.calls disk) (D.calls (disk_after result)) }
-        ensures honesty { D.honest (disk_after result) ↔ D.honest disk }
-        ensures size { D.size (disk_after result) ≡ D.size disk }
+        ensures fault { IsErrOf (told result) Device ↔ Rises (D.failures disk) (D.failures (disk_after result)) }
+        ensures device { Runs D.size D.failures D.calls D.honest 4 0 1 Device (told result) disk (disk_after result) }
         ensures sized { IfOk result (λ found. D.size disk ≡ device_bytes) }
     {
         let mut disk = disk;

@@ -1,8 +1,9 @@
 // The beginning of a slot that does not count.
-ghost use Rattle.std.specs.Prelude.{◌≡◌, ◌≢◌, ◌⊎◌, ◌↔◌, ◌+◌, ◌≤◌, ◌<◌, ◌^◌, ℕ, List, length, IsErr, OnOk};
-ghost use Rattle.fe_disk.specs.Disk.{LeavesJust, LeavesOnly, Rises, MakesAtMost};
-ghost use Rattle.fe_journal.specs.Layout.{device_bytes};
-ghost use Rattle.fe_journal.specs.Steps.{header_fields, IsHeaderTorn, IsLeftInBeginning, IsBegun};
+ghost use Rattle.std.specs.Prelude.{◌≡◌, ◌<◌, ◌^◌, ℕ, List, OnOk};
+ghost use Rattle.fe_disk.specs.Disk.{LeavesJust, LeavesOnly};
+ghost use Rattle.fe_disk.specs.Outcome.{AsksAtMost};
+ghost use Rattle.fe_journal.specs.Layout.{device_bytes, gate_of};
+ghost use Rattle.fe_journal.specs.Steps.{header_fields, IsHeaderTorn, IsLeftInBeginning, IsBegun, Shuts};
 
 use crate::Format;
 use crate::commit::shut;
@@ -27,11 +28,9 @@ pub fn begin_slot<D: Disk>(
     ensures begun { D.honest disk.old → OnOk result (IsBegun (D.seen disk.old) slot (header_fields format generation image_length) (D.seen disk.new)) }
     ensures left { D.honest disk.old → LeavesJust (D.seen disk.old) (D.may_leave disk.old) → OnOk result ((image : List ℕ) → D.may_leave disk.new image → IsHeaderTorn (D.seen disk.old) slot image) }
 
-    ensures fault { IsErr result ↔ Rises (D.failures disk.old) (D.failures disk.new) }
-    ensures still { OnOk result (D.failures disk.new ≡ D.failures disk.old) }
-    ensures calls { MakesAtMost 1 2 1 (D.calls disk.old) (D.calls disk.new) }
-    ensures honesty { D.honest disk.new ↔ D.honest disk.old }
-    ensures size { D.size disk.new ≡ D.size disk.old }
+    ensures made { D.honest disk.old
+        → OnOk result (Shuts (D.seen disk.old) (gate_of slot) 1 (D.calls disk.old) (D.calls disk.new)) }
+    ensures device { AsksAtMost D.size D.failures D.calls D.honest 1 2 1 result disk.old disk.new }
 {
     shut(disk, gate_of(slot))?;
     let fields = header_fields(format, generation, image_length);

@@ -1,6 +1,7 @@
 // A store as it is read from its device.
-ghost use Rattle.std.specs.Prelude.{◌≡◌, ◌⊎◌, ◌↔◌, ◌+◌, ◌≤◌, ◌<◌, length, Some, IfSome, IfOk, IfErr, IsErr, IsErrOf, OnOk, vec_len};
-ghost use Rattle.fe_disk.specs.Disk.{LeavesJust, Rises, MakesAtMost, bytes_at};
+ghost use Rattle.std.specs.Prelude.{◌≡◌, ◌⊎◌, ◌↔◌, ◌+◌, ◌≤◌, ◌<◌, length, Some, IfSome, IfOk, IfErr, IsErrOf, OnOk, vec_len};
+ghost use Rattle.fe_disk.specs.Disk.{LeavesJust, Rises, bytes_at};
+ghost use Rattle.fe_disk.specs.Outcome.{Asks, Runs};
 ghost use Rattle.fe_journal.specs.Layout.{device_bytes, header_of};
 ghost use Rattle.fe_format.specs.Layout.{IsImageLength};
 ghost use Rattle.fe_journal.specs.Damage.{TellsFound};
@@ -41,12 +42,9 @@ pub fn read_store<D: Disk>(alloc: Global, disk: &mut D) -> Result<Store, StoreFa
     ensures reads { D.honest disk.old → OnlyReads D.seen D.may_leave D.moment D.left_since disk.old disk.new }
 
     ensures whole { IfOk result IsWhole }
-    ensures device { OnOk result (D.size disk.new ≡ device_bytes) }
+    ensures sized { OnOk result (D.size disk.new ≡ device_bytes) }
     ensures fault { IsErrOf result Device ↔ Rises (D.failures disk.old) (D.failures disk.new) }
-    ensures still { OnOk result (D.failures disk.new ≡ D.failures disk.old) }
-    ensures calls { MakesAtMost 4 0 1 (D.calls disk.old) (D.calls disk.new) }
-    ensures honesty { D.honest disk.new ↔ D.honest disk.old }
-    ensures size { D.size disk.new ≡ D.size disk.old }
+    ensures device { Runs D.size D.failures D.calls D.honest 4 0 1 Device result disk.old disk.new }
 {
     disk.sync()?;
     if disk.size() != DEVICE_BYTES {
@@ -64,11 +62,7 @@ fn read_synced<D: Disk>(alloc: Global, disk: &mut D) -> Result<Store, StoreFault
     ensures whole { IfOk result IsWhole }
     ensures reads { D.honest disk.old → OnlyReads D.seen D.may_leave D.moment D.left_since disk.old disk.new }
 
-    ensures fault { IsErrOf result Device → Rises (D.failures disk.old) (D.failures disk.new) }
-    ensures still { (IsErrOf result Device → ⊥) → D.failures disk.new ≡ D.failures disk.old }
-    ensures calls { MakesAtMost 4 0 0 (D.calls disk.old) (D.calls disk.new) }
-    ensures honesty { D.honest disk.new ↔ D.honest disk.old }
-    ensures size { D.size disk.new ≡ D.size disk.old }
+    ensures device { Runs D.size D.failures D.calls D.honest 4 0 0 Device result disk.old disk.new }
 {
     let (slot, header) = read_sound(disk)?;
     let buffer = vec![in alloc; 0; AREA_BYTES]?;
@@ -89,11 +83,7 @@ fn read_sound<D: Disk>(disk: &mut D) -> Result<(usize, Header), StoreFault>
     ensures faults { D.honest disk.old → IfErr result (λ fault. TellsFound fault (D.seen disk.old)) }
     ensures reads { D.honest disk.old → OnlyReads D.seen D.may_leave D.moment D.left_since disk.old disk.new }
 
-    ensures fault { IsErrOf result Device → Rises (D.failures disk.old) (D.failures disk.new) }
-    ensures still { (IsErrOf result Device → ⊥) → D.failures disk.new ≡ D.failures disk.old }
-    ensures calls { MakesAtMost 2 0 0 (D.calls disk.old) (D.calls disk.new) }
-    ensures honesty { D.honest disk.new ↔ D.honest disk.old }
-    ensures size { D.size disk.new ≡ D.size disk.old }
+    ensures device { Runs D.size D.failures D.calls D.honest 2 0 0 Device result disk.old disk.new }
 {
     let Some((slot, header)) = read_counting(disk)? else {
         return Err(StoreFault::Unformatted);
@@ -114,11 +104,7 @@ fn read_header<D: Disk>(
     ensures header { D.honest disk.old → IfOk result (IsHeader (D.seen disk.old) (header_of slot)) }
     ensures reads { D.honest disk.old → OnlyReads D.seen D.may_leave D.moment D.left_since disk.old disk.new }
 
-    ensures fault { IsErr result ↔ Rises (D.failures disk.old) (D.failures disk.new) }
-    ensures still { OnOk result (D.failures disk.new ≡ D.failures disk.old) }
-    ensures calls { MakesAtMost 1 0 0 (D.calls disk.old) (D.calls disk.new) }
-    ensures honesty { D.honest disk.new ↔ D.honest disk.old }
-    ensures size { D.size disk.new ≡ D.size disk.old }
+    ensures device { Asks D.size D.failures D.calls D.honest 1 0 0 result disk.old disk.new }
     ensures same { length bytes.new ≡ length bytes.old }
 {
     disk.read_at(header_of(slot), bytes)?;
@@ -132,11 +118,7 @@ fn read_counting<D: Disk>(disk: &mut D) -> Result<Option<(usize, Header)>, Devic
     ensures is_slot { IfOk result (λ found. IfSome found (λ s. s.0 < 2)) }
     ensures reads { D.honest disk.old → OnlyReads D.seen D.may_leave D.moment D.left_since disk.old disk.new }
 
-    ensures fault { IsErr result ↔ Rises (D.failures disk.old) (D.failures disk.new) }
-    ensures still { OnOk result (D.failures disk.new ≡ D.failures disk.old) }
-    ensures calls { MakesAtMost 2 0 0 (D.calls disk.old) (D.calls disk.new) }
-    ensures honesty { D.honest disk.new ↔ D.honest disk.old }
-    ensures size { D.size disk.new ≡ D.size disk.old }
+    ensures device { Asks D.size D.failures D.calls D.honest 2 0 0 result disk.old disk.new }
 {
     let mut bytes = [0; HEADER_BYTES];
     let first = read_header(disk, 0, &mut bytes)?;
@@ -176,11 +158,7 @@ fn read_bytes<D: Disk>(
     ensures refused { IfErr result (λ fault. (fault ≡ Device) ⊎ (fault ≡ NoMemory)) }
     ensures reads { D.honest disk.old → OnlyReads D.seen D.may_leave D.moment D.left_since disk.old disk.new }
 
-    ensures fault { IsErrOf result Device → Rises (D.failures disk.old) (D.failures disk.new) }
-    ensures still { (IsErrOf result Device → ⊥) → D.failures disk.new ≡ D.failures disk.old }
-    ensures calls { MakesAtMost 1 0 0 (D.calls disk.old) (D.calls disk.new) }
-    ensures honesty { D.honest disk.new ↔ D.honest disk.old }
-    ensures size { D.size disk.new ≡ D.size disk.old }
+    ensures device { Runs D.size D.failures D.calls D.honest 1 0 0 Device result disk.old disk.new }
 {
     let mut bytes = vec![in alloc; 0; length]?;
     disk.read_at(at, &mut bytes)?;
@@ -220,11 +198,7 @@ fn read_slot<D: Disk>(
     ensures ends { IfOk result (λ parts. EndsAt header.now.format parts.area.items parts.used) }
     ensures reads { D.honest disk.old → OnlyReads D.seen D.may_leave D.moment D.left_since disk.old disk.new }
 
-    ensures fault { IsErrOf result Device → Rises (D.failures disk.old) (D.failures disk.new) }
-    ensures still { (IsErrOf result Device → ⊥) → D.failures disk.new ≡ D.failures disk.old }
-    ensures calls { MakesAtMost 2 0 0 (D.calls disk.old) (D.calls disk.new) }
-    ensures honesty { D.honest disk.new ↔ D.honest disk.old }
-    ensures size { D.size disk.new ≡ D.size disk.old }
+    ensures device { Runs D.size D.failures D.calls D.honest 2 0 0 Device result disk.old disk.new }
 {
     let area = read_bytes(alloc, disk, area_of(slot), AREA_BYTES)?;
     let used = groups_end(slot, &area, header.format)?;

@@ -2,7 +2,7 @@
 
 use crate::trial::{PLENTY, TORN, Trial};
 use crate::trouble::Trouble;
-use fe_disk::{FailOnce, Fuse, MemoryDisk, Torn};
+use fe_disk::{FailOnce, Fuse, Guarded, MemoryDisk, Torn};
 use fe_keeper::Fault;
 
 /// The image of the first state (`docs/formats.md`, "Image").
@@ -42,7 +42,7 @@ impl<'a> Trial<'a> {
 
     // Whether a format that is stopped after so many device calls leaves what it may, and whether it was stopped.
     fn format_stopped(&self, calls: u64) -> Result<(bool, bool), Trouble> {
-        let fuse = Fuse::new(self.store.stopped(Torn::Kept)?, calls);
+        let fuse = Guarded::new(self.store.stopped(Torn::Kept)?, Fuse::new(calls));
         let (fuse, is_met) = self.level.formatted(self.alloc, fuse);
         let disk = fuse.into_inner();
         let is_left = self.are_formats_left(&disk);
@@ -52,7 +52,7 @@ impl<'a> Trial<'a> {
 
     // Whether a format is done again of which one device call failed, and whether it did.
     fn format_failing(&self, calls: u64) -> Result<(bool, bool), Trouble> {
-        let once = FailOnce::new(self.store.stopped(Torn::Kept)?, calls);
+        let once = Guarded::new(self.store.stopped(Torn::Kept)?, FailOnce::new(calls));
         let (once, is_met) = self.level.formatted(self.alloc, once);
         Ok((self.is_made_new(once.into_inner())?, is_met))
     }

@@ -5,7 +5,7 @@ use crate::level::Level;
 use crate::made::Made;
 use crate::tally::{Counts, Tally};
 use crate::trouble::Trouble;
-use fe_disk::{Disk, FailOnce, Fuse, MemoryDisk, Torn};
+use fe_disk::{Disk, FailOnce, Fuse, Guarded, MemoryDisk, Torn};
 use fe_keeper::Fault;
 use std::alloc::Global;
 
@@ -51,7 +51,7 @@ impl<'a> Trial<'a> {
     /// The calls over a disk that passes this many device calls.
     pub fn fused(&self, calls: u64) -> Result<Run, Trouble> {
         let copy = self.store.stopped(Torn::Kept)?;
-        let fuse = Fuse::new(Tally::new(copy), calls);
+        let fuse = Guarded::new(Tally::new(copy), Fuse::new(calls));
         let (fuse, made) = self.level.made(self.alloc, fuse, self.acts, self.start);
         let failures = fuse.failures();
         let (disk, counts) = fuse.into_inner().into_parts();
@@ -61,7 +61,7 @@ impl<'a> Trial<'a> {
     /// The calls over a disk that fails the call after this many.
     pub fn failing(&self, calls: u64) -> Result<Run, Trouble> {
         let copy = self.store.stopped(Torn::Kept)?;
-        let once = FailOnce::new(Tally::new(copy), calls);
+        let once = Guarded::new(Tally::new(copy), FailOnce::new(calls));
         let (once, made) = self.level.made(self.alloc, once, self.acts, self.start);
         let failures = once.failures();
         let (disk, counts) = once.into_inner().into_parts();
@@ -93,7 +93,7 @@ impl<'a> Trial<'a> {
     ) -> Result<bool, Trouble> {
         let mut left = disk.stopped(torn)?;
         for calls in 0..OPENING {
-            let fuse = Fuse::new(left, calls);
+            let fuse = Guarded::new(left, Fuse::new(calls));
             let (fuse, found) = self.level.found(self.alloc, fuse);
             let is_met = matches!(found, Err(Fault::Device));
             drop(found);

@@ -1,5 +1,5 @@
 use super::done;
-use fe_disk::{Disk, Held, Hold, MemoryDisk};
+use fe_disk::{Disk, Guarded, Held, Hold, MemoryDisk};
 use std::rt::Clock;
 use std::sync::{Arc, Wait};
 use std::test::Fail;
@@ -24,7 +24,7 @@ fn is_held_at_last(rt: &(impl Wait + Clock), hold: &Hold) -> bool {
 fn holds_a_sync(rt: HostRuntime) -> Result<(), Fail> {
     let hold = Arc::new(rt.alloc(), Hold::new())?;
     let disk = MemoryDisk::new(rt.alloc(), 8)?;
-    let mut disk = Held::new(disk, rt, Arc::try_clone(&hold)?);
+    let mut disk = Guarded::new(disk, Held::new(rt, Arc::try_clone(&hold)?));
     done(disk.sync())?;
     hold.hold(&rt);
     let syncing = thread::spawn(&rt, move || {

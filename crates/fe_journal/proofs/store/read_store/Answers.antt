@@ -1,23 +1,34 @@
-use Rattle.std.proofs.Common.{ℕ, List, sym, ◌∙◌, subst}
+use Rattle.std.proofs.Common.{◌≡◌, ℕ, List, Result, Ok, Err, sym, ◌∙◌, subst}
 use Rattle.std.proofs.lemmas.Result.{IfOk-weaker}
 use Rattle.std.specs.Prelude.{IfOk, IfErr}
 use Rattle.fe_disk.specs.Disk.{LeavesJust}
+use Rattle.fe_disk.specs.Outcome.{Asks, Runs}
+use Rattle.fe_disk.specs.declared.calls.Calls.{Calls}
+use Rattle.fe_disk.proofs.Outcomes.{asks_run, runs_joined}
+use Rattle.fe_journal.specs.declared.fault.StoreFault.TheVariants.{Device}
 use Rattle.fe_journal.specs.Damage.{TellsFound}
 use Rattle.fe_journal.specs.Store.{IsStore, IsWhole}
-use Rattle.fe_journal.proofs.Readings.{counted, still_after}
+use Rattle.fe_journal.proofs.Readings.{counted}
 use Rattle.fe_journal.proofs.store.read_store.Goals as goal
+
+-- the sync, and then the reads
+after_sync : {D T U E F : Type 0} (size failures : D → ℕ) (calls : D → Calls) (honest : D → Type 0) (device : E) (x : T) (second : Result U E) (old mid new : D)
+    → Asks {E = F} size failures calls honest 0 0 1 (Ok x) old mid → Runs size failures calls honest 4 0 0 device second mid new → Runs size failures calls honest 4 0 1 device second old new
+after_sync {T = T} {E = E} size failures calls honest device x second old mid new asks run =
+    let first : Result T E = Ok x in
+    runs_joined size failures calls honest 0 0 1 4 0 0 device first second old mid new (asks_run size failures calls honest 0 0 1 device x x old mid asks) (λ (e : first ≡ Err device). cc) run
 
 pub returns-clause-store : goal.returns-clause-store
 returns-clause-store g c = λ honest.
-    subst (λ (l : List ℕ). IfOk c.read_synced.result (IsStore l)) (c.sync.ensures.same honest) (c.read_synced.ensures.store (c.sync.ensures.honesty.1 honest))
+    subst (λ (l : List ℕ). IfOk c.read_synced.result (IsStore l)) (c.sync.ensures.same honest) (c.read_synced.ensures.store (c.sync.ensures.device.honesty.1 honest))
 
 pub returns-clause-faults : goal.returns-clause-faults
 returns-clause-faults g c = λ honest.
-    subst (λ (l : List ℕ). IfErr c.read_synced.result (λ fault. TellsFound fault l)) (c.sync.ensures.same honest) (c.read_synced.ensures.faults (c.sync.ensures.honesty.1 honest))
+    subst (λ (l : List ℕ). IfErr c.read_synced.result (λ fault. TellsFound fault l)) (c.sync.ensures.same honest) (c.read_synced.ensures.faults (c.sync.ensures.device.honesty.1 honest))
 
 pub returns-clause-settled : goal.returns-clause-settled
 returns-clause-settled g c = λ honest.
-    let honest_1 = c.sync.ensures.honesty.1 honest in
+    let honest_1 = c.sync.ensures.device.honesty.1 honest in
     let reads = c.read_synced.ensures.reads honest_1 in
     let just : LeavesJust (g.D.Disk.seen c.sync.new.self) (g.D.Disk.may_leave c.sync.new.self) = c.in_ok-sync.ensures.durable honest in
     let now : LeavesJust (g.D.Disk.seen c.read_synced.new.disk) (g.D.Disk.may_leave c.read_synced.new.disk) = λ image left. just image (reads.adds_none image left) ∙ sym reads.same in
@@ -25,8 +36,8 @@ returns-clause-settled g c = λ honest.
 
 pub returns-clause-fault : goal.returns-clause-fault
 returns-clause-fault g c =
-    counted c.read_synced.result (g.D.Disk.failures c.args.disk.now) (g.D.Disk.failures c.sync.new.self) (g.D.Disk.failures c.read_synced.new.disk) c.in_ok-sync.ensures.still (λ rises. let e = c.in_ok-sync.ensures.fault.1 rises in cc) c.read_synced.ensures.fault c.read_synced.ensures.still
+    counted c.read_synced.result (g.D.Disk.failures c.args.disk.now) (g.D.Disk.failures c.sync.new.self) (g.D.Disk.failures c.read_synced.new.disk) c.in_ok-sync.ensures.device.still (λ rises. let e = c.in_ok-sync.ensures.device.fault.1 rises in cc) c.read_synced.ensures.device.fault c.read_synced.ensures.device.still
 
-pub returns-clause-still : goal.returns-clause-still
-returns-clause-still g c =
-    still_after c.read_synced.result (g.D.Disk.failures c.args.disk.now) (g.D.Disk.failures c.sync.new.self) (g.D.Disk.failures c.read_synced.new.disk) c.in_ok-sync.ensures.still c.read_synced.ensures.still
+pub returns-clause-device : goal.returns-clause-device
+returns-clause-device g c =
+    after_sync g.D.Disk.size g.D.Disk.failures g.D.Disk.calls g.D.Disk.honest Device tt c.read_synced.result c.args.disk.now c.sync.new.self c.read_synced.new.disk c.in_ok-sync.ensures.device c.read_synced.ensures.device

@@ -1,17 +1,17 @@
-use Rattle.std.proofs.Common.{◌≡◌, ℕ, List, length, Some, Err, sym, ◌∙◌, ap, subst}
+use Rattle.std.proofs.Common.{◌≡◌, ℕ, List, length, Some, Err, sym, ◌∙◌, ap, subst, arith}
 use Rattle.std.proofs.lemmas.Result.{err_from_is_err_and}
-use Rattle.fe_disk.specs.Disk.{Rises}
+use Rattle.fe_disk.proofs.Outcomes.{runs_as, runs_joined, runs_within}
 use Rattle.fe_journal.specs.Damage.{TellsFound}
 use Rattle.fe_journal.specs.Store.{CountsAs, IsSlotRead}
 use Rattle.fe_journal.specs.declared.fault.StoreFault.{StoreFault}
-use Rattle.fe_journal.specs.declared.fault.StoreFault.TheVariants.{NoMemory}
+use Rattle.fe_journal.specs.declared.fault.StoreFault.TheVariants.{Device, NoMemory}
 use Rattle.fe_journal.proofs.Readings.{reads_again, same_fault, fault_back, formatted_by}
 use Rattle.fe_journal.proofs.store.read_synced.Goals as goal
 
 pub returns-clause-store : goal.returns-clause-store
 returns-clause-store g c = λ honest.
     let same = (c.read_sound.ensures.reads honest).same in
-    let honest_1 = c.read_sound.ensures.honesty.1 honest in
+    let honest_1 = c.read_sound.ensures.device.honesty.1 honest in
     let sound = c.in_ok-slot.ensures.sound in
     record {
       counts = c.in_ok-slot.ensures.counts honest;
@@ -25,18 +25,12 @@ returns-clause-whole g c = let sound = c.in_ok-slot.ensures.sound in record { is
 
 pub returns-clause-reads : goal.returns-clause-reads
 returns-clause-reads g c = λ honest.
-    reads_again g.D.Disk.seen g.D.Disk.may_leave g.D.Disk.moment g.D.Disk.left_since c.args.disk.now c.read_sound.new.disk c.read_slot.new.disk (c.read_sound.ensures.reads honest) (c.read_slot.ensures.reads (c.read_sound.ensures.honesty.1 honest))
-
-pub returns-clause-fault : goal.returns-clause-fault
-returns-clause-fault g c = λ e. absurd (cc)
-
-pub returns-clause-still : goal.returns-clause-still
-returns-clause-still g c = λ _. c.in_ok-parts.ensures.still (λ e. cc) ∙ c.in_ok-slot.ensures.still (λ e. cc)
+    reads_again g.D.Disk.seen g.D.Disk.may_leave g.D.Disk.moment g.D.Disk.left_since c.args.disk.now c.read_sound.new.disk c.read_slot.new.disk (c.read_sound.ensures.reads honest) (c.read_slot.ensures.reads (c.read_sound.ensures.device.honesty.1 honest))
 
 pub returns-in_err-parts-clause-faults : goal.returns-in_err-parts-clause-faults
 returns-in_err-parts-clause-faults g c = λ honest.
     let same = (c.read_sound.ensures.reads honest).same in
-    let honest_1 = c.read_sound.ensures.honesty.1 honest in
+    let honest_1 = c.read_sound.ensures.device.honesty.1 honest in
     let counts = subst (λ (l : List ℕ). CountsAs l (Some (c.in_ok-slot.slot, c.in_ok-slot.header))) (sym same) (c.in_ok-slot.ensures.counts honest) in
     let told = subst (λ (l : List ℕ). TellsFound c.in_err-parts.field-0.0 l) same (c.in_err-parts.ensures.faults honest_1 counts) in
     let p = err_from_is_err_and c.from_residual-in_err-parts.result c.from_residual-in_err-parts.ensures.1 in
@@ -44,35 +38,13 @@ returns-in_err-parts-clause-faults g c = λ honest.
 
 pub returns-in_err-parts-clause-reads : goal.returns-in_err-parts-clause-reads
 returns-in_err-parts-clause-reads g c = λ honest.
-    reads_again g.D.Disk.seen g.D.Disk.may_leave g.D.Disk.moment g.D.Disk.left_since c.args.disk.now c.read_sound.new.disk c.read_slot.new.disk (c.read_sound.ensures.reads honest) (c.read_slot.ensures.reads (c.read_sound.ensures.honesty.1 honest))
-
-pub returns-in_err-parts-clause-fault : goal.returns-in_err-parts-clause-fault
-returns-in_err-parts-clause-fault g c = λ device.
-    let p = err_from_is_err_and c.from_residual-in_err-parts.result c.from_residual-in_err-parts.ensures.1 in
-    let is = same_fault c.from_residual-in_err-parts.result p.0 c.in_err-parts.field-0.0 p.1 p.2 device in
-    subst (λ (n : ℕ). Rises n (g.D.Disk.failures c.read_slot.new.disk)) (c.in_ok-slot.ensures.still (λ e. cc)) (c.in_err-parts.ensures.fault (ap (λ (f : StoreFault). Err f) is))
-
-pub returns-in_err-parts-clause-still : goal.returns-in_err-parts-clause-still
-returns-in_err-parts-clause-still g c = λ none.
-    let p = err_from_is_err_and c.from_residual-in_err-parts.result c.from_residual-in_err-parts.ensures.1 in
-    c.in_err-parts.ensures.still (λ e. none (fault_back c.from_residual-in_err-parts.result p.0 c.in_err-parts.field-0.0 p.1 p.2 e)) ∙ c.in_ok-slot.ensures.still (λ e. cc)
+    reads_again g.D.Disk.seen g.D.Disk.may_leave g.D.Disk.moment g.D.Disk.left_since c.args.disk.now c.read_sound.new.disk c.read_slot.new.disk (c.read_sound.ensures.reads honest) (c.read_slot.ensures.reads (c.read_sound.ensures.device.honesty.1 honest))
 
 pub returns-in_err-slot-clause-faults : goal.returns-in_err-slot-clause-faults
 returns-in_err-slot-clause-faults g c = λ honest. let p = err_from_is_err_and c.from_residual.result c.from_residual.ensures.1 in rw (p.1, p.2) (c.in_err-slot.ensures.faults honest)
 
 pub returns-in_err-slot-clause-reads : goal.returns-in_err-slot-clause-reads
 returns-in_err-slot-clause-reads g c = c.read_sound.ensures.reads
-
-pub returns-in_err-slot-clause-fault : goal.returns-in_err-slot-clause-fault
-returns-in_err-slot-clause-fault g c = λ device.
-    let p = err_from_is_err_and c.from_residual.result c.from_residual.ensures.1 in
-    let is = same_fault c.from_residual.result p.0 c.in_err-slot.field-0.0 p.1 p.2 device in
-    c.in_err-slot.ensures.fault (ap (λ (f : StoreFault). Err f) is)
-
-pub returns-in_err-slot-clause-still : goal.returns-in_err-slot-clause-still
-returns-in_err-slot-clause-still g c = λ none.
-    let p = err_from_is_err_and c.from_residual.result c.from_residual.ensures.1 in
-    c.in_err-slot.ensures.still (λ e. none (fault_back c.from_residual.result p.0 c.in_err-slot.field-0.0 p.1 p.2 e))
 
 pub returns-in_err-buffer-clause-faults : goal.returns-in_err-buffer-clause-faults
 returns-in_err-buffer-clause-faults g c = λ honest.
@@ -82,10 +54,21 @@ returns-in_err-buffer-clause-faults g c = λ honest.
     let p = err_from_is_err_and c.from_residual-in_err-buffer.result c.from_residual-in_err-buffer.ensures.1 in
     rw (p.1, p.2) formatted
 
-pub returns-in_err-parts-clause-honesty : goal.returns-in_err-parts-clause-honesty
-returns-in_err-parts-clause-honesty g c =
-    (λ honest. c.read_sound.ensures.honesty.0 (c.read_slot.ensures.honesty.0 honest), λ honest. c.read_slot.ensures.honesty.1 (c.read_sound.ensures.honesty.1 honest))
+pub returns-clause-device : goal.returns-clause-device
+returns-clause-device g c =
+    runs_as g.D.Disk.size g.D.Disk.failures g.D.Disk.calls g.D.Disk.honest 4 0 0 Device _ _ c.args.disk.now c.read_slot.new.disk
+    (runs_joined g.D.Disk.size g.D.Disk.failures g.D.Disk.calls g.D.Disk.honest 2 0 0 2 0 0 Device _ _ c.args.disk.now c.read_sound.new.disk c.read_slot.new.disk c.in_ok-slot.ensures.device (λ e. cc) c.in_ok-parts.ensures.device) (λ e. cc) (λ e. cc)
 
-pub returns-clause-honesty : goal.returns-clause-honesty
-returns-clause-honesty g c =
-    (λ honest. c.read_sound.ensures.honesty.0 (c.read_slot.ensures.honesty.0 honest), λ honest. c.read_slot.ensures.honesty.1 (c.read_sound.ensures.honesty.1 honest))
+pub returns-in_err-parts-clause-device : goal.returns-in_err-parts-clause-device
+returns-in_err-parts-clause-device g c =
+    let p = err_from_is_err_and c.from_residual-in_err-parts.result c.from_residual-in_err-parts.ensures.1 in
+    runs_as g.D.Disk.size g.D.Disk.failures g.D.Disk.calls g.D.Disk.honest 4 0 0 Device _ _ c.args.disk.now c.read_slot.new.disk
+    (runs_joined g.D.Disk.size g.D.Disk.failures g.D.Disk.calls g.D.Disk.honest 2 0 0 2 0 0 Device _ _ c.args.disk.now c.read_sound.new.disk c.read_slot.new.disk c.in_ok-slot.ensures.device (λ e. cc) c.in_err-parts.ensures.device)
+    (λ e. ap (λ (f : StoreFault). Err f) (same_fault c.from_residual-in_err-parts.result p.0 c.in_err-parts.field-0.0 p.1 p.2 e)) (fault_back c.from_residual-in_err-parts.result p.0 c.in_err-parts.field-0.0 p.1 p.2)
+
+pub returns-in_err-slot-clause-device : goal.returns-in_err-slot-clause-device
+returns-in_err-slot-clause-device g c =
+    let p = err_from_is_err_and c.from_residual.result c.from_residual.ensures.1 in
+    runs_as g.D.Disk.size g.D.Disk.failures g.D.Disk.calls g.D.Disk.honest 4 0 0 Device _ _ c.args.disk.now c.read_sound.new.disk
+    (runs_within g.D.Disk.size g.D.Disk.failures g.D.Disk.calls g.D.Disk.honest 2 0 0 4 0 0 Device _ c.args.disk.now c.read_sound.new.disk (omega arith) (omega arith) (omega arith) c.in_err-slot.ensures.device)
+    (λ e. ap (λ (f : StoreFault). Err f) (same_fault c.from_residual.result p.0 c.in_err-slot.field-0.0 p.1 p.2 e)) (fault_back c.from_residual.result p.0 c.in_err-slot.field-0.0 p.1 p.2)

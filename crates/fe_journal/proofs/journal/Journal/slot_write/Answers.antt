@@ -20,7 +20,7 @@ returns-clause-any_moment g c = λ honest contents d keeps.
     let honest_inside = subst (λ (s : JournalState g.row.D.Denot). g.D.Disk.honest s.disk) (sym c.self.view_is) honest in
     let stays = g.met.D.Disk.seen_may_stay j.disk honest in
     let follows = subst (λ (s : JournalState g.row.D.Denot). Follows (IsTorn at (length c.args.slice.now)) (g.D.Disk.may_leave s.disk) (g.D.Disk.may_leave c.write_at-outcome.new.self)) c.self.view_is (c.write_at-outcome.ensures.stop honest_inside) in
-    let time = subst (λ (s : JournalState g.row.D.Denot). Elapses (g.D.Disk.moment s.disk) (g.D.Disk.moment c.write_at-outcome.new.self) (g.D.Disk.left_since s.disk) (g.D.Disk.left_since c.write_at-outcome.new.self) (g.D.Disk.may_leave c.write_at-outcome.new.self)) c.self.view_is (c.write_at-outcome.ensures.time honest_inside) in
+    let time = subst (λ (s : JournalState g.row.D.Denot). Elapses g.D.Disk.moment g.D.Disk.left_since g.D.Disk.may_leave s.disk c.write_at-outcome.new.self) c.self.view_is (c.write_at-outcome.ensures.time honest_inside) in
     write_moments g.D.Disk.moment g.D.Disk.left_since g.D.Disk.seen g.D.Disk.may_leave j contents d c.args.slice.now at c.in-Some.begun keeps stays begun at_is fits c.write_at-outcome.new.self (λ image left. g.met.D.Disk.only_now j.disk image honest left) follows time
 
 pub returns-then-is_err-clause-any_moment : goal.returns-then-is_err-clause-any_moment
@@ -34,7 +34,7 @@ returns-then-is_err-clause-any_moment g c = λ honest contents d keeps.
     let honest_inside = subst (λ (s : JournalState g.row.D.Denot). g.D.Disk.honest s.disk) (sym c.self.view_is) honest in
     let stays = g.met.D.Disk.seen_may_stay j.disk honest in
     let follows = subst (λ (s : JournalState g.row.D.Denot). Follows (IsTorn at (length c.args.slice.now)) (g.D.Disk.may_leave s.disk) (g.D.Disk.may_leave c.write_at-outcome.new.self)) c.self.view_is (c.write_at-outcome.ensures.stop honest_inside) in
-    let time = subst (λ (s : JournalState g.row.D.Denot). Elapses (g.D.Disk.moment s.disk) (g.D.Disk.moment c.write_at-outcome.new.self) (g.D.Disk.left_since s.disk) (g.D.Disk.left_since c.write_at-outcome.new.self) (g.D.Disk.may_leave c.write_at-outcome.new.self)) c.self.view_is (c.write_at-outcome.ensures.time honest_inside) in
+    let time = subst (λ (s : JournalState g.row.D.Denot). Elapses g.D.Disk.moment g.D.Disk.left_since g.D.Disk.may_leave s.disk c.write_at-outcome.new.self) c.self.view_is (c.write_at-outcome.ensures.time honest_inside) in
     write_moments g.D.Disk.moment g.D.Disk.left_since g.D.Disk.seen g.D.Disk.may_leave j contents d c.args.slice.now at c.in-Some.begun keeps stays begun at_is fits c.write_at-outcome.new.self (λ image left. g.met.D.Disk.only_now j.disk image honest left) follows time
 
 pub returns-clause-written : goal.returns-clause-written
@@ -74,7 +74,7 @@ invariant_of-self-2 g c =
     let begun = sym (ap (λ (s : JournalState g.row.D.Denot). s.begun) c.self.view_is) ∙ c.in-Some.is in
     let fits = c.requires.begun c.in-Some.begun begun in
     record {
-      device = c.write_at-outcome.ensures.size ∙ c.self.invariant.device;
+      device = c.write_at-outcome.ensures.device.same_size ∙ c.self.invariant.device;
       buffer = c.self.invariant.buffer;
       is_slot = c.self.invariant.is_slot;
       within = c.self.invariant.within;

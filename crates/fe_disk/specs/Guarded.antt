@@ -1,0 +1,29 @@
+-- What a `Guarded` disk shows, and what its policy does to a call.
+use Rattle.std.specs.Prelude.{◌≡◌, ◌↔◌, ℕ, ◌-◌, ◌^◌, ◌<◌, Result, IsErr}
+use Rattle.fe_disk.specs.Disk.{Rises}
+use Rattle.fe_disk.specs.declared.guarded.Guarded.{Guarded}
+
+-- the disk that it passes calls on to
+abbrev pub disk_of : {D P : Type 0} → Guarded D P → D
+disk_of disk = disk.inner
+
+-- what the disk shows
+abbrev pub inner : {D P T : Type 0} → (D → T) → Guarded D P → T
+inner f disk = f (disk_of disk)
+
+abbrev pub inner_holds : {D P : Type 0} → (D → Type 0) → Guarded D P → Type 0
+inner_holds P disk = P (disk_of disk)
+
+-- which calls it passes on
+abbrev pub policy_of : {D P : Type 0} → Guarded D P → P
+policy_of disk = disk.policy
+
+-- its count of faults: the disk's when it was made, and since then those of each call
+abbrev pub fault_count : {D P : Type 0} → Guarded D P → ℕ
+fault_count disk = disk.failures
+
+-- The policy counts each call. One that it doesn't pass on is a fault and the disk isn't touched; each other one is a fault just where it is one of the disk.
+pub record Guards {D P T E : Type 0} (passes : P → Type 0) (next : P → P) (failures : D → ℕ) (result : Result T E) (old new : Guarded D P) : Type 0 where
+  pub counted : policy_of new ≡ next (policy_of old)
+  pub refused : (passes (policy_of old) → ⊥) → IsErr result × (disk_of new ≡ disk_of old)
+  pub passed : passes (policy_of old) → fault_count old < 2 ^ 64 - 1 → (IsErr result ↔ Rises (failures (disk_of old)) (failures (disk_of new)))
