@@ -8,6 +8,10 @@ use Rattle.fe_keeper.proofs.store.Store.make_room.Goals as goal
 pub returns-in_default-clause-carries : goal.returns-in_default-clause-carries
 returns-in_default-clause-carries g c = λ honest s upholds image. c.finish.ensures.carries honest s upholds
 
+pub returns-then-is_none-clause-carries : goal.returns-then-is_none-clause-carries
+returns-then-is_none-clause-carries g c = λ honest s upholds image.
+    c.renew.ensures.carries honest s upholds (subst (λ (o : Option Checkpoint). IfSome o (λ made. IsImageOf made s)) c.in-Some.is image)
+
 pub returns-in_err-finish-clause-carries : goal.returns-in_err-finish-clause-carries
 returns-in_err-finish-clause-carries g c = λ honest s upholds image. record { any_moment = (c.finish-2.ensures.carries honest s upholds).any_moment; upheld = search rules }
 
