@@ -155,16 +155,6 @@ popped {A} {B} f xs ys zs x n r b is err none many rest = by (is_ok r) (ok_of_no
         ap (λ (s : List A). map f s) (rest ∙ back)
     by false ok is = absurd (cc ok)
 
--- ---- the faults of an append
-
--- what is neither of the others is the device's
-pub only_device : (fault : Fault) → (fault ≡ Device) ⊎ ((fault ≡ Failed) ⊎ ((fault ≡ NoMemory) ⊎ ((place : ℕ) × (fault ≡ Mismatch place)))) → (fault ≡ Failed → ⊥) → (fault ≡ NoMemory → ⊥)
-    → ((place : ℕ) → fault ≡ Mismatch place → ⊥) → fault ≡ Device
-only_device fault (inl is) failed memory mismatch = is
-only_device fault (inr (inl is)) failed memory mismatch = absurd (failed is)
-only_device fault (inr (inr (inl is))) failed memory mismatch = absurd (memory is)
-only_device fault (inr (inr (inr (place, is)))) failed memory mismatch = absurd (mismatch place is)
-
 -- making room and appending fails no store
 pub appends_working : {D : Type 0} (store : StoreState D) (entries : List Entry) → (made_room store entries).has_failed ≡ store.has_failed
 appends_working {D} store entries = by (must_begin store entries) (fits store entries) store.checkpoint

@@ -8,6 +8,7 @@ pub mod Openings
 pub mod Places
 pub mod Replies
 pub mod Groups
+pub mod Failing
 pub mod Runnings
 pub mod StepParts
 pub mod Leftovers

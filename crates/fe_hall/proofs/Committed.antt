@@ -1,6 +1,6 @@
 -- How the keeper of a committing side goes on, over calls one after the other.
 use Rattle.std.proofs.Common.{◌≡◌, ◌⊎◌, inl, inr, ⊎_elim, ℕ, suc, ◌+◌, ◌≤◌, Bool, true, false, Option, Some, None, List, [], ◌∷◌, ◌++◌, length, take, refl, sym, ap, subst, ◌∙◌, zero-add, arith}
-use Rattle.std.specs.Prelude.{◌↔◌, if◌then◌else◌}
+use Rattle.std.specs.Prelude.{◌↔◌, if◌then◌else◌, Result, Ok, Err, IsErrAnd, IfErr}
 use Rattle.std.proofs.lemmas.List.{length-append, take-append-le, take_all}
 use Rattle.fe_disk.specs.Disk.{LeavesOnly}
 use Rattle.fe_disk.proofs.Moments.{started, joined, weaker}
@@ -10,12 +10,13 @@ use Rattle.fe_state.specs.declared.entry.Entry.{Entry}
 use Rattle.fe_state.proofs.Histories.{history-append}
 use Rattle.fe_replica.specs.Taking.{Continues}
 use Rattle.std.specs.Option.{option_map_or}
+use Rattle.fe_keeper.specs.Ends.{Rests, IsDurable, StopsLeave, Works, Breaks, Refuses, Fails, ForBatch}
 use Rattle.fe_keeper.specs.Keeper.{KeeperState, StoreState, Progress, fits, must_begin, made_room, renewed, appended, stepped, stepped_by, finished, finished_by}
 use Rattle.fe_keeper.specs.Prefix.{LeavesPrefix}
 use Rattle.fe_keeper.specs.Stands.{StandsFor, StandsForEither, EachStandsFor}
 use Rattle.fe_keeper.specs.declared.fault.Fault.{Fault}
 use Rattle.fe_keeper.specs.declared.fault.Fault.TheVariants.{Device, Failed, NoMemory, Mismatch, Damaged, Unformatted}
-use Rattle.fe_hall.specs.Commits.{Append, AreAppends, HoldsSince, Commits, Rests, IsStill, end_of}
+use Rattle.fe_hall.specs.Commits.{Append, AreAppends, HoldsSince, Commits, IsStill, HasFailed, TellsEnd, end_of}
 use Rattle.fe_hall.specs.declared.commit_end.CommitEnd.{CommitEnd}
 use Rattle.fe_hall.specs.declared.commit_end.CommitEnd.TheVariants.{Store, Strange}
 
@@ -298,37 +299,57 @@ module _ {D : Type 0} (failures : D → ℕ) where
 
 -- ---- faults
 
--- the faults of an append
-abbrev pub AppendFaults : Fault → Type 0
-AppendFaults fault = (fault ≡ Device) ⊎ ((fault ≡ Failed) ⊎ ((fault ≡ NoMemory) ⊎ ((place : ℕ) × (fault ≡ Mismatch place))))
-
-no_damage : (offset : ℕ) → AppendFaults (Damaged offset) → ⊥
-no_damage offset (inl is) = absurd (cc is)
-no_damage offset (inr (inl is)) = absurd (cc is)
-no_damage offset (inr (inr (inl is))) = absurd (cc is)
-no_damage offset (inr (inr (inr mismatch))) = let is = mismatch.1 in absurd (cc is)
-
-no_unformatted : AppendFaults Unformatted → ⊥
-no_unformatted (inl is) = absurd (cc is)
-no_unformatted (inr (inl is)) = absurd (cc is)
-no_unformatted (inr (inr (inl is))) = absurd (cc is)
-no_unformatted (inr (inr (inr mismatch))) = let is = mismatch.1 in absurd (cc is)
-
 module _ {D : Type 0} (honest : D → Type 0) (may_leave : D → List ℕ → Type 0) (moment : D → ℕ) (left_since : D → ℕ → List ℕ → Type 0) (only_now : (disk : D) (image : List ℕ) → honest disk → left_since disk (moment disk) image → may_leave disk image) (old new : KeeperState D) (stands : honest new.store.disk → new.store.has_failed ≡ false → EachStandsFor may_leave new.store.disk new.state) where
   -- nothing was done
   pub commits_none : (end : Option CommitEnd) → new ≡ old → Commits honest moment left_since old new end
   commits_none end same = commits_kept honest moment left_since old new end (rests_as honest may_leave moment left_since only_now old new same stands)
 
   -- a batch was not appended
-  pub commits_fault : (fault : Fault) (first : ℕ) (entries : List Entry) → AppendFaults fault → (fault ≡ NoMemory → new ≡ old) → ((place : ℕ) → fault ≡ Mismatch place → new ≡ old) → (fault ≡ Failed → new ≡ old)
-      → (fault ≡ Device → Continues old.state first entries) → new.state ≡ old.state
-      → (honest old.store.disk → old.store.has_failed ≡ false → LeavesOnly moment left_since old.store.disk new.store.disk (StandsForEither old.state (after_all old.state entries)))
-      → Commits honest moment left_since old new (Some (end_of fault))
-  commits_fault Device first entries faults short unmatched untouched continued state run =
-      let continues = continued refl in
+  pub commits_fault : (failures : D → ℕ) (fault : Fault) (first : ℕ) (entries : List Entry) → Fails failures (ForBatch old first entries) old new fault → new.state ≡ old.state
+      → StopsLeave honest moment left_since old new (StandsForEither old.state (after_all old.state entries)) → Commits honest moment left_since old new (Some (end_of fault))
+  commits_fault failures Device first entries fails state run =
+      let continues = fails.0 in
       commits_torn honest moment left_since old new entries continues.some continues.legal state run
-  commits_fault Failed first entries faults short unmatched untouched continued state run = commits_none (Some (Store Failed)) (untouched refl)
-  commits_fault NoMemory first entries faults short unmatched untouched continued state run = commits_none (Some (Store NoMemory)) (short refl)
-  commits_fault (Mismatch place) first entries faults short unmatched untouched continued state run = commits_none (Some Strange) (unmatched place refl)
-  commits_fault (Damaged offset) first entries faults short unmatched untouched continued state run = absurd (no_damage offset faults)
-  commits_fault Unformatted first entries faults short unmatched untouched continued state run = absurd (no_unformatted faults)
+  commits_fault failures Failed first entries fails state run = commits_none (Some (Store Failed)) fails.1
+  commits_fault failures NoMemory first entries fails state run = commits_none (Some (Store NoMemory)) fails.1.same
+  commits_fault failures (Mismatch place) first entries fails state run = commits_none (Some Strange) fails.1.same
+  commits_fault failures (Damaged offset) first entries fails state run = absurd fails
+  commits_fault failures Unformatted first entries fails state run = absurd fails
+
+module _ {D : Type 0} (failures : D → ℕ) (old new : KeeperState D) where
+  still_same : new ≡ old → IsStill failures old new
+  still_same same = record { works = ap (λ (k : KeeperState D). k.store.has_failed) same; still = ap (λ (k : KeeperState D). failures k.store.disk) same }
+
+  has_failed : Breaks failures old new → HasFailed failures old new
+  has_failed breaks = record { before = breaks.before; failed = breaks.failed; rises = breaks.rises }
+
+  -- what the end tells of it
+  pub fault_tells : (fault : Fault) (first : ℕ) (entries : List Entry) → Fails failures (ForBatch old first entries) old new fault → TellsEnd failures old new (Some (end_of fault))
+  fault_tells Device first entries fails = has_failed fails.1
+  fault_tells Failed first entries fails = fails
+  fault_tells NoMemory first entries fails = still_same fails.1.same
+  fault_tells (Mismatch place) first entries fails = still_same fails.1.same
+  fault_tells (Damaged offset) first entries fails = absurd fails
+  fault_tells Unformatted first entries fails = absurd fails
+
+  -- the disk works on
+  pub still_works : Works failures old new → IsStill failures old new
+  still_works works = record { works = works.after ∙ sym works.before; still = works.still }
+
+  -- a fault of a checkpoint that takes no memory, or has it
+  pub device_alone : (Cause : Fault → Type 0) (fault : Fault) → old.store.has_failed ≡ false → (fault ≡ NoMemory → Cause NoMemory → ⊥) → ((place : ℕ) → Cause (Mismatch place) → ⊥) → Fails failures Cause old new fault
+      → (fault ≡ Device) × HasFailed failures old new
+  device_alone Cause Device works memory mismatch fails = (refl, has_failed fails.1)
+  device_alone Cause Failed works memory mismatch fails = let had = fails.0 in absurd (cc (had, works))
+  device_alone Cause NoMemory works memory mismatch fails = absurd (memory refl fails.0)
+  device_alone Cause (Mismatch place) works memory mismatch fails = absurd (mismatch place fails.0)
+  device_alone Cause (Damaged offset) works memory mismatch fails = absurd fails
+  device_alone Cause Unformatted works memory mismatch fails = absurd fails
+
+  pub still_short : (Cause : Fault → Type 0) (fault : Fault) → fault ≡ NoMemory → Fails failures Cause old new fault → IsStill failures old new
+  still_short Cause fault is fails = still_same (subst (Fails failures Cause old new) is fails).1.same
+
+-- what is said of a fault is said of a result that has it
+pub told : {T : Type 0} (result : Result T Fault) (fault : Fault) (P : Fault → Type 0) → IsErrAnd result (λ f. f ≡ fault) → P fault → IfErr result P
+told (Ok x) fault P is p = absurd is
+told (Err f) fault P is p = subst P (sym is) p

@@ -8,7 +8,6 @@ use Rattle.fe_state.specs.declared.entry.Entry.{Entry}
 use Rattle.fe_replica.specs.Taking.{Continues}
 use Rattle.fe_keeper.specs.Keeper.{KeeperState}
 use Rattle.fe_keeper.specs.Prefix.{LeavesPrefix}
-use Rattle.fe_keeper.specs.Stands.{StandsFor}
 use Rattle.fe_keeper.specs.declared.fault.Fault.{Fault}
 use Rattle.fe_keeper.specs.declared.fault.Fault.TheVariants.{Device, Failed, NoMemory, Mismatch, Damaged, Unformatted}
 use Rattle.fe_hall.specs.declared.commit_end.CommitEnd.{CommitEnd}
@@ -56,12 +55,6 @@ pub record Commits {D : Type 0} (honest : D → Type 0) (moment : D → ℕ) (le
   pub are_appends : AreAppends old.state (take stored groups) appends
   pub any_moment : honest old.store.disk → old.store.has_failed ≡ false
       → HoldsSince moment left_since old.state groups 0 old.store.disk appends new.store.disk
-
--- The keeper's state is as it was, and at every moment each image that a stop leaves stands for it.
-pub record Rests {D : Type 0} (honest : D → Type 0) (moment : D → ℕ) (left_since : D → ℕ → List ℕ → Type 0) (old new : KeeperState D) : Type 0 where
-  pub state : new.state ≡ old.state
-  pub any_moment : honest old.store.disk → old.store.has_failed ≡ false → LeavesOnly moment left_since old.store.disk new.store.disk (λ image. StandsFor image old.state)
-  pub honesty : honest new.store.disk ↔ honest old.store.disk
 
 -- ---- ends
 

@@ -1,9 +1,10 @@
 //! The committing side: it stores the batches of a hall, and posts them.
 
 ghost use Rattle.std.specs.Prelude.{◌≡◌, ◌≢◌, ◌↔◌, true, false, Some, None, Ok, Err, OnOk, IfErr};
+ghost use Rattle.fe_keeper.specs.Ends.{Rests};
 ghost use Rattle.fe_keeper.specs.Stands.{EachStandsFor};
 ghost use Rattle.fe_keeper.specs.declared.fault.Fault.TheVariants.{Device};
-ghost use Rattle.fe_hall.specs.Commits.{Commits, Rests, IsStill, HasFailed, TellsEnd, end_of};
+ghost use Rattle.fe_hall.specs.Commits.{Commits, IsStill, HasFailed, TellsEnd, end_of};
 
 use crate::commit_end::CommitEnd;
 use crate::floor::Cutting;

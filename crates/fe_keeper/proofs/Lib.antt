@@ -1,5 +1,6 @@
 pub mod Appending
 pub mod Checkpoints
+pub mod Ends
 pub mod Finishing
 pub mod Rests
 mod Standing

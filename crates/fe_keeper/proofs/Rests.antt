@@ -1,8 +1,10 @@
 -- What holds as the slices that are left are written.
-use Rattle.std.proofs.Common.{◌≡◌, ◌↔◌, ℕ, ◌+◌, ◌-◌, ◌<◌, ◌≤◌, ◌/◌, List, Option, Some, None, Bool, true, false, not, nat_le, if◌then◌else◌, IsSome, ◌∙◌, ap, subst, refl, sym, arith, inl, inr}
+use Rattle.std.proofs.Common.{◌≡◌, ◌↔◌, ℕ, ◌+◌, ◌-◌, ◌<◌, ◌≤◌, ◌/◌, List, Option, Some, None, Bool, true, false, not, nat_le, if◌then◌else◌, ◌∙◌, ap, subst, refl, sym, arith, inl, inr}
 use Rattle.std.proofs.lemmas.Bool.{cases_lt}
 use Rattle.std.proofs.lemmas.Bool.Decides.{nat_tests}
 use Rattle.std.specs.Option.{option_map_or}
+use Rattle.std.specs.Prelude.{Result, Ok}
+use Rattle.fe_journal.specs.declared.fault.JournalFault.{JournalFault}
 use Rattle.fe_disk.specs.Disk.{LeavesOnly, Rises, MakesAtMost}
 use Rattle.fe_disk.specs.declared.calls.Calls.{Calls}
 use Rattle.fe_disk.proofs.Moments.{joined}
@@ -10,7 +12,9 @@ use Rattle.fe_state.specs.State.{ServerState}
 use Rattle.fe_format.specs.declared.format.Format.{Format}
 use Rattle.fe_keeper.specs.Keeper.{Progress, StoreState, stepped, finished, has_slices, slices_of, slices_left}
 use Rattle.fe_keeper.specs.Stands.{StandsFor}
-use Rattle.fe_keeper.specs.within.Upholds.{IsStore, Upholds, store_of}
+use Rattle.fe_keeper.specs.within.Ends.{StoreEnds, StaysSound, Carries}
+use Rattle.fe_keeper.specs.within.Ready.{HasCheckpoint}
+use Rattle.fe_keeper.specs.within.Upholds.{Upholds, store_of}
 use Rattle.fe_keeper.specs.declared.store.Store.{Store}
 use Rattle.fe_keeper.proofs.Checkpoints.{stays}
 
@@ -25,9 +29,7 @@ pub record GoesOn {D : Type 0} (moment : D → ℕ) (left_since : D → ℕ → 
 
 -- What slices leave of a store: nothing that a finish takes is changed.
 pub record IsWriting {D : Type 0} (moment : D → ℕ) (left_since : D → ℕ → List ℕ → Type 0) (seen : D → List ℕ) (may_leave : D → List ℕ → Type 0) (honest : D → Type 0) (failures : D → ℕ) (calls : D → Calls) (old now : Store D) : Type 0 where
-  pub sound : IsStore now
-  pub under_way : IsSome now.checkpoint
-  pub works : now.journal.has_failed ≡ false
+  pub ready : HasCheckpoint now
   pub goes_on : honest old.journal.disk → (s : ServerState) → Upholds seen may_leave old s → GoesOn moment left_since seen may_leave old now s
   pub value : finished (store_of now) ≡ record (finished (store_of old)) { disk = now.journal.disk }
   pub still : failures now.journal.disk ≡ failures old.journal.disk
@@ -106,13 +108,11 @@ some_left (Some p) is = let far = above p.size p.written is in omega (arith, far
 
 module _ {D : Type 0} (moment : D → ℕ) (left_since : D → ℕ → List ℕ → Type 0) (seen : D → List ℕ) (may_leave : D → List ℕ → Type 0) (honest : D → Type 0) (failures : D → ℕ) (calls : D → Calls) where
   -- before the first slice
-  pub none_yet : (old : Store D) → ((image : List ℕ) → honest old.journal.disk → left_since old.journal.disk (moment old.journal.disk) image → may_leave old.journal.disk image) → IsStore old → IsSome old.checkpoint
-      → old.journal.has_failed ≡ false → IsWriting moment left_since seen may_leave honest failures calls old old
-  none_yet old only_now sound under_way works =
+  pub none_yet : (old : Store D) → ((image : List ℕ) → honest old.journal.disk → left_since old.journal.disk (moment old.journal.disk) image → may_leave old.journal.disk image) → HasCheckpoint old
+      → IsWriting moment left_since seen may_leave honest failures calls old old
+  none_yet old only_now ready =
       record {
-        sound = sound;
-        under_way = under_way;
-        works = works;
+        ready = ready;
         goes_on = λ is s upholds. record { run = stays moment left_since seen may_leave old s (λ image left. only_now image is left) upholds; upheld = upholds };
         value = finished_parts old.journal.disk old.place old.journal.format old.journal.used old.journal.has_failed (store_of old).checkpoint;
         still = refl;
@@ -125,42 +125,39 @@ module _ {D : Type 0} (moment : D → ℕ) (left_since : D → ℕ → List ℕ 
       }
 
   -- a run that went on by one call
-  pub moments_more : (old now new : Store D) → IsWriting moment left_since seen may_leave honest failures calls old now
-      → (honest now.journal.disk → (s : ServerState) → Upholds seen may_leave now s → LeavesOnly moment left_since now.journal.disk new.journal.disk (λ image. StandsFor image s))
+  pub moments_more : {T : Type 0} (result : Result T JournalFault) (old now new : Store D) → IsWriting moment left_since seen may_leave honest failures calls old now
+      → (honest now.journal.disk → (s : ServerState) → Upholds seen may_leave now s → Carries moment left_since seen may_leave result now new s)
       → honest old.journal.disk → (s : ServerState) → Upholds seen may_leave old s → LeavesOnly moment left_since old.journal.disk new.journal.disk (λ image. StandsFor image s)
-  moments_more old now new so_far any_moment is s upholds =
+  moments_more result old now new so_far carries is s upholds =
       let on = so_far.goes_on is s upholds in
-      joined moment left_since old.journal.disk now.journal.disk new.journal.disk (λ image. StandsFor image s) on.run (any_moment (so_far.honesty.1 is) s on.upheld)
+      joined moment left_since old.journal.disk now.journal.disk new.journal.disk (λ image. StandsFor image s) on.run (carries (so_far.honesty.1 is) s on.upheld).any_moment
 
   -- a slice more
-  pub one_more : (old now new : Store D) → IsWriting moment left_since seen may_leave honest failures calls old now → IsStore new → IsSome new.checkpoint → new.journal.has_failed ≡ false
-      → (honest now.journal.disk → (s : ServerState) → Upholds seen may_leave now s → LeavesOnly moment left_since now.journal.disk new.journal.disk (λ image. StandsFor image s))
-      → (honest now.journal.disk → (s : ServerState) → Upholds seen may_leave now s → Upholds seen may_leave new s)
-      → store_of new ≡ record (stepped (store_of now)) { disk = new.journal.disk } → failures new.journal.disk ≡ failures now.journal.disk → new.place ≡ now.place
+  pub one_more : (more : Bool) (old now new : Store D) → IsWriting moment left_since seen may_leave honest failures calls old now → StaysSound now new → HasCheckpoint new
+      → (honest now.journal.disk → (s : ServerState) → Upholds seen may_leave now s → Carries moment left_since seen may_leave (Ok more) now new s)
+      → store_of new ≡ record (stepped (store_of now)) { disk = new.journal.disk } → StoreEnds honest failures (Ok more) now.journal new.journal
       → MakesAtMost 0 1 0 (calls now.journal.disk) (calls new.journal.disk) → (has_slices (store_of now).checkpoint ≡ false → new ≡ now)
-      → (honest new.journal.disk ↔ honest now.journal.disk) → IsWriting moment left_since seen may_leave honest failures calls old new
-  one_more old now new so_far sound under_way works any_moment upheld value still place made rests honesty =
+      → IsWriting moment left_since seen may_leave honest failures calls old new
+  one_more more old now new so_far stays ready carries value ends made rests =
       let finishes = ap (λ (t : StoreState D). finished t) value ∙ stepped_parts now.journal.disk new.journal.disk now.place now.journal.format now.journal.used now.journal.has_failed (store_of now).checkpoint in
       let taken : StoreState D → StoreState D = λ t. record t { disk = new.journal.disk } in
       let again = ap taken so_far.value in
       let fewer = counted (store_of now) (store_of new) new.journal.disk (calls now.journal.disk).writes (calls new.journal.disk).writes value made.1.1
       (λ none. ap (λ (t : Store D). (calls t.journal.disk).writes) (rests none)) in
       record {
-        sound = sound;
-        under_way = under_way;
-        works = works;
+        ready = ready;
         goes_on = λ is s upholds. record {
-          run = moments_more old now new so_far any_moment is s upholds;
-          upheld = upheld (so_far.honesty.1 is) s (so_far.goes_on is s upholds).upheld;
+          run = moments_more (Ok more) old now new so_far carries is s upholds;
+          upheld = (carries (so_far.honesty.1 is) s (so_far.goes_on is s upholds).upheld).upheld;
         };
         value = finishes ∙ again;
-        still = still ∙ so_far.still;
-        place = place ∙ so_far.place;
+        still = ends.outcome.still ∙ so_far.still;
+        place = stays.place ∙ so_far.place;
         reads = omega (arith, made.0.0, made.0.1, so_far.reads);
         more = omega (arith, made.1.0, so_far.more);
         writes = omega (arith, fewer, so_far.writes);
         syncs = omega (arith, made.2.0, made.2.1, so_far.syncs);
-        honesty = (λ is. so_far.honesty.0 (honesty.0 is), λ is. honesty.1 (so_far.honesty.1 is));
+        honesty = (λ is. so_far.honesty.0 (ends.honesty.0 is), λ is. ends.honesty.1 (so_far.honesty.1 is));
       }
 
   -- a fault in a later call is one since the first

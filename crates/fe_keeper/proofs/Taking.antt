@@ -12,7 +12,11 @@ use Rattle.fe_keeper.specs.within.Faults.{fault_of_refused}
 use Rattle.fe_keeper.specs.declared.fault.Fault.{Fault}
 use Rattle.fe_keeper.specs.declared.fault.Fault.TheVariants.{NoMemory, Mismatch}
 use Rattle.fe_keeper.specs.Stands.{StandsFor, StandsForEither, EachStandsFor}
-use Rattle.fe_keeper.specs.within.Upholds.{Upholds}
+use Rattle.fe_journal.specs.declared.fault.JournalFault.{JournalFault}
+use Rattle.fe_keeper.specs.Keeper.{KeeperState}
+use Rattle.fe_keeper.specs.within.Ends.{Leads}
+use Rattle.fe_keeper.specs.within.Parts.{kept_of}
+use Rattle.fe_keeper.specs.within.Upholds.{Upholds, store_of}
 use Rattle.fe_keeper.specs.declared.store.Store.{Store}
 use Rattle.fe_keeper.specs.declared.parts.Parts.{Parts}
 
@@ -29,18 +33,10 @@ memory_told (replica.Mismatch at) none = absurd (none at refl)
 memory_told replica.NoMemory none = refl
 
 -- so that a batch that continues the history is refused for memory alone
-pub faults_told : {T : Type 0} (result : Result T Fault) (refused : Refused) → IsErrAnd result (λ fault. fault ≡ fault_of_refused refused) → ((place : ℕ) → refused ≡ replica.Mismatch place → ⊥)
-    → OnErr result (IsErrOf result NoMemory)
-faults_told (Ok x) refused told none = tt
-faults_told (Err fault) refused told none = ap Err (told ∙ memory_told refused none)
-
--- what is said of an error, at the result that came
-pub at_ok : {T E : Type 0} (r : Result T E) (x : T) (P : E → Type 0) → r ≡ Ok x → IfErr r P
-at_ok (Ok y) x P is = tt
-at_ok (Err e) x P is = absurd cc
-
-pub at_err : {T E : Type 0} (r : Result T E) (e : E) (P : E → Type 0) → r ≡ Err e → P e → IfErr r P
-at_err {T} {E} r e P is p = subst (λ (t : Result T E). IfErr t P) (sym is) p
+pub memory_alone : {T : Type 0} (P : Type 0) (result : Result T Fault) (refused : Refused) → IsErrAnd result (λ fault. fault ≡ fault_of_refused refused) → ((place : ℕ) → refused ≡ replica.Mismatch place → ⊥)
+    → P → IfErr result (λ fault. (fault ≡ NoMemory) × P)
+memory_alone P (Ok x) refused told none p = tt
+memory_alone P (Err fault) refused told none p = (told ∙ memory_told refused none, p)
 
 -- ---- a keeper as it was
 
@@ -49,6 +45,13 @@ parts_of old state log = record { store = old.store; state = state; log = log; a
 
 pub same_parts : {D : Type 0} (old : Parts D) (state : ServerState) (log : UndoLog) → state ≡ old.state → log ≡ old.log → parts_of old state log ≡ old
 same_parts old state log s l = ap (λ (t : ServerState). parts_of old t log) s ∙ ap (λ (t : UndoLog). parts_of old old.state t) l
+
+pub same_kept : {D : Type 0} (old new : Parts D) → new.state ≡ old.state → new.store ≡ old.store → kept_of new ≡ kept_of old
+same_kept {D} old new state store =
+    ap (λ (s : ServerState). kept_in s new.store) state ∙ ap (λ (t : Store D). kept_in old.state t) store
+  where
+    kept_in : ServerState → Store D → KeeperState D
+    kept_in s t = record { state = s; store = store_of t }
 
 -- ---- over the moments of a call
 
@@ -69,3 +72,11 @@ module _ {D : Type 0} (moment : D → ℕ) (left_since : D → ℕ → List ℕ 
   pub then_stored : (old mid new : D) (s : ServerState) (entries : List Entry) → LeavesOnly moment left_since old mid (λ image. StandsFor image s)
       → LeavesOnly moment left_since mid new (StandsForEither s (after_all s entries)) → LeavesOnly moment left_since old new (StandsForEither s (after_all s entries))
   then_stored old mid new s entries room run = joined moment left_since old mid new (StandsForEither s (after_all s entries)) (stays old mid s entries room) run
+
+-- what is said of a store and a state that are the same
+pub leads_as : {T D : Type 0} (honest : D → Type 0) (moment : D → ℕ) (left_since : D → ℕ → List ℕ → Type 0) (seen : D → List ℕ) (may_leave : D → List ℕ → Type 0) (result : Result T JournalFault) (was old new : Store D) (t s : ServerState) (entries : List Entry)
+    → was ≡ old → t ≡ s → (honest was.journal.disk → Upholds seen may_leave was t → Leads moment left_since seen may_leave result was new t (after_all t entries))
+    → honest old.journal.disk → Upholds seen may_leave old s → Leads moment left_since seen may_leave result old new s (after_all s entries)
+leads_as {T} {D} honest moment left_since seen may_leave result was old new t s entries same state leads =
+    subst (λ (x : Store D). honest x.journal.disk → Upholds seen may_leave x s → Leads moment left_since seen may_leave result x new s (after_all s entries)) same
+    (subst (λ (x : ServerState). honest was.journal.disk → Upholds seen may_leave was x → Leads moment left_since seen may_leave result was new x (after_all x entries)) state leads)

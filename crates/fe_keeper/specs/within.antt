@@ -6,3 +6,5 @@ pub mod Faults
 pub mod Parts
 pub mod Replaying
 pub mod Rooms
+pub mod Ends
+pub mod Ready

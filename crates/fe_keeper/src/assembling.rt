@@ -10,11 +10,8 @@ use crate::keeper::Keeper;
 use crate::store::Store;
 use fe_disk::Disk;
 use fe_journal::Journal;
-use fe_state::{State, UndoLog};
+use fe_state::{BATCH_ENTRIES, State, UndoLog};
 use std::alloc::{AllocError, Global};
-
-/// How many entries a batch has at most.
-const LONGEST_BATCH: usize = 4_097;
 
 /// Room for the group of a batch, and for taking a batch back.
 #[derive(Drop)]
@@ -27,8 +24,8 @@ impl Rooms {
     pub(crate) fn new(alloc: Global) -> Result<Rooms, AllocError>
         ensures { IfOk result AreRooms }
     {
-        let group = Vec::with_capacity(alloc, LONGEST_BATCH * 80)?;
-        let log = UndoLog::with_room(alloc, LONGEST_BATCH)?;
+        let group = Vec::with_capacity(alloc, BATCH_ENTRIES * 80)?;
+        let log = UndoLog::with_room(alloc, BATCH_ENTRIES)?;
         Ok(Rooms { group, log })
     }
 }

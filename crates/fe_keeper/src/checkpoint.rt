@@ -1,13 +1,14 @@
-ghost use Rattle.std.specs.Prelude.{◌≡◌, ◌↔◌, ◌+◌, ◌<◌, ◌≤◌, true, false, not, nat_le, length, IfOk, IfErr, OnOk, OnErr, IsErrOf, vec_len};
-ghost use Rattle.fe_disk.specs.Disk.{LeavesOnly, Rises, MakesAtMost};
+ghost use Rattle.std.specs.Prelude.{◌≡◌, ◌+◌, ◌≤◌, true, not, nat_le, length, IfOk, IfErr, OnOk, OnErr, vec_len};
+ghost use Rattle.fe_disk.specs.Disk.{MakesAtMost};
 ghost use Rattle.fe_state.specs.State.{ServerState};
 ghost use Rattle.fe_codec.specs.Image.{image_spelling};
 ghost use Rattle.fe_format.specs.declared.format.Format.TheVariants.{Two};
-ghost use Rattle.fe_journal.specs.Contents.{Contents, Holds};
-ghost use Rattle.fe_journal.specs.declared.fault.JournalFault.TheVariants as journal_fault;
+ghost use Rattle.fe_journal.specs.Contents.{Contents};
 ghost use Rattle.fe_keeper.specs.Keeper.{slice_size};
+ghost use Rattle.fe_keeper.specs.within.Ends.{StoreEnds, CarriesDraft};
 ghost use Rattle.fe_keeper.specs.within.Fresh.{IsFresh, IsImageOf};
-ghost use Rattle.fe_keeper.specs.within.Slices.{IsBegunFor, KeepsDraft, sliced, journal_sliced};
+ghost use Rattle.fe_keeper.specs.within.Ready.{CanWrite};
+ghost use Rattle.fe_keeper.specs.within.Slices.{KeepsDraft, sliced, journal_sliced};
 ghost use Rattle.fe_keeper.specs.within.Upholds.{progress_of};
 ghost use Rattle.fe_keeper.specs.declared.fault.Fault.TheVariants.{NoMemory};
 
@@ -68,25 +69,15 @@ impl Checkpoint {
         &mut self,
         journal: &mut Journal<D>,
     ) -> Result<bool, JournalFault>
-        requires begun { IsBegunFor journal.old self.old }
-        requires within { self.old.written ≤ vec_len self.old.image }
-        requires works { journal.old.has_failed ≡ false }
-        ensures any_moment { D.honest journal.old.disk → (c : Contents) (s : ServerState) → KeepsDraft D.seen D.may_leave journal.old c self.old s
-            → LeavesOnly D.moment D.left_since journal.old.disk journal.new.disk (Holds c) }
-        ensures drafted { D.honest journal.old.disk → (c : Contents) (s : ServerState) → KeepsDraft D.seen D.may_leave journal.old c self.old s
-            → OnOk result (KeepsDraft D.seen D.may_leave journal.new c self.new s) }
-        ensures value { OnOk result (self.new ≡ sliced self.old) }
-        ensures journal { OnOk result (journal.new ≡ journal_sliced journal.old journal.new.disk (sliced self.old)) }
+        requires can { CanWrite journal.old self.old }
+        ensures carries { D.honest journal.old.disk → (c : Contents) (s : ServerState) → KeepsDraft D.seen D.may_leave journal.old c self.old s
+            → CarriesDraft D.moment D.left_since D.seen D.may_leave result journal.old journal.new c self.new s }
+        ensures written { OnOk result ((self.new ≡ sliced self.old) × (journal.new ≡ journal_sliced journal.old journal.new.disk (sliced self.old))) }
         ensures more { IfOk result (λ more. more ≡ not (nat_le (vec_len self.old.image) (sliced self.old).written)) }
         ensures rests { vec_len self.old.image ≤ self.old.written → (self.new ≡ self.old) × (journal.new ≡ journal.old) }
-        ensures called { IsErrOf result journal_fault.Device → self.old.written < vec_len self.old.image }
-        ensures err { OnErr result (self.new ≡ self.old) }
-        ensures failing { OnErr result (journal.new ≡ record journal.old { disk = journal.new.disk; has_failed = true }) }
-        ensures device { IsErrOf result journal_fault.Device → Rises (D.failures journal.old.disk) (D.failures journal.new.disk) }
-        ensures still { OnOk result (D.failures journal.new.disk ≡ D.failures journal.old.disk) }
-        ensures faults { OnErr result (IsErrOf result journal_fault.Device) }
+        ensures err { OnErr result ((self.new ≡ self.old) × (journal.new ≡ record journal.old { disk = journal.new.disk; has_failed = true })) }
+        ensures ends { StoreEnds D.honest D.failures result journal.old journal.new }
         ensures calls { MakesAtMost 0 1 0 (D.calls journal.old.disk) (D.calls journal.new.disk) }
-        ensures honesty { D.honest journal.new.disk ↔ D.honest journal.old.disk }
     {
         let end = self.slice_end();
         if end == self.written {

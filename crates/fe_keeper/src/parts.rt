@@ -1,17 +1,18 @@
-ghost use Rattle.std.specs.Prelude.{◌≡◌, ◌⊎◌, ◌↔◌, ℕ, ◌+◌, ◌≤◌, length, true, false, is_some, IsTrue, IfOk, IfSome, OnOk, OnErr, IsErrOf};
-ghost use Rattle.fe_disk.specs.Disk.{LeavesOnly, Rises, MakesAtMost};
+ghost use Rattle.std.specs.Prelude.{◌≡◌, ◌↔◌, ◌≤◌, length, IsTrue, IfOk, IfErr, OnOk, OnErr};
 ghost use Rattle.fe_state.specs.State.{IsWithinLimits, after_all};
-ghost use Rattle.fe_state.specs.UndoLog.{empty_log, rewound};
-ghost use Rattle.fe_replica.specs.Taking.{Continues, IsMismatch, MakesSomeArray};
+ghost use Rattle.fe_state.specs.UndoLog.{empty_log};
+ghost use Rattle.fe_state.specs.declared.batch.TheConstants.{BATCH_ENTRIES};
+ghost use Rattle.fe_replica.specs.Taking.{Continues};
 ghost use Rattle.fe_codec.specs.Image.{image_spelling};
 ghost use Rattle.fe_format.specs.declared.format.Format.TheVariants.{Two};
 ghost use Rattle.fe_keeper.specs.Stands.{StandsForEither};
-ghost use Rattle.fe_keeper.specs.within.Fresh.{IsFresh, IsImageOf, whole_slices};
-ghost use Rattle.fe_keeper.specs.Keeper.{appended, made_room, must_begin, fits, slices_of, slices_left};
-ghost use Rattle.fe_keeper.specs.within.Upholds.{IsStore, Upholds, store_of};
-ghost use Rattle.fe_keeper.specs.within.Parts.{HasTaken, IsKept, kept_of};
-ghost use Rattle.fe_keeper.specs.declared.fault.Fault.TheVariants.{Device, Failed, NoMemory, Mismatch};
-ghost use Rattle.fe_journal.specs.declared.fault.JournalFault.TheVariants as journal;
+ghost use Rattle.fe_keeper.specs.Ends.{StopsLeave, Ends, ForBatch, IsAppended, MakesToAppend};
+ghost use Rattle.fe_keeper.specs.Keeper.{appended, made_room, must_begin, slices_of};
+ghost use Rattle.fe_keeper.specs.within.Ends.{StoreEnds, Leads};
+ghost use Rattle.fe_keeper.specs.within.Fresh.{whole_slices};
+ghost use Rattle.fe_keeper.specs.within.Parts.{AreAtRest, HasBatch, HasTaken, IsKept, IsMadeFor, kept_of, state_before};
+ghost use Rattle.fe_keeper.specs.within.Upholds.{Upholds, store_of};
+ghost use Rattle.fe_keeper.specs.declared.fault.Fault.TheVariants.{NoMemory};
 
 use crate::Fault;
 use crate::checkpoint::Checkpoint;
@@ -42,20 +43,14 @@ impl<D: Disk> Parts<D> {
     /// The checkpoint of the state before a batch that was taken, where a whole one has to be made for it:
     /// for that time the replica is that state. So all memory is taken before any call of the device.
     fn whole(&mut self, first: u64, entries: &[Entry]) -> Result<Option<Checkpoint>, Fault>
-        requires store { IsStore self.old.store }
-        requires few { length entries.now ≤ 4097 }
-        requires continues { Continues (rewound self.old.log self.old.state) first entries.now }
-        requires taken { HasTaken (rewound self.old.log self.old.state) entries.now self.old.state self.old.log }
-        requires place { self.old.store.place ≡ (rewound self.old.log self.old.state).place }
+        requires batch { HasBatch self.old entries.now }
+        requires continues { Continues (state_before self.old) first entries.now }
         ensures store { self.new.store ≡ self.old.store }
-        ensures taken { OnOk result (HasTaken (rewound self.old.log self.old.state) entries.now self.new.state self.new.log) }
+        ensures taken { OnOk result (HasTaken (state_before self.old) entries.now self.new.state self.new.log) }
         ensures room { self.new.log.room ≡ self.old.log.room }
-        ensures must { IfOk result (λ whole. is_some whole ≡ must_begin (store_of self.old.store) entries.now) }
-        ensures fresh { IfOk result (λ whole. IfSome whole (λ made. IsFresh made self.old.store.place)) }
-        ensures image { IfOk result (λ whole. IfSome whole (λ made. IsImageOf made (rewound self.old.log self.old.state))) }
-        ensures err { OnErr result ((self.new.state ≡ rewound self.old.log self.old.state) × (self.new.log ≡ empty_log self.old.log.room)) }
-        ensures needed { OnErr result (IsTrue (must_begin (store_of self.old.store) entries.now)) }
-        ensures faults { OnErr result (IsErrOf result NoMemory) }
+        ensures made { IfOk result (IsMadeFor self.old entries.now) }
+        ensures err { OnErr result ((self.new.state ≡ state_before self.old) × (self.new.log ≡ empty_log self.old.log.room)) }
+        ensures memory { IfErr result (λ fault. (fault ≡ NoMemory) × IsTrue (must_begin (store_of self.old.store) entries.now)) }
     {
         if !self.store.must_begin(entries) {
             return Ok(None);
@@ -68,33 +63,17 @@ impl<D: Disk> Parts<D> {
 
     /// Stores a batch that was taken, or takes it back. It takes no memory.
     fn put(&mut self, entries: &[Entry], whole: Option<Checkpoint>) -> Result<(), JournalFault>
-        requires store { IsStore self.old.store }
-        requires works { self.old.store.journal.has_failed ≡ false }
-        requires few { length entries.now ≤ 4097 }
-        requires taken { HasTaken (rewound self.old.log self.old.state) entries.now self.old.state self.old.log }
-        requires place { self.old.store.place ≡ (rewound self.old.log self.old.state).place }
-        requires limits { IsWithinLimits (rewound self.old.log self.old.state) }
-        requires must { is_some whole ≡ must_begin (store_of self.old.store) entries.now }
-        requires fresh { IfSome whole (λ made. IsFresh made self.old.store.place) }
-        requires image { IfSome whole (λ made. IsImageOf made (rewound self.old.log self.old.state)) }
-        ensures store { IsStore self.new.store }
-        ensures place { self.new.store.place ≡ self.new.state.place }
-        ensures log { self.new.log ≡ empty_log self.old.log.room }
-        ensures any_moment { D.honest self.old.store.journal.disk → Upholds D.seen D.may_leave self.old.store (rewound self.old.log self.old.state)
-            → LeavesOnly D.moment D.left_since self.old.store.journal.disk self.new.store.journal.disk
-            (StandsForEither (rewound self.old.log self.old.state) (after_all (rewound self.old.log self.old.state) entries.now)) }
-        ensures upheld { D.honest self.old.store.journal.disk → Upholds D.seen D.may_leave self.old.store (rewound self.old.log self.old.state) → OnOk result (Upholds D.seen D.may_leave self.new.store self.new.state) }
-        ensures state { OnOk result (self.new.state ≡ after_all (rewound self.old.log self.old.state) entries.now) }
+        requires batch { HasBatch self.old entries.now }
+        requires made { IsMadeFor self.old entries.now whole }
+        ensures rest { AreAtRest self.old self.new }
+        ensures leads { D.honest self.old.store.journal.disk → Upholds D.seen D.may_leave self.old.store (state_before self.old)
+            → Leads D.moment D.left_since D.seen D.may_leave result self.old.store self.new.store (state_before self.old)
+            (after_all (state_before self.old) entries.now) }
+        ensures state { OnOk result (self.new.state ≡ after_all (state_before self.old) entries.now) }
         ensures value { OnOk result (store_of self.new.store ≡ record (appended (made_room (store_of self.old.store) entries.now) entries.now) { disk = self.new.store.journal.disk }) }
-        ensures err { OnErr result (self.new.state ≡ rewound self.old.log self.old.state) }
-        ensures failing { OnErr result (self.new.store.journal.has_failed ≡ true) }
-        ensures device { IsErrOf result journal.Device → Rises (D.failures self.old.store.journal.disk) (D.failures self.new.store.journal.disk) }
-        ensures still { OnOk result (D.failures self.new.store.journal.disk ≡ D.failures self.old.store.journal.disk) }
-        ensures faults { OnErr result (IsErrOf result journal.Device) }
-        ensures calls_to_append { IsTrue (fits (store_of self.old.store) entries.now) → MakesAtMost 0 2 2 (D.calls self.old.store.journal.disk) (D.calls self.new.store.journal.disk) }
-        ensures calls_to_finish { is_some whole ≡ false → MakesAtMost 0 (slices_left (store_of self.old.store).checkpoint + 4) 4 (D.calls self.old.store.journal.disk) (D.calls self.new.store.journal.disk) }
-        ensures calls { MakesAtMost 1 (slices_left (store_of self.old.store).checkpoint + (whole_slices whole + 8)) 7 (D.calls self.old.store.journal.disk) (D.calls self.new.store.journal.disk) }
-        ensures honesty { D.honest self.new.store.journal.disk ↔ D.honest self.old.store.journal.disk }
+        ensures err { OnErr result (self.new.state ≡ state_before self.old) }
+        ensures ends { StoreEnds D.honest D.failures result self.old.store.journal self.new.store.journal }
+        ensures calls { MakesToAppend (store_of self.old.store) entries.now (whole_slices whole) (D.calls self.old.store.journal.disk) (D.calls self.new.store.journal.disk) }
     {
         self.limits();
         let outcome = self.store.put(entries, whole);
@@ -108,29 +87,15 @@ impl<D: Disk> Parts<D> {
     /// Takes a batch and stores it.
     pub(crate) fn append(&mut self, first: u64, entries: &[Entry]) -> Result<(), Fault>
         requires kept { IsKept D.honest D.seen D.may_leave self.old }
-        requires few { length entries.now ≤ 4097 }
+        requires few { length entries.now ≤ BATCH_ENTRIES }
         ensures kept { IsKept D.honest D.seen D.may_leave self.new }
-        ensures any_moment { D.honest self.old.store.journal.disk → self.old.store.journal.has_failed ≡ false
-            → LeavesOnly D.moment D.left_since self.old.store.journal.disk self.new.store.journal.disk (StandsForEither self.old.state (after_all self.old.state entries.now)) }
-        // For want of memory nothing is done.
-        ensures short { IsErrOf result NoMemory → kept_of self.new ≡ kept_of self.old }
-        ensures continues { OnOk result (Continues self.old.state first entries.now) }
-        // The device is called only once the batch was taken.
-        ensures continued { IsErrOf result Device → Continues self.old.state first entries.now }
-        ensures state { OnOk result (self.new.state ≡ after_all self.old.state entries.now) }
-        ensures value { OnOk result (store_of self.new.store ≡ record (appended (made_room (store_of self.old.store) entries.now) entries.now) { disk = self.new.store.journal.disk }) }
+        ensures any_moment { StopsLeave D.honest D.moment D.left_since (kept_of self.old) (kept_of self.new)
+            (StandsForEither self.old.state (after_all self.old.state entries.now)) }
+        ensures appended { OnOk result (IsAppended (kept_of self.old) (kept_of self.new) first entries.now) }
         ensures err { OnErr result (self.new.state ≡ self.old.state) }
-        ensures mismatch { (place : ℕ) → IsErrOf result (Mismatch place) → IsMismatch self.old.state first entries.now place }
-        ensures unmatched { (place : ℕ) → IsErrOf result (Mismatch place) → self.new ≡ self.old }
-        ensures memory { IsErrOf result NoMemory → (MakesSomeArray entries.now ⊎ IsTrue (must_begin (store_of self.old.store) entries.now)) × (self.new.store.journal.has_failed ≡ false) }
-        ensures failed { IsErrOf result Failed ↔ IsTrue self.old.store.journal.has_failed }
-        ensures untouched { IsErrOf result Failed → self.new ≡ self.old }
-        ensures device { IsErrOf result Device → Rises (D.failures self.old.store.journal.disk) (D.failures self.new.store.journal.disk) × (self.new.store.journal.has_failed ≡ true) }
-        ensures still { OnOk result (D.failures self.new.store.journal.disk ≡ D.failures self.old.store.journal.disk) }
-        ensures faults { OnErr result (IsErrOf result Device ⊎ (IsErrOf result Failed ⊎ (IsErrOf result NoMemory ⊎ ((place : ℕ) × IsErrOf result (Mismatch place))))) }
-        ensures calls_to_append { IsTrue (fits (store_of self.old.store) entries.now) → MakesAtMost 0 2 2 (D.calls self.old.store.journal.disk) (D.calls self.new.store.journal.disk) }
-        ensures calls_to_finish { must_begin (store_of self.old.store) entries.now ≡ false → MakesAtMost 0 (slices_left (store_of self.old.store).checkpoint + 4) 4 (D.calls self.old.store.journal.disk) (D.calls self.new.store.journal.disk) }
-        ensures calls { MakesAtMost 1 (slices_left (store_of self.old.store).checkpoint + (slices_of (length (image_spelling Two self.old.state)) + 8)) 7 (D.calls self.old.store.journal.disk) (D.calls self.new.store.journal.disk) }
+        ensures ends { Ends D.failures (ForBatch (kept_of self.old) first entries.now) result (kept_of self.old) (kept_of self.new) }
+        ensures calls { MakesToAppend (store_of self.old.store) entries.now (slices_of (length (image_spelling Two self.old.state)))
+            (D.calls self.old.store.journal.disk) (D.calls self.new.store.journal.disk) }
         ensures honesty { D.honest self.new.store.journal.disk ↔ D.honest self.old.store.journal.disk }
     {
         if self.store.journal.has_failed() {

@@ -1,21 +1,20 @@
-ghost use Rattle.std.specs.Prelude.{◌≡◌, ◌⊎◌, ◌+◌, ◌<◌, ◌≤◌, ◌^◌, ◌*◌, ◌++◌, ◌↔◌, true, false, length, Some, IsTrue, IfSome, OnOk, OnErr, IsErrOf, is_some, vec_len, vec_capacity};
+ghost use Rattle.std.specs.Prelude.{◌≡◌, ◌+◌, ◌≤◌, ◌*◌, ◌++◌, length, IsTrue, IfSome, OnOk, OnErr, vec_len, vec_capacity};
 ghost use Rattle.std.specs.List.{AllByRecursion, list_all};
+ghost use Rattle.fe_disk.specs.Disk.{MakesAtMost};
 ghost use Rattle.fe_state.specs.Format.{entry_fits_format_1};
-ghost use Rattle.fe_disk.specs.Disk.{LeavesOnly, Rises, MakesAtMost};
-ghost use Rattle.fe_state.specs.State.{ServerState, after_all};
 ghost use Rattle.fe_state.specs.History.{AreLegal};
+ghost use Rattle.fe_state.specs.State.{ServerState, after_all};
+ghost use Rattle.fe_state.specs.declared.batch.TheConstants.{BATCH_ENTRIES};
 ghost use Rattle.fe_codec.specs.Record.{CanPut, FitsGroup, group_spelling};
-ghost use Rattle.fe_keeper.specs.within.CatchUp.{HasRoomFor, CatchesUp};
-ghost use Rattle.fe_codec.specs.Image.{image_spelling};
 ghost use Rattle.fe_format.specs.declared.format.Format.TheVariants.{Two};
-ghost use Rattle.fe_keeper.specs.Stands.{StandsFor, StandsForEither};
-ghost use Rattle.fe_keeper.specs.within.Upholds.{IsStore, Upholds, store_of};
-ghost use Rattle.fe_keeper.specs.Keeper as effect;
-ghost use Rattle.fe_keeper.specs.within.Fresh.{IsFresh, IsImageOf, whole_slices};
 ghost use Rattle.fe_journal.specs.Groups.{room_at};
-ghost use Rattle.fe_keeper.specs.Keeper.{fits, is_spellable, catches_up, caught_up_bytes, can_begin, has_slices, slices_left, stepped, finished, appended, made_room, must_begin};
-ghost use Rattle.fe_keeper.specs.declared.fault.Fault.TheVariants.{Device, Failed, NoMemory};
-ghost use Rattle.fe_journal.specs.declared.fault.JournalFault.TheVariants as journal;
+ghost use Rattle.fe_keeper.specs.Ends.{MakesToAppend};
+ghost use Rattle.fe_keeper.specs.Keeper.{fits, is_spellable, catches_up, caught_up_bytes, can_begin, appended, made_room, must_begin};
+ghost use Rattle.fe_keeper.specs.within.CatchUp.{HasRoomFor, CatchesUp, IsSpelledBatch};
+ghost use Rattle.fe_keeper.specs.within.Ends.{StoreEnds, Leads};
+ghost use Rattle.fe_keeper.specs.within.Fresh.{IsImageOf, whole_slices};
+ghost use Rattle.fe_keeper.specs.within.Ready.{CanStore, IsWholeFor};
+ghost use Rattle.fe_keeper.specs.within.Upholds.{IsStore, Upholds, store_of};
 
 use crate::checkpoint::Checkpoint;
 use crate::{Fault, Format};
@@ -50,7 +49,7 @@ fn is_spellable(format: Format, entries: &[Entry]) -> bool
 /// Spells a batch that fits as the payload of a group.
 fn spell(format: Format, entries: &[Entry], group: &mut Vec<u8>)
     requires each { AllByRecursion (CanPut format) entries.now }
-    requires few { length entries.now ≤ 4097 }
+    requires few { length entries.now ≤ BATCH_ENTRIES }
     requires room { 327760 ≤ vec_capacity group.old }
     ensures spelled { group.new.items ≡ group_spelling format entries.now }
     ensures fits { FitsGroup format entries.now }
@@ -63,10 +62,7 @@ fn spell(format: Format, entries: &[Entry], group: &mut Vec<u8>)
 /// Adds the records of entries in format 2, for which there is room. The bytes of a group that has them so
 /// are taken as they are.
 fn put_records(format: Format, group: &[u8], entries: &[Entry], out: &mut Vec<u8>)
-    requires spelled { group.now ≡ group_spelling format entries.now }
-    requires group { FitsGroup format entries.now }
-    requires each { AllByRecursion (CanPut Two) entries.now }
-    requires few { length entries.now ≤ 4097 }
+    requires batch { IsSpelledBatch format group.now entries.now }
     requires room { vec_len out.old + length entries.now * 80 ≤ vec_capacity out.old }
     ensures items { out.new.items ≡ out.old.items ++ group_spelling Two entries.now }
     ensures fits { FitsGroup Two entries.now }
@@ -81,10 +77,7 @@ fn put_records(format: Format, group: &[u8], entries: &[Entry], out: &mut Vec<u8
 /// Adds entries, for which there is room, to those that a checkpoint under way catches up with. The group is
 /// what they were spelled as.
 fn catch_up(checkpoint: &mut Option<Checkpoint>, format: Format, group: &[u8], entries: &[Entry])
-    requires spelled { group.now ≡ group_spelling format entries.now }
-    requires group { FitsGroup format entries.now }
-    requires each { AllByRecursion (CanPut Two) entries.now }
-    requires few { length entries.now ≤ 4097 }
+    requires batch { IsSpelledBatch format group.now entries.now }
     requires room { HasRoomFor checkpoint.old (length entries.now) }
     ensures { CatchesUp entries.now checkpoint.old checkpoint.new }
 {
@@ -118,7 +111,7 @@ impl<D: Disk> Store<D> {
     /// Whether a batch can be appended as the store is.
     pub(crate) fn fits(&self, entries: &[Entry]) -> bool
         requires sound { IsStore self.now }
-        requires few { length entries.now ≤ 4097 }
+        requires few { length entries.now ≤ BATCH_ENTRIES }
         ensures { result ≡ fits (store_of self.now) entries.now }
     {
         let format = self.journal.store_format();
@@ -141,7 +134,7 @@ impl<D: Disk> Store<D> {
 
     fn catches_up(&self, entries: usize) -> bool
         requires sound { IsStore self.now }
-        requires few { entries ≤ 4097 }
+        requires few { entries ≤ BATCH_ENTRIES }
         ensures { result ≡ catches_up self.now.place entries (store_of self.now).checkpoint }
     {
         match &self.checkpoint {
@@ -154,7 +147,7 @@ impl<D: Disk> Store<D> {
     /// checkpoint under way is finished.
     pub(crate) fn must_begin(&self, entries: &[Entry]) -> bool
         requires sound { IsStore self.now }
-        requires few { length entries.now ≤ 4097 }
+        requires few { length entries.now ≤ BATCH_ENTRIES }
         ensures { result ≡ must_begin (store_of self.now) entries.now }
     {
         if self.fits(entries) {
@@ -171,28 +164,15 @@ impl<D: Disk> Store<D> {
 
     /// Appends a batch that fits as a group, and adds it to what a checkpoint under way catches up with.
     pub(crate) fn append(&mut self, entries: &[Entry]) -> Result<(), JournalFault>
-        requires sound { IsStore self.old }
+        requires can { CanStore self.old entries.now }
         requires fits { IsTrue (fits (store_of self.old) entries.now) }
-        requires some { 1 ≤ length entries.now }
-        requires few { length entries.now ≤ 4097 }
-        requires each { AllByRecursion (CanPut Two) entries.now }
-        requires place { self.old.place + length entries.now < 2 ^ 63 }
         ensures sound { IsStore self.new }
-
-        // A stop at any moment leaves the state before, or that after all entries.
-        ensures any_moment { D.honest self.old.journal.disk → (s : ServerState) → Upholds D.seen D.may_leave self.old s → AreLegal s entries.now
-            → LeavesOnly D.moment D.left_since self.old.journal.disk self.new.journal.disk (StandsForEither s (after_all s entries.now)) }
-        ensures upheld { D.honest self.old.journal.disk → (s : ServerState) → Upholds D.seen D.may_leave self.old s → AreLegal s entries.now
-            → OnOk result (Upholds D.seen D.may_leave self.new (after_all s entries.now)) }
-
+        ensures leads { D.honest self.old.journal.disk → (s : ServerState) → Upholds D.seen D.may_leave self.old s → AreLegal s entries.now
+            → Leads D.moment D.left_since D.seen D.may_leave result self.old self.new s (after_all s entries.now) }
         ensures value { OnOk result (store_of self.new ≡ record (appended (store_of self.old) entries.now) { disk = self.new.journal.disk }) }
-        ensures err { OnErr result (store_of self.new ≡ record (store_of self.old) { disk = self.new.journal.disk; has_failed = true }) }
-        ensures device { self.old.journal.has_failed ≡ false → (IsErrOf result journal.Device ↔ Rises (D.failures self.old.journal.disk) (D.failures self.new.journal.disk)) }
-        ensures still { OnOk result (D.failures self.new.journal.disk ≡ D.failures self.old.journal.disk) }
-        ensures failed { IsErrOf result journal.Failed ↔ IsTrue self.old.journal.has_failed }
-        ensures untouched { IsErrOf result journal.Failed → self.new.journal ≡ self.old.journal }
+        ensures kept { OnErr result (self.new.place ≡ self.old.place) }
+        ensures ends { StoreEnds D.honest D.failures result self.old.journal self.new.journal }
         ensures calls { MakesAtMost 0 2 2 (D.calls self.old.journal.disk) (D.calls self.new.journal.disk) }
-        ensures honesty { D.honest self.new.journal.disk ↔ D.honest self.old.journal.disk }
     {
         let format = self.journal.store_format();
         spell(format, entries, &mut self.group);
@@ -209,30 +189,17 @@ impl<D: Disk> Store<D> {
         entries: &[Entry],
         whole: Option<Checkpoint>,
     ) -> Result<(), JournalFault>
-        requires sound { IsStore self.old }
-        requires works { self.old.journal.has_failed ≡ false }
-        requires some { 1 ≤ length entries.now }
-        requires few { length entries.now ≤ 4097 }
-        requires each { AllByRecursion (CanPut Two) entries.now }
-        requires place { self.old.place + length entries.now < 2 ^ 63 }
-        requires must { is_some whole ≡ must_begin (store_of self.old) entries.now }
-        requires fresh { IfSome whole (λ made. IsFresh made self.old.place) }
+        requires can { CanStore self.old entries.now }
+        requires whole { IsWholeFor self.old entries.now whole }
         ensures sound { IsStore self.new }
-        ensures any_moment { D.honest self.old.journal.disk → (s : ServerState) → Upholds D.seen D.may_leave self.old s → IfSome whole (λ made. IsImageOf made s) → AreLegal s entries.now
-            → LeavesOnly D.moment D.left_since self.old.journal.disk self.new.journal.disk (StandsForEither s (after_all s entries.now)) }
-        ensures upheld { D.honest self.old.journal.disk → (s : ServerState) → Upholds D.seen D.may_leave self.old s → IfSome whole (λ made. IsImageOf made s) → AreLegal s entries.now
-            → OnOk result (Upholds D.seen D.may_leave self.new (after_all s entries.now)) }
+        ensures leads { D.honest self.old.journal.disk → (s : ServerState) → Upholds D.seen D.may_leave self.old s
+            → IfSome whole (λ made. IsImageOf made s) → AreLegal s entries.now
+            → Leads D.moment D.left_since D.seen D.may_leave result self.old self.new s (after_all s entries.now) }
         ensures value { OnOk result (store_of self.new ≡ record (appended (made_room (store_of self.old) entries.now) entries.now) { disk = self.new.journal.disk }) }
         ensures place { OnOk result (self.new.place ≡ self.old.place + length entries.now) }
         ensures kept { OnErr result (self.new.place ≡ self.old.place) }
-        ensures failing { OnErr result (self.new.journal.has_failed ≡ true) }
-        ensures device { IsErrOf result journal.Device → Rises (D.failures self.old.journal.disk) (D.failures self.new.journal.disk) }
-        ensures still { OnOk result (D.failures self.new.journal.disk ≡ D.failures self.old.journal.disk) }
-        ensures faults { OnErr result (IsErrOf result journal.Device) }
-        ensures calls_to_append { IsTrue (fits (store_of self.old) entries.now) → MakesAtMost 0 2 2 (D.calls self.old.journal.disk) (D.calls self.new.journal.disk) }
-        ensures calls_to_finish { is_some whole ≡ false → MakesAtMost 0 (slices_left (store_of self.old).checkpoint + 4) 4 (D.calls self.old.journal.disk) (D.calls self.new.journal.disk) }
-        ensures calls { MakesAtMost 1 (slices_left (store_of self.old).checkpoint + (whole_slices whole + 8)) 7 (D.calls self.old.journal.disk) (D.calls self.new.journal.disk) }
-        ensures honesty { D.honest self.new.journal.disk ↔ D.honest self.old.journal.disk }
+        ensures ends { StoreEnds D.honest D.failures result self.old.journal self.new.journal }
+        ensures calls { MakesToAppend (store_of self.old) entries.now (whole_slices whole) (D.calls self.old.journal.disk) (D.calls self.new.journal.disk) }
     {
         self.make_room(entries, whole)?;
         self.append(entries)

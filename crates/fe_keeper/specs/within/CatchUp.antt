@@ -1,9 +1,19 @@
 -- What a checkpoint under way catches up with.
 use Rattle.std.specs.Prelude.{◌≡◌, ℕ, ◌+◌, ◌*◌, ◌≤◌, List, ◌++◌, length, Option, Some, None, vec_len, vec_capacity}
 use Rattle.fe_state.specs.declared.entry.Entry.{Entry}
-use Rattle.fe_codec.specs.Record.{group_spelling, FitsGroup}
+use Rattle.std.specs.List.{AllByRecursion}
+use Rattle.fe_state.specs.declared.batch.TheConstants.{BATCH_ENTRIES}
+use Rattle.fe_codec.specs.Record.{CanPut, group_spelling, FitsGroup}
+use Rattle.fe_format.specs.declared.format.Format.{Format}
 use Rattle.fe_format.specs.declared.format.Format.TheVariants.{Two}
 use Rattle.fe_keeper.specs.declared.checkpoint.Checkpoint.{Checkpoint}
+
+-- The bytes spell the entries of a batch, which can be spelled in format 2 too.
+pub record IsSpelledBatch (format : Format) (group : List ℕ) (entries : List Entry) : Type 0 where
+  pub spelled : group ≡ group_spelling format entries
+  pub fits : FitsGroup format entries
+  pub each : AllByRecursion (CanPut Two) entries
+  pub few : length entries ≤ BATCH_ENTRIES
 
 -- room for the records of so many entries more, if a checkpoint is under way
 abbrev pub HasRoomFor : Option Checkpoint → ℕ → Type 0

@@ -1,11 +1,15 @@
 -- The parts of a keeper, at rest and with a batch that is taken and not yet stored.
-use Rattle.std.specs.Prelude.{◌≡◌, ◌≤◌, ℕ, List, length, false}
-use Rattle.fe_state.specs.State.{ServerState, after_all}
+use Rattle.std.specs.Prelude.{◌≡◌, ◌≤◌, ℕ, List, length, false, IfSome, Option}
+use Rattle.fe_state.specs.State.{ServerState, after_all, IsWithinLimits}
+use Rattle.fe_state.specs.declared.batch.TheConstants.{BATCH_ENTRIES}
 use Rattle.fe_state.specs.History.{AreLegal}
 use Rattle.fe_state.specs.UndoLog.{UndoLog, empty_log, rewound, IsLogOf}
 use Rattle.fe_state.specs.declared.entry.Entry.{Entry}
 use Rattle.fe_keeper.specs.Keeper.{KeeperState}
 use Rattle.fe_keeper.specs.within.Upholds.{IsStore, Upholds, store_of}
+use Rattle.fe_keeper.specs.within.Fresh.{IsImageOf}
+use Rattle.fe_keeper.specs.within.Ready.{IsWholeFor}
+use Rattle.fe_keeper.specs.declared.checkpoint.Checkpoint.{Checkpoint}
 use Rattle.fe_keeper.specs.declared.parts.Parts.{Parts}
 
 -- a keeper as its callers see it
@@ -17,7 +21,7 @@ pub record IsKept {D : Type 0} (honest : D → Type 0) (seen : D → List ℕ) (
   pub store : IsStore parts.store
   pub place : parts.store.place ≡ parts.state.place
   pub log : parts.log ≡ empty_log parts.log.room
-  pub room : 4097 ≤ parts.log.room
+  pub room : BATCH_ENTRIES ≤ parts.log.room
   pub upheld : honest parts.store.journal.disk → parts.store.journal.has_failed ≡ false → Upholds seen may_leave parts.store parts.state
 
 -- Entries were taken from a state: they lead to the state now, and the log leads back.
@@ -28,3 +32,27 @@ pub record HasTaken (before : ServerState) (entries : List Entry) (now : ServerS
   pub is_log : IsLogOf log now
   pub beginning : rewound log now ≡ before
   pub room : length entries ≤ log.room
+
+-- the state before the batch that was taken
+abbrev pub state_before : {D : Type 0} → Parts D → ServerState
+state_before parts = rewound parts.log parts.state
+
+-- A batch is taken, and not stored yet.
+pub record HasBatch {D : Type 0} (parts : Parts D) (entries : List Entry) : Type 0 where
+  pub store : IsStore parts.store
+  pub works : parts.store.journal.has_failed ≡ false
+  pub few : length entries ≤ BATCH_ENTRIES
+  pub taken : HasTaken (state_before parts) entries parts.state parts.log
+  pub place : parts.store.place ≡ (state_before parts).place
+  pub limits : IsWithinLimits (state_before parts)
+
+-- A whole checkpoint of the state before the batch is made, exactly where the batch needs one.
+pub record IsMadeFor {D : Type 0} (parts : Parts D) (entries : List Entry) (whole : Option Checkpoint) : Type 0 where
+  pub made : IsWholeFor parts.store entries whole
+  pub image : IfSome whole (λ made. IsImageOf made (state_before parts))
+
+-- A batch that was taken is stored or taken back: the parts are at rest.
+pub record AreAtRest {D : Type 0} (old new : Parts D) : Type 0 where
+  pub store : IsStore new.store
+  pub place : new.store.place ≡ new.state.place
+  pub log : new.log ≡ empty_log old.log.room

@@ -1,9 +1,10 @@
 -- What a keeper makes room for when it is made.
 use Rattle.std.specs.Prelude.{◌≡◌, ◌≤◌, vec_capacity}
 use Rattle.fe_state.specs.UndoLog.{empty_log}
+use Rattle.fe_state.specs.declared.batch.TheConstants.{BATCH_ENTRIES}
 use Rattle.fe_keeper.specs.declared.assembling.Rooms.{Rooms}
 
 -- the bytes of the longest batch's group, and its entries in an empty log
 pub record AreRooms (rooms : Rooms) : Type 0 where
   pub group : 327760 ≤ vec_capacity rooms.group
-  pub log : rooms.log ≡ empty_log 4097
+  pub log : rooms.log ≡ empty_log BATCH_ENTRIES

@@ -8,10 +8,10 @@ use Rattle.fe_hall.proofs.committing.commit_all.Goals as goal
 pub loop-init : goal.loop-init
 loop-init g c =
     let old = c.args.keeper.now in
-    let rests = rests_itself g.D.Disk.honest g.D.Disk.may_leave g.D.Disk.moment g.D.Disk.left_since g.met.D.Disk.only_now old c.state.ensures.stands in
+    let rests = rests_itself g.D.Disk.honest g.D.Disk.may_leave g.D.Disk.moment g.D.Disk.left_since g.met.D.Disk.only_now old c.state.ensures.durable in
     record {
       commits = commits_kept g.D.Disk.honest g.D.Disk.moment g.D.Disk.left_since old old None rests;
-      stands = c.state.ensures.stands;
+      stands = c.state.ensures.durable;
       still = still_itself g.D.Disk.failures old;
       begun = inl refl;
       honesty = rests.honesty;

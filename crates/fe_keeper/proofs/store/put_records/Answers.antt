@@ -16,7 +16,7 @@ returns-in-Two-clause-items c =
     let entries = c.args.entries.now in
     let out = c.args.out.now.items in
     let put = c.extend_from_slice in
-    let spelled : c.args.group.now ≡ group_spelling Two entries = c.requires.spelled ∙ ap (λ (f : Format). group_spelling f entries) c.in-Two.is in
-    let fits : FitsGroup Two entries = subst (λ (f : Format). FitsGroup f entries) c.in-Two.is c.requires.group in
+    let spelled : c.args.group.now ≡ group_spelling Two entries = c.requires.batch.spelled ∙ ap (λ (f : Format). group_spelling f entries) c.in-Two.is in
+    let fits : FitsGroup Two entries = subst (λ (f : Format). FitsGroup f entries) c.in-Two.is c.requires.batch.fits in
     let size : length c.args.group.now ≡ length entries * 80 = ap length spelled ∙ length-group Two entries fits in
     put.ensures.items ∙ where_ok put.result (out ++ c.args.group.now) out (put.ensures.succeeds (omega (arith, size, c.requires.room))) ∙ ap (λ (l : List ℕ). out ++ l) spelled

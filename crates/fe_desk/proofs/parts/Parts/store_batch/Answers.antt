@@ -12,7 +12,9 @@ use Rattle.fe_desk.specs.Crash.{TellsCall, with_handed}
 use Rattle.fe_desk.specs.within.Desk.{desk_of, standing_of, IsAhead}
 use Rattle.fe_desk.proofs.Advancing.{advances_itself, advances_as, desk_as}
 use Rattle.fe_desk.proofs.Growing.{stores_none, stores_one, handed_back}
-use Rattle.fe_desk.proofs.Groups.{legal_both, tied_stored, tied_cut, pushed, unpushed, popped, appends_working, advances_group, begins_there, no_mismatch, only_device, desk_stored, desk_torn}
+use Rattle.fe_desk.proofs.Groups.{legal_both, tied_stored, tied_cut, pushed, unpushed, popped, appends_working, advances_group, begins_there, no_mismatch, desk_stored, desk_torn}
+use Rattle.fe_desk.proofs.Failing.{short_told, device_told, only_device}
+use Rattle.fe_keeper.specs.Ends.{ForBatch}
 use Rattle.fe_desk.proofs.parts.Parts.store_batch.Goals as goal
 
 pub returns-in_default-clause-advances : goal.returns-in_default-clause-advances
@@ -31,20 +33,20 @@ returns-in-Ok-append-clause-desk g c =
     let batch = c.args.batch in
     let new = c.append.new.self in
     let back : c.in-Ok-append.batch ≡ batch = c.in-Ok-append.ensures.returned in
-    let replica : new.state ≡ after_all old.keeper.state batch.entries = c.in-Ok-append.ensures.state in
+    let replica : new.state ≡ after_all old.keeper.state batch.entries = c.in-Ok-append.ensures.appended.state in
     let next : new.state ≡ after_all old.keeper.state c.in-Ok-append.batch.entries = replica ∙ ap (λ (b : Batch). after_all old.keeper.state b.entries) (sym back) in
     let tied = subst (λ (b : Batch). IsAhead (handing (standing_of old) (Cut b)) old.keeper.state) (sym back) c.requires.desk.tied in
     let works : new.store.has_failed ≡ false =
-    ap (λ (s : StoreState g.row.D.Denot). s.has_failed) c.in-Ok-append.ensures.store ∙ appends_working old.keeper.store batch.entries ∙ c.requires.works in
+    ap (λ (s : StoreState g.row.D.Denot). s.has_failed) c.in-Ok-append.ensures.appended.store ∙ appends_working old.keeper.store batch.entries ∙ c.requires.works in
     desk_stored g.D.Disk.honest g.D.Disk.may_leave g.D.Disk.moment g.D.Disk.left_since _
     (tied_stored (standing_of old) (map (λ g. g.items) c.push.new.self.items) old.keeper.state new.state c.in-Ok-append.batch next tied)
-    c.requires.desk.known (c.len.ensures ∙ omega (arith, c.push.new.self.ok.0, length-map c.push.new.self.items (λ g. g.items))) (λ honest. c.append.ensures.stands honest works)
+    c.requires.desk.known (c.len.ensures ∙ omega (arith, c.push.new.self.ok.0, length-map c.push.new.self.items (λ g. g.items))) (λ honest. c.append.ensures.durable honest works)
 
 pub returns-in-Ok-append-clause-advances : goal.returns-in-Ok-append-clause-advances
 returns-in-Ok-append-clause-advances g c =
     let old = c.args.self.now in
     let batch = c.args.batch in
-    let replica : c.append.new.self.state ≡ after_all old.keeper.state batch.entries = c.in-Ok-append.ensures.state in
+    let replica : c.append.new.self.state ≡ after_all old.keeper.state batch.entries = c.in-Ok-append.ensures.appended.state in
     let stored : c.len.result ≡ length (map (λ g. g.items) c.push.new.self.items) =
     c.len.ensures ∙ omega (arith, c.push.new.self.ok.0, length-map c.push.new.self.items (λ g. g.items)) in
     advances_group g.D.Disk.honest g.D.Disk.may_leave g.D.Disk.moment g.D.Disk.left_since (with_handed (desk_of old) (Cut batch)) _ batch.entries
@@ -59,15 +61,15 @@ returns-in-Ok-append-clause-grows g c = λ works.
     stores_one (desk_of old) _ c.args.batch.entries
     (pushed (λ g. g.items) old.trace.groups.items c.push.new.self.items c.in-Ok.group c.args.batch.entries c.push.result c.is_err.result c.push.ensures.items c.is_err.ensures.value c.if-is_err.false
     (c.in-Ok.ensures ∙ c.as_slice.ensures.entries))
-    c.in-Ok-append.ensures.state c.in-Ok-append.ensures.store
+    c.in-Ok-append.ensures.appended.state c.in-Ok-append.ensures.appended.store
 
 pub returns-in-NoMemory : goal.returns-in-NoMemory
 returns-in-NoMemory g c =
     let old = c.args.self.now in
     let batch = c.args.batch in
     let new = c.append.new.self in
-    let back : c.in-Err.batch ≡ batch = c.in-Err.ensures.given_back in
-    let kept : new ≡ old.keeper = c.in-Err.ensures.short c.in-NoMemory.is in
+    let back : c.in-Err.batch ≡ batch = c.in-Err.ensures.returned in
+    let kept : new ≡ old.keeper = (short_told g.D.Disk.failures (ForBatch old.keeper batch.first batch.entries) c.in-Err.fault old.keeper new c.in-NoMemory.is c.in-Err.ensures.ends).1.same in
     let replica : new.state ≡ old.keeper.state = c.in-Err.ensures.err in
     let groups : map (λ g. g.items) c.pop.new.self.items ≡ map (λ g. g.items) old.trace.groups.items =
     popped (λ g. g.items) old.trace.groups.items c.push.new.self.items c.pop.new.self.items _ _ c.push.result c.is_err.result c.push.ensures.items c.is_err.ensures.value c.if-is_err.false
@@ -98,21 +100,22 @@ returns-in_default-fault g c =
     let new = c.append.new.self in
     let tied = c.requires.desk.tied in
     let all = c.requires.desk.all c.requires.works in
-    let back : c.in-Err.batch ≡ batch = c.in-Err.ensures.given_back in
+    let back : c.in-Err.batch ≡ batch = c.in-Err.ensures.returned in
     let replica : new.state ≡ old.keeper.state = c.in-Err.ensures.err in
     let groups : map (λ g. g.items) c.push.new.self.items ≡ map (λ g. g.items) old.trace.groups.items ++ batch.entries ∷ [] =
     pushed (λ g. g.items) old.trace.groups.items c.push.new.self.items c.in-Ok.group batch.entries c.push.result c.is_err.result c.push.ensures.items c.is_err.ensures.value c.if-is_err.false
     (c.in-Ok.ensures ∙ c.as_slice.ensures.entries) in
     let legal = (legal_both old.keeper.state batch.entries old.front.service.pending tied.legal).0 in
     let begins : batch.first ≡ old.keeper.state.place = begins_there old.front old.keeper.state batch c.state.ensures.front.tied tied.handed.0 tied.state in
+    let Cause : Fault → Type 0 = ForBatch old.keeper batch.first batch.entries in
     let device : c.in-Err.fault ≡ Device =
-    only_device c.in-Err.fault c.in-Err.ensures.faults (λ is. absurd (cc (c.in-Err.ensures.failed.0 is, c.requires.works))) (λ is. c.in_default-fault.not-NoMemory is)
-    (λ place is. no_mismatch old.keeper.state batch.first batch.entries place begins tied.handed.1 legal (c.in-Err.ensures.mismatch place is)) in
-    let told = c.in-Err.ensures.device device in
+    only_device g.D.Disk.failures Cause c.in-Err.fault old.keeper new c.requires.works (λ is. c.in_default-fault.not-NoMemory is)
+    (λ place is. no_mismatch old.keeper.state batch.first batch.entries place begins tied.handed.1 legal is) c.in-Err.ensures.ends in
+    let breaks = (device_told g.D.Disk.failures Cause c.in-Err.fault old.keeper new device c.in-Err.ensures.ends).1 in
     record {
       desk =
           desk_torn g.D.Disk.honest g.D.Disk.may_leave g.D.Disk.moment g.D.Disk.left_since g.met.D.Disk.counts_now (with_handed (desk_of old) (Cut batch)) _ batch.entries c.requires.works
-          groups all refl replica told.1 c.append.ensures.any_moment c.append.ensures.honesty
+          groups all refl replica breaks.failed c.append.ensures.any_moment c.append.ensures.honesty
           (tied_cut (standing_of old) (map (λ g. g.items) c.push.new.self.items) old.keeper.state new.state batch c.in-Err.batch back replica tied) c.requires.desk.known;
       stored = tt;
       memory = λ is. absurd (c.in_default-fault.not-NoMemory (cc is));
@@ -122,11 +125,11 @@ returns-in_default-fault g c =
           advances_group g.D.Disk.honest g.D.Disk.may_leave g.D.Disk.moment g.D.Disk.left_since (with_handed (desk_of old) (Cut batch)) _ batch.entries groups all tied.handed.1 legal
           (inl (refl, replica)) c.append.ensures.any_moment c.append.ensures.honesty;
       fine = tt;
-      fault = subst (λ (fault : Fault). TellsCall g.D.Disk.failures (desk_of old) (desk_of (record old { keeper = new; trace = record old.trace { groups = c.push.new.self } })) fault) (sym device) (record { failed = told.1; rises = told.0 });
+      fault = subst (λ (fault : Fault). TellsCall g.D.Disk.failures (desk_of old) (desk_of (record old { keeper = new; trace = record old.trace { groups = c.push.new.self } })) fault) (sym device) (record { failed = breaks.failed; rises = breaks.rises });
       torn = λ is. record {
         at_hand = record { batch = batch; handed = refl };
         standing = ap (λ (b : Batch). record (handing (standing_of old) (Cut b)) { groups = map (λ g. g.items) c.push.new.self.items }) back ∙ ap (λ gs. record (handing (standing_of old) (Cut batch)) { groups = gs }) groups;
         synced = all;
       };
-      grows = λ works. absurd (cc (told.1, works));
+      grows = λ works. absurd (cc (breaks.failed, works));
     }

@@ -1,25 +1,67 @@
-use Rattle.std.proofs.Common.{◌≡◌, ◌∙◌, sym, subst}
+use Rattle.std.proofs.Common.{◌≡◌, ◌∙◌, IsTrue, refl, sym, ap, subst, rules}
 use Rattle.std.specs.Prelude.{false}
 use Rattle.fe_disk.specs.Disk.{LeavesOnly}
-use Rattle.fe_keeper.specs.Keeper.{KeeperState}
+use Rattle.fe_journal.specs.declared.fault.JournalFault.{JournalFault}
+use Rattle.fe_keeper.specs.Ends.{Works, Breaks, Refuses, Fails, ForDeviceAndMemory}
+use Rattle.fe_keeper.specs.Keeper.{KeeperState, can_begin}
 use Rattle.fe_keeper.specs.Stands.{StandsFor}
+use Rattle.fe_keeper.specs.within.Faults.{fault_of_journal}
+use Rattle.fe_keeper.specs.within.Parts.{kept_of}
+use Rattle.fe_keeper.specs.within.Upholds.{store_of}
+use Rattle.fe_keeper.specs.declared.fault.Fault.{Fault}
+use Rattle.fe_keeper.specs.declared.parts.Parts.{Parts}
+use Rattle.fe_keeper.specs.declared.store.Store.{Store}
+use Rattle.fe_keeper.proofs.Ends.{told, device_fails, memory_fails, breaks_as, must_be}
 use Rattle.fe_keeper.proofs.Taking.{each_stands}
 use Rattle.fe_keeper.proofs.keeper.Keeper.checkpoint_begin.Goals as goal
 
-pub returns-in_err-begin-clause-any_moment : goal.returns-in_err-begin-clause-any_moment
-returns-in_err-begin-clause-any_moment g c =
-    subst (λ (s : KeeperState g.row.D.Denot). g.D.Disk.honest s.store.disk → s.store.has_failed ≡ false → LeavesOnly g.D.Disk.moment g.D.Disk.left_since s.store.disk c.begin.new.self.journal.disk (λ image. StandsFor image s.state))
-    c.self.view_is (λ honest works. c.begin.ensures.any_moment honest c.self.inside.parts.state (c.self.invariant.upheld honest works))
+pub returns-in_err-begin-clause-ends : goal.returns-in_err-begin-clause-ends
+returns-in_err-begin-clause-ends g c =
+    let old = c.args.self.now in
+    let parts = c.self.inside.parts in
+    let new : KeeperState g.row.D.Denot = record { state = parts.state; store = store_of c.begin.new.self } in
+    let Cause : Fault → Type 0 = ForDeviceAndMemory (IsTrue (can_begin old.store)) in
+    let fault : JournalFault = c.in_err-begin.field-0.0 in
+    let failed = c.in_err-begin.ensures.ends.outcome in
+    let works : parts.store.journal.has_failed ≡ false = sym c.has_failed.ensures ∙ c.if-has_failed.false in
+    let breaks : Breaks g.D.Disk.failures (kept_of parts) new = record { before = works; failed = failed.1.failed; rises = failed.1.rises } in
+    let cause : IsTrue (can_begin old.store) = search rules in
+    told c.from_residual-in_err-begin.result (fault_of_journal fault) (Works g.D.Disk.failures old new) (Fails g.D.Disk.failures Cause old new) c.from_residual-in_err-begin.ensures.1
+    (device_fails g.D.Disk.failures Cause fault old new failed.0 cause (breaks_as g.D.Disk.failures (kept_of parts) old new c.self.view_is breaks))
 
-pub returns-clause-any_moment : goal.returns-clause-any_moment
-returns-clause-any_moment g c =
-    subst (λ (s : KeeperState g.row.D.Denot). g.D.Disk.honest s.store.disk → s.store.has_failed ≡ false → LeavesOnly g.D.Disk.moment g.D.Disk.left_since s.store.disk c.begin.new.self.journal.disk (λ image. StandsFor image s.state))
-    c.self.view_is (λ honest works. c.begin.ensures.any_moment honest c.self.inside.parts.state (c.self.invariant.upheld honest works))
+pub returns-in_err-checkpoint-clause-ends : goal.returns-in_err-checkpoint-clause-ends
+returns-in_err-checkpoint-clause-ends g c =
+    let old = c.args.self.now in
+    let parts = c.self.inside.parts in
+    let Cause : Fault → Type 0 = ForDeviceAndMemory (IsTrue (can_begin old.store)) in
+    let fault : Fault = c.in_err-checkpoint.field-0.0 in
+    let works : parts.store.journal.has_failed ≡ false = sym c.has_failed.ensures ∙ c.if-has_failed.false in
+    let cause : IsTrue (can_begin old.store) = search rules in
+    let none : Refuses old old = record { before = ap (λ (k : KeeperState g.row.D.Denot). k.store.has_failed) (sym c.self.view_is) ∙ works; same = refl } in
+    told c.from_residual.result fault (Works g.D.Disk.failures old old) (Fails g.D.Disk.failures Cause old old) c.from_residual.ensures.1
+    (memory_fails g.D.Disk.failures Cause fault old old c.in_err-checkpoint.ensures.memory cause none)
 
-pub returns-clause-stands : goal.returns-clause-stands
-returns-clause-stands g c = λ honest works.
+pub returns-in_err-begin-clause-rests : goal.returns-in_err-begin-clause-rests
+returns-in_err-begin-clause-rests g c = record {
+  state = search rules;
+  any_moment =
+      subst (λ (s : KeeperState g.row.D.Denot). g.D.Disk.honest s.store.disk → s.store.has_failed ≡ false → LeavesOnly g.D.Disk.moment g.D.Disk.left_since s.store.disk c.begin.new.self.journal.disk (λ image. StandsFor image s.state))
+      c.self.view_is (λ honest works. (c.begin.ensures.carries honest c.self.inside.parts.state (c.self.invariant.upheld honest works) c.in_ok-checkpoint.ensures.image).any_moment);
+  honesty = search rules;
+}
+
+pub returns-clause-rests : goal.returns-clause-rests
+returns-clause-rests g c = record {
+  state = search rules;
+  any_moment =
+      subst (λ (s : KeeperState g.row.D.Denot). g.D.Disk.honest s.store.disk → s.store.has_failed ≡ false → LeavesOnly g.D.Disk.moment g.D.Disk.left_since s.store.disk c.begin.new.self.journal.disk (λ image. StandsFor image s.state))
+      c.self.view_is (λ honest works. (c.begin.ensures.carries honest c.self.inside.parts.state (c.self.invariant.upheld honest works) c.in_ok-checkpoint.ensures.image).any_moment);
+  honesty = search rules;
+}
+
+pub returns-clause-durable : goal.returns-clause-durable
+returns-clause-durable g c = λ honest works.
     let parts = c.self.inside.parts in
     let working : parts.store.journal.has_failed ≡ false = sym c.has_failed.ensures ∙ c.if-has_failed.false in
-    let before = c.in_ok-begin.ensures.honesty.0 honest in
-    each_stands g.D.Disk.moment g.D.Disk.left_since g.D.Disk.seen g.D.Disk.may_leave c.begin.new.self parts.state
-    (c.in_ok-begin.ensures.upheld before parts.state (c.self.invariant.upheld before working) c.in_ok-checkpoint.ensures.image)
+    let before = c.begin.ensures.ends.honesty.0 honest in
+    each_stands g.D.Disk.moment g.D.Disk.left_since g.D.Disk.seen g.D.Disk.may_leave c.begin.new.self parts.state (c.in_ok-begin.ensures.carries before parts.state (c.self.invariant.upheld before working) c.in_ok-checkpoint.ensures.image).upheld

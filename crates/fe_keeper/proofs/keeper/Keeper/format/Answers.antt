@@ -12,7 +12,7 @@ use Rattle.fe_keeper.proofs.keeper.Keeper.format.Goals as goal
 pub keeper_over-requires-clause-keeps : goal.keeper_over-requires-clause-keeps
 keeper_over-requires-clause-keeps g c = λ honest. record {
   contents = first_contents Two;
-  keeps = c.in-Ok-format.ensures.formatted (c.in-Ok-format.ensures.honesty.0 honest);
+  keeps = c.in-Ok-format.ensures.formatted (c.in-Ok-format.ensures.ends.honesty.0 honest);
   stands = subst (λ (s : ServerState). Stands (first_contents Two) s) (sym c.in-Ok.ensures.state) first_stands;
 }
 

@@ -33,7 +33,7 @@ keeper_with_room-requires-clause-numbered g c =
 
 pub keeper_with_room-requires-clause-keeps : goal.keeper_with_room-requires-clause-keeps
 keeper_with_room-requires-clause-keeps g c = λ honest.
-    let found = c.in-Ok.ensures.found (c.in-Ok.ensures.honesty.0 honest) in
+    let found = c.in-Ok.ensures.found (c.in-Ok.ensures.device.honesty.0 honest) in
     let parts : ArePartsOf found.contents c.store_format-format.result c.generation-generation.result c.deref.result.now c.in-Ok.found.groups = record {
       format_is = c.store_format-format.ensures ∙ found.keeps.format_is;
       generation_is = c.generation-generation.ensures ∙ found.keeps.generation_is;

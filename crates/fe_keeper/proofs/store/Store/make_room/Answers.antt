@@ -1,20 +1,28 @@
-use Rattle.std.proofs.Common.{Option, subst}
+use Rattle.std.proofs.Common.{Option, subst, rules}
 use Rattle.std.specs.Prelude.{IfSome}
-use Rattle.fe_disk.proofs.Moments.{joined}
 use Rattle.fe_keeper.specs.within.Fresh.{IsImageOf}
-use Rattle.fe_keeper.specs.Stands.{StandsFor}
 use Rattle.fe_keeper.specs.declared.checkpoint.Checkpoint.{Checkpoint}
+use Rattle.fe_keeper.proofs.Ends.{then_carries, then_ends}
 use Rattle.fe_keeper.proofs.store.Store.make_room.Goals as goal
 
-pub returns-in_default-clause-any_moment : goal.returns-in_default-clause-any_moment
-returns-in_default-clause-any_moment g c = λ honest s upholds image. c.finish.ensures.any_moment honest s upholds
+pub returns-in_default-clause-carries : goal.returns-in_default-clause-carries
+returns-in_default-clause-carries g c = λ honest s upholds image. c.finish.ensures.carries honest s upholds
 
-pub returns-in_err-finish-clause-any_moment : goal.returns-in_err-finish-clause-any_moment
-returns-in_err-finish-clause-any_moment g c = λ honest s upholds image. c.finish-2.ensures.any_moment honest s upholds
+pub returns-then-is_none-clause-carries : goal.returns-then-is_none-clause-carries
+returns-then-is_none-clause-carries g c = λ honest s upholds image.
+    c.renew.ensures.carries honest s upholds (subst (λ (o : Option Checkpoint). IfSome o (λ made. IsImageOf made s)) c.in-Some.is image)
 
-pub returns-clause-any_moment : goal.returns-clause-any_moment
-returns-clause-any_moment g c = λ honest s upholds image.
+pub returns-in_err-finish-clause-carries : goal.returns-in_err-finish-clause-carries
+returns-in_err-finish-clause-carries g c = λ honest s upholds image. record { any_moment = (c.finish-2.ensures.carries honest s upholds).any_moment; upheld = search rules }
+
+pub returns-clause-carries : goal.returns-clause-carries
+returns-clause-carries g c = λ honest s upholds image.
     let made : IsImageOf c.in-Some.whole s = subst (λ (o : Option Checkpoint). IfSome o (λ made. IsImageOf made s)) c.in-Some.is image in
-    joined g.D.Disk.moment g.D.Disk.left_since c.args.self.now.journal.disk c.finish-2.new.self.journal.disk c.renew-2.new.self.journal.disk (λ image. StandsFor image s)
-    (c.finish-2.ensures.any_moment honest s upholds)
-    (c.renew-2.ensures.any_moment (c.finish-2.ensures.honesty.1 honest) s (c.in_ok-finish.ensures.upheld honest s upholds) made)
+    let finished = c.in_ok-finish.ensures.carries honest s upholds in
+    then_carries g.D.Disk.moment g.D.Disk.left_since g.D.Disk.seen g.D.Disk.may_leave c.renew-2.result c.args.self.now c.finish-2.new.self c.renew-2.new.self s finished.any_moment
+    (c.renew-2.ensures.carries (c.finish-2.ensures.ends.honesty.1 honest) s finished.upheld made)
+
+pub returns-clause-ends : goal.returns-clause-ends
+returns-clause-ends g c =
+    let first = c.in_ok-finish.ensures.ends in
+    then_ends g.D.Disk.honest g.D.Disk.failures c.renew-2.result c.args.self.now.journal c.finish-2.new.self.journal c.renew-2.new.self.journal first.outcome first.honesty c.renew-2.ensures.ends

@@ -1,17 +1,21 @@
+use Rattle.std.proofs.Common.{rules}
 use Rattle.fe_keeper.proofs.Finishing.{finish_moments, finish_upheld}
 use Rattle.fe_keeper.proofs.store.Store.open_slot.Goals as goal
 
-pub returns-in_err-slot_finish-clause-any_moment : goal.returns-in_err-slot_finish-clause-any_moment
-returns-in_err-slot_finish-clause-any_moment g c = λ honest s upholds.
-    finish_moments g.D.Disk.moment g.D.Disk.left_since g.D.Disk.seen g.D.Disk.may_leave c.args.self.now s c.in-Some.checkpoint c.deref.result.now c.deref.ensures.value c.in-Some.is c.requires.sound c.requires.whole
-    c.slot_finish.new.self.disk upholds (λ k d keeps. c.slot_finish.ensures.any_moment honest k d keeps)
+pub returns-in_err-slot_finish-clause-carries : goal.returns-in_err-slot_finish-clause-carries
+returns-in_err-slot_finish-clause-carries g c = λ honest s upholds. record {
+  any_moment =
+      finish_moments g.D.Disk.moment g.D.Disk.left_since g.D.Disk.seen g.D.Disk.may_leave c.args.self.now s c.in-Some.checkpoint c.deref.result.now c.deref.ensures.value c.in-Some.is c.requires.ready.sound c.requires.whole
+      c.slot_finish.new.self.disk upholds (λ k d keeps. c.slot_finish.ensures.any_moment honest k d keeps);
+  upheld = search rules;
+}
 
-pub returns-clause-any_moment : goal.returns-clause-any_moment
-returns-clause-any_moment g c = λ honest s upholds.
-    finish_moments g.D.Disk.moment g.D.Disk.left_since g.D.Disk.seen g.D.Disk.may_leave c.args.self.now s c.in-Some.checkpoint c.deref.result.now c.deref.ensures.value c.in-Some.is c.requires.sound c.requires.whole
-    c.slot_finish.new.self.disk upholds (λ k d keeps. c.slot_finish.ensures.any_moment honest k d keeps)
-
-pub returns-clause-upheld : goal.returns-clause-upheld
-returns-clause-upheld g c = λ honest s upholds.
-    finish_upheld g.D.Disk.moment g.D.Disk.left_since g.D.Disk.seen g.D.Disk.may_leave c.args.self.now s c.in-Some.checkpoint c.deref.result.now c.deref.ensures.value c.in-Some.is c.requires.sound c.requires.whole
-    c.slot_finish.new.self upholds (λ k d keeps. c.in_ok-slot_finish.ensures.finished honest k d keeps)
+pub returns-clause-carries : goal.returns-clause-carries
+returns-clause-carries g c = λ honest s upholds. record {
+  any_moment =
+      finish_moments g.D.Disk.moment g.D.Disk.left_since g.D.Disk.seen g.D.Disk.may_leave c.args.self.now s c.in-Some.checkpoint c.deref.result.now c.deref.ensures.value c.in-Some.is c.requires.ready.sound c.requires.whole
+      c.slot_finish.new.self.disk upholds (λ k d keeps. c.slot_finish.ensures.any_moment honest k d keeps);
+  upheld =
+      finish_upheld g.D.Disk.moment g.D.Disk.left_since g.D.Disk.seen g.D.Disk.may_leave c.args.self.now s c.in-Some.checkpoint c.deref.result.now c.deref.ensures.value c.in-Some.is c.requires.ready.sound c.requires.whole
+      c.slot_finish.new.self upholds (λ k d keeps. c.in_ok-slot_finish.ensures.finished honest k d keeps);
+}

@@ -1,13 +1,28 @@
+use Rattle.std.proofs.Common.{rules}
+use Rattle.fe_keeper.proofs.Ends.{then_ends}
 use Rattle.fe_keeper.proofs.Taking.{stays, then_stored}
 use Rattle.fe_keeper.proofs.store.Store.put.Goals as goal
 
-pub returns-in_err-make_room-clause-any_moment : goal.returns-in_err-make_room-clause-any_moment
-returns-in_err-make_room-clause-any_moment g c = λ honest s upholds image legal.
-    stays g.D.Disk.moment g.D.Disk.left_since g.D.Disk.seen g.D.Disk.may_leave c.args.self.now.journal.disk c.make_room.new.self.journal.disk s c.args.entries.now
-    (c.make_room.ensures.any_moment honest s upholds image)
+pub returns-in_err-make_room-clause-leads : goal.returns-in_err-make_room-clause-leads
+returns-in_err-make_room-clause-leads g c = λ honest s upholds image legal. record {
+  any_moment =
+      stays g.D.Disk.moment g.D.Disk.left_since g.D.Disk.seen g.D.Disk.may_leave c.args.self.now.journal.disk c.make_room.new.self.journal.disk s c.args.entries.now
+      (c.make_room.ensures.carries honest s upholds image).any_moment;
+  upheld = search rules;
+}
 
-pub returns-clause-any_moment : goal.returns-clause-any_moment
-returns-clause-any_moment g c = λ honest s upholds image legal.
-    then_stored g.D.Disk.moment g.D.Disk.left_since g.D.Disk.seen g.D.Disk.may_leave c.args.self.now.journal.disk c.make_room.new.self.journal.disk c.append.new.self.journal.disk s c.args.entries.now
-    (c.make_room.ensures.any_moment honest s upholds image)
-    (c.append.ensures.any_moment (c.make_room.ensures.honesty.1 honest) s (c.in_ok-make_room.ensures.upheld honest s upholds image) legal)
+pub returns-clause-leads : goal.returns-clause-leads
+returns-clause-leads g c = λ honest s upholds image legal.
+    let room = c.in_ok-make_room.ensures.carries honest s upholds image in
+    let stored = c.append.ensures.leads (c.make_room.ensures.ends.honesty.1 honest) s room.upheld legal in
+    record {
+      any_moment =
+          then_stored g.D.Disk.moment g.D.Disk.left_since g.D.Disk.seen g.D.Disk.may_leave c.args.self.now.journal.disk c.make_room.new.self.journal.disk c.append.new.self.journal.disk s c.args.entries.now room.any_moment
+          stored.any_moment;
+      upheld = stored.upheld;
+    }
+
+pub returns-clause-ends : goal.returns-clause-ends
+returns-clause-ends g c =
+    let first = c.in_ok-make_room.ensures.ends in
+    then_ends g.D.Disk.honest g.D.Disk.failures c.append.result c.args.self.now.journal c.make_room.new.self.journal c.append.new.self.journal first.outcome first.honesty c.append.ensures.ends

@@ -1,12 +1,17 @@
-use Rattle.fe_disk.proofs.Moments.{joined}
-use Rattle.fe_keeper.specs.Stands.{StandsFor}
+use Rattle.std.proofs.Common.{rules}
+use Rattle.fe_keeper.proofs.Ends.{then_carries, then_ends}
 use Rattle.fe_keeper.proofs.store.Store.renew.Goals as goal
 
-pub returns-in_err-begin-clause-any_moment : goal.returns-in_err-begin-clause-any_moment
-returns-in_err-begin-clause-any_moment g c = λ honest s upholds image. c.begin.ensures.any_moment honest s upholds
+pub returns-in_err-begin-clause-carries : goal.returns-in_err-begin-clause-carries
+returns-in_err-begin-clause-carries g c = λ honest s upholds image. record { any_moment = (c.begin.ensures.carries honest s upholds image).any_moment; upheld = search rules }
 
-pub returns-clause-any_moment : goal.returns-clause-any_moment
-returns-clause-any_moment g c = λ honest s upholds image.
-    joined g.D.Disk.moment g.D.Disk.left_since c.args.self.now.journal.disk c.begin.new.self.journal.disk c.finish.new.self.journal.disk (λ image. StandsFor image s)
-    (c.begin.ensures.any_moment honest s upholds)
-    (c.finish.ensures.any_moment (c.begin.ensures.honesty.1 honest) s (c.in_ok-begin.ensures.upheld honest s upholds image))
+pub returns-clause-carries : goal.returns-clause-carries
+returns-clause-carries g c = λ honest s upholds image.
+    let begun = c.in_ok-begin.ensures.carries honest s upholds image in
+    then_carries g.D.Disk.moment g.D.Disk.left_since g.D.Disk.seen g.D.Disk.may_leave c.finish.result c.args.self.now c.begin.new.self c.finish.new.self s begun.any_moment
+    (c.finish.ensures.carries (c.begin.ensures.ends.honesty.1 honest) s begun.upheld)
+
+pub returns-clause-ends : goal.returns-clause-ends
+returns-clause-ends g c =
+    let first = c.in_ok-begin.ensures.ends in
+    then_ends g.D.Disk.honest g.D.Disk.failures c.finish.result c.args.self.now.journal c.begin.new.self.journal c.finish.new.self.journal first.outcome first.honesty c.finish.ensures.ends

@@ -1,0 +1,86 @@
+-- How calls of a store end, one after the other, and what a keeper tells of their faults.
+use Rattle.std.proofs.Common.{◌≡◌, ◌⊎◌, ◌↔◌, inl, ℕ, List, true, false, Bool, IsTrue, refl, sym, ap, subst, ◌∙◌}
+use Rattle.std.specs.Prelude.{Result, Ok, Err, MatchResult, IsErrAnd, OnOk}
+use Rattle.fe_disk.specs.Disk.{LeavesOnly, Rises}
+use Rattle.fe_disk.proofs.Moments.{joined}
+use Rattle.fe_state.specs.State.{ServerState}
+use Rattle.fe_state.specs.declared.entry.Entry.{Entry}
+use Rattle.fe_replica.specs.Taking.{Continues, IsMismatch, MakesSomeArray}
+use Rattle.fe_replica.specs.declared.taking.Refused.{Refused}
+use Rattle.fe_replica.specs.declared.taking.Refused.TheVariants as replica
+use Rattle.fe_journal.specs.Journal.{JournalState}
+use Rattle.fe_journal.specs.declared.fault.JournalFault.{JournalFault}
+use Rattle.fe_journal.specs.declared.fault.JournalFault.TheVariants as journal
+use Rattle.fe_state.specs.declared.batch.Batch.{Batch}
+use Rattle.fe_keeper.specs.Ends.{Works, Breaks, Refuses, Fails, ForBatch, AppendEnds}
+use Rattle.fe_keeper.specs.Keeper.{KeeperState, must_begin}
+use Rattle.fe_keeper.specs.Stands.{StandsFor}
+use Rattle.fe_keeper.specs.within.Ends.{WorksOn, BreaksOff, StoreEnds, Carries}
+use Rattle.fe_keeper.specs.within.Faults.{fault_of_journal, fault_of_refused}
+use Rattle.fe_keeper.specs.within.Upholds.{Upholds}
+use Rattle.fe_keeper.specs.declared.fault.Fault.{Fault}
+use Rattle.fe_keeper.specs.declared.fault.Fault.TheVariants.{Device, NoMemory, Mismatch}
+use Rattle.fe_keeper.specs.declared.store.Store.{Store}
+
+-- ---- calls one after the other
+
+-- a call after one in which the device worked
+pub then_ends : {T D : Type 0} (honest : D → Type 0) (failures : D → ℕ) (result : Result T JournalFault) (old mid new : JournalState D) → WorksOn failures old mid → (honest mid.disk ↔ honest old.disk)
+    → StoreEnds honest failures result mid new → StoreEnds honest failures result old new
+then_ends honest failures (Ok x) old mid new first honesty second = record {
+  outcome = record { works = second.outcome.works; still = second.outcome.still ∙ first.still };
+  honesty = (λ h. honesty.0 (second.honesty.0 h), λ h. second.honesty.1 (honesty.1 h));
+}
+then_ends honest failures (Err fault) old mid new first honesty second = record {
+  outcome = (second.outcome.0, record { failed = second.outcome.1.failed; rises = subst (λ (n : ℕ). Rises n (failures new.disk)) first.still second.outcome.1.rises });
+  honesty = (λ h. honesty.0 (second.honesty.0 h), λ h. second.honesty.1 (honesty.1 h));
+}
+
+-- it carries over what the first carried
+pub then_carries : {T D : Type 0} (moment : D → ℕ) (left_since : D → ℕ → List ℕ → Type 0) (seen : D → List ℕ) (may_leave : D → List ℕ → Type 0) (result : Result T JournalFault) (old mid new : Store D) (s : ServerState)
+    → LeavesOnly moment left_since old.journal.disk mid.journal.disk (λ image. StandsFor image s) → Carries moment left_since seen may_leave result mid new s → Carries moment left_since seen may_leave result old new s
+then_carries moment left_since seen may_leave result old mid new s first second =
+    record { any_moment = joined moment left_since old.journal.disk mid.journal.disk new.journal.disk (λ image. StandsFor image s) first second.any_moment; upheld = second.upheld }
+
+-- ---- what a keeper tells
+
+-- what is said of a fault is said of a result that has it
+pub told : {T : Type 0} (result : Result T Fault) (fault : Fault) (Q : Type 0) (P : Fault → Type 0) → IsErrAnd result (λ f. f ≡ fault) → P fault → MatchResult result (λ _. Q) P
+told (Ok x) fault Q P is p = absurd is
+told (Err f) fault Q P is p = subst P (sym is) p
+
+-- a batch that is not taken
+pub take_fails : {D : Type 0} (failures : D → ℕ) (refused : Refused) (old new : KeeperState D) (first : ℕ) (entries : List Entry) → ((place : ℕ) → refused ≡ replica.Mismatch place → IsMismatch old.state first entries place)
+    → (refused ≡ replica.NoMemory → MakesSomeArray entries) → Refuses old new → Fails failures (ForBatch old first entries) old new (fault_of_refused refused)
+take_fails failures (replica.Mismatch place) old new first entries mismatch memory none = (mismatch place refl, none)
+take_fails failures replica.NoMemory old new first entries mismatch memory none = (inl (memory refl), none)
+
+-- a fault of the device
+pub device_fails : {D : Type 0} (failures : D → ℕ) (Cause : Fault → Type 0) (fault : JournalFault) (old new : KeeperState D) → fault ≡ journal.Device → Cause Device → Breaks failures old new
+    → Fails failures Cause old new (fault_of_journal fault)
+device_fails failures Cause journal.Device old new is cause breaks = (cause, breaks)
+device_fails failures Cause journal.Failed old new is cause breaks = absurd (cc is)
+
+-- no memory
+pub memory_fails : {D : Type 0} (failures : D → ℕ) (Cause : Fault → Type 0) (fault : Fault) (old new : KeeperState D) → fault ≡ NoMemory → Cause NoMemory → Refuses old new → Fails failures Cause old new fault
+memory_fails failures Cause fault old new is cause none = subst (Fails failures Cause old new) (sym is) (cause, none)
+
+-- a test that does not fail holds
+pub must_be : (b : Bool) → (b ≡ false → ⊥) → IsTrue b
+must_be true none = refl
+must_be false none = absurd (none refl)
+
+-- an append, seen from outside
+pub append_works : {D : Type 0} (failures : D → ℕ) (result : Result Batch (Fault × Batch)) (was old new : KeeperState D) (batch back : Batch) → result ≡ Ok back → was ≡ old → Works failures was new → AppendEnds failures result old new batch
+append_works {D} failures result was old new batch back is same works =
+    subst (λ (r : Result Batch (Fault × Batch)). AppendEnds failures r old new batch) (sym is) (subst (λ (k : KeeperState D). Works failures k new) same works)
+
+pub append_fails : {D : Type 0} (failures : D → ℕ) (result : Result Batch (Fault × Batch)) (was old new : KeeperState D) (batch back : Batch) (fault : Fault) (entries : List Entry) → result ≡ Err (fault, back) → was ≡ old
+    → entries ≡ batch.entries → Fails failures (ForBatch was batch.first entries) was new fault → AppendEnds failures result old new batch
+append_fails {D} failures result was old new batch back fault entries is same spelled fails =
+    subst (λ (r : Result Batch (Fault × Batch)). AppendEnds failures r old new batch) (sym is)
+    (subst (λ (k : KeeperState D). Fails failures (ForBatch k batch.first batch.entries) k new fault) same
+    (subst (λ (es : List Entry). Fails failures (ForBatch was batch.first es) was new fault) spelled fails))
+
+pub breaks_as : {D : Type 0} (failures : D → ℕ) (was old new : KeeperState D) → was ≡ old → Breaks failures was new → Breaks failures old new
+breaks_as {D} failures was old new same breaks = subst (λ (k : KeeperState D). Breaks failures k new) same breaks

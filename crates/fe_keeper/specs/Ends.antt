@@ -1,0 +1,122 @@
+-- How a call of a keeper ends, and what it leaves.
+use Rattle.std.specs.Prelude.{◌≡◌, ◌⊎◌, ◌↔◌, ℕ, ◌+◌, true, false, IsTrue, List, MatchBool, Result, Ok, Err, MatchResult}
+use Rattle.fe_disk.specs.Disk.{LeavesOnly, Rises, MakesAtMost}
+use Rattle.fe_disk.specs.declared.calls.Calls.{Calls}
+use Rattle.fe_state.specs.State.{ServerState, after_all}
+use Rattle.fe_state.specs.declared.batch.Batch.{Batch}
+use Rattle.fe_state.specs.declared.entry.Entry.{Entry}
+use Rattle.fe_replica.specs.Taking.{Continues, IsMismatch, MakesSomeArray}
+use Rattle.fe_keeper.specs.Keeper.{KeeperState, StoreState, appended, begun, can_begin, fits, made_room, must_begin, slices_left}
+use Rattle.fe_keeper.specs.Stands.{StandsFor, EachStandsFor}
+use Rattle.fe_keeper.specs.declared.fault.Fault.{Fault}
+use Rattle.fe_keeper.specs.declared.fault.Fault.TheVariants.{Device, Failed, NoMemory, Mismatch, Damaged, Unformatted}
+
+-- ---- what stops leave
+
+-- Over an honest disk that had not failed, each image that a stop at any moment of the call leaves has P.
+abbrev pub StopsLeave : {D : Type 0} → (D → Type 0) → (D → ℕ) → (D → ℕ → List ℕ → Type 0) → KeeperState D → KeeperState D
+    → (List ℕ → Type 0) → Type 0
+StopsLeave honest moment left_since old new P =
+    honest old.store.disk → old.store.has_failed ≡ false → LeavesOnly moment left_since old.store.disk new.store.disk P
+
+-- Over an honest disk that has not failed, each image that a stop may leave now stands for the keeper's state.
+abbrev pub IsDurable : {D : Type 0} → (D → Type 0) → (D → List ℕ → Type 0) → KeeperState D → Type 0
+IsDurable honest may_leave keeper =
+    honest keeper.store.disk → keeper.store.has_failed ≡ false → EachStandsFor may_leave keeper.store.disk keeper.state
+
+-- The keeper's state is as it was, and at every moment each image that a stop leaves stands for it.
+pub record Rests {D : Type 0} (honest : D → Type 0) (moment : D → ℕ) (left_since : D → ℕ → List ℕ → Type 0) (old new : KeeperState D) : Type 0 where
+  pub state : new.state ≡ old.state
+  pub any_moment : StopsLeave honest moment left_since old new (λ image. StandsFor image old.state)
+  pub honesty : honest new.store.disk ↔ honest old.store.disk
+
+-- ---- how a call ends
+
+-- The device works: no call of it failed, in this call or before.
+pub record Works {D : Type 0} (failures : D → ℕ) (old new : KeeperState D) : Type 0 where
+  pub before : old.store.has_failed ≡ false
+  pub after : new.store.has_failed ≡ false
+  pub still : failures new.store.disk ≡ failures old.store.disk
+
+-- A call of the device failed in this call, and none before.
+pub record Breaks {D : Type 0} (failures : D → ℕ) (old new : KeeperState D) : Type 0 where
+  pub before : old.store.has_failed ≡ false
+  pub failed : new.store.has_failed ≡ true
+  pub rises : Rises (failures old.store.disk) (failures new.store.disk)
+
+-- The call did nothing, and the device had not failed.
+pub record Refuses {D : Type 0} (old new : KeeperState D) : Type 0 where
+  pub before : old.store.has_failed ≡ false
+  pub same : new ≡ old
+
+-- Why a call failed, and what it left then. `Cause` is what each fault needs besides.
+abbrev pub Fails : {D : Type 0} → (D → ℕ) → (Fault → Type 0) → KeeperState D → KeeperState D → Fault → Type 0
+Fails failures Cause old new Device = Cause Device × Breaks failures old new
+Fails failures Cause old new Failed = (old.store.has_failed ≡ true) × (new ≡ old)
+Fails failures Cause old new NoMemory = Cause NoMemory × Refuses old new
+Fails failures Cause old new (Mismatch place) = Cause (Mismatch place) × Refuses old new
+Fails failures Cause old new (Damaged offset) = ⊥
+Fails failures Cause old new Unformatted = ⊥
+
+abbrev pub Ends : {T D : Type 0} → (D → ℕ) → (Fault → Type 0) → Result T Fault → KeeperState D → KeeperState D → Type 0
+Ends failures Cause result old new = MatchResult result (λ _. Works failures old new) (Fails failures Cause old new)
+
+-- the device is called only where this holds, and nothing else is refused
+abbrev pub ForDevice : Type 0 → Fault → Type 0
+ForDevice P Device = P
+ForDevice P Failed = ⊥
+ForDevice P NoMemory = ⊥
+ForDevice P (Mismatch place) = ⊥
+ForDevice P (Damaged offset) = ⊥
+ForDevice P Unformatted = ⊥
+
+-- the device is called, and memory is taken, only where this holds, and nothing else is refused
+abbrev pub ForDeviceAndMemory : Type 0 → Fault → Type 0
+ForDeviceAndMemory P Device = P
+ForDeviceAndMemory P Failed = ⊥
+ForDeviceAndMemory P NoMemory = P
+ForDeviceAndMemory P (Mismatch place) = ⊥
+ForDeviceAndMemory P (Damaged offset) = ⊥
+ForDeviceAndMemory P Unformatted = ⊥
+
+-- ---- appends
+
+-- The device is called only for a batch that continues the history. Memory is taken for a new array, and for a whole checkpoint.
+abbrev pub ForBatch : {D : Type 0} → KeeperState D → ℕ → List Entry → Fault → Type 0
+ForBatch old first entries Device = Continues old.state first entries
+ForBatch old first entries Failed = ⊥
+ForBatch old first entries NoMemory = MakesSomeArray entries ⊎ IsTrue (must_begin old.store entries)
+ForBatch old first entries (Mismatch place) = IsMismatch old.state first entries place
+ForBatch old first entries (Damaged offset) = ⊥
+ForBatch old first entries Unformatted = ⊥
+
+-- The batch continues the history, and is stored.
+pub record IsAppended {D : Type 0} (old new : KeeperState D) (first : ℕ) (entries : List Entry) : Type 0 where
+  pub continues : Continues old.state first entries
+  pub state : new.state ≡ after_all old.state entries
+  pub store : new.store ≡ record (appended (made_room old.store entries) entries) { disk = new.store.disk }
+
+-- the batch that comes back
+abbrev pub batch_of : Result Batch (Fault × Batch) → Batch
+batch_of (Ok batch) = batch
+batch_of (Err refused) = refused.1
+
+-- How an append ended.
+abbrev pub AppendEnds : {D : Type 0} → (D → ℕ) → Result Batch (Fault × Batch) → KeeperState D → KeeperState D → Batch → Type 0
+AppendEnds failures result old new batch =
+    MatchResult result (λ _. Works failures old new) (λ e. Fails failures (ForBatch old batch.first batch.entries) old new e.0)
+
+-- How many device calls an append makes at most, where a whole checkpoint would have so many slices.
+pub record MakesToAppend {D : Type 0} (store : StoreState D) (entries : List Entry) (whole : ℕ) (before after : Calls) : Type 0 where
+  -- the batch fits
+  pub to_append : IsTrue (fits store entries) → MakesAtMost 0 2 2 before after
+  -- it fits once the checkpoint under way is finished
+  pub to_finish : must_begin store entries ≡ false → MakesAtMost 0 (slices_left store.checkpoint + 4) 4 before after
+  -- it fits after a whole checkpoint
+  pub most : MakesAtMost 1 (slices_left store.checkpoint + (whole + 8)) 7 before after
+
+-- ---- checkpoints
+
+-- A checkpoint of so many bytes was begun where one could be, and else nothing was done.
+abbrev pub HasBegun : {D : Type 0} → KeeperState D → KeeperState D → ℕ → Type 0
+HasBegun old new size = MatchBool (can_begin old.store) (new.store ≡ record (begun old.store size) { disk = new.store.disk }) (new ≡ old)

@@ -1,0 +1,63 @@
+-- How a call of a store ends, and what it carries over.
+use Rattle.std.specs.Prelude.{◌≡◌, ◌↔◌, ℕ, ◌+◌, true, false, IsTrue, List, Result, MatchResult, OnOk}
+use Rattle.fe_disk.specs.Disk.{LeavesOnly, Rises, MakesAtMost}
+use Rattle.fe_disk.specs.declared.calls.Calls.{Calls}
+use Rattle.fe_state.specs.State.{ServerState}
+use Rattle.fe_state.specs.declared.entry.Entry.{Entry}
+use Rattle.fe_journal.specs.Contents.{Contents, Holds}
+use Rattle.fe_journal.specs.Journal.{JournalState}
+use Rattle.fe_journal.specs.declared.fault.JournalFault.{JournalFault}
+use Rattle.fe_journal.specs.declared.fault.JournalFault.TheVariants.{Device}
+use Rattle.fe_keeper.specs.Keeper.{StoreState, fits, must_begin, slices_left}
+use Rattle.fe_keeper.specs.Stands.{StandsFor, StandsForEither}
+use Rattle.fe_keeper.specs.within.Slices.{KeepsDraft}
+use Rattle.fe_keeper.specs.within.Upholds.{IsStore, Upholds}
+use Rattle.fe_keeper.specs.declared.checkpoint.Checkpoint.{Checkpoint}
+use Rattle.fe_keeper.specs.declared.store.Store.{Store}
+
+-- ---- how a call ends, where the device worked before it
+
+-- no call of the device failed
+pub record WorksOn {D : Type 0} (failures : D → ℕ) (old new : JournalState D) : Type 0 where
+  pub works : new.has_failed ≡ false
+  pub still : failures new.disk ≡ failures old.disk
+
+-- a call of the device failed
+pub record BreaksOff {D : Type 0} (failures : D → ℕ) (old new : JournalState D) : Type 0 where
+  pub failed : new.has_failed ≡ true
+  pub rises : Rises (failures old.disk) (failures new.disk)
+
+-- Only the device fails, and the disk is as honest as it was.
+pub record StoreEnds {T D : Type 0} (honest : D → Type 0) (failures : D → ℕ) (result : Result T JournalFault) (old new : JournalState D) : Type 0 where
+  pub outcome : MatchResult result (λ _. WorksOn failures old new) (λ fault. (fault ≡ Device) × BreaksOff failures old new)
+  pub honesty : honest new.disk ↔ honest old.disk
+
+-- ---- what it carries over
+
+-- The store is sound, and no entry came.
+pub record StaysSound {D : Type 0} (old new : Store D) : Type 0 where
+  pub sound : IsStore new
+  pub place : new.place ≡ old.place
+
+-- Each image that a stop leaves stands for the state, and the store upholds it then, if the call succeeds.
+pub record Carries {T D : Type 0} (moment : D → ℕ) (left_since : D → ℕ → List ℕ → Type 0) (seen : D → List ℕ) (may_leave : D → List ℕ → Type 0) (result : Result T JournalFault) (old new : Store D) (s : ServerState) : Type 0 where
+  pub any_moment : LeavesOnly moment left_since old.journal.disk new.journal.disk (λ image. StandsFor image s)
+  pub upheld : OnOk result (Upholds seen may_leave new s)
+
+-- Each image that a stop leaves stands for one of two states, and the store upholds the second, if the call succeeds.
+pub record Leads {T D : Type 0} (moment : D → ℕ) (left_since : D → ℕ → List ℕ → Type 0) (seen : D → List ℕ) (may_leave : D → List ℕ → Type 0) (result : Result T JournalFault) (old new : Store D) (s t : ServerState) : Type 0 where
+  pub any_moment : LeavesOnly moment left_since old.journal.disk new.journal.disk (StandsForEither s t)
+  pub upheld : OnOk result (Upholds seen may_leave new t)
+
+-- The same of a journal's contents, and the draft of a checkpoint beside them.
+pub record CarriesDraft {T D : Type 0} (moment : D → ℕ) (left_since : D → ℕ → List ℕ → Type 0) (seen : D → List ℕ) (may_leave : D → List ℕ → Type 0) (result : Result T JournalFault) (old new : JournalState D) (contents : Contents) (c : Checkpoint) (s : ServerState) : Type 0 where
+  pub any_moment : LeavesOnly moment left_since old.disk new.disk (Holds contents)
+  pub drafted : OnOk result (KeepsDraft seen may_leave new contents c s)
+
+-- ---- calls of the device
+
+-- How many of them make room for a batch, where a whole checkpoint would have so many slices.
+pub record MakesRoom {D : Type 0} (store : StoreState D) (entries : List Entry) (whole : ℕ) (before after : Calls) : Type 0 where
+  pub none : IsTrue (fits store entries) → MakesAtMost 0 0 0 before after
+  pub to_finish : must_begin store entries ≡ false → MakesAtMost 0 (slices_left store.checkpoint + 2) 2 before after
+  pub most : MakesAtMost 1 (slices_left store.checkpoint + (whole + 6)) 5 before after
