@@ -1,8 +1,8 @@
 -- At every point of a run, the mails in boxes and those that were written stand on the groups that were stored.
 use Rattle.std.proofs.Common.{◌≡◌, inl, inr, ℕ, zero, suc, ◌+◌, ◌<◌, ◌≤◌, Bool, true, false, true≢false, List, [], ◌∷◌, ◌++◌, append-nil, append_assoc, length, Option, Some, None, refl, sym, ap, subst, ◌∙◌, arith}
-use Rattle.std.specs.Prelude.{nat_eq, is_some, if◌then◌else◌, ◌||◌, MatchBool}
+use Rattle.std.specs.Prelude.{nat_eq, is_some, if◌then◌else◌, ◌||◌, MatchBool, IfSome}
 use Rattle.std.specs.List.{AllByRecursion}
-use Rattle.std.specs.Option.{option_map_or}
+use Rattle.std.specs.Option.{option_map, option_map_or}
 use Rattle.std.specs.Ordering.{nat_cmp}
 use Rattle.std.specs.FinMap.{FinMap, get, get-empty}
 use Rattle.std.proofs.lemmas.List.{flat_map_more, length-append}
@@ -36,54 +36,46 @@ use Rattle.fe_desk.specs.declared.step.Step.TheVariants as step
 use Rattle.fe_desk.specs.Mails.{taken_times, emptied_box}
 use Rattle.fe_desk.specs.Standing.{Client, Standing, IsFirstStanding, told, all_told, all_emptied, emptied, discharged}
 use Rattle.fe_desk.specs.Storing.{handed_after, cut, stored, stored_from, posted, posted_from, cleared, committed, made, is_making, with_room, begun_room, roomy}
-use Rattle.fe_desk.specs.Steps.{find, on_client, new_client, clients_with, with_left, with_decoder, Connects, gone, after_frame, TakesPiece, TakesFrom, TakesBytes, Acts, DeskStep, DeskRun}
+use Rattle.fe_desk.specs.Steps.{find, on_client, new_client, clients_with, with_left, with_decoder, Connects, gone, after_frame, TakesPiece, TakesFrom, TakesBytes, Reads, Acts}
 use Rattle.fe_desk.specs.Taking.{TakesOne, TakesAll}
-use Rattle.fe_desk.specs.within.Desk.{cut_entries}
-use Rattle.fe_desk.specs.Acknowledged.{IsAmong, IsFinishedAt, StandsOn, IsWritten, AcknowledgedStand, entries_of}
-use Rattle.fe_desk.proofs.Emptying.{all_emptied-keeps}
+use Rattle.fe_desk.specs.Acknowledged.{IsAmong, IsFinishedAt, StandsOn, AreAnswered, IsLast, IsOnItsWay, AsksFor, entries_of, cut_entries, made_entries}
+use Rattle.fe_desk.specs.Writing.{StopsAtMail, StopsWriting, WritesFirst, WritesSome}
+use Rattle.fe_desk.specs.Stopping.{MayBegin, StopsMaking, TakesFirst, StopsBefore, StopsUnread, StopsBehind}
+use Rattle.fe_desk.specs.Messages.{left_of, read_by}
+use Rattle.fe_desk.specs.within.Keeping.{KeepsFront}
+use Rattle.fe_desk.proofs.Emptying.{all_emptied-keeps, times-keep, itself, same_number}
 use Rattle.fe_desk.proofs.Recorded.{kept_of}
 use Rattle.fe_desk.proofs.Boxes.{AllIn, all_append, all_weaker, boxes-taken, boxes-connected, boxes-dropped, boxes-posted_all}
-use Rattle.fe_desk.proofs.Answered.{AreAnswered, among_more, answered-append, answered-split, finished_more, kept_stands, posts_stand}
-use Rattle.fe_desk.proofs.Messaging.{Makes, KeptStand, message_made, message_stands}
+use Rattle.fe_desk.proofs.Answered.{among_more, answered-append, answered-split, finished_more, kept_stands, posts_stand}
+use Rattle.fe_desk.proofs.Messaging.{Makes, KeptStand, StandsTo, message_made, message_stands}
+use Rattle.fe_desk.proofs.Seated.{Loses, HasOnly, has_lost, both_lose, times_lose, all_emptied_loses, connected_loses, dropped_loses, posted_loses, message_has, first_has, none_some, some_same}
 
 -- ---- what holds
 
--- all entries that were made: those of the groups, those of a batch that is cut, and those that are pending
-abbrev pub made_entries : List (List Entry) → Handed → FrontState → List Entry
-made_entries groups handed f = entries_of groups ++ (cut_entries handed ++ f.service.pending)
-
--- the batch is the last of the groups, and begins at the mark
-pub record IsLast (begun : ServerState) (groups : List (List Entry)) (durable : ℕ) (batch : Batch) : Type 0 where
-  pub before : List (List Entry)
-  pub groups_are : groups ≡ before ++ batch.entries ∷ []
-  pub first : batch.first ≡ durable
-  pub mark : durable ≡ begun.place + length (entries_of before)
-
--- the mark stands behind the groups that were posted; a batch is out where one is on its way
-abbrev pub IsOnItsWay : ServerState → List (List Entry) → FrontState → Handed → Type 0
-IsOnItsWay begun groups f Nothing = f.durable ≡ begun.place + length (entries_of groups)
-IsOnItsWay begun groups f (Cut batch) = (f.durable ≡ begun.place + length (entries_of groups)) × (is_some f.out ≡ true) × (batch.first ≡ f.durable)
-IsOnItsWay begun groups f (Stored batch) = IsLast begun groups f.durable batch × (is_some f.out ≡ true)
-
--- what was written is the spelling of mails that stand on the groups, and no reply waits
-pub record TellsCall (begun : ServerState) (groups : List (List Entry)) (reply : Option ServerMessage) (written : List ℕ) : Type 0 where
-  pub none : reply ≡ None
+-- what was written is the spelling of mails that stand on the groups, and so does that of a reply that waits
+pub record TellsCall (begun : ServerState) (groups : List (List Entry)) (mine : List ℕ) (reply : Option ServerMessage) (written : List ℕ) : Type 0 where
+  pub waits : IfSome reply (λ r. (m : Mail) × (r ≡ reply_of m) × StandsOn begun groups mine m)
   pub mails : List Mail
-  pub stand : AllByRecursion (StandsOn begun groups) mails
+  pub stand : AllByRecursion (StandsOn begun groups mine) mails
   pub spelling : written ≡ spelled mails
 
-abbrev pub AllTell : ServerState → List (List Entry) → List Client → Type 0
-AllTell begun groups clients = AllByRecursion (λ (c : Client). TellsCall begun groups c.reply c.written) clients
+-- so is it for each client, and the messages that are left of it ask for no other session
+abbrev pub Tells : ServerState → List (List Entry) → (ℕ → List ℕ) → Client → Type 0
+Tells begun groups asked c = TellsCall begun groups (asked c.conn) c.reply c.written × AllByRecursion (AsksFor (asked c.conn)) c.left
 
-pub record Holds (begun : ServerState) (f : FrontState) (clients : List Client) (handed : Handed) (groups : List (List Entry)) : Type 0 where
+abbrev pub AllTell : ServerState → List (List Entry) → (ℕ → List ℕ) → List Client → Type 0
+AllTell begun groups asked clients = AllByRecursion (Tells begun groups asked) clients
+
+pub record Holds (begun : ServerState) (asked : ℕ → List ℕ) (f : FrontState) (clients : List Client) (handed : Handed) (groups : List (List Entry)) : Type 0 where
   pub state : f.service.state ≡ after_all begun (made_entries groups handed f)
   pub answered : AreAnswered begun (made_entries groups handed f)
   pub way : IsOnItsWay begun groups f handed
-  pub boxes : AllIn (StandsOn begun groups) f.connections
-  pub tell : AllTell begun groups clients
+  pub boxes : AllIn (λ conn. StandsOn begun groups (asked conn)) f.connections
+  pub tell : AllTell begun groups asked clients
+  pub has : HasOnly asked f
 
-abbrev pub HoldsAt : ServerState → Standing → Type 0
-HoldsAt begun s = Holds begun s.front s.clients s.handed s.groups
+abbrev pub HoldsAt : ServerState → (ℕ → List ℕ) → Standing → Type 0
+HoldsAt begun asked s = Holds begun asked s.front s.clients s.handed s.groups
 
 -- ---- what stays
 
@@ -100,9 +92,9 @@ way_remains begun groups f g (Cut batch) out durable way = (durable ∙ way.0, a
 way_remains begun groups f g (Stored batch) out durable way =
     (record { before = way.0.before; groups_are = way.0.groups_are; first = way.0.first ∙ sym durable; mark = durable ∙ way.0.mark }, ap is_some out ∙ way.1)
 
-remains_hold : (begun : ServerState) (f g : FrontState) (cs ds : List Client) (handed : Handed) (groups : List (List Entry)) → Remains f g → AllIn (StandsOn begun groups) g.connections
-    → AllTell begun groups ds → Holds begun f cs handed groups → Holds begun g ds handed groups
-remains_hold begun f g cs ds handed groups same boxes tell h =
+remains_hold : (begun : ServerState) (asked : ℕ → List ℕ) (f g : FrontState) (cs ds : List Client) (handed : Handed) (groups : List (List Entry)) → Remains f g → Loses f g → AllIn (StandsTo begun groups asked) g.connections
+    → AllTell begun groups asked ds → Holds begun asked f cs handed groups → Holds begun asked g ds handed groups
+remains_hold begun asked f g cs ds handed groups same loses boxes tell h =
     let pending : made_entries groups handed f ≡ made_entries groups handed g = ap (λ (es : List Entry). entries_of groups ++ (cut_entries handed ++ es)) (sym same.pending) in
     record {
       state = same.state ∙ h.state ∙ ap (λ (es : List Entry). after_all begun es) pending;
@@ -110,49 +102,122 @@ remains_hold begun f g cs ds handed groups same boxes tell h =
       way = way_remains begun groups f g handed same.out same.durable h.way;
       boxes = boxes;
       tell = tell;
+      has = has_lost asked f g loses h.has;
     }
 
 -- ---- mails are written
 
-module _ (begun : ServerState) (groups : List (List Entry)) where
-  times_stand : (n : ℕ) (f : FrontState) (conn : ℕ) → AllIn (StandsOn begun groups) f.connections → AllIn (StandsOn begun groups) (taken_times n f conn).connections
-  times_stand zero f conn all = all
-  times_stand (suc n) f conn all = times_stand n (front.taken f conn) conn (boxes-taken (StandsOn begun groups) f conn all)
+-- a reply that waits is the spelling of mails
+waiting : (P : Mail → Type 0) (o : Option ServerMessage) → IfSome o (λ r. (m : Mail) × (r ≡ reply_of m) × P m) → (ms : List Mail) × AllByRecursion P ms × (option_map_or reply_spelling o [] ≡ spelled ms)
+waiting P None waits = ([], tt, refl)
+waiting P (Some r) (m, is, stands) =
+    let some : AllByRecursion P (m ∷ []) = (stands, tt) in
+    (m ∷ [], some, ap reply_spelling is ∙ sym (append-nil (reply_spelling (reply_of m))))
 
-  box_stands : (f : FrontState) (conn : ℕ) → AllIn (StandsOn begun groups) f.connections → AllIn (StandsOn begun groups) (emptied_box f conn).connections
+first_of : {X : Type 0} (P : X → Type 0) (xs ys : List X) → AllByRecursion P (xs ++ ys) → AllByRecursion P xs × AllByRecursion P ys
+first_of P [] ys all = (tt, all)
+first_of P (x ∷ xs) ys all = let rest = first_of P xs ys all.1 in ((all.0, rest.0), rest.1)
+
+module _ (begun : ServerState) (groups : List (List Entry)) (asked : ℕ → List ℕ) where
+  abbrev Stand : FrontState → Type 0
+  Stand f = AllIn (StandsTo begun groups asked) f.connections
+
+  pub times_stand : (n : ℕ) (f : FrontState) (conn : ℕ) → Stand f → Stand (taken_times n f conn)
+  times_stand zero f conn all = all
+  times_stand (suc n) f conn all = times_stand n (front.taken f conn) conn (boxes-taken (StandsTo begun groups asked) f conn all)
+
+  box_stands : (f : FrontState) (conn : ℕ) → Stand f → Stand (emptied_box f conn)
   box_stands f conn all = times_stand (length (mails_on f.connections conn)) f conn all
 
-  all_stand : (f : FrontState) (cs : List Client) → AllIn (StandsOn begun groups) f.connections → AllIn (StandsOn begun groups) (all_emptied f cs).connections
+  all_stand : (f : FrontState) (cs : List Client) → Stand f → Stand (all_emptied f cs)
   all_stand f [] all = all
   all_stand f (c ∷ cs) all = all_stand (emptied_box f c.conn) cs (box_stands f c.conn all)
 
-  told_tells : (f : FrontState) (c : Client) → AllIn (StandsOn begun groups) f.connections → TellsCall begun groups c.reply c.written → TellsCall begun groups (told f c).reply (told f c).written
-  told_tells f c all t =
-      let box : List Mail = mails_on f.connections c.conn in
-      record {
-        none = refl;
-        mails = t.mails ++ box;
-        stand = all_append (StandsOn begun groups) t.mails box t.stand (all c.conn);
-        spelling = ap (λ (o : Option ServerMessage). c.written ++ (option_map_or reply_spelling o [] ++ spelled box)) t.none
-            ∙ ap (λ (bytes : List ℕ). bytes ++ spelled box) t.spelling ∙ sym (flat_map-append (λ (m : Mail). reply_spelling (reply_of m)) t.mails box);
-      }
+  -- the reply that waits of a client is written, and then mails
+  tells_more : (c : Client) (first : List Mail) → AllByRecursion (StandsTo begun groups asked c.conn) first → TellsCall begun groups (asked c.conn) c.reply c.written
+      → (ms : List Mail) × AllByRecursion (StandsTo begun groups asked c.conn) ms × (c.written ++ (option_map_or reply_spelling c.reply [] ++ spelled first) ≡ spelled ms)
+  tells_more c first all t =
+      let P : Mail → Type 0 = StandsTo begun groups asked c.conn in
+      let w = waiting P c.reply t.waits in
+      let bytes : (xs ys : List Mail) → spelled xs ++ spelled ys ≡ spelled (xs ++ ys) = λ xs ys. sym (flat_map-append (λ (m : Mail). reply_spelling (reply_of m)) xs ys) in (
+        t.mails ++ (w.0 ++ first),
+        all_append P t.mails (w.0 ++ first) t.stand (all_append P w.0 first w.1 all),
+        ap (λ (bs : List ℕ). c.written ++ (bs ++ spelled first)) w.2 ∙ ap (λ (bs : List ℕ). c.written ++ bs) (bytes w.0 first)
+            ∙ ap (λ (bs : List ℕ). bs ++ spelled (w.0 ++ first)) t.spelling ∙ bytes t.mails (w.0 ++ first),
+      )
 
-  all_tell : (f : FrontState) (cs : List Client) → AllIn (StandsOn begun groups) f.connections → AllTell begun groups cs → AllTell begun groups (all_told f cs)
+  told_tells : (f : FrontState) (c : Client) → Stand f → Tells begun groups asked c → Tells begun groups asked (told f c)
+  told_tells f c all t =
+      let more = tells_more c (mails_on f.connections c.conn) (all c.conn) t.0 in
+      (record { waits = tt; mails = more.0; stand = more.1; spelling = more.2 }, t.1)
+
+  all_tell : (f : FrontState) (cs : List Client) → Stand f → AllTell begun groups asked cs → AllTell begun groups asked (all_told f cs)
   all_tell f [] all tell = tt
   all_tell f (c ∷ cs) all tell = (told_tells f c all tell.0, all_tell (emptied_box f c.conn) cs (box_stands f c.conn all) tell.1)
 
-emptied_holds : (begun : ServerState) (s : Standing) → HoldsAt begun s → HoldsAt begun (emptied s)
-emptied_holds begun s h =
-    let keeps = all_emptied-keeps s.front s.clients in
-    remains_hold begun s.front (all_emptied s.front s.clients) s.clients (all_told s.front s.clients) s.handed s.groups
-    (record { state = keeps.state; pending = keeps.pending; out = keeps.out; durable = keeps.durable })
-    (all_stand begun s.groups s.front s.clients h.boxes) (all_tell begun s.groups s.front s.clients h.boxes h.tell) h
+  -- some of them are
+  all_split : (cs ds : List Client) → AllTell begun groups asked (cs ++ ds) → AllTell begun groups asked cs × AllTell begun groups asked ds
+  all_split [] ds all = (tt, all)
+  all_split (c ∷ cs) ds all = let rest = all_split cs ds all.1 in ((all.0, rest.0), rest.1)
 
-discharged_holds : (begun : ServerState) (s : Standing) → HoldsAt begun s → HoldsAt begun (discharged s)
-discharged_holds begun s h = by s.owes
+  -- what is left of a client of whose mails some are written
+  record Stops (f g : FrontState) (d : Client) : Type 0 where
+    keeps : KeepsFront f g
+    loses : Loses f g
+    stand : Stand g
+    tells : Tells begun groups asked d
+
+  stops_holds : (f : FrontState) (c : Client) (g : FrontState) (d : Client) → StopsWriting f c g d → Stand f → Tells begun groups asked c → Stops f g d
+  stops_holds f c g d (inl still) all tell =
+      let front = sym still.1 in
+      record {
+        keeps = subst (λ (x : FrontState). KeepsFront f x) front (itself f);
+        loses = subst (λ (x : FrontState). Loses f x) front (times_lose 0 f c.conn);
+        stand = subst (λ (x : FrontState). Stand x) front all;
+        tells = subst (λ (x : Client). Tells begun groups asked x) (sym still.2) tell;
+      }
+  stops_holds f c g d (inr at) all tell =
+      let n : ℕ = length at.first + 1 in
+      let front = sym at.front in
+      let P : Mail → Type 0 = StandsTo begun groups asked c.conn in
+      let box = first_of P at.first (at.next ∷ at.rest) (subst (λ (ms : List Mail). AllByRecursion P ms) at.box (all c.conn)) in
+      let more = tells_more c at.first box.0 tell.0 in
+      let here : Tells begun groups asked (record c { reply = Some (reply_of at.next); written = c.written ++ (option_map_or reply_spelling c.reply [] ++ spelled at.first) }) =
+      (record { waits = (at.next, refl, box.1.0); mails = more.0; stand = more.1; spelling = more.2 }, tell.1) in
+      record {
+        keeps = subst (λ (x : FrontState). KeepsFront f x) front (times-keep n f c.conn);
+        loses = subst (λ (x : FrontState). Loses f x) front (times_lose n f c.conn);
+        stand = subst (λ (x : FrontState). Stand x) front (times_stand n f c.conn all);
+        tells = subst (λ (x : Client). Tells begun groups asked x) (sym at.client) here;
+      }
+
+pub emptied_holds : (begun : ServerState) (asked : ℕ → List ℕ) (s : Standing) → HoldsAt begun asked s → HoldsAt begun asked (emptied s)
+emptied_holds begun asked s h =
+    let keeps = all_emptied-keeps s.front s.clients in
+    remains_hold begun asked s.front (all_emptied s.front s.clients) s.clients (all_told s.front s.clients) s.handed s.groups
+    (record { state = keeps.state; pending = keeps.pending; out = keeps.out; durable = keeps.durable }) (all_emptied_loses s.front s.clients)
+    (all_stand begun s.groups asked s.front s.clients h.boxes) (all_tell begun s.groups asked s.front s.clients h.boxes h.tell) h
+
+pub some_holds : (begun : ServerState) (asked : ℕ → List ℕ) (s t : Standing) → WritesSome s t → HoldsAt begun asked s → HoldsAt begun asked t
+some_holds begun asked s t some h =
+    let w = some.writes in
+    let f : FrontState = all_emptied s.front w.before in
+    let tells = all_split begun s.groups asked w.before (w.client ∷ w.behind) (subst (λ (cs : List Client). AllTell begun s.groups asked cs) w.all h.tell) in
+    let keeps = all_emptied-keeps s.front w.before in
+    let stops = stops_holds begun s.groups asked f w.client some.front w.last w.stops (all_stand begun s.groups asked s.front w.before h.boxes) tells.1.0 in
+    let told : AllTell begun s.groups asked (all_told s.front w.before ++ w.last ∷ w.behind) =
+    all_append (Tells begun s.groups asked) (all_told s.front w.before) (w.last ∷ w.behind) (all_tell begun s.groups asked s.front w.before h.boxes tells.0) (stops.tells, tells.1.1) in
+    subst (λ (x : Standing). HoldsAt begun asked x) (sym some.after)
+    (remains_hold begun asked s.front some.front s.clients some.clients s.handed s.groups
+    (record { state = stops.keeps.state ∙ keeps.state; pending = stops.keeps.pending ∙ keeps.pending; out = stops.keeps.out ∙ keeps.out; durable = stops.keeps.durable ∙ keeps.durable })
+    (both_lose s.front f some.front (all_emptied_loses s.front w.before) stops.loses)
+    stops.stand (subst (λ (cs : List Client). AllTell begun s.groups asked cs) (sym w.now) told) h)
+
+pub discharged_holds : (begun : ServerState) (asked : ℕ → List ℕ) (s : Standing) → HoldsAt begun asked s → HoldsAt begun asked (discharged s)
+discharged_holds begun asked s h = by s.owes
   where
-    by : (b : Bool) → HoldsAt begun (if b then emptied s else s)
-    by true = emptied_holds begun s h
+    by : (b : Bool) → HoldsAt begun asked (if b then emptied s else s)
+    by true = emptied_holds begun asked s h
     by false = h
 
 -- ---- a batch is cut
@@ -171,8 +236,8 @@ none_out false b e = refl
 abbrev handed_out : FrontState → FrontState
 handed_out f = record f { service = record f.service { pending = [] }; out = Some (record { first = f.durable; length = length f.service.pending }) }
 
-cut_holds : (begun : ServerState) (s : Standing) → HoldsAt begun s → HoldsAt begun (cut s)
-cut_holds begun s h = by (has_no_cut s.front) refl
+cut_holds : (begun : ServerState) (asked : ℕ → List ℕ) (s : Standing) → HoldsAt begun asked s → HoldsAt begun asked (cut s)
+cut_holds begun asked s h = by (has_no_cut s.front) refl
   where
     f : FrontState
     f = s.front
@@ -180,7 +245,7 @@ cut_holds begun s h = by (has_no_cut s.front) refl
     batch : Batch
     batch = record { first = f.durable; entries = f.service.pending }
 
-    from_nothing : Holds begun f s.clients Nothing s.groups → Holds begun (handed_out f) s.clients (Cut batch) s.groups
+    from_nothing : Holds begun asked f s.clients Nothing s.groups → Holds begun asked (handed_out f) s.clients (Cut batch) s.groups
     from_nothing n =
         let same : made_entries s.groups Nothing f ≡ made_entries s.groups (Cut batch) (handed_out f) = ap (λ (es : List Entry). entries_of s.groups ++ es) (sym (append-nil f.service.pending)) in
         record {
@@ -189,12 +254,13 @@ cut_holds begun s h = by (has_no_cut s.front) refl
           way = (n.way, refl, refl);
           boxes = n.boxes;
           tell = n.tell;
+          has = record { holders = n.has.holders; sessions = n.has.sessions };
         }
 
-    by : (b : Bool) → has_no_cut f ≡ b → Holds begun (if b then f else handed_out f) s.clients (handed_after s.handed (if b then None else Some batch)) s.groups
+    by : (b : Bool) → has_no_cut f ≡ b → Holds begun asked (if b then f else handed_out f) s.clients (handed_after s.handed (if b then None else Some batch)) s.groups
     by true is = h
     by false is =
-        from_nothing (subst (λ (x : Handed). Holds begun f s.clients x s.groups) (out_there begun s.groups f s.handed h.way (none_out (is_some f.out) (nat_eq (length f.service.pending) 0) is)) h)
+        from_nothing (subst (λ (x : Handed). Holds begun asked f s.clients x s.groups) (out_there begun s.groups f s.handed h.way (none_out (is_some f.out) (nat_eq (length f.service.pending) 0) is)) h)
 
 -- ---- it is stored
 
@@ -205,32 +271,45 @@ pub entries-append : (front groups : List (List Entry)) → entries_of (front ++
 entries-append front groups = flat_map-append (λ (g : List Entry). g) front groups
 
 -- it stands where more groups come behind
-pub stands_behind : (begun : ServerState) (groups more : List (List Entry)) (m : Mail) → StandsOn begun groups m → StandsOn begun (groups ++ more) m
-stands_behind begun groups more m is = by m is
+pub stands_behind : (begun : ServerState) (groups more : List (List Entry)) (mine : List ℕ) (m : Mail) → StandsOn begun groups mine m → StandsOn begun (groups ++ more) mine m
+stands_behind begun groups more mine m is = by m is
   where
     here : (e : Entry) → IsAmong (entries_of groups) e → IsAmong (entries_of (groups ++ more)) e
     here e is = subst (λ (es : List Entry). IsAmong es e) (sym (entries-append groups more)) (among_more (entries_of groups) (entries_of more) e is)
 
-    by : (m : Mail) → StandsOn begun groups m → StandsOn begun (groups ++ more) m
-    by (mail.Welcome session floor) is = here (Attached session floor) is
+    by : (m : Mail) → StandsOn begun groups mine m → StandsOn begun (groups ++ more) mine m
+    by (mail.Welcome session floor) (may, is) = (may, here (Attached session floor) is)
     by (mail.Refused number refusal) is = tt
     by (mail.Withdrawn number) is = tt
-    by (mail.Settled floor) (session, is) = (session, here (Settled session floor) is)
-    by (mail.Goodbye session) is = here (Closed session) is
+    by (mail.Settled floor) (session, may, is) = (session, may, here (Settled session floor) is)
+    by (mail.Goodbye session) (may, is) = (may, here (Closed session) is)
     by (mail.Report text) is = tt
-    by (mail.Answer session number answer place) (inl kept) = inl kept
-    by (mail.Answer session number answer place) (inr is) =
-        inr (subst (λ (es : List Entry). IsFinishedAt begun es session number answer place) (sym (entries-append groups more))
-        (finished_more begun (entries_of groups) (entries_of more) session number answer place is))
+    by (mail.Answer session number answer place) (may, inl kept) = (may, inl kept)
+    by (mail.Answer session number answer place) (may, inr is) = (
+      may,
+      inr (subst (λ (es : List Entry). IsFinishedAt begun es session number answer place) (sym (entries-append groups more))
+          (finished_more begun (entries_of groups) (entries_of more) session number answer place is)),
+    )
 
-tells_behind : (begun : ServerState) (groups more : List (List Entry)) (c : Client) → TellsCall begun groups c.reply c.written → TellsCall begun (groups ++ more) c.reply c.written
-tells_behind begun groups more c t =
-    record { none = t.none; mails = t.mails; stand = all_weaker (StandsOn begun groups) (StandsOn begun (groups ++ more)) (stands_behind begun groups more) t.mails t.stand; spelling = t.spelling }
-
-stored_holds : (begun : ServerState) (s : Standing) → HoldsAt begun s → HoldsAt begun (stored s)
-stored_holds begun s h = by s.handed h
+tells_behind : (begun : ServerState) (asked : ℕ → List ℕ) (groups more : List (List Entry)) (c : Client) → Tells begun groups asked c → Tells begun (groups ++ more) asked c
+tells_behind begun asked groups more c t = (
+  record {
+    waits = later c.reply t.0.waits;
+    mails = t.0.mails;
+    stand = all_weaker (StandsTo begun groups asked c.conn) (StandsTo begun (groups ++ more) asked c.conn) (stands_behind begun groups more (asked c.conn)) t.0.mails t.0.stand;
+    spelling = t.0.spelling;
+  },
+  t.1,
+)
   where
-    by : (x : Handed) → Holds begun s.front s.clients x s.groups → HoldsAt begun (stored_from x (record s { handed = x }))
+    later : (o : Option ServerMessage) → IfSome o (λ r. (m : Mail) × (r ≡ reply_of m) × StandsTo begun groups asked c.conn m) → IfSome o (λ r. (m : Mail) × (r ≡ reply_of m) × StandsTo begun (groups ++ more) asked c.conn m)
+    later None waits = tt
+    later (Some r) (m, is, stands) = (m, is, stands_behind begun groups more (asked c.conn) m stands)
+
+stored_holds : (begun : ServerState) (asked : ℕ → List ℕ) (s : Standing) → HoldsAt begun asked s → HoldsAt begun asked (stored s)
+stored_holds begun asked s h = by s.handed h
+  where
+    by : (x : Handed) → Holds begun asked s.front s.clients x s.groups → HoldsAt begun asked (stored_from x (record s { handed = x }))
     by Nothing n = n
     by (Stored batch) n = n
     by (Cut batch) n =
@@ -241,9 +320,9 @@ stored_holds begun s h = by s.handed h
           answered = subst (λ (es : List Entry). AreAnswered begun es) same n.answered;
           way = (record { before = s.groups; groups_are = refl; first = n.way.2; mark = n.way.0 }, n.way.1);
           boxes =
-              λ conn. all_weaker (StandsOn begun s.groups) (StandsOn begun (s.groups ++ batch.entries ∷ [])) (stands_behind begun s.groups (batch.entries ∷ [])) (mails_on s.front.connections conn) (n.boxes conn);
-          tell = all_weaker (λ (c : Client). TellsCall begun s.groups c.reply c.written) (λ (c : Client). TellsCall begun (s.groups ++ batch.entries ∷ []) c.reply c.written)
-              (tells_behind begun s.groups (batch.entries ∷ [])) s.clients n.tell;
+              λ conn. all_weaker (StandsTo begun s.groups asked conn) (StandsTo begun (s.groups ++ batch.entries ∷ []) asked conn) (stands_behind begun s.groups (batch.entries ∷ []) (asked conn)) (mails_on s.front.connections conn) (n.boxes conn);
+          tell = all_weaker (Tells begun s.groups asked) (Tells begun (s.groups ++ batch.entries ∷ []) asked) (tells_behind begun asked s.groups (batch.entries ∷ [])) s.clients n.tell;
+          has = n.has;
         }
 
 -- ---- it is posted
@@ -262,8 +341,8 @@ ends_with begun groups f batch last =
     ap (λ (gs : List (List Entry)). entries_of gs) last.groups_are ∙ sym (flat_map_more (λ (g : List Entry). g) [] last.before batch.entries)
     ∙ ap (λ (es : List Entry). entries_of last.before ++ es) (sym (append-nil batch.entries))
 
-posted_front : (begun : ServerState) (f : FrontState) (cs : List Client) (batch : Batch) (groups : List (List Entry)) → Holds begun f cs (Stored batch) groups → Holds begun (posting.posted f batch) cs Nothing groups
-posted_front begun f cs batch groups h =
+posted_front : (begun : ServerState) (asked : ℕ → List ℕ) (f : FrontState) (cs : List Client) (batch : Batch) (groups : List (List Entry)) → Holds begun asked f cs (Stored batch) groups → Holds begun asked (posting.posted f batch) cs Nothing groups
+posted_front begun asked f cs batch groups h =
     let last = h.way.0 in
     let g : FrontState = posting.posted f batch in
     let keeps = posted_all-keeps f batch.entries batch.first in
@@ -273,100 +352,123 @@ posted_front begun f cs batch groups h =
       state = keeps.state ∙ h.state ∙ ap (λ (es : List Entry). after_all begun es) same;
       answered = subst (λ (es : List Entry). AreAnswered begun es) same h.answered;
       way = mark_moves begun groups f batch last;
-      boxes = boxes-posted_all (StandsOn begun groups) f batch.entries batch.first
-          (posts_stand begun groups (entries_of last.before) batch.entries [] batch.first answered (ends_with begun groups f batch last) (last.first ∙ last.mark)) h.boxes;
+      boxes = boxes-posted_all (StandsTo begun groups asked) asked f batch.entries batch.first
+          (posts_stand begun asked groups (entries_of last.before) batch.entries [] batch.first answered (ends_with begun groups f batch last) (last.first ∙ last.mark)) h.has h.boxes;
       tell = h.tell;
+      has = has_lost asked f g (posted_loses f batch) h.has;
     }
 
-posted_holds : (begun : ServerState) (s : Standing) → HoldsAt begun s → HoldsAt begun (posted s)
-posted_holds begun s h = by s.handed h
+posted_holds : (begun : ServerState) (asked : ℕ → List ℕ) (s : Standing) → HoldsAt begun asked s → HoldsAt begun asked (posted s)
+posted_holds begun asked s h = by s.handed h
   where
-    by : (x : Handed) → Holds begun s.front s.clients x s.groups → HoldsAt begun (posted_from x (record s { handed = x }))
+    by : (x : Handed) → Holds begun asked s.front s.clients x s.groups → HoldsAt begun asked (posted_from x (record s { handed = x }))
     by Nothing n = n
     by (Cut batch) n = n
-    by (Stored batch) n = posted_front begun s.front s.clients batch s.groups n
+    by (Stored batch) n = posted_front begun asked s.front s.clients batch s.groups n
 
 -- ---- room is made
 
-cleared_holds : (begun : ServerState) (s : Standing) → HoldsAt begun s → HoldsAt begun (cleared s)
-cleared_holds begun s h = posted_holds begun (stored s) (stored_holds begun s h)
+cleared_holds : (begun : ServerState) (asked : ℕ → List ℕ) (s : Standing) → HoldsAt begun asked s → HoldsAt begun asked (cleared s)
+cleared_holds begun asked s h = posted_holds begun asked (stored s) (stored_holds begun asked s h)
 
-committed_holds : (begun : ServerState) (s : Standing) → HoldsAt begun s → HoldsAt begun (committed s)
-committed_holds begun s h = cleared_holds begun (cut s) (cut_holds begun s h)
+committed_holds : (begun : ServerState) (asked : ℕ → List ℕ) (s : Standing) → HoldsAt begun asked s → HoldsAt begun asked (committed s)
+committed_holds begun asked s h = cleared_holds begun asked (cut s) (cut_holds begun asked s h)
 
-with_room_holds : (begun : ServerState) (s : Standing) → HoldsAt begun s → HoldsAt begun (with_room s)
-with_room_holds begun s h = by (has_room s.front)
+with_room_holds : (begun : ServerState) (asked : ℕ → List ℕ) (s : Standing) → HoldsAt begun asked s → HoldsAt begun asked (with_room s)
+with_room_holds begun asked s h = by (has_room s.front)
   where
-    by : (b : Bool) → HoldsAt begun (if b then s else made (committed (cleared s)))
+    by : (b : Bool) → HoldsAt begun asked (if b then s else made (committed (cleared s)))
     by true = h
-    by false = committed_holds begun (cleared s) (cleared_holds begun s h)
+    by false = committed_holds begun asked (cleared s) (cleared_holds begun asked s h)
 
-begun_room_holds : (begun : ServerState) (s : Standing) (conn : ℕ) → HoldsAt begun s → HoldsAt begun (begun_room s conn)
-begun_room_holds begun s conn h = by (is_making s conn)
+begun_room_holds : (begun : ServerState) (asked : ℕ → List ℕ) (s : Standing) (conn : ℕ) → HoldsAt begun asked s → HoldsAt begun asked (begun_room s conn)
+begun_room_holds begun asked s conn h = by (is_making s conn)
   where
-    by : (b : Bool) → HoldsAt begun (if b then made (cleared s) else s)
-    by true = cleared_holds begun s h
+    by : (b : Bool) → HoldsAt begun asked (if b then made (cleared s) else s)
+    by true = cleared_holds begun asked s h
     by false = h
 
-roomy_holds : (begun : ServerState) (s : Standing) (conn : ℕ) → HoldsAt begun s → HoldsAt begun (roomy s conn)
-roomy_holds begun s conn h = with_room_holds begun (begun_room s conn) (begun_room_holds begun s conn h)
+roomy_holds : (begun : ServerState) (asked : ℕ → List ℕ) (s : Standing) (conn : ℕ) → HoldsAt begun asked s → HoldsAt begun asked (roomy s conn)
+roomy_holds begun asked s conn h = with_room_holds begun asked (begun_room s conn) (begun_room_holds begun asked s conn h)
 
 -- ---- clients change
 
-changed_tell : (begun : ServerState) (groups : List (List Entry)) (conn : ℕ) (change : Client → Client)
-    → ((c : Client) → TellsCall begun groups c.reply c.written → TellsCall begun groups (change c).reply (change c).written) → (cs : List Client) → AllTell begun groups cs → AllTell begun groups (on_client conn change cs)
-changed_tell begun groups conn change keeps [] tell = tt
-changed_tell begun groups conn change keeps (c ∷ cs) tell = by (nat_eq c.conn conn) (changed_tell begun groups conn change keeps cs tell.1)
+changed_tell : (begun : ServerState) (asked : ℕ → List ℕ) (groups : List (List Entry)) (conn : ℕ) (change : Client → Client)
+    → ((c : Client) → c.conn ≡ conn → Tells begun groups asked c → Tells begun groups asked (change c)) → (cs : List Client) → AllTell begun groups asked cs → AllTell begun groups asked (on_client conn change cs)
+changed_tell begun asked groups conn change keeps [] tell = tt
+changed_tell begun asked groups conn change keeps (c ∷ cs) tell = by (nat_eq c.conn conn) refl (changed_tell begun asked groups conn change keeps cs tell.1)
   where
-    by : (b : Bool) → AllTell begun groups (on_client conn change cs) → AllTell begun groups (if b then change c ∷ cs else c ∷ on_client conn change cs)
-    by true rest = (keeps c tell.0, tell.1)
-    by false rest = (tell.0, rest)
+    by : (b : Bool) → nat_eq c.conn conn ≡ b → AllTell begun groups asked (on_client conn change cs) → AllTell begun groups asked (if b then change c ∷ cs else c ∷ on_client conn change cs)
+    by true same rest = (keeps c (same_number c.conn conn same) tell.0, tell.1)
+    by false other rest = (tell.0, rest)
 
-with_left_holds : (begun : ServerState) (s : Standing) (conn : ℕ) (left : List ClientMessage) → HoldsAt begun s → HoldsAt begun (with_left s conn left)
-with_left_holds begun s conn left h =
-    remains_hold begun s.front s.front s.clients (with_left s conn left).clients s.handed s.groups (record { state = refl; pending = refl; out = refl; durable = refl }) h.boxes
-    (changed_tell begun s.groups conn (λ c. record c { left = left }) (λ c t. t) s.clients h.tell) h
-
-with_decoder_holds : (begun : ServerState) (s : Standing) (conn : ℕ) (d : Decoding) → HoldsAt begun s → HoldsAt begun (with_decoder s conn d)
-with_decoder_holds begun s conn d h =
-    remains_hold begun s.front s.front s.clients (with_decoder s conn d).clients s.handed s.groups (record { state = refl; pending = refl; out = refl; durable = refl }) h.boxes
-    (changed_tell begun s.groups conn (λ c. record c { decoder = d }) (λ c t. t) s.clients h.tell) h
-
-clients_with_tell : (begun : ServerState) (groups : List (List Entry)) (cs : List Client) (conn : ℕ) (d : Decoding) → AllTell begun groups cs → AllTell begun groups (clients_with cs conn d)
-clients_with_tell begun groups cs conn d tell = by (is_some (find conn cs))
+-- what is true of each client is true of the one that is found
+found_one : (P : Client → Type 0) (conn : ℕ) (cs : List Client) (c : Client) → find conn cs ≡ Some c → AllByRecursion P cs → (c.conn ≡ conn) × P c
+found_one P conn [] c is all = none_some is
+found_one P conn (x ∷ xs) c is all = by (nat_eq x.conn conn) refl is (λ (e : find conn xs ≡ Some c). found_one P conn xs c e all.1)
   where
-    first : TellsCall begun groups None []
-    first = record { none = refl; mails = []; stand = tt; spelling = refl }
+    by : (b : Bool) → nat_eq x.conn conn ≡ b → (if b then Some x else find conn xs) ≡ Some c → (find conn xs ≡ Some c → (c.conn ≡ conn) × P c) → (c.conn ≡ conn) × P c
+    by true same e rest = subst (λ (y : Client). (y.conn ≡ conn) × P y) (some_same e) (same_number x.conn conn same, all.0)
+    by false other e rest = rest e
 
-    by : (b : Bool) → AllTell begun groups (if b then on_client conn (λ c. record c { decoder = d; left = [] }) cs else cs ++ new_client conn d ∷ [])
-    by true = changed_tell begun groups conn (λ c. record c { decoder = d; left = [] }) (λ c t. t) cs tell
-    by false = all_append (λ (c : Client). TellsCall begun groups c.reply c.written) cs (new_client conn d ∷ []) tell (first, tt)
+-- the messages that are left of a connection ask for its sessions alone
+left_asks : (begun : ServerState) (asked : ℕ → List ℕ) (groups : List (List Entry)) (s : Standing) (conn : ℕ) → AllTell begun groups asked s.clients → AllByRecursion (AsksFor (asked conn)) (left_of s conn)
+left_asks begun asked groups s conn tell = by (find conn s.clients) refl
+  where
+    by : (o : Option Client) → find conn s.clients ≡ o → AllByRecursion (AsksFor (asked conn)) (option_map_or (λ (c : Client). c.left) o [])
+    by None is = tt
+    by (Some c) is =
+        let here = found_one (Tells begun groups asked) conn s.clients c is tell in
+        subst (λ (n : ℕ). AllByRecursion (AsksFor (asked n)) c.left) here.0 here.1.1
+
+same_front : (f : FrontState) → Remains f f
+same_front f = record { state = refl; pending = refl; out = refl; durable = refl }
+
+with_left_holds : (begun : ServerState) (asked : ℕ → List ℕ) (s : Standing) (conn : ℕ) (left : List ClientMessage) → AllByRecursion (AsksFor (asked conn)) left → HoldsAt begun asked s → HoldsAt begun asked (with_left s conn left)
+with_left_holds begun asked s conn left asks h =
+    remains_hold begun asked s.front s.front s.clients (with_left s conn left).clients s.handed s.groups (same_front s.front) (times_lose 0 s.front conn) h.boxes
+    (changed_tell begun asked s.groups conn (λ c. record c { left = left }) (λ c is t. (t.0, subst (λ (n : ℕ). AllByRecursion (AsksFor (asked n)) left) (sym is) asks)) s.clients h.tell) h
+
+with_decoder_holds : (begun : ServerState) (asked : ℕ → List ℕ) (s : Standing) (conn : ℕ) (d : Decoding) → HoldsAt begun asked s → HoldsAt begun asked (with_decoder s conn d)
+with_decoder_holds begun asked s conn d h =
+    remains_hold begun asked s.front s.front s.clients (with_decoder s conn d).clients s.handed s.groups (same_front s.front) (times_lose 0 s.front conn) h.boxes
+    (changed_tell begun asked s.groups conn (λ c. record c { decoder = d }) (λ c is t. (t.0, t.1)) s.clients h.tell) h
+
+clients_with_tell : (begun : ServerState) (asked : ℕ → List ℕ) (groups : List (List Entry)) (cs : List Client) (conn : ℕ) (d : Decoding) → AllTell begun groups asked cs → AllTell begun groups asked (clients_with cs conn d)
+clients_with_tell begun asked groups cs conn d tell = by (is_some (find conn cs))
+  where
+    first : Tells begun groups asked (new_client conn d)
+    first = (record { waits = tt; mails = []; stand = tt; spelling = refl }, tt)
+
+    by : (b : Bool) → AllTell begun groups asked (if b then on_client conn (λ c. record c { decoder = d; left = [] }) cs else cs ++ new_client conn d ∷ [])
+    by true = changed_tell begun asked groups conn (λ c. record c { decoder = d; left = [] }) (λ c is t. (t.0, tt)) cs tell
+    by false = all_append (Tells begun groups asked) cs (new_client conn d ∷ []) tell (first, tt)
 
 -- ---- connections come and go
 
-connects_holds : (begun : ServerState) (s : Standing) (conn : ℕ) (t : Standing) → Connects s conn t → HoldsAt begun s → HoldsAt begun t
-connects_holds begun s conn t c h = subst (λ (x : Standing). HoldsAt begun x) (sym c.after) (by (is_making s conn))
+connects_holds : (begun : ServerState) (asked : ℕ → List ℕ) (s : Standing) (conn : ℕ) (t : Standing) → Connects s conn t → HoldsAt begun asked s → HoldsAt begun asked t
+connects_holds begun asked s conn t c h = subst (λ (x : Standing). HoldsAt begun asked x) (sym c.after) (by (is_making s conn))
   where
-    joins : Holds begun (front.connected s.front conn) (clients_with s.clients conn c.decoder) s.handed s.groups
-    joins = remains_hold begun s.front (front.connected s.front conn) s.clients (clients_with s.clients conn c.decoder) s.handed s.groups
-        (record { state = refl; pending = refl; out = refl; durable = refl }) (boxes-connected (StandsOn begun s.groups) s.front conn h.boxes)
-        (clients_with_tell begun s.groups s.clients conn c.decoder h.tell) h
+    joins : Holds begun asked (front.connected s.front conn) (clients_with s.clients conn c.decoder) s.handed s.groups
+    joins = remains_hold begun asked s.front (front.connected s.front conn) s.clients (clients_with s.clients conn c.decoder) s.handed s.groups
+        (record { state = refl; pending = refl; out = refl; durable = refl }) (connected_loses s.front conn) (boxes-connected (StandsTo begun s.groups asked) s.front conn h.boxes)
+        (clients_with_tell begun asked s.groups s.clients conn c.decoder h.tell) h
 
-    by : (b : Bool) → HoldsAt begun (record (if b then record s { making = None } else s) { front = front.connected s.front conn; clients = clients_with s.clients conn c.decoder })
+    by : (b : Bool) → HoldsAt begun asked (record (if b then record s { making = None } else s) { front = front.connected s.front conn; clients = clients_with s.clients conn c.decoder })
     by true = joins
     by false = joins
 
-gone_holds : (begun : ServerState) (s : Standing) (conn : ℕ) → HoldsAt begun s → HoldsAt begun (gone s conn)
-gone_holds begun s conn h = by (is_making s conn)
+gone_holds : (begun : ServerState) (asked : ℕ → List ℕ) (s : Standing) (conn : ℕ) → HoldsAt begun asked s → HoldsAt begun asked (gone s conn)
+gone_holds begun asked s conn h = by (is_making s conn)
   where
-    leaves : Holds begun (front.dropped s.front conn) (on_client conn (λ c. record c { left = [] }) s.clients) s.handed s.groups
+    leaves : Holds begun asked (front.dropped s.front conn) (on_client conn (λ c. record c { left = [] }) s.clients) s.handed s.groups
     leaves =
         let keeps = dropped-keeps s.front conn in
-        remains_hold begun s.front (front.dropped s.front conn) s.clients (on_client conn (λ c. record c { left = [] }) s.clients) s.handed s.groups
-        (record { state = keeps.state; pending = (dropped-stays s.front conn).pending; out = keeps.out; durable = keeps.durable })
-        (boxes-dropped (StandsOn begun s.groups) s.front conn h.boxes) (changed_tell begun s.groups conn (λ c. record c { left = [] }) (λ c t. t) s.clients h.tell) h
+        remains_hold begun asked s.front (front.dropped s.front conn) s.clients (on_client conn (λ c. record c { left = [] }) s.clients) s.handed s.groups
+        (record { state = keeps.state; pending = (dropped-stays s.front conn).pending; out = keeps.out; durable = keeps.durable }) (dropped_loses s.front conn)
+        (boxes-dropped (StandsTo begun s.groups asked) s.front conn h.boxes) (changed_tell begun asked s.groups conn (λ c. record c { left = [] }) (λ c is t. (t.0, tt)) s.clients h.tell) h
 
-    by : (b : Bool) → HoldsAt begun (record (with_left (if b then record s { making = None } else s) conn []) { front = front.dropped s.front conn })
+    by : (b : Bool) → HoldsAt begun asked (record (with_left (if b then record s { making = None } else s) conn []) { front = front.dropped s.front conn })
     by true = leaves
     by false = leaves
 
@@ -383,7 +485,7 @@ keeps_below begun limits session number k = by (get begun.sessions session) refl
     by None is kept = cc
     by (Some x) is kept = ((limits.each session x is).kept number k kept).1
 
-module _ (begun : ServerState) (below : KeepsBelow begun) where
+module _ (begun : ServerState) (asked : ℕ → List ℕ) (below : KeepsBelow begun) where
   mark_within : (groups : List (List Entry)) (f : FrontState) (handed : Handed) → IsOnItsWay begun groups f handed → f.durable ≤ begun.place + length (entries_of groups)
   mark_within groups f Nothing way = omega (arith, way)
   mark_within groups f (Cut batch) way = let mark = way.0 in omega (arith, mark)
@@ -392,15 +494,15 @@ module _ (begun : ServerState) (below : KeepsBelow begun) where
       let first = way.0.first in
       omega (arith, whole, first)
 
-  kept_stand : (f : FrontState) (cs : List Client) (handed : Handed) (groups : List (List Entry)) → Holds begun f cs handed groups → KeptStand begun groups f
+  kept_stand : (f : FrontState) (cs : List Client) (handed : Handed) (groups : List (List Entry)) → Holds begun asked f cs handed groups → KeptStand begun groups asked f
   kept_stand f cs handed groups h session number k kept durable =
       let most = mark_within groups f handed h.way in
       kept_stands begun groups (cut_entries handed ++ f.service.pending) session number k h.answered (below session number)
       (sym (ap (λ (s : ServerState). kept_in (get s.sessions session) number) h.state) ∙ kept) (omega (arith, most, durable))
 
-  made_holds : (f g : FrontState) (es : List Entry) (cs : List Client) (handed : Handed) (groups : List (List Entry)) → Makes f es g → AllIn (StandsOn begun groups) g.connections
-      → Holds begun f cs handed groups → Holds begun g cs handed groups
-  made_holds f g es cs handed groups m boxes h =
+  made_holds : (f g : FrontState) (es : List Entry) (cs : List Client) (handed : Handed) (groups : List (List Entry)) → Makes f es g → AllIn (StandsTo begun groups asked) g.connections → HasOnly asked g
+      → Holds begun asked f cs handed groups → Holds begun asked g cs handed groups
+  made_holds f g es cs handed groups m boxes has h =
       let before : List Entry = made_entries groups handed f in
       let same : before ++ es ≡ made_entries groups handed g =
       append_assoc (entries_of groups) (cut_entries handed ++ f.service.pending) es ∙ ap (λ (xs : List Entry). entries_of groups ++ xs) (append_assoc (cut_entries handed) f.service.pending es)
@@ -412,73 +514,118 @@ module _ (begun : ServerState) (below : KeepsBelow begun) where
         way = way_remains begun groups f g handed m.out m.durable h.way;
         boxes = boxes;
         tell = h.tell;
+        has = has;
       }
 
-  takes_one_holds : (s : Standing) (conn : ℕ) (m : ClientMessage) (t : Standing) → TakesOne s conn m t → HoldsAt begun s → HoldsAt begun t
-  takes_one_holds s conn m t takes h =
+  takes_one_holds : (s : Standing) (conn : ℕ) (m : ClientMessage) (t : Standing) → AsksFor (asked conn) m → TakesOne s conn m t → HoldsAt begun asked s → HoldsAt begun asked t
+  takes_one_holds s conn m t asks takes h =
       let u : Standing = roomy s conn in
-      let there : HoldsAt begun u = roomy_holds begun s conn h in
-      let kept : KeptStand begun u.groups u.front = kept_stand u.front u.clients u.handed u.groups there in
-      subst (λ (x : Standing). HoldsAt begun x) (sym takes.after)
+      let there : HoldsAt begun asked u = roomy_holds begun asked s conn h in
+      let kept : KeptStand begun u.groups asked u.front = kept_stand u.front u.clients u.handed u.groups there in
+      subst (λ (x : Standing). HoldsAt begun asked x) (sym takes.after)
       (made_holds u.front takes.front takes.entries u.clients u.handed u.groups (message_made u.front takes.front conn m takes.entries takes.takes)
-      (message_stands begun u.groups u.front takes.front conn m takes.entries kept takes.takes there.boxes) there)
+      (message_stands begun u.groups asked u.front takes.front conn m takes.entries there.has kept takes.takes there.boxes)
+      (message_has asked u.front takes.front conn m takes.entries asks takes.takes there.has) there)
 
-  takes_all_holds : (s : Standing) (conn : ℕ) (ms : List ClientMessage) (t : Standing) → TakesAll s conn ms t → HoldsAt begun s → HoldsAt begun t
-  takes_all_holds s conn [] t takes h = subst (λ (x : Standing). HoldsAt begun x) (sym takes) h
-  takes_all_holds s conn (m ∷ ms) t takes h = takes_all_holds takes.0 conn ms t takes.2 (takes_one_holds s conn m takes.0 takes.1 h)
+  takes_all_holds : (s : Standing) (conn : ℕ) (ms : List ClientMessage) (t : Standing) → AllByRecursion (AsksFor (asked conn)) ms → TakesAll s conn ms t → HoldsAt begun asked s → HoldsAt begun asked t
+  takes_all_holds s conn [] t asks takes h = subst (λ (x : Standing). HoldsAt begun asked x) (sym takes) h
+  takes_all_holds s conn (m ∷ ms) t asks takes h = takes_all_holds takes.0 conn ms t asks.1 takes.2 (takes_one_holds s conn m takes.0 asks.0 takes.1 h)
 
-  after_frame_holds : (bad : Bool) (s : Standing) (conn : ℕ) → HoldsAt begun s → HoldsAt begun (after_frame bad s conn)
-  after_frame_holds true s conn h = gone_holds begun s conn h
+  after_frame_holds : (bad : Bool) (s : Standing) (conn : ℕ) → HoldsAt begun asked s → HoldsAt begun asked (after_frame bad s conn)
+  after_frame_holds true s conn h = gone_holds begun asked s conn h
   after_frame_holds false s conn h = h
 
-  piece_holds : (s : Standing) (conn : ℕ) (before : Decoding) (piece : List ℕ) (t : Standing) → TakesPiece s conn before piece t → HoldsAt begun s → HoldsAt begun t
-  piece_holds s conn before piece t takes h =
-      subst (λ (x : Standing). HoldsAt begun x) (sym takes.after)
+  -- what a piece completes asks for the connection's sessions alone
+  abbrev pub PieceAsks : ℕ → Decoding → List ℕ → Type 0
+  PieceAsks conn before piece = (after : Decoding) (more : List ClientMessage) → Reads before after piece more → AllByRecursion (AsksFor (asked conn)) more
+
+  piece_holds : (s : Standing) (conn : ℕ) (before : Decoding) (piece : List ℕ) (t : Standing) → PieceAsks conn before piece → TakesPiece s conn before piece t → HoldsAt begun asked s → HoldsAt begun asked t
+  piece_holds s conn before piece t asks takes h =
+      subst (λ (x : Standing). HoldsAt begun asked x) (sym takes.after)
       (after_frame_holds takes.decoder.is_bad takes.last conn
-      (takes_all_holds (with_decoder s conn takes.decoder) conn takes.more takes.last takes.takes (with_decoder_holds begun s conn takes.decoder h)))
+      (takes_all_holds (with_decoder s conn takes.decoder) conn takes.more takes.last (asks takes.decoder takes.more takes.reads) takes.takes (with_decoder_holds begun asked s conn takes.decoder h)))
 
-  from_holds : (s : Standing) (conn : ℕ) (left : List ClientMessage) (before : Decoding) (piece : List ℕ) (t : Standing) → TakesFrom s conn left before piece t → HoldsAt begun s → HoldsAt begun t
-  from_holds s conn left before piece t takes h = by (is_connected takes.mid.front conn) takes.reading
+  from_holds : (s : Standing) (conn : ℕ) (left : List ClientMessage) (before : Decoding) (piece : List ℕ) (t : Standing) → AllByRecursion (AsksFor (asked conn)) left → PieceAsks conn before piece
+      → TakesFrom s conn left before piece t → HoldsAt begun asked s → HoldsAt begun asked t
+  from_holds s conn left before piece t first asks takes h = by (is_connected takes.mid.front conn) takes.reading
     where
-      mid : HoldsAt begun takes.mid
-      mid = takes_all_holds (with_left s conn []) conn left takes.mid takes.leftovers (with_left_holds begun s conn [] h)
+      mid : HoldsAt begun asked takes.mid
+      mid = takes_all_holds (with_left s conn []) conn left takes.mid first takes.leftovers (with_left_holds begun asked s conn [] tt h)
 
-      by : (b : Bool) → MatchBool b (TakesPiece takes.mid conn before piece t) (t ≡ takes.mid) → HoldsAt begun t
-      by true reads = piece_holds takes.mid conn before piece t reads mid
-      by false is = subst (λ (x : Standing). HoldsAt begun x) (sym is) mid
+      by : (b : Bool) → MatchBool b (TakesPiece takes.mid conn before piece t) (t ≡ takes.mid) → HoldsAt begun asked t
+      by true reads = piece_holds takes.mid conn before piece t asks reads mid
+      by false is = subst (λ (x : Standing). HoldsAt begun asked x) (sym is) mid
 
-  bytes_hold : (s : Standing) (o : Option Client) (piece : List ℕ) (t : Standing) → TakesBytes s o piece t → HoldsAt begun s → HoldsAt begun t
-  bytes_hold s None piece t takes h = subst (λ (x : Standing). HoldsAt begun x) (sym takes) h
-  bytes_hold s (Some c) piece t takes h = from_holds s c.conn c.left c.decoder piece t takes h
+  -- a step's bytes ask for the connection's sessions alone
+  abbrev pub BytesAsk : Standing → ℕ → List ℕ → Type 0
+  BytesAsk s conn piece = (before after : Decoding) (more : List ClientMessage) → read_by s conn ≡ Some before → Reads before after piece more → AllByRecursion (AsksFor (asked conn)) more
+
+  bytes_hold : (s : Standing) (conn : ℕ) (piece : List ℕ) (t : Standing) → BytesAsk s conn piece → TakesBytes s (find conn s.clients) piece t → HoldsAt begun asked s → HoldsAt begun asked t
+  bytes_hold s conn piece t asks takes h = by (find conn s.clients) refl takes
+    where
+      by : (o : Option Client) → find conn s.clients ≡ o → TakesBytes s o piece t → HoldsAt begun asked t
+      by None is takes = subst (λ (x : Standing). HoldsAt begun asked x) (sym takes) h
+      by (Some c) is takes =
+          let here = found_one (Tells begun s.groups asked) conn s.clients c is h.tell in
+          let read : read_by s conn ≡ Some c.decoder = ap (λ (o : Option Client). option_map (λ (x : Client). x.decoder) o) is in
+          let mine : PieceAsks c.conn c.decoder piece = λ after more reads. subst (λ (n : ℕ). AllByRecursion (AsksFor (asked n)) more) (sym here.0) (asks c.decoder after more read reads) in
+          from_holds s c.conn c.left c.decoder piece t here.1.1 mine takes h
 
   -- ---- steps
 
-  acts_hold : (s : Standing) (x : Step) (t : Standing) → Acts s x t → HoldsAt begun s → HoldsAt begun t
-  acts_hold s (step.Connect conn) t acts h = by (is_connected s.front conn) acts
+  abbrev pub StepAsks : Standing → Step → Type 0
+  StepAsks s (step.Bytes conn piece) = BytesAsk s conn piece.items
+  StepAsks s other = Unit {0}
+
+  pub acts_hold : (s : Standing) (x : Step) (t : Standing) → StepAsks s x → Acts s x t → HoldsAt begun asked s → HoldsAt begun asked t
+  acts_hold s (step.Connect conn) t asks acts h = by (is_connected s.front conn) acts
     where
-      by : (b : Bool) → MatchBool b (t ≡ s) (Connects s conn t) → HoldsAt begun t
-      by true is = subst (λ (x : Standing). HoldsAt begun x) (sym is) h
-      by false connects = connects_holds begun s conn t connects h
-  acts_hold s (step.Bytes conn piece) t acts h = bytes_hold s (find conn s.clients) piece.items t acts h
-  acts_hold s (step.Gone conn) t acts h = subst (λ (x : Standing). HoldsAt begun x) (sym acts) (gone_holds begun s conn h)
-  acts_hold s step.Cut t acts h = subst (λ (x : Standing). HoldsAt begun x) (sym acts) (cut_holds begun s h)
-  acts_hold s step.Append t acts h = subst (λ (x : Standing). HoldsAt begun x) (sym acts) (stored_holds begun s h)
-  acts_hold s step.Post t acts h = subst (λ (x : Standing). HoldsAt begun x) (sym acts) (posted_holds begun s h)
-  acts_hold s step.CheckBegin t acts h = subst (λ (x : Standing). HoldsAt begun x) (sym acts) h
-  acts_hold s step.CheckStep t acts h = subst (λ (x : Standing). HoldsAt begun x) (sym acts) h
-  acts_hold s step.CheckFinish t acts h = subst (λ (x : Standing). HoldsAt begun x) (sym acts) h
+      by : (b : Bool) → MatchBool b (t ≡ s) (Connects s conn t) → HoldsAt begun asked t
+      by true is = subst (λ (x : Standing). HoldsAt begun asked x) (sym is) h
+      by false connects = connects_holds begun asked s conn t connects h
+  acts_hold s (step.Bytes conn piece) t asks acts h = bytes_hold s conn piece.items t asks acts h
+  acts_hold s (step.Gone conn) t asks acts h = subst (λ (x : Standing). HoldsAt begun asked x) (sym acts) (gone_holds begun asked s conn h)
+  acts_hold s step.Cut t asks acts h = subst (λ (x : Standing). HoldsAt begun asked x) (sym acts) (cut_holds begun asked s h)
+  acts_hold s step.Append t asks acts h = subst (λ (x : Standing). HoldsAt begun asked x) (sym acts) (stored_holds begun asked s h)
+  acts_hold s step.Post t asks acts h = subst (λ (x : Standing). HoldsAt begun asked x) (sym acts) (posted_holds begun asked s h)
+  acts_hold s step.CheckBegin t asks acts h = subst (λ (x : Standing). HoldsAt begun asked x) (sym acts) h
+  acts_hold s step.CheckStep t asks acts h = subst (λ (x : Standing). HoldsAt begun asked x) (sym acts) h
+  acts_hold s step.CheckFinish t asks acts h = subst (λ (x : Standing). HoldsAt begun asked x) (sym acts) h
 
-  step_holds : (s : Standing) (x : Step) (t : Standing) → DeskStep s x t → HoldsAt begun s → HoldsAt begun t
-  step_holds s x t d h = subst (λ (y : Standing). HoldsAt begun y) (sym d.after) (emptied_holds begun d.last (acts_hold (discharged s) x d.last d.acts (discharged_holds begun s h)))
+  -- ---- a batch that found no memory, or was torn
 
-  run_holds : (s : Standing) (steps : List Step) (t : Standing) → DeskRun s steps t → HoldsAt begun s → HoldsAt begun t
-  run_holds s [] t run h = subst (λ (x : Standing). HoldsAt begun x) (sym run) h
-  run_holds s (x ∷ xs) t run h = run_holds run.0 xs t run.2 (step_holds s x run.0 run.1 h)
+  may_begin_holds : (s : Standing) (conn : ℕ) (t : Standing) → MayBegin s conn t → HoldsAt begun asked s → HoldsAt begun asked t
+  may_begin_holds s conn t (inl is) h = subst (λ (x : Standing). HoldsAt begun asked x) (sym is) h
+  may_begin_holds s conn t (inr is) h = subst (λ (x : Standing). HoldsAt begun asked x) (sym is) (cut_holds begun asked (cleared s) (cleared_holds begun asked s h))
+
+  making_holds : (s : Standing) (conn : ℕ) (t : Standing) → StopsMaking s conn t → HoldsAt begun asked s → HoldsAt begun asked t
+  making_holds s conn t (inl still) h = subst (λ (x : Standing). HoldsAt begun asked x) (sym still.1) h
+  making_holds s conn t (inr begins) h = may_begin_holds (begun_room s conn) conn t begins.1 (begun_room_holds begun asked s conn h)
+
+  first_taken_holds : (s : Standing) (conn : ℕ) (ms : List ClientMessage) (t : Standing) → AllByRecursion (AsksFor (asked conn)) ms → TakesFirst s conn ms t → HoldsAt begun asked s → HoldsAt begun asked t
+  first_taken_holds s conn ms t asks takes h =
+      let parts = first_of (AsksFor (asked conn)) takes.taken (takes.next ∷ takes.behind) (subst (λ (xs : List ClientMessage). AllByRecursion (AsksFor (asked conn)) xs) takes.all asks) in
+      let before : HoldsAt begun asked takes.before = takes_all_holds s conn takes.taken takes.before parts.0 takes.takes h in
+      subst (λ (x : Standing). HoldsAt begun asked x) (sym takes.after)
+      (with_left_holds begun asked takes.last conn (takes.next ∷ takes.behind) parts.1 (making_holds takes.before conn takes.last takes.stops before))
+
+  pub before_holds : (s : Standing) (conn : ℕ) (t : Standing) → StopsBefore s conn t → HoldsAt begun asked s → HoldsAt begun asked t
+  before_holds s conn t stops h =
+      first_taken_holds (with_left s conn []) conn (left_of s conn) t (left_asks begun asked s.groups s conn h.tell) stops (with_left_holds begun asked s conn [] tt h)
+
+  pub unread_holds : (s : Standing) (conn : ℕ) (t : Standing) → StopsUnread s conn t → HoldsAt begun asked s → HoldsAt begun asked t
+  unread_holds s conn t stops h =
+      takes_all_holds (with_left s conn []) conn (left_of s conn) t (left_asks begun asked s.groups s conn h.tell) stops.leftovers (with_left_holds begun asked s conn [] tt h)
+
+  pub behind_holds : (s : Standing) (conn : ℕ) (piece : List ℕ) (t : Standing) → BytesAsk s conn piece → StopsBehind s conn piece t → HoldsAt begun asked s → HoldsAt begun asked t
+  behind_holds s conn piece t asks stops h =
+      first_taken_holds (with_decoder stops.mid conn stops.decoder) conn stops.more t (asks stops.before stops.decoder stops.more stops.was stops.reads) stops.first
+      (with_decoder_holds begun asked stops.mid conn stops.decoder (unread_holds s conn stops.mid stops.unread h))
 
 -- ---- a run from the first standing on
 
-first_holds : (begun : ServerState) (s : Standing) → IsFirstStanding begun s → HoldsAt begun s
-first_holds begun s first =
+pub first_holds : (begun : ServerState) (asked : ℕ → List ℕ) (s : Standing) → IsFirstStanding begun s → HoldsAt begun asked s
+first_holds begun asked s first =
     let f : FrontState = s.front in
     let none : made_entries s.groups s.handed f ≡ [] =
     ap (λ (gs : List (List Entry)). entries_of gs ++ (cut_entries s.handed ++ f.service.pending)) first.groups ∙ ap (λ (x : Handed). cut_entries x ++ f.service.pending) first.handed ∙ first.front.pending in
@@ -487,22 +634,8 @@ first_holds begun s first =
       state = first.front.state ∙ sym (ap (λ (es : List Entry). after_all begun es) none);
       answered = subst (λ (es : List Entry). AreAnswered begun es) (sym none) tt;
       way = subst (λ (x : Handed). IsOnItsWay begun s.groups f x) (sym first.handed) mark;
-      boxes = λ conn. subst (λ (m : FinMap nat_cmp Connection). AllByRecursion (StandsOn begun s.groups) (mails_on m conn)) (sym first.front.connections)
-          (subst (λ (o : Option Connection). AllByRecursion (StandsOn begun s.groups) (option_map_or (λ (c : Connection). c.mails) o [])) (sym (get-empty nat_cmp conn)) tt);
-      tell = subst (λ (cs : List Client). AllTell begun s.groups cs) (sym first.clients) tt;
+      boxes = λ conn. subst (λ (m : FinMap nat_cmp Connection). AllByRecursion (StandsTo begun s.groups asked conn) (mails_on m conn)) (sym first.front.connections)
+          (subst (λ (o : Option Connection). AllByRecursion (StandsTo begun s.groups asked conn) (option_map_or (λ (c : Connection). c.mails) o [])) (sym (get-empty nat_cmp conn)) tt);
+      tell = subst (λ (cs : List Client). AllTell begun s.groups asked cs) (sym first.clients) tt;
+      has = first_has asked begun f first.front;
     }
-
-all_written : (begun : ServerState) (groups : List (List Entry)) (cs : List Client) → AllTell begun groups cs → AllByRecursion (IsWritten begun groups) cs
-all_written begun groups cs = all_weaker (λ (c : Client). TellsCall begun groups c.reply c.written) (IsWritten begun groups) (λ c t. record { mails = t.mails; stand = t.stand; written = t.spelling }) cs
-
-pub run_from : (begun : ServerState) (first last : Standing) (steps : List Step) → KeepsBelow begun → IsFirstStanding begun first → DeskRun first steps last → HoldsAt begun last
-run_from begun first last steps below begins run = run_holds begun below first steps last run (first_holds begun first begins)
-
-pub written_stand : (begun : ServerState) (first last : Standing) (steps : List Step) → KeepsBelow begun → IsFirstStanding begun first → DeskRun first steps last
-    → AllByRecursion (IsWritten begun last.groups) last.clients
-written_stand begun first last steps below begins run = all_written begun last.groups last.clients (run_from begun first last steps below begins run).tell
-
-pub acknowledged_stand : AcknowledgedStand
-acknowledged_stand begun first last steps limits begins run =
-    let below : KeepsBelow begun = keeps_below begun limits in
-    record { boxed = (run_from begun first last steps below begins run).boxes; written = written_stand begun first last steps below begins run }

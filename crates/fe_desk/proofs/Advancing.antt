@@ -14,7 +14,8 @@ use Rattle.fe_desk.specs.declared.handed.Handed.{Handed}
 use Rattle.fe_desk.specs.Standing.{Standing}
 use Rattle.fe_desk.specs.Steps.{find}
 use Rattle.fe_desk.specs.Crash.{DeskState, IsFrom, Advances, IsFine, disk_of}
-use Rattle.fe_desk.specs.within.Desk.{IsAhead, IsDesk, IsHanded, unstored, cut_entries}
+use Rattle.fe_desk.specs.Acknowledged.{cut_entries}
+use Rattle.fe_desk.specs.within.Desk.{IsAhead, IsDesk, IsHanded, unstored}
 
 -- an image that stands for a prefix of a history stands for one of the history that goes on from it, which holds as many
 -- groups or fewer

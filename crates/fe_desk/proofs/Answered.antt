@@ -1,5 +1,6 @@
 -- Entries that are answered as the operation table says.
-use Rattle.std.proofs.Common.{◌≡◌, inl, inr, ℕ, ◌+◌, ◌<◌, List, [], ◌∷◌, ◌++◌, length, Some, sym, ap, subst, ◌∙◌, arith, append_assoc}
+use Rattle.std.proofs.Common.{◌≡◌, ◌⊎◌, inl, inr, ℕ, ◌+◌, ◌<◌, List, [], ◌∷◌, ◌++◌, length, Some, sym, ap, subst, ◌∙◌, arith, append_assoc}
+use Rattle.std.specs.Prelude.{Contains}
 use Rattle.std.specs.List.{flat_map}
 use Rattle.std.proofs.lemmas.List.{length-append}
 use Rattle.fe_state.specs.State.{ServerState, IsAnswered, directory_of, after, after_all}
@@ -9,16 +10,11 @@ use Rattle.fe_state.specs.declared.entry.Entry.TheVariants.{Attached, Closed, Se
 use Rattle.fe_state.specs.declared.kept.Kept.{Kept}
 use Rattle.fe_state.specs.declared.request.Request.{Request}
 use Rattle.fe_service.specs.Service.{Waiters, AreTurns, without_turn}
-use Rattle.fe_mail.specs.Mail.{mail_of}
+use Rattle.fe_mail.specs.Mail.{session_of, mail_of}
 use Rattle.fe_mail.specs.declared.mail.Mail.TheVariants as mail
-use Rattle.fe_desk.specs.Acknowledged.{IsAmong, IsFinishedAt, StandsOn}
+use Rattle.fe_desk.specs.Acknowledged.{IsAmong, IsFinishedAt, IsKeptSince, StandsOn, AreAnswered}
 use Rattle.fe_desk.proofs.Recorded.{kept_of, kept_after, cut_within}
 use Rattle.fe_desk.proofs.Boxes.{AllPosted}
-
--- each of them that finishes a request has the reply to it in the state before
-abbrev pub AreAnswered : ServerState → List Entry → Type 0
-AreAnswered s [] = Unit {0}
-AreAnswered s (e ∷ es) = IsAnswered (directory_of s) e × AreAnswered (after s e) es
 
 pub answered-append : (s : ServerState) (xs ys : List Entry) → AreAnswered s xs → AreAnswered (after_all s xs) ys → AreAnswered s (xs ++ ys)
 answered-append s [] ys all more = more
@@ -68,7 +64,8 @@ finished_more begun xs ys session number answer place is = record {
 -- An answer that is kept after the entries, at a place before the end of the first of them, is that of one of those, or was kept.
 pub kept_stands : (begun : ServerState) (groups : List (List Entry)) (rest : List Entry) (session number : ℕ) (k : Kept) → AreAnswered begun (flat_map (λ (g : List Entry). g) groups ++ rest)
     → ((k : Kept) → kept_of begun session number ≡ Some k → k.place < begun.place) → kept_of (after_all begun (flat_map (λ (g : List Entry). g) groups ++ rest)) session number ≡ Some k
-    → k.place < begun.place + length (flat_map (λ (g : List Entry). g) groups) → StandsOn begun groups (mail.Answer session number k.answer k.place)
+    → k.place < begun.place + length (flat_map (λ (g : List Entry). g) groups)
+    → IsKeptSince begun session number k.answer k.place ⊎ IsFinishedAt begun (flat_map (λ (g : List Entry). g) groups) session number k.answer k.place
 kept_stands begun groups rest session number k all limits kept below = elim (kept_after begun (flat_map (λ (g : List Entry). g) groups ++ rest) session number k kept) [
   | inl was ↦ inl (record { request = k.request; kept = was; earlier = limits k was })
   | inr r ↦
@@ -78,16 +75,17 @@ kept_stands begun groups rest session number k all limits kept below = elim (kep
 ]
 
 -- the mails of entries of the groups, which stand in them behind others
-pub posts_stand : (begun : ServerState) (groups : List (List Entry)) (front es rest : List Entry) (place : ℕ) → AreAnswered begun (flat_map (λ (g : List Entry). g) groups)
-    → flat_map (λ (g : List Entry). g) groups ≡ front ++ (es ++ rest) → place ≡ begun.place + length front → AllPosted (StandsOn begun groups) es place
-posts_stand begun groups front [] rest place all is at = tt
-posts_stand begun groups front (e ∷ es) rest place all is at = (
-  of e is,
-  posts_stand begun groups (front ++ e ∷ []) es rest (place + 1) all (is ∙ sym (append_assoc front (e ∷ []) (es ++ rest))) (let many = length-append front (e ∷ []) in omega (arith, at, many)),
+pub posts_stand : (begun : ServerState) (asked : ℕ → List ℕ) (groups : List (List Entry)) (front es rest : List Entry) (place : ℕ) → AreAnswered begun (flat_map (λ (g : List Entry). g) groups)
+    → flat_map (λ (g : List Entry). g) groups ≡ front ++ (es ++ rest) → place ≡ begun.place + length front → AllPosted asked (λ conn. StandsOn begun groups (asked conn)) es place
+posts_stand begun asked groups front [] rest place all is at = tt
+posts_stand begun asked groups front (e ∷ es) rest place all is at = (
+  λ conn may. of (asked conn) e may is,
+  posts_stand begun asked groups (front ++ e ∷ []) es rest (place + 1) all (is ∙ sym (append_assoc front (e ∷ []) (es ++ rest))) (let many = length-append front (e ∷ []) in omega (arith, at, many)),
 )
   where
-    of : (e : Entry) → flat_map (λ (g : List Entry). g) groups ≡ front ++ (e ∷ (es ++ rest)) → StandsOn begun groups (mail_of e place)
-    of (Attached session floor) is = record { before = front; behind = es ++ rest; entries = is }
-    of (Closed session) is = record { before = front; behind = es ++ rest; entries = is }
-    of (Settled session floor) is = (session, record { before = front; behind = es ++ rest; entries = is })
-    of (Finished session number request answer) is = inr (finished_at begun (flat_map (λ (g : List Entry). g) groups) front (es ++ rest) session number request answer place all is at)
+    of : (mine : List ℕ) (e : Entry) → Contains mine (session_of e) → flat_map (λ (g : List Entry). g) groups ≡ front ++ (e ∷ (es ++ rest)) → StandsOn begun groups mine (mail_of e place)
+    of mine (Attached session floor) may is = (may, record { before = front; behind = es ++ rest; entries = is })
+    of mine (Closed session) may is = (may, record { before = front; behind = es ++ rest; entries = is })
+    of mine (Settled session floor) may is = (session, may, record { before = front; behind = es ++ rest; entries = is })
+    of mine (Finished session number request answer) may is =
+        (may, inr (finished_at begun (flat_map (λ (g : List Entry). g) groups) front (es ++ rest) session number request answer place all is at))

@@ -1,6 +1,6 @@
 -- What holds of each mail in a box still holds where connections come and go, mails are taken, and such mails are made.
 use Rattle.std.proofs.Common.{◌≡◌, ◌≢◌, ℕ, ◌+◌, Bool, true, false, inl, inr, List, [], ◌∷◌, ◌++◌, Option, Some, None, length, drop, refl, sym, ap, subst}
-use Rattle.std.specs.Prelude.{nat_lt, is_some, if◌then◌else◌}
+use Rattle.std.specs.Prelude.{nat_lt, is_some, if◌then◌else◌, Contains}
 use Rattle.std.specs.List.{AllByRecursion}
 use Rattle.std.specs.Option.{option_map_or}
 use Rattle.std.specs.Ordering.{nat_cmp}
@@ -19,15 +19,16 @@ use Rattle.fe_mail.proofs.Lookups.{mails_on-with_session, mails_on-with_mails, m
 use Rattle.fe_front.specs.Front.{FrontState, is_connected}
 use Rattle.fe_front.specs.Steps.{parted, released, freed, departed, withdrawn_from, unboxed, dropped, boxed, overflowed, mailed, connected, attached_to, taken, has_no_cut, cut}
 use Rattle.fe_front.specs.Posting.{delivered, vacated, posted_entry, posted_all}
+use Rattle.fe_desk.proofs.Seated.{HasOnly, has_lost, posted_entry_loses}
 
 -- each mail in a box of these connections is such
-abbrev pub AllIn : (Mail → Type 0) → FinMap nat_cmp Connection → Type 0
-AllIn P m = (conn : ℕ) → AllByRecursion P (mails_on m conn)
+abbrev pub AllIn : (ℕ → Mail → Type 0) → FinMap nat_cmp Connection → Type 0
+AllIn P m = (conn : ℕ) → AllByRecursion (P conn) (mails_on m conn)
 
--- so is the mail of each of the entries, the first of them at this place
-abbrev pub AllPosted : (Mail → Type 0) → List Entry → ℕ → Type 0
-AllPosted P [] place = Unit {0}
-AllPosted P (e ∷ es) place = P (mail_of e place) × AllPosted P es (place + 1)
+-- so is the mail of each of the entries, the first of them at this place, to a connection that asked for its session
+abbrev pub AllPosted : (ℕ → List ℕ) → (ℕ → Mail → Type 0) → List Entry → ℕ → Type 0
+AllPosted asked P [] place = Unit {0}
+AllPosted asked P (e ∷ es) place = ((conn : ℕ) → Contains (asked conn) (session_of e) → P conn (mail_of e place)) × AllPosted asked P es (place + 1)
 
 pub all_append : {X : Type 0} (P : X → Type 0) (xs ys : List X) → AllByRecursion P xs → AllByRecursion P ys → AllByRecursion P (xs ++ ys)
 all_append P [] ys all more = more
@@ -41,40 +42,40 @@ pub all_weaker : {X : Type 0} (P Q : X → Type 0) → ((x : X) → P x → Q x)
 all_weaker P Q weaker [] all = tt
 all_weaker P Q weaker (x ∷ xs) all = (weaker x all.0, all_weaker P Q weaker xs all.1)
 
-module _ (P : Mail → Type 0) where
+module _ (P : ℕ → Mail → Type 0) where
   -- ---- connections
 
   same_box : (m n : FinMap nat_cmp Connection) → ((conn : ℕ) → mails_on n conn ≡ mails_on m conn) → AllIn P m → AllIn P n
-  same_box m n same all conn = subst (λ (ms : List Mail). AllByRecursion P ms) (sym (same conn)) (all conn)
+  same_box m n same all conn = subst (λ (ms : List Mail). AllByRecursion (P conn) ms) (sym (same conn)) (all conn)
 
   -- one box is another, and the others are the same
-  other_box : (m n : FinMap nat_cmp Connection) (conn : ℕ) → AllByRecursion P (mails_on n conn) → ((q : ℕ) → q ≢ conn → mails_on n q ≡ mails_on m q) → AllIn P m → AllIn P n
+  other_box : (m n : FinMap nat_cmp Connection) (conn : ℕ) → AllByRecursion (P conn) (mails_on n conn) → ((q : ℕ) → q ≢ conn → mails_on n q ≡ mails_on m q) → AllIn P m → AllIn P n
   other_box m n conn here beside all q = elim (same_or_other q conn) [
-    | inl e ↦ subst (λ (k : ℕ). AllByRecursion P (mails_on n k)) (sym e) here
-    | inr ne ↦ subst (λ (ms : List Mail). AllByRecursion P ms) (sym (beside q ne)) (all q)
+    | inl e ↦ subst (λ (k : ℕ). AllByRecursion (P k) (mails_on n k)) (sym e) here
+    | inr ne ↦ subst (λ (ms : List Mail). AllByRecursion (P q) ms) (sym (beside q ne)) (all q)
   ]
 
   abbrev mails_of : Option Connection → List Mail
   mails_of o = option_map_or (λ (c : Connection). c.mails) o []
 
   in_removed : (m : FinMap nat_cmp Connection) (conn : ℕ) → AllIn P m → AllIn P (remove m conn)
-  in_removed m conn = other_box m (remove m conn) conn (subst (λ (o : Option Connection). AllByRecursion P (mails_of o)) (sym (get_removed m conn)) tt) (λ q ne. ap mails_of (get_left m conn q ne))
+  in_removed m conn = other_box m (remove m conn) conn (subst (λ (o : Option Connection). AllByRecursion (P conn) (mails_of o)) (sym (get_removed m conn)) tt) (λ q ne. ap mails_of (get_left m conn q ne))
 
   in_connected : (m : FinMap nat_cmp Connection) (conn : ℕ) → AllIn P m → AllIn P (insert m conn first_connection)
-  in_connected m conn = other_box m (insert m conn first_connection) conn (subst (λ (o : Option Connection). AllByRecursion P (mails_of o)) (sym (get_inserted m conn first_connection)) tt)
+  in_connected m conn = other_box m (insert m conn first_connection) conn (subst (λ (o : Option Connection). AllByRecursion (P conn) (mails_of o)) (sym (get_inserted m conn first_connection)) tt)
       (λ q ne. ap mails_of (get_beside m conn first_connection q ne))
 
   in_with_session : (m : FinMap nat_cmp Connection) (conn : ℕ) (session : Option ℕ) → AllIn P m → AllIn P (with_session m conn session)
   in_with_session m conn session = same_box m (with_session m conn session) (mails_on-with_session m conn session)
 
-  in_with_mails : (m : FinMap nat_cmp Connection) (conn : ℕ) (mails : List Mail) → AllByRecursion P mails → AllIn P m → AllIn P (with_mails m conn mails)
+  in_with_mails : (m : FinMap nat_cmp Connection) (conn : ℕ) (mails : List Mail) → AllByRecursion (P conn) mails → AllIn P m → AllIn P (with_mails m conn mails)
   in_with_mails m conn mails new = by (get m conn) refl
     where
       by : (o : Option Connection) → get m conn ≡ o → AllIn P m → AllIn P (with_mails m conn mails)
       by None is = same_box m (with_mails m conn mails)
           (λ q. ap (λ (o : Option Connection). mails_on (option_map_or (λ (c : Connection). insert m conn (record { session = c.session; mails = mails })) o m) q) is)
       by (Some c) is = other_box m (with_mails m conn mails) conn
-          (subst (λ (ms : List Mail). AllByRecursion P ms) (sym (mails_on-with_mails m conn mails (ap (λ (o : Option Connection). is_some o) is))) new)
+          (subst (λ (ms : List Mail). AllByRecursion (P conn) ms) (sym (mails_on-with_mails m conn mails (ap (λ (o : Option Connection). is_some o) is))) new)
           (mails_on-with_mails-beside m conn mails)
 
   -- ---- what happens to a front
@@ -107,12 +108,12 @@ module _ (P : Mail → Type 0) where
       by true = in_removed (departed f conn).connections conn (boxes-departed f conn all)
       by false = all
 
-  pub boxes-mailed : (f : FrontState) (conn : ℕ) (m : Mail) → P m → AllIn P f.connections → AllIn P (mailed f conn m).connections
+  pub boxes-mailed : (f : FrontState) (conn : ℕ) (m : Mail) → P conn m → AllIn P f.connections → AllIn P (mailed f conn m).connections
   boxes-mailed f conn m such all = by (is_connected f conn) (nat_lt (length (mails_on f.connections conn)) 128)
     where
       by : (a b : Bool) → AllIn P (if a then (if b then boxed f conn m else overflowed f conn) else f).connections
       by false b = all
-      by true true = in_with_mails f.connections conn (mails_on f.connections conn ++ m ∷ []) (all_append P (mails_on f.connections conn) (m ∷ []) (all conn) (such, tt)) all
+      by true true = in_with_mails f.connections conn (mails_on f.connections conn ++ m ∷ []) (all_append (P conn) (mails_on f.connections conn) (m ∷ []) (all conn) (such, tt)) all
       by true false = boxes-dropped (record f { books = mail_refused_by_box f.books }) conn all
 
   pub boxes-connected : (f : FrontState) (conn : ℕ) → AllIn P f.connections → AllIn P (connected f conn).connections
@@ -134,33 +135,39 @@ module _ (P : Mail → Type 0) where
   boxes-taken f conn all = by (nat_lt 0 (length (mails_on f.connections conn)))
     where
       by : (b : Bool) → AllIn P (if b then record f { connections = with_mails f.connections conn (drop 1 (mails_on f.connections conn)); books = mail_taken f.books } else f).connections
-      by true = in_with_mails f.connections conn (drop 1 (mails_on f.connections conn)) (all_rest P (mails_on f.connections conn) (all conn)) all
+      by true = in_with_mails f.connections conn (drop 1 (mails_on f.connections conn)) (all_rest (P conn) (mails_on f.connections conn) (all conn)) all
       by false = all
 
   -- ---- posting
 
-  boxes-delivered : (f : FrontState) (e : Entry) (place : ℕ) → P (mail_of e place) → AllIn P f.connections → AllIn P (delivered f e place).connections
-  boxes-delivered f e place such all = by (holder_of f.service.seats (session_of e))
-    where
-      by : (o : Option ℕ) → AllIn P (option_map_or (λ conn. mailed f conn (mail_of e place)) o f).connections
-      by None = all
-      by (Some conn) = boxes-mailed f conn (mail_of e place) such all
+  module _ (asked : ℕ → List ℕ) where
+    -- the mail of an entry is such, to a connection that asked for its session
+    abbrev IsPosted : Entry → ℕ → Type 0
+    IsPosted e place = (conn : ℕ) → Contains (asked conn) (session_of e) → P conn (mail_of e place)
 
-  boxes-vacated : (f : FrontState) (session : ℕ) → AllIn P f.connections → AllIn P (vacated f session).connections
-  boxes-vacated f session all = by (is_closing f.service.seats session)
-    where
-      by : (b : Bool) → AllIn P (if b then record f { service = left f.service session } else f).connections
-      by true = all
-      by false = all
+    boxes-delivered : (f : FrontState) (e : Entry) (place : ℕ) → IsPosted e place → HasOnly asked f → AllIn P f.connections → AllIn P (delivered f e place).connections
+    boxes-delivered f e place such has all = by (holder_of f.service.seats (session_of e)) refl
+      where
+        by : (o : Option ℕ) → holder_of f.service.seats (session_of e) ≡ o → AllIn P (option_map_or (λ conn. mailed f conn (mail_of e place)) o f).connections
+        by None is = all
+        by (Some conn) is = boxes-mailed f conn (mail_of e place) (such conn (has.holders (session_of e) conn is)) all
 
-  boxes-posted_entry : (f : FrontState) (e : Entry) (place : ℕ) → P (mail_of e place) → AllIn P f.connections → AllIn P (posted_entry f e place).connections
-  boxes-posted_entry f (Attached session floor) place such all = boxes-delivered f (Attached session floor) place such all
-  boxes-posted_entry f (Settled session floor) place such all = boxes-delivered f (Settled session floor) place such all
-  boxes-posted_entry f (Finished session number request answer) place such all = boxes-delivered f (Finished session number request answer) place such all
-  boxes-posted_entry f (Closed session) place such all =
-      let g = delivered f (Closed session) place in
-      boxes-vacated (freed g session) session (boxes-freed g session (boxes-delivered f (Closed session) place such all))
+    boxes-vacated : (f : FrontState) (session : ℕ) → AllIn P f.connections → AllIn P (vacated f session).connections
+    boxes-vacated f session all = by (is_closing f.service.seats session)
+      where
+        by : (b : Bool) → AllIn P (if b then record f { service = left f.service session } else f).connections
+        by true = all
+        by false = all
 
-  pub boxes-posted_all : (f : FrontState) (es : List Entry) (place : ℕ) → AllPosted P es place → AllIn P f.connections → AllIn P (posted_all f es place).connections
-  boxes-posted_all f [] place such all = all
-  boxes-posted_all f (e ∷ es) place such all = boxes-posted_all (posted_entry f e place) es (place + 1) such.1 (boxes-posted_entry f e place such.0 all)
+    boxes-posted_entry : (f : FrontState) (e : Entry) (place : ℕ) → IsPosted e place → HasOnly asked f → AllIn P f.connections → AllIn P (posted_entry f e place).connections
+    boxes-posted_entry f (Attached session floor) place such has all = boxes-delivered f (Attached session floor) place such has all
+    boxes-posted_entry f (Settled session floor) place such has all = boxes-delivered f (Settled session floor) place such has all
+    boxes-posted_entry f (Finished session number request answer) place such has all = boxes-delivered f (Finished session number request answer) place such has all
+    boxes-posted_entry f (Closed session) place such has all =
+        let g = delivered f (Closed session) place in
+        boxes-vacated (freed g session) session (boxes-freed g session (boxes-delivered f (Closed session) place such has all))
+
+    pub boxes-posted_all : (f : FrontState) (es : List Entry) (place : ℕ) → AllPosted asked P es place → HasOnly asked f → AllIn P f.connections → AllIn P (posted_all f es place).connections
+    boxes-posted_all f [] place such has all = all
+    boxes-posted_all f (e ∷ es) place such has all =
+        boxes-posted_all (posted_entry f e place) es (place + 1) such.1 (has_lost asked f (posted_entry f e place) (posted_entry_loses f e place) has) (boxes-posted_entry f e place such.0 has all)

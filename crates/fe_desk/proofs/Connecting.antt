@@ -18,7 +18,8 @@ use Rattle.fe_desk.specs.Storing.{is_making}
 use Rattle.fe_desk.specs.Steps.{find, on_client, with_left, unmade, gone, new_client, clients_with, BeginsStream, Connects}
 use Rattle.fe_desk.specs.within.Places.{IsFirstAt, Joins}
 use Rattle.fe_desk.specs.Crash.{DeskState}
-use Rattle.fe_desk.specs.within.Desk.{IsDesk, IsHanded, cut_entries, client_of}
+use Rattle.fe_desk.specs.Acknowledged.{cut_entries}
+use Rattle.fe_desk.specs.within.Desk.{IsDesk, IsHanded, client_of}
 use Rattle.fe_front.proofs.Coming.{dropped-stays}
 use Rattle.fe_desk.proofs.Places.{numbers_changed, found_by_numbers, found_more, found_last, found_there, changed_nowhere, port_changed}
 

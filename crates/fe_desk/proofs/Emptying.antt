@@ -93,7 +93,7 @@ each_empty f none conn = none_of (mails_on f.connections conn) (omega (arith, ma
     none_of (x ∷ xs) is = absurd (omega (arith, is))
 
 -- the mails behind the first are left
-left_in : (f : FrontState) (conn : ℕ) (m : Mail) (ms : List Mail) → mails_on f.connections conn ≡ m ∷ ms → mails_on (taken f conn).connections conn ≡ ms
+pub left_in : (f : FrontState) (conn : ℕ) (m : Mail) (ms : List Mail) → mails_on f.connections conn ≡ m ∷ ms → mails_on (taken f conn).connections conn ≡ ms
 left_in f conn m ms box =
     ap (λ (g : FrontState). mails_on g.connections conn) (taken_is f conn m ms box)
     ∙ mails_on-with_mails f.connections conn (drop 1 (mails_on f.connections conn)) (there_of f.connections conn m ms box)
@@ -127,7 +127,7 @@ taken-empty f conn = by (mails_on f.connections conn) refl
 
 -- ---- all mails of a connection are taken
 
-times-keep : (n : ℕ) (f : FrontState) (conn : ℕ) → KeepsFront f (taken_times n f conn)
+pub times-keep : (n : ℕ) (f : FrontState) (conn : ℕ) → KeepsFront f (taken_times n f conn)
 times-keep zero f conn = itself f
 times-keep (suc n) f conn = both f (taken f conn) (taken_times n (taken f conn) conn) (taken-keeps f conn) (times-keep n (taken f conn) conn)
 
@@ -233,7 +233,7 @@ takes_known f conn m ms box =
       fewer = omega (arith, ap length left, ap length box);
     }
 
-box_of : (ms : List Mail) (m : Mail) → Some m ≡ slice_get ms 0 → ms ≡ m ∷ drop 1 ms
+pub box_of : (ms : List Mail) (m : Mail) → Some m ≡ slice_get ms 0 → ms ≡ m ∷ drop 1 ms
 box_of [] m first = absurd (true≢false (ap (λ (o : Option Mail). is_some o) first))
 box_of (x ∷ ms) m first = ap (λ (y : Mail). y ∷ ms) (sym (same_Some _ _ first))
 

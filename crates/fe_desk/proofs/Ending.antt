@@ -7,6 +7,7 @@ use Rattle.fe_desk.specs.declared.fault.DeskFault.TheVariants as desk
 use Rattle.fe_desk.specs.declared.step.Step.{Step}
 use Rattle.fe_desk.specs.declared.step.Step.TheVariants as step
 use Rattle.fe_desk.specs.Standing.{Standing, discharged}
+use Rattle.fe_desk.specs.Writing.{WritesSome}
 use Rattle.fe_desk.specs.Stopping.{StopsBefore, StopsUnread, StopsBehind}
 use Rattle.fe_desk.specs.Crash.{DeskState, IsFine, TellsStep}
 use Rattle.fe_desk.specs.Checks.{StoresMore}
@@ -48,9 +49,9 @@ settles_desk {D} a mid standing keeper synced =
     ∙ ap (λ (n : ℕ). record a { standing = discharged a.standing; synced = n }) synced
 
 -- mails that were owed found no memory
-pub short_owed : {D : Type 0} (fed : Bool) (x : Step) (a b : DeskState D) → false ≡ fed → a.standing.owes ≡ true → discharged b.standing ≡ discharged a.standing → b.keeper ≡ a.keeper → b.synced ≡ a.synced
+pub short_owed : {D : Type 0} (fed : Bool) (x : Step) (a b : DeskState D) → false ≡ fed → a.standing.owes ≡ true → WritesSome a.standing b.standing → b.keeper ≡ a.keeper → b.synced ≡ a.synced
     → FindsNoMemory fed x a b
-short_owed fed x a b none owed later keeper synced = inl (sym none, record { owed = owed; later = later; keeper = keeper; synced = synced })
+short_owed fed x a b none owed writes keeper synced = inl (sym none, record { owed = owed; writes = writes; keeper = keeper; synced = synced })
 
 -- or what the step does behind them
 pub short_acts : {D : Type 0} (fed : Bool) (x : Step) (a mid b : DeskState D) → mid ≡ discharged_desk a → Lacks fed x mid b → FindsNoMemory fed x a b

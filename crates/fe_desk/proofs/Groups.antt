@@ -30,7 +30,8 @@ use Rattle.fe_desk.specs.Steps.{find}
 use Rattle.fe_desk.proofs.Advancing.{prefix_more}
 use Rattle.fe_front.proofs.Coming.{pending-posted}
 use Rattle.fe_desk.specs.Crash.{DeskState, IsFrom, Advances, disk_of}
-use Rattle.fe_desk.specs.within.Desk.{IsHanded, IsAhead, IsDesk, cut_entries, unstored}
+use Rattle.fe_desk.specs.Acknowledged.{cut_entries}
+use Rattle.fe_desk.specs.within.Desk.{IsHanded, IsAhead, IsDesk, unstored}
 
 -- ---- entries behind entries
 

@@ -25,7 +25,8 @@ use Rattle.fe_desk.specs.within.Places.{IsFirstAt}
 use Rattle.fe_desk.specs.Crash.{DeskState, Advances, IsFine, TellsCall, disk_of}
 use Rattle.fe_desk.specs.Checks.{StoresMore}
 use Rattle.fe_desk.specs.declared.port.Port.{Port}
-use Rattle.fe_desk.specs.within.Desk.{IsAhead, IsDesk, IsHanded, unstored, cut_entries, client_of}
+use Rattle.fe_desk.specs.Acknowledged.{cut_entries}
+use Rattle.fe_desk.specs.within.Desk.{IsAhead, IsDesk, IsHanded, unstored, client_of}
 use Rattle.fe_desk.proofs.Places.{numbers, numbers_changed, first_by_numbers, found_first, changed_first}
 use Rattle.fe_desk.proofs.Reading.{on_client-twice, find-on_client, found-on_client, relieved, none_left, left_among, with_clients, roomy-clients, roomy-keeps, takes_one_of, takes_all-append, on_client-stays}
 use Rattle.fe_desk.proofs.Growing.{stores_none, stores_both, stores_then}

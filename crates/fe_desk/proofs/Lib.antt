@@ -2,6 +2,7 @@ pub mod Advancing
 pub mod Connecting
 pub mod Outputs
 pub mod Emptying
+pub mod Writing
 pub mod Quiets
 pub mod Lives
 pub mod Openings
@@ -11,6 +12,7 @@ pub mod Groups
 pub mod Failing
 pub mod Runnings
 pub mod StepParts
+pub mod Stepping
 pub mod Leftovers
 pub mod Reading
 pub mod Feeding
@@ -21,9 +23,11 @@ pub mod Growing
 pub mod Stops
 pub mod Ending
 pub mod Recorded
+pub mod Seated
 pub mod Boxes
 pub mod Answered
 pub mod Messaging
 pub mod Acknowledging
+pub mod Answering
 pub mod Given
 pub mod ManyStops

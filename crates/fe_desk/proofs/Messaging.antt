@@ -1,7 +1,7 @@
 -- What a message of a connection leaves of a front, whether its entries are legal or not: they are answered, lead to the state
 -- now, and are pending behind the others; and its mails stand on the groups that were stored.
-use Rattle.std.proofs.Common.{◌≡◌, inl, inr, ℕ, ◌<◌, Bool, true, false, List, [], ◌∷◌, ◌++◌, append-nil, Option, Some, None, refl, sym, ap, subst, ◌∙◌}
-use Rattle.std.specs.Prelude.{nat_lt, if◌then◌else◌}
+use Rattle.std.proofs.Common.{◌≡◌, ◌⊎◌, inl, inr, ℕ, ◌<◌, Bool, true, false, List, [], ◌∷◌, ◌++◌, append-nil, Option, Some, None, refl, sym, ap, subst, ◌∙◌}
+use Rattle.std.specs.Prelude.{nat_lt, if◌then◌else◌, Contains}
 use Rattle.std.specs.Option.{option_map_or}
 use Rattle.std.specs.FinMap.{get}
 use Rattle.std.proofs.lemmas.Bool.{ltb-true}
@@ -26,8 +26,9 @@ use Rattle.fe_front.specs.declared.outcome.Outcome.TheVariants as outcome
 use Rattle.fe_front.proofs.Keeping.{Keeps, itself, both, released-keeps, freed-keeps, mailed-keeps}
 use Rattle.fe_front.proofs.Coming.{mailed-stays, cancelled-stays, repeated-stays, released-stays, freed-stays}
 use Rattle.fe_messages.specs.Taking.{Takes}
-use Rattle.fe_desk.specs.Acknowledged.{StandsOn}
-use Rattle.fe_desk.proofs.Answered.{AreAnswered, turns_answered}
+use Rattle.fe_desk.specs.Acknowledged.{StandsOn, IsKeptSince, IsFinishedAt, AreAnswered, entries_of}
+use Rattle.fe_desk.proofs.Answered.{turns_answered}
+use Rattle.fe_desk.proofs.Seated.{HasOnly, addressed_has}
 use Rattle.fe_desk.proofs.Boxes.{AllIn, boxes-mailed, boxes-attached}
 
 -- entries were made: they are answered, lead to the state now, and are pending behind the others
@@ -167,50 +168,56 @@ message_made f g conn message.Report es (inr refused) = mailed_made f g es conn 
 
 -- ---- the mails of messages
 
-module _ (begun : ServerState) (groups : List (List Entry)) where
+module _ (begun : ServerState) (groups : List (List Entry)) (asked : ℕ → List ℕ) where
+  abbrev pub StandsTo : ℕ → Mail → Type 0
+  StandsTo conn m = StandsOn begun groups (asked conn) m
+
   -- each mail in a box stands on the groups
   abbrev Stand : FrontState → Type 0
-  Stand f = AllIn (StandsOn begun groups) f.connections
+  Stand f = AllIn StandsTo f.connections
 
   -- and so does each answer that is kept and durable
   abbrev pub KeptStand : FrontState → Type 0
-  KeptStand f = (session number : ℕ) (k : Kept) → kept_at f session number ≡ Some k → k.place < f.durable → StandsOn begun groups (mail.Answer session number k.answer k.place)
+  KeptStand f = (session number : ℕ) (k : Kept) → kept_at f session number ≡ Some k → k.place < f.durable
+      → IsKeptSince begun session number k.answer k.place ⊎ IsFinishedAt begun (entries_of groups) session number k.answer k.place
 
   at_front : (f g : FrontState) → g ≡ f → Stand f → Stand g
   at_front f g is all = subst (λ (x : FrontState). Stand x) (sym is) all
 
-  stand_mailed : (f g : FrontState) (conn : ℕ) (m : Mail) → g ≡ mailed f conn m → StandsOn begun groups m → Stand f → Stand g
-  stand_mailed f g conn m is such all = at_front (mailed f conn m) g is (boxes-mailed (StandsOn begun groups) f conn m such all)
+  stand_mailed : (f g : FrontState) (conn : ℕ) (m : Mail) → g ≡ mailed f conn m → StandsTo conn m → Stand f → Stand g
+  stand_mailed f g conn m is such all = at_front (mailed f conn m) g is (boxes-mailed StandsTo f conn m such all)
 
-  stand_repeated : (f : FrontState) (conn session number : ℕ) → KeptStand f → Stand f → Stand (repeated f conn session number)
-  stand_repeated f conn session number kept all = by (kept_at f session number) refl
+  stand_repeated : (f : FrontState) (conn session number : ℕ) → Contains (asked conn) session → KeptStand f → Stand f → Stand (repeated f conn session number)
+  stand_repeated f conn session number may kept all = by (kept_at f session number) refl
     where
       sent : (k : Kept) → kept_at f session number ≡ Some k → (b : Bool) → nat_lt k.place f.durable ≡ b
           → Stand (if b then mailed (again f) conn (mail.Answer session number k.answer k.place) else again f)
-      sent k is true below = boxes-mailed (StandsOn begun groups) (again f) conn (mail.Answer session number k.answer k.place) (kept session number k is (ltb-true k.place f.durable below)) all
+      sent k is true below = boxes-mailed StandsTo (again f) conn (mail.Answer session number k.answer k.place) (may, kept session number k is (ltb-true k.place f.durable below)) all
       sent k is false below = all
 
       by : (o : Option Kept) → kept_at f session number ≡ o → Stand (option_map_or (sent_again f conn session number) o (again f))
       by None is = all
       by (Some k) is = sent k is (nat_lt k.place f.durable) refl
 
-  stand_called : (f g : FrontState) (conn session number : ℕ) (request : Request) (o : Outcome) (es : List Entry) → KeptStand f → Called f conn session number request o es g → Stand f → Stand g
-  stand_called f g conn session number request (outcome.Completed n) es kept r all = at_front _ g r.rest all
-  stand_called f g conn session number request outcome.Waits es kept r all = at_front _ g r.rest all
-  stand_called f g conn session number request outcome.AlreadyWaiting es kept r all = at_front (repeated f conn session number) g r.rest (stand_repeated f conn session number kept all)
-  stand_called f g conn session number request outcome.SentAgain es kept r all = at_front (repeated f conn session number) g r.rest (stand_repeated f conn session number kept all)
-  stand_called f g conn session number request outcome.NotYetSynced es kept r all = at_front (repeated f conn session number) g r.rest (stand_repeated f conn session number kept all)
+  stand_called : (f g : FrontState) (conn session number : ℕ) (request : Request) (o : Outcome) (es : List Entry) → Contains (asked conn) session → KeptStand f → Called f conn session number request o es g → Stand f
+      → Stand g
+  stand_called f g conn session number request (outcome.Completed n) es may kept r all = at_front _ g r.rest all
+  stand_called f g conn session number request outcome.Waits es may kept r all = at_front _ g r.rest all
+  stand_called f g conn session number request outcome.AlreadyWaiting es may kept r all = at_front (repeated f conn session number) g r.rest (stand_repeated f conn session number may kept all)
+  stand_called f g conn session number request outcome.SentAgain es may kept r all = at_front (repeated f conn session number) g r.rest (stand_repeated f conn session number may kept all)
+  stand_called f g conn session number request outcome.NotYetSynced es may kept r all = at_front (repeated f conn session number) g r.rest (stand_repeated f conn session number may kept all)
 
-  pub message_stands : (f g : FrontState) (conn : ℕ) (m : ClientMessage) (es : List Entry) → KeptStand f → Takes f conn m es g → Stand f → Stand g
-  message_stands f g conn (message.Attach session) es kept (inl step) all = at_front (attached_to f conn session) g step.1.front (boxes-attached (StandsOn begun groups) f conn session all)
-  message_stands f g conn (message.Attach session) es kept (inr (r, why, refused)) all = stand_mailed f g conn (mail.Refused session r) refused.front tt all
-  message_stands f g conn (message.Call number request) es kept (inl (o, step)) all = stand_called f g conn step.0 number request o es kept step.2 all
-  message_stands f g conn (message.Call number request) es kept (inr (r, why, refused)) all = stand_mailed (call_refused_by f) g conn (mail.Refused number r) refused.front tt all
-  message_stands f g conn (message.Cancel number) es kept (inl step) all = stand_mailed (cancelled_from f step.0 number) g conn (mail.Withdrawn number) step.2.front tt all
-  message_stands f g conn (message.Cancel number) es kept (inr (r, why, refused)) all = stand_mailed f g conn (mail.Refused number r) refused.front tt all
-  message_stands f g conn (message.Settle floor) es kept (inl step) all = at_front (settled_to f step.0 floor) g step.2.front all
-  message_stands f g conn (message.Settle floor) es kept (inr (r, why, refused)) all = stand_mailed f g conn (mail.Refused floor r) refused.front tt all
-  message_stands f g conn message.Bye es kept (inl step) all = at_front (closed_by f step.0) g step.2.front all
-  message_stands f g conn message.Bye es kept (inr (r, why, refused)) all = stand_mailed f g conn (mail.Refused 0 r) refused.front tt all
-  message_stands f g conn message.Report es kept (inl step) all = stand_mailed f g conn _ step.1.front tt all
-  message_stands f g conn message.Report es kept (inr refused) all = stand_mailed f g conn _ refused.front tt all
+  pub message_stands : (f g : FrontState) (conn : ℕ) (m : ClientMessage) (es : List Entry) → HasOnly asked f → KeptStand f → Takes f conn m es g → Stand f → Stand g
+  message_stands f g conn (message.Attach session) es has kept (inl step) all = at_front (attached_to f conn session) g step.1.front (boxes-attached StandsTo f conn session all)
+  message_stands f g conn (message.Attach session) es has kept (inr (r, why, refused)) all = stand_mailed f g conn (mail.Refused session r) refused.front tt all
+  message_stands f g conn (message.Call number request) es has kept (inl (o, step)) all =
+      stand_called f g conn step.0 number request o es (has.sessions conn step.0 (addressed_has f conn number step.0 step.1)) kept step.2 all
+  message_stands f g conn (message.Call number request) es has kept (inr (r, why, refused)) all = stand_mailed (call_refused_by f) g conn (mail.Refused number r) refused.front tt all
+  message_stands f g conn (message.Cancel number) es has kept (inl step) all = stand_mailed (cancelled_from f step.0 number) g conn (mail.Withdrawn number) step.2.front tt all
+  message_stands f g conn (message.Cancel number) es has kept (inr (r, why, refused)) all = stand_mailed f g conn (mail.Refused number r) refused.front tt all
+  message_stands f g conn (message.Settle floor) es has kept (inl step) all = at_front (settled_to f step.0 floor) g step.2.front all
+  message_stands f g conn (message.Settle floor) es has kept (inr (r, why, refused)) all = stand_mailed f g conn (mail.Refused floor r) refused.front tt all
+  message_stands f g conn message.Bye es has kept (inl step) all = at_front (closed_by f step.0) g step.2.front all
+  message_stands f g conn message.Bye es has kept (inr (r, why, refused)) all = stand_mailed f g conn (mail.Refused 0 r) refused.front tt all
+  message_stands f g conn message.Report es has kept (inl step) all = stand_mailed f g conn _ step.1.front tt all
+  message_stands f g conn message.Report es has kept (inr refused) all = stand_mailed f g conn _ refused.front tt all

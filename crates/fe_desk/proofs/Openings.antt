@@ -26,7 +26,8 @@ use Rattle.fe_desk.specs.declared.port.Port.{Port}
 use Rattle.fe_desk.specs.Traces.{IsTraceOf}
 use Rattle.fe_desk.specs.Standing.{Client, Standing, IsFirstStanding}
 use Rattle.fe_desk.specs.Crash.{DeskState, IsFrom, disk_of}
-use Rattle.fe_desk.specs.within.Desk.{IsDesk, IsAhead, IsHanded, unstored, cut_entries, client_of, standing_of}
+use Rattle.fe_desk.specs.Acknowledged.{cut_entries}
+use Rattle.fe_desk.specs.within.Desk.{IsDesk, IsAhead, IsHanded, unstored, client_of, standing_of}
 
 first_tied : (begun : ServerState) (s : Standing) → IsFirstStanding begun s → IsAhead s begun
 first_tied begun s first =

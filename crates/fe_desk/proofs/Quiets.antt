@@ -1,5 +1,5 @@
 -- Where nothing is to be written, writing all of it changes nothing; and the steps that make no mail keep it so.
-use Rattle.std.proofs.Common.{◌≡◌, ◌≢◌, ℕ, ◌+◌, ◌<◌, take, drop, slice_set, Bool, true, false, true≢false, List, [], ◌∷◌, ◌++◌, Option, Some, None, refl, sym, ap, ◌∙◌, subst, append-nil, inl, inr, Result, Ok, Err, OnOk, if◌then◌else◌}
+use Rattle.std.proofs.Common.{◌≡◌, ℕ, Bool, true, false, true≢false, List, [], ◌∷◌, ◌++◌, Option, Some, None, refl, sym, ap, ◌∙◌, subst, append-nil, inl, inr, Result, Ok, Err, OnOk, if◌then◌else◌}
 use Rattle.std.specs.Prelude.{nat_eq, is_some, is_err, length, map, MatchBool}
 use Rattle.std.specs.Option.{option_map_or}
 use Rattle.std.specs.FinMap.{insert}
@@ -13,7 +13,6 @@ use Rattle.fe_front.specs.Steps.{has_no_cut}
 use Rattle.fe_desk.specs.declared.handed.Handed.{Handed}
 use Rattle.fe_desk.specs.declared.handed.Handed.TheVariants.{Nothing, Cut, Stored}
 use Rattle.fe_desk.specs.declared.parts.Parts.{Parts}
-use Rattle.fe_desk.specs.declared.port.Port.{Port}
 use Rattle.fe_desk.specs.declared.step.Step.{Step}
 use Rattle.fe_desk.specs.declared.step.Step.TheVariants as step
 use Rattle.fe_desk.specs.Mails.{emptied_box}
@@ -22,7 +21,7 @@ use Rattle.fe_desk.specs.Steps.{find, on_client, Acts, Connects, new_client, unm
 use Rattle.fe_desk.specs.Storing.{stored_from, is_making}
 use Rattle.fe_desk.specs.Quiet.{HasNoMail, AreWritten, mails_nothing}
 use Rattle.fe_desk.specs.within.Desk.{client_of, standing_of}
-use Rattle.fe_desk.proofs.Emptying.{AreQuiet, replaced, quiet_all_emptied, quiet_all_told}
+use Rattle.fe_desk.proofs.Emptying.{AreQuiet, quiet_all_emptied, quiet_all_told}
 use Rattle.fe_desk.proofs.StepParts.{discharged_at}
 
 -- ---- there is nothing to write
@@ -59,15 +58,6 @@ all_quiet p q (Ok x) boxes told owes = record {
   owes = owes;
 }
 all_quiet p q (Err e) boxes told owes = tt
-
--- a reply waits among these
-some_waits : (cs ds : List Client) (c : Client) → c.reply ≢ None → AreWritten (cs ++ c ∷ ds) → ⊥
-some_waits [] ds c some all = some all.0
-some_waits (x ∷ xs) ds c some all = some_waits xs ds c some all.1
-
-pub port_waits : (ports : List Port) (at : ℕ) (q : Port) → at < length ports → q.reply ≢ None → AreWritten (map client_of (slice_set ports at q)) → ⊥
-port_waits ports at q lt some all =
-    some_waits (map client_of (take at ports)) (map client_of (drop (at + 1) ports)) (client_of q) some (subst AreWritten (replaced client_of ports at q lt) all)
 
 -- ---- steps that make no mail
 

@@ -1,42 +1,43 @@
 -- Runs of steps, one after the other.
-use Rattle.std.proofs.Common.{◌≡◌, ℕ, ◌+◌, ◌<◌, ◌≤◌, Bool, true, false, true≢false, inl, inr, List, [], ◌∷◌, ◌++◌, length, take, get_or, add-one, zero, suc, Option, Some, None, refl, sym, ap, subst, ◌∙◌, arith}
-use Rattle.std.proofs.lemmas.List.{take_more, append-nil, length-append}
-use Rattle.fe_disk.specs.Disk.{LeavesOnly, Rises}
+use Rattle.std.proofs.Common.{◌≡◌, ℕ, ◌+◌, ◌<◌, ◌≤◌, false, List, [], ◌∷◌, ◌++◌, length, take, get_or, add-one, zero, suc, Option, Some, None, Result, Ok, Err, refl, sym, ap, subst, ◌∙◌, arith}
+use Rattle.std.specs.Prelude.{slice_get}
+use Rattle.std.proofs.lemmas.List.{take_more, append-nil, map-append}
+use Rattle.fe_disk.specs.Disk.{LeavesOnly}
 use Rattle.fe_disk.proofs.Moments.{started, joined, weaker}
 use Rattle.fe_state.specs.State.{ServerState}
 use Rattle.fe_state.specs.declared.entry.Entry.{Entry}
 use Rattle.fe_keeper.specs.Stands.{StandsFor, EachStandsFor}
 use Rattle.fe_keeper.specs.Prefix.{LeavesPrefix}
-use Rattle.std.specs.Prelude.{slice_get}
-use Rattle.fe_keeper.specs.declared.fault.Fault.TheVariants as keeper
 use Rattle.fe_desk.specs.declared.fault.DeskFault.{DeskFault}
-use Rattle.fe_desk.specs.declared.fault.DeskFault.TheVariants.{Store, NoMemory, Unwritten}
-use Rattle.fe_desk.specs.Messages.{outputs}
-use Rattle.fe_desk.specs.Ends.{Tears, BreaksOff, Breaks, Lacks, FindsNoMemory, discharged_desk}
-use Rattle.fe_desk.specs.declared.step.Step.TheVariants as step
-use Rattle.fe_desk.proofs.StepParts.{discharged_at}
-use Rattle.fe_desk.specs.declared.step.Step.{Step}
-use Rattle.fe_desk.specs.Runs.{EndsBy, EndsByDevice, EndsByMemory, EndsOwing, Counts, CountsEnd, IsTaken, IsBegun, IsRunTo}
 use Rattle.fe_desk.specs.declared.running.Ran.{Ran}
+use Rattle.fe_desk.specs.declared.step.Step.{Step}
 use Rattle.fe_desk.specs.declared.trace.Trace.{Trace}
-use Rattle.fe_desk.specs.Standing.{Standing, discharged}
-use Rattle.fe_desk.specs.Steps.{DeskStep, DeskRun}
-use Rattle.fe_desk.specs.Crash.{DeskState, IsFrom, Advances, TellsStep, disk_of}
+use Rattle.fe_desk.specs.Crash.{DeskState, IsFrom, Advances, disk_of}
+use Rattle.fe_desk.specs.Runs.{GoesTo, IsOpened, IsRunTo, whole}
+use Rattle.fe_desk.specs.Taken.{IsStep, AreSteps}
 
 -- a step more
-run_more : (s t u : Standing) (steps : List Step) (step : Step) → DeskRun s steps t → DeskStep t step u → DeskRun s (steps ++ step ∷ []) u
-run_more s t u [] step run more = (u, subst (λ (x : Standing). DeskStep x step u) run more, refl)
-run_more s t u (x ∷ xs) step run more = (run.0, run.1, run_more run.0 t u xs step run.2 more)
+pub steps_more : {D : Type 0} (failures : D → ℕ) (d e f : DeskState D) (given : List (Step × Result (Unit {0}) DeskFault)) (x : Step × Result (Unit {0}) DeskFault) → AreSteps failures d given e → IsStep failures e x.0 x.1 f
+    → AreSteps failures d (given ++ x ∷ []) f
+steps_more {D} failures d e f [] x are is = (f, subst (λ (y : DeskState D). IsStep failures y x.0 x.1 f) are is, refl)
+steps_more failures d e f (y ∷ ys) x are is = (are.0, are.1, steps_more failures are.0 e f ys x are.2 is)
 
 -- the step at a place, behind those before it
-pub run_next : (s t u : Standing) (steps : List Step) (k : ℕ) (step : Step) → k < length steps → step ≡ get_or steps k step → DeskRun s (take k steps) t → DeskStep t step u → DeskRun s (take (k + 1) steps) u
-run_next s t u steps k step lt is run more =
+pub steps_next : {D : Type 0} (failures : D → ℕ) (d e f : DeskState D) (steps : List Step) (k : ℕ) (step : Step) (r : Result (Unit {0}) DeskFault) → r ≡ Ok tt → k < length steps → step ≡ get_or steps k step
+    → AreSteps failures d (whole (take k steps)) e → IsStep failures e step r f → AreSteps failures d (whole (take (k + 1) steps)) f
+steps_next {D} failures d e f steps k step r ok lt is are taken =
     let front : take (k + 1) steps ≡ take k steps ++ step ∷ [] = take_more steps k step lt ∙ ap (λ (x : Step). take k steps ++ x ∷ []) (sym is) in
-    subst (λ (xs : List Step). DeskRun s xs u) (sym front) (run_more s t u (take k steps) step run more)
+    let all : whole (take (k + 1) steps) ≡ whole (take k steps) ++ (step, Ok tt) ∷ [] =
+    ap whole front ∙ map-append (λ (x : Step). (x, Ok tt)) (take k steps) (step ∷ []) in
+    subst (λ (given : List (Step × Result (Unit {0}) DeskFault)). AreSteps failures d given f) (sym all)
+    (steps_more failures d e f (whole (take k steps)) (step, Ok tt) are (subst (λ (x : Result (Unit {0}) DeskFault). IsStep failures e step x f) ok taken))
 
--- after a step no mail is owed
-pub step_owes : (s t : Standing) (step : Step) → DeskStep s step t → t.owes ≡ false
-step_owes s t step d = ap (λ (x : Standing). x.owes) d.after
+-- the step at fault
+pub goes_to : {D : Type 0} (failures : D → ℕ) (d e f : DeskState D) (steps : List Step) (k : ℕ) (step : Step) (r : Result (Unit {0}) DeskFault) (fault : DeskFault) → r ≡ Err fault → slice_get steps k ≡ Some step
+    → AreSteps failures d (whole (take k steps)) e → IsStep failures e step r f → GoesTo failures d steps (Some (k + 1, fault)) f
+goes_to {D} failures d e f steps k step r fault err is are taken =
+    subst (λ (n : ℕ). GoesTo failures d steps (Some (n, fault)) f) (sym (add-one k))
+    (step, is, steps_more failures d e f (whole (take k steps)) (step, Err fault) are (subst (λ (x : Result (Unit {0}) DeskFault). IsStep failures e step x f) err taken))
 
 -- an image that stands for the state at the beginning stands for no group of the history
 pub stands_begun : (begun : ServerState) (groups : List (List Entry)) (image : List ℕ) → StandsFor image begun → LeavesPrefix begun groups 0 image
@@ -74,78 +75,14 @@ module _ {D : Type 0} (honest : D → Type 0) (may_leave : D → List ℕ → Ty
         honesty = (λ h. h, λ h. h);
       }
 
--- ---- the step at fault
-
--- of the groups of a torn batch the last alone is not stored
-torn_groups : {D : Type 0} (last : Standing) (t : DeskState D) → Tears last t → length t.standing.groups ≤ t.synced + 1
-torn_groups last t tears =
-    let batch = tears.at_hand.batch.entries in
-    let groups : t.standing.groups ≡ last.groups ++ batch ∷ [] = ap (λ (x : Standing). x.groups) tears.standing in
-    omega (arith, ap (λ (gs : List (List Entry)). length gs) groups, length-append last.groups (batch ∷ []), tears.synced)
-
-broken_off : {D : Type 0} (s t : DeskState D) → s.synced ≡ length s.standing.groups → BreaksOff s t → length t.standing.groups ≤ t.synced + 1
-broken_off s t all off = omega (arith, ap (λ (x : Standing). length x.groups) off.standing, off.synced, all)
-
-broken_groups : {D : Type 0} (step : Step) (s t : DeskState D) → s.synced ≡ length s.standing.groups → Breaks step s t → length t.standing.groups ≤ t.synced + 1
-broken_groups (step.Connect conn) s t all breaks = absurd breaks
-broken_groups (step.Bytes conn piece) s t all breaks = torn_groups breaks.last t breaks.tears
-broken_groups (step.Gone conn) s t all breaks = absurd breaks
-broken_groups step.Cut s t all breaks = absurd breaks
-broken_groups step.Append s t all breaks = torn_groups s.standing t breaks
-broken_groups step.Post s t all breaks = absurd breaks
-broken_groups step.CheckBegin s t all breaks = broken_off s t all breaks
-broken_groups step.CheckStep s t all breaks = broken_off s t all breaks
-broken_groups step.CheckFinish s t all breaks = broken_off s t all breaks
-
-module _ {D : Type 0} (s t : DeskState D) (step : Step) (owes : s.standing.owes ≡ false) where
-  discharged_desk_at : discharged_desk s ≡ s
-  discharged_desk_at = ap (λ (x : Standing). record s { standing = x }) (discharged_at s.standing owes)
-
-  -- the device failed
-  pub ends_device : s.synced ≡ length s.standing.groups → Breaks step (discharged_desk s) t → outputs t.standing ≡ outputs (discharged s.standing) → t.synced ≤ length t.standing.groups → EndsByDevice s step t
-  ends_device all breaks silent few =
-      let here : Breaks step s t = subst (λ (d : DeskState D). Breaks step d t) discharged_desk_at breaks in
-      record { breaks = here; output = silent ∙ ap outputs (discharged_at s.standing owes); few = few; one = broken_groups step s t all here }
-
-  -- memory was short
-  pub lacks_at : (fed : Bool) → FindsNoMemory fed step s t → Lacks fed step s t
-  lacks_at fed finds = elim finds [
-    | inl still ↦ absurd (true≢false (sym still.1.owed ∙ owes))
-    | inr lacks ↦ subst (λ (d : DeskState D). Lacks fed step d t) discharged_desk_at lacks
-  ]
-
--- the count of failures at a fault
-pub counts_by : {D : Type 0} (failures : D → ℕ) (first old new : DeskState D) (fault : DeskFault) → failures (disk_of old) ≡ failures (disk_of first) → TellsStep failures old new fault
-    → Counts fault (failures (disk_of first)) (failures (disk_of new))
-counts_by failures first old new (Store cause) still tells = subst (λ (n : ℕ). Rises n (failures (disk_of new))) still tells.1.rises
-counts_by failures first old new (NoMemory fed) still tells = tells.still ∙ still
-counts_by failures first old new Unwritten still tells = tells.still ∙ still
-
--- what the step at fault did, by its fault
-pub ends_by : {D : Type 0} (failures : D → ℕ) (s t : DeskState D) (step : Step) (fault : DeskFault) → TellsStep failures s t fault
-    → (fault ≡ Store keeper.Device → EndsByDevice s step t)
-    → ((fed : Bool) → fault ≡ NoMemory fed → t.synced ≡ length t.standing.groups → EndsByMemory fed s step t)
-    → (fault ≡ Unwritten → t.synced ≡ length t.standing.groups → EndsOwing s step t)
-    → (t.keeper.store.has_failed ≡ false → t.synced ≡ length t.standing.groups) → EndsBy fault s step t
-ends_by failures s t step (Store cause) tells device short owing all = (tells.0, device (ap Store tells.0))
-ends_by failures s t step (NoMemory fed) tells device short owing all = short fed refl (all tells.works)
-ends_by failures s t step Unwritten tells device short owing all = owing refl (all tells.works)
-
--- the steps before the one at fault were taken, and then that one
-pub taken_to : {D : Type 0} (s last t : DeskState D) (steps : List Step) (k : ℕ) (step : Step) (fault : DeskFault) → DeskRun s.standing (take k steps) last.standing → slice_get steps k ≡ Some step
-    → EndsBy fault last step t → (more : List (List Entry)) × (t.standing.groups ≡ last.standing.groups ++ more) → IsTaken s steps t (Some (k + 1, fault))
-taken_to s last t steps k step fault run is ends added =
-    subst (λ (n : ℕ). IsTaken s steps t (Some (n, fault))) (sym (add-one k)) (record { before = last; step = step; more = added.0; run = run; is = is; ends = ends; groups = added.1 })
-
 -- ---- whole runs
 
 -- a run from its parts
-module _ {D : Type 0} (honest : D → Type 0) (seen : D → List ℕ) (failures : D → ℕ) (disk : D) (steps : List Step) (first last : DeskState D) (t : Trace) (after : D) where
+module _ {D : Type 0} (honest : D → Type 0) (seen : D → List ℕ) (failures : D → ℕ) (disk : D) (steps : List Step) (t : Trace) (after : D) where
   abbrev ran : Option (ℕ × DeskFault) → Ran D
   ran fault = record { trace = t; disk = after; fault = fault }
 
-  pub run_of : (fault : Option (ℕ × DeskFault)) → IsBegun honest seen disk (ran fault) first last → IsTaken first steps last fault → CountsEnd fault (failures disk) (failures after)
-      → IsRunTo honest seen failures disk steps (ran fault) fault
-  run_of None begun taken counts = record { first = first; last = last; begun = begun; taken = taken; still = counts }
-  run_of (Some (zero, fault)) begun taken counts = absurd taken
-  run_of (Some (suc k, fault)) begun taken counts = record { first = first; last = last; begun = begun; taken = taken; counts = counts }
+  pub run_of : (fault : Option (ℕ × DeskFault)) → IsOpened honest seen failures disk steps (ran fault) → IsRunTo honest seen failures disk steps (ran fault) fault
+  run_of None opened = opened
+  run_of (Some (zero, fault)) opened = absurd opened.goes
+  run_of (Some (suc k, fault)) opened = opened

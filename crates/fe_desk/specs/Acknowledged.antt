@@ -1,20 +1,33 @@
--- What the answers that go out stand on, over a whole run.
-use Rattle.std.specs.Prelude.{◌≡◌, ◌⊎◌, ℕ, ◌+◌, ◌<◌, List, ◌∷◌, ◌++◌, length, Some}
+-- What the answers that go out stand on, whatever the steps of a desk answer.
+use Rattle.std.specs.Prelude.{◌≡◌, ◌⊎◌, ℕ, ◌+◌, ◌<◌, true, false, List, [], ◌∷◌, ◌++◌, length, take, is_some, Some, IfSome, Contains, Result}
 use Rattle.std.specs.List.{flat_map, AllByRecursion}
 use Rattle.std.specs.FinMap.{get}
 use Rattle.fe_state.specs.Sessions.{kept_in}
-use Rattle.fe_state.specs.State.{ServerState, IsWithinLimits, reply, after_all}
+use Rattle.fe_state.specs.State.{ServerState, IsWithinLimits, IsAnswered, directory_of, reply, after, after_all}
 use Rattle.fe_state.specs.declared.answer.Answer.{Answer}
+use Rattle.fe_state.specs.declared.batch.Batch.{Batch}
 use Rattle.fe_state.specs.declared.entry.Entry.{Entry}
 use Rattle.fe_state.specs.declared.entry.Entry.TheVariants.{Attached, Closed, Settled, Finished}
 use Rattle.fe_state.specs.declared.request.Request.{Request}
-use Rattle.fe_mail.specs.Connections.{mails_on}
+use Rattle.fe_mail.specs.Connections.{mails_on, session_on}
 use Rattle.fe_mail.specs.declared.mail.Mail.{Mail}
 use Rattle.fe_mail.specs.declared.mail.Mail.TheVariants as mail
-use Rattle.fe_messages.specs.Mails.{spelled}
+use Rattle.fe_seats.specs.Seating.{holder_of}
+use Rattle.fe_wire.specs.Stream.{Decoding}
+use Rattle.fe_wire.specs.declared.client_message.ClientMessage.{ClientMessage}
+use Rattle.fe_wire.specs.declared.client_message.ClientMessage.TheVariants as message
+use Rattle.fe_front.specs.Front.{FrontState}
+use Rattle.fe_messages.specs.Mails.{reply_of, spelled}
+use Rattle.fe_desk.specs.declared.fault.DeskFault.{DeskFault}
+use Rattle.fe_desk.specs.declared.handed.Handed.{Handed}
+use Rattle.fe_desk.specs.declared.handed.Handed.TheVariants.{Nothing, Cut, Stored}
 use Rattle.fe_desk.specs.declared.step.Step.{Step}
-use Rattle.fe_desk.specs.Standing.{Client, Standing, IsFirstStanding}
-use Rattle.fe_desk.specs.Steps.{DeskRun}
+use Rattle.fe_desk.specs.declared.step.Step.TheVariants as step
+use Rattle.fe_desk.specs.Crash.{DeskState}
+use Rattle.fe_desk.specs.Messages.{read_by}
+use Rattle.fe_desk.specs.Standing.{Client, IsFirstStanding}
+use Rattle.fe_desk.specs.Steps.{Reads}
+use Rattle.fe_desk.specs.Taken.{IsStep}
 
 -- the entries of groups, in their order
 abbrev pub entries_of : List (List Entry) → List Entry
@@ -41,30 +54,103 @@ pub record IsKeptSince (begun : ServerState) (session number : ℕ) (answer : An
   pub kept : kept_in (get begun.sessions session) number ≡ Some (record { request = request; answer = answer; place = place })
   pub earlier : place < begun.place
 
--- What a mail tells of the history is in the groups that were stored: the entry of a session, or an answer with its place, where
--- that was not kept already. A refusal, a withdrawal and a report tell nothing of it.
-abbrev pub StandsOn : ServerState → List (List Entry) → Mail → Type 0
-StandsOn begun groups (mail.Welcome session floor) = IsAmong (entries_of groups) (Attached session floor)
-StandsOn begun groups (mail.Answer session number answer place) =
-    IsKeptSince begun session number answer place ⊎ IsFinishedAt begun (entries_of groups) session number answer place
-StandsOn begun groups (mail.Refused number refusal) = Unit {0}
-StandsOn begun groups (mail.Withdrawn number) = Unit {0}
-StandsOn begun groups (mail.Settled floor) = (session : ℕ) × IsAmong (entries_of groups) (Settled session floor)
-StandsOn begun groups (mail.Goodbye session) = IsAmong (entries_of groups) (Closed session)
-StandsOn begun groups (mail.Report text) = Unit {0}
+-- What a mail to a connection tells of the history is in the groups that were stored, and of a session that the connection asked
+-- for: the entry of the session, or an answer with its place, where that was not kept already. A refusal, a withdrawal and a
+-- report tell nothing of it.
+abbrev pub StandsOn : ServerState → List (List Entry) → List ℕ → Mail → Type 0
+StandsOn begun groups asked (mail.Welcome session floor) = Contains asked session × IsAmong (entries_of groups) (Attached session floor)
+StandsOn begun groups asked (mail.Answer session number answer place) =
+    Contains asked session × (IsKeptSince begun session number answer place ⊎ IsFinishedAt begun (entries_of groups) session number answer place)
+StandsOn begun groups asked (mail.Refused number refusal) = Unit {0}
+StandsOn begun groups asked (mail.Withdrawn number) = Unit {0}
+StandsOn begun groups asked (mail.Settled floor) = (session : ℕ) × Contains asked session × IsAmong (entries_of groups) (Settled session floor)
+StandsOn begun groups asked (mail.Goodbye session) = Contains asked session × IsAmong (entries_of groups) (Closed session)
+StandsOn begun groups asked (mail.Report text) = Unit {0}
 
--- what was written to a client is the spelling of mails, each of which stands on the groups
-pub record IsWritten (begun : ServerState) (groups : List (List Entry)) (c : Client) : Type 0 where
+-- What was written to a client is the spelling of mails, and a reply that waits is that of one; each of them stands on the groups.
+pub record IsWritten (begun : ServerState) (groups : List (List Entry)) (asked : ℕ → List ℕ) (c : Client) : Type 0 where
   pub mails : List Mail
-  pub stand : AllByRecursion (StandsOn begun groups) mails
+  pub stand : AllByRecursion (StandsOn begun groups (asked c.conn)) mails
   pub written : c.written ≡ spelled mails
+  pub waits : IfSome c.reply (λ reply. (m : Mail) × (reply ≡ reply_of m) × StandsOn begun groups (asked c.conn) m)
 
--- every mail that lies in a box stands on the groups that were handed to the store, and so does all that was written
-pub record AnswersStand (begun : ServerState) (s : Standing) : Type 0 where
-  pub boxed : (conn : ℕ) → AllByRecursion (StandsOn begun s.groups) (mails_on s.front.connections conn)
-  pub written : AllByRecursion (IsWritten begun s.groups) s.clients
+-- the groups that are known to be stored
+abbrev pub stored_groups : {D : Type 0} → DeskState D → List (List Entry)
+stored_groups d = take d.synced d.standing.groups
 
--- at every point of a run
-abbrev pub AcknowledgedStand : Type 0
-AcknowledgedStand = (begun : ServerState) (first last : Standing) (steps : List Step) → IsWithinLimits begun → IsFirstStanding begun first
-    → DeskRun first steps last → AnswersStand begun last
+-- Every mail that lies in a box stands on the groups that are stored, and so does all that was written, each for a session that
+-- the connection's number asked for.
+pub record AnswersStand {D : Type 0} (begun : ServerState) (asked : ℕ → List ℕ) (d : DeskState D) : Type 0 where
+  pub boxed : (conn : ℕ) → AllByRecursion (StandsOn begun (stored_groups d) (asked conn)) (mails_on d.standing.front.connections conn)
+  pub written : AllByRecursion (IsWritten begun (stored_groups d) asked) d.standing.clients
+
+-- ---- what is asked for
+
+-- a message asks for a session only where the connection's number has it among these
+abbrev pub AsksFor : List ℕ → ClientMessage → Type 0
+AsksFor asked (message.Attach session) = Contains asked session
+AsksFor asked (message.Call number request) = Unit {0}
+AsksFor asked (message.Cancel number) = Unit {0}
+AsksFor asked (message.Settle floor) = Unit {0}
+AsksFor asked message.Bye = Unit {0}
+AsksFor asked message.Report = Unit {0}
+
+-- so does each message that a step's bytes complete
+abbrev pub StepAsksFor : {D : Type 0} → (ℕ → List ℕ) → DeskState D → Step → Type 0
+StepAsksFor asked d (step.Bytes conn piece) = (before after : Decoding) (more : List ClientMessage) → read_by d.standing conn ≡ Some before
+    → Reads before after piece.items more → AllByRecursion (AsksFor (asked conn)) more
+StepAsksFor asked d other = Unit {0}
+
+-- ---- what each step keeps
+
+-- each entry that finishes a request has the table's reply to it in the state before
+abbrev pub AreAnswered : ServerState → List Entry → Type 0
+AreAnswered s [] = Unit {0}
+AreAnswered s (e ∷ es) = IsAnswered (directory_of s) e × AreAnswered (after s e) es
+
+-- the entries that are made and not stored: those of a batch that is cut, then those that are pending
+abbrev pub cut_entries : Handed → List Entry
+cut_entries Nothing = []
+cut_entries (Cut batch) = batch.entries
+cut_entries (Stored batch) = []
+
+-- all entries that were made: those of the groups, and those that are not stored
+abbrev pub made_entries : List (List Entry) → Handed → FrontState → List Entry
+made_entries groups handed f = entries_of groups ++ (cut_entries handed ++ f.service.pending)
+
+-- the batch is the last of the groups, and begins at the mark
+pub record IsLast (begun : ServerState) (groups : List (List Entry)) (durable : ℕ) (batch : Batch) : Type 0 where
+  pub before : List (List Entry)
+  pub groups_are : groups ≡ before ++ batch.entries ∷ []
+  pub first : batch.first ≡ durable
+  pub mark : durable ≡ begun.place + length (entries_of before)
+
+-- the mark stands behind the groups that were posted; a batch is out where one is on its way
+abbrev pub IsOnItsWay : ServerState → List (List Entry) → FrontState → Handed → Type 0
+IsOnItsWay begun groups f Nothing = f.durable ≡ begun.place + length (entries_of groups)
+IsOnItsWay begun groups f (Cut batch) = (f.durable ≡ begun.place + length (entries_of groups)) × (is_some f.out ≡ true) × (batch.first ≡ f.durable)
+IsOnItsWay begun groups f (Stored batch) = IsLast begun groups f.durable batch × (is_some f.out ≡ true)
+
+-- A desk over a state that was opened, whatever its steps answered. Each answer stands on the groups that are stored. And it stays
+-- so: a connection has only sessions that its number asked for, the front is ahead of the groups by what was made since, each entry of it was answered as the table says, and only what is
+-- stored is posted.
+pub record IsAcknowledged {D : Type 0} (begun : ServerState) (asked : ℕ → List ℕ) (d : DeskState D) : Type 0 where
+  pub answers : AnswersStand begun asked d
+  pub left : AllByRecursion (λ c. AllByRecursion (AsksFor (asked c.conn)) c.left) d.standing.clients
+  pub holders : (session conn : ℕ) → holder_of d.standing.front.service.seats session ≡ Some conn → Contains (asked conn) session
+  pub sessions : (conn session : ℕ) → session_on d.standing.front.connections conn ≡ Some session → Contains (asked conn) session
+  pub state : d.standing.front.service.state ≡ after_all begun (made_entries (stored_groups d) d.standing.handed d.standing.front)
+  pub answered : AreAnswered begun (made_entries (stored_groups d) d.standing.handed d.standing.front)
+  pub way : IsOnItsWay begun (stored_groups d) d.standing.front d.standing.handed
+  pub all : d.keeper.store.has_failed ≡ false → d.synced ≡ length d.standing.groups
+
+-- steps one after another, each with its answer, which ask for such sessions alone
+abbrev pub AreStepsFor : {D : Type 0} → (D → ℕ) → (ℕ → List ℕ) → DeskState D → List (Step × Result (Unit {0}) DeskFault) → DeskState D → Type 0
+AreStepsFor failures asked old [] new = new ≡ old
+AreStepsFor {D} failures asked old (given ∷ more) new =
+    (mid : DeskState D) × StepAsksFor asked old given.0 × IsStep failures old given.0 given.1 mid × AreStepsFor failures asked mid more new
+
+-- so is a desk that was opened, and what any steps make of it
+abbrev pub AcknowledgedStand : {D : Type 0} → (D → ℕ) → Type 0
+AcknowledgedStand {D} failures = (begun : ServerState) (asked : ℕ → List ℕ) (first last : DeskState D) (steps : List (Step × Result (Unit {0}) DeskFault)) → IsWithinLimits begun
+    → IsFirstStanding begun first.standing → first.synced ≡ 0 → AreStepsFor failures asked first steps last → IsAcknowledged begun asked last

@@ -1,19 +1,21 @@
 -- How a step ends that found no memory, or that the device failed.
-use Rattle.std.specs.Prelude.{◌≡◌, ◌⊎◌, ℕ, Bool, true, false, [], ◌∷◌, ◌++◌, List, length}
+use Rattle.std.specs.Prelude.{◌≡◌, ◌⊎◌, ℕ, Bool, true, false, [], ◌∷◌, ◌++◌, List, length, IsTrue}
 use Rattle.fe_front.specs.Front.{is_connected}
+use Rattle.fe_keeper.specs.Keeper.{can_begin}
 use Rattle.fe_desk.specs.declared.step.Step.{Step}
 use Rattle.fe_desk.specs.declared.step.Step.TheVariants as step
 use Rattle.fe_desk.specs.Standing.{Standing, discharged}
+use Rattle.fe_desk.specs.Writing.{WritesSome}
 use Rattle.fe_desk.specs.Stopping.{HasCut, StopsBefore, StopsUnread, StopsBehind}
 use Rattle.fe_desk.specs.Crash.{DeskState}
 use Rattle.fe_desk.specs.Checks.{StoresMore}
 
 -- ---- no memory
 
--- mails that were owed found no memory, and nothing else was done
+-- memory was short for mails that were owed: the first of them are written, and nothing else was done
 pub record StillOwes {D : Type 0} (old new : DeskState D) : Type 0 where
   pub owed : old.standing.owes ≡ true
-  pub later : discharged new.standing ≡ discharged old.standing
+  pub writes : WritesSome old.standing new.standing
   pub keeper : new.keeper ≡ old.keeper
   pub synced : new.synced ≡ old.synced
 
@@ -21,7 +23,7 @@ pub record StillOwes {D : Type 0} (old new : DeskState D) : Type 0 where
 abbrev pub discharged_desk : {D : Type 0} → DeskState D → DeskState D
 discharged_desk d = record d { standing = discharged d.standing }
 
--- What a step found no memory for, where no mails are owed. A connection came, a batch is at hand, or a checkpoint was to
+-- What a step found no memory for, where no mails are owed. A connection came, a batch is at hand, or a checkpoint could
 -- begin, and nothing was done. Or of a connection's messages the first were taken, before its piece was read or behind it
 -- (`fed`), and what that stored is all that was done to the store. Other steps take no memory.
 abbrev pub Lacks : {D : Type 0} → Bool → Step → DeskState D → DeskState D → Type 0
@@ -30,7 +32,7 @@ Lacks false (step.Bytes conn piece) old new =
     (StopsBefore old.standing conn new.standing ⊎ StopsUnread old.standing conn new.standing) × StoresMore old new
 Lacks true (step.Bytes conn piece) old new = StopsBehind old.standing conn piece.items new.standing × StoresMore old new
 Lacks false step.Append old new = HasCut old.standing × (new ≡ old)
-Lacks false step.CheckBegin old new = new ≡ old
+Lacks false step.CheckBegin old new = IsTrue (can_begin old.keeper.store) × (new ≡ old)
 Lacks fed other old new = ⊥
 
 -- a step found no memory: for mails that were owed, or for what it does behind them

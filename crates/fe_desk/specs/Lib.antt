@@ -1,6 +1,7 @@
 pub mod Frames
 pub mod Mails
 pub mod Standing
+pub mod Writing
 pub mod Output
 pub mod Quiet
 pub mod Storing
@@ -12,6 +13,7 @@ pub mod Traces
 pub mod Crash
 pub mod Checks
 pub mod Ends
+pub mod Taken
 pub mod Opened
 pub mod Runs
 pub mod Laws

@@ -10,45 +10,46 @@ use Rattle.fe_state.specs.declared.request.Request.{Request}
 use Rattle.fe_keeper.specs.Stands.{StandsFor}
 use Rattle.fe_keeper.specs.Prefix.{LeavesPrefix}
 use Rattle.fe_desk.specs.declared.step.Step.{Step}
-use Rattle.fe_desk.specs.Acknowledged.{IsWritten}
+use Rattle.fe_desk.specs.Acknowledged.{IsWritten, IsAcknowledged, stored_groups}
+use Rattle.fe_desk.specs.Crash.{DeskState}
 use Rattle.fe_desk.specs.Laws.{Life, AreLives, AreOne, kept_groups}
-use Rattle.fe_desk.specs.Standing.{Standing, IsFirstStanding, discharged}
+use Rattle.fe_desk.specs.Standing.{Standing, discharged}
 use Rattle.fe_desk.specs.Steps.{DeskStep, DeskRun, IsAgain}
 
 -- ---- stops
 
--- A life that a stop ended: the steps that were taken whole, and where they led; the groups that the step under way handed to
--- the store; how many of all groups were stored for sure; and the image that the stop left.
-pub record Stop : Type 0 where
-  pub first : Standing
-  pub steps : List Step
-  pub last : Standing
+-- A life that a stop ended: the desk after the steps that answered, whatever they answered; the sessions that each connection's
+-- number asked for in it; the groups that the step under way
+-- handed to the store; how many of all groups were stored for sure; and the image that the stop left.
+pub record Stop (D : Type 0) : Type 0 where
+  pub last : DeskState D
+  pub asked : ℕ → List ℕ
   pub under_way : List (List Entry)
   pub synced : ℕ
   pub image : List ℕ
 
 -- all groups that were handed to the store
-abbrev pub all_groups : Stop → List (List Entry)
-all_groups x = x.last.groups ++ x.under_way
+abbrev pub all_groups : {D : Type 0} → Stop D → List (List Entry)
+all_groups x = x.last.standing.groups ++ x.under_way
 
 -- what a life handed to the store, and how much of it was stored
 abbrev pub handed_by : Life → List (List Entry) × ℕ
 handed_by life = (life.groups, life.synced)
 
-abbrev pub stored_by : Stop → List (List Entry) × ℕ
+abbrev pub stored_by : {D : Type 0} → Stop D → List (List Entry) × ℕ
 stored_by x = (all_groups x, x.synced)
 
--- The life is a run from the state that was opened. Its groups are a history, those of steps that were taken whole are stored,
--- and the stop left a prefix of it that has all stored groups.
-pub record IsStopOf (begun : ServerState) (x : Stop) : Type 0 where
-  pub begins : IsFirstStanding begun x.first
-  pub run : DeskRun x.first x.steps x.last
+-- The life is one of a desk over the state that was opened. Its groups are a history, and the stop left a prefix of it that has
+-- all stored groups, those of the step under way among them.
+pub record IsStopOf {D : Type 0} (begun : ServerState) (x : Stop D) : Type 0 where
+  pub lived : IsAcknowledged begun x.asked x.last
   pub history : IsHistory begun (all_groups x)
-  pub stored : length x.last.groups ≤ x.synced
+  pub few : x.last.synced ≤ length x.last.standing.groups
+  pub stored : x.last.synced ≤ x.synced
   pub leaves : LeavesPrefix begun (all_groups x) x.synced x.image
 
 -- stops one after the other, each life over the state that the image before stands for; the last image stands for this state
-abbrev pub AreStops : ServerState → List Stop → ServerState → Type 0
+abbrev pub AreStops : {D : Type 0} → ServerState → List (Stop D) → ServerState → Type 0
 AreStops begun [] s = s ≡ begun
 AreStops begun (x ∷ xs) s = IsStopOf begun x × ((opened : ServerState) × StandsFor x.image opened × AreStops opened xs s)
 
@@ -61,22 +62,22 @@ FinishOnceIn groups = (before between behind : List Entry) (session number : ℕ
     → Contains between (Closed session)
 
 -- All that was written in a life stands on the groups.
-abbrev pub WrittenStand : ServerState → List (List Entry) → Standing → Type 0
-WrittenStand begun groups s = AllByRecursion (IsWritten begun groups) s.clients
+abbrev pub WrittenStand : ServerState → List (List Entry) → (ℕ → List ℕ) → Standing → Type 0
+WrittenStand begun groups asked s = AllByRecursion (IsWritten begun groups asked) s.clients
 
 -- The groups that the stops kept are one history, with any that goes on from the last image; in it a number takes effect once
 -- while its session is kept; and each answer that was written in any life, or is in one that goes on, stands on it.
-pub record AreOneStore (begun : ServerState) (stops : List Stop) (s : ServerState) : Type 0 where
+pub record AreOneStore {D : Type 0} (begun : ServerState) (stops : List (Stop D)) (s : ServerState) : Type 0 where
   pub lives : List Life
   pub same : map handed_by lives ≡ map stored_by stops
   pub are : AreLives begun lives s
   pub one : (next : List (List Entry)) → IsHistory s next → AreOne begun lives s next
   pub once : (next : List (List Entry)) → IsHistory s next → FinishOnceIn (kept_groups lives ++ next)
-  pub answers : AllByRecursion (λ x. WrittenStand begun (kept_groups lives) x.last) stops
-  pub later : (first last : Standing) (steps : List Step) → IsFirstStanding s first → DeskRun first steps last → WrittenStand begun (kept_groups lives ++ last.groups) last
+  pub answers : AllByRecursion (λ x. WrittenStand begun (kept_groups lives) x.asked x.last.standing) stops
+  pub later : (asked : ℕ → List ℕ) (d : DeskState D) → IsAcknowledged s asked d → WrittenStand begun (kept_groups lives ++ stored_groups d) asked d.standing
 
-abbrev pub StopsAreLives : Type 0
-StopsAreLives = (begun s : ServerState) (stops : List Stop) → IsWithinLimits begun → AreStops begun stops s → AreOneStore begun stops s
+abbrev pub StopsAreLives : Type 0 → Type 0
+StopsAreLives D = (begun s : ServerState) (stops : List (Stop D)) → IsWithinLimits begun → AreStops begun stops s → AreOneStore begun stops s
 
 -- ---- steps that are given again
 

@@ -12,7 +12,8 @@ ghost use Rattle.fe_desk.specs.Crash.{Advances, IsFine, TellsCall, TellsStep};
 ghost use Rattle.fe_desk.specs.within.Desk.{desk_of, standing_of, IsDesk};
 ghost use Rattle.fe_desk.specs.Checks.{Checks};
 ghost use Rattle.fe_desk.specs.Ends.{discharged_desk, Lacks, FindsNoMemory, Breaks};
-ghost use Rattle.fe_desk.specs.Quiet.{HasNoMail, AreWritten, mails_nothing};
+ghost use Rattle.fe_desk.specs.Quiet.{HasNoMail, mails_nothing};
+ghost use Rattle.fe_desk.specs.Writing.{WritesSome};
 
 use crate::fault::DeskFault;
 use crate::messages::told;
@@ -45,7 +46,7 @@ impl<D: Disk> Parts<D> {
         ensures extends { Extends (outputs (standing_of self.old)) (outputs (standing_of self.new)) }
         ensures short { (fed : Bool) → IsErrOf result (fault.NoMemory fed) → FindsNoMemory fed step.now (desk_of self.old) (desk_of self.new) }
         ensures breaks { IsErrOf result (fault.Store keeper.Device) → Breaks step.now (discharged_desk (desk_of self.old)) (desk_of self.new) }
-        ensures waits { IsErrOf result fault.Unwritten → AreWritten (standing_of self.new).clients → ⊥ }
+        ensures owing { IsErrOf result fault.Unwritten → (last : Standing) × Acts (discharged (standing_of self.old)) step.now last × WritesSome last (standing_of self.new) }
     {
         if self.keeper.has_failed() {
             return Err(DeskFault::Store(Fault::Failed));
@@ -71,6 +72,7 @@ impl<D: Disk> Parts<D> {
         ensures groups { (standing_of self.new).groups ≡ (standing_of self.old).groups }
         ensures extends { Extends (outputs (standing_of self.old)) (outputs (standing_of self.new)) }
         ensures owed { OnErr result (self.old.owes ≡ true) }
+        ensures writes { OnErr result (WritesSome (standing_of self.old) (standing_of self.new)) }
     {
         if self.owes {
             return self.empty();
@@ -90,7 +92,7 @@ impl<D: Disk> Parts<D> {
         ensures synced { self.new.trace.synced ≡ self.old.trace.synced }
         ensures groups { (standing_of self.new).groups ≡ (standing_of self.old).groups }
         ensures extends { Extends (outputs (standing_of self.old)) (outputs (standing_of self.new)) }
-        ensures waits { OnErr result (AreWritten (standing_of self.new).clients → ⊥) }
+        ensures writes { OnErr result (WritesSome (standing_of self.old) (standing_of self.new)) }
     {
         if still {
             return Ok(());
@@ -109,7 +111,7 @@ impl<D: Disk> Parts<D> {
         ensures synced { self.new.trace.synced ≡ self.old.trace.synced }
         ensures groups { (standing_of self.new).groups ≡ (standing_of self.old).groups }
         ensures extends { Extends (outputs (standing_of self.old)) (outputs (standing_of self.new)) }
-        ensures waits { OnErr result (AreWritten (standing_of self.new).clients → ⊥) }
+        ensures writes { OnErr result (WritesSome (standing_of self.old) (standing_of self.new)) }
     {
         let outcome = empty_boxes(&mut self.front, &mut self.trace.ports);
         self.owes = outcome.is_err();

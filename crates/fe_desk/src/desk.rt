@@ -1,21 +1,15 @@
-ghost use Rattle.std.specs.Prelude.{◌≡◌, ◌≤◌, ℕ, Bool, true, false, List, map, Ok, Err, IfErr, OnOk, OnErr, IsErrOf, [], length};
-ghost use Rattle.fe_state.specs.State.{ServerState};
+ghost use Rattle.std.specs.Prelude.{◌≡◌, ◌≤◌, ℕ, false, List, map, [], length};
+ghost use Rattle.fe_state.specs.State.{ServerState, IsWithinLimits};
 ghost use Rattle.fe_journal.specs.Layout.{device_bytes};
-ghost use Rattle.fe_keeper.specs.declared.fault.Fault.TheVariants as keeper;
-ghost use Rattle.fe_mail.specs.Connections.{mails_on};
 ghost use Rattle.fe_front.specs.Front.{IsFirst};
 ghost use Rattle.fe_keeper.specs.Stands.{EachStandsFor};
 ghost use Rattle.fe_keeper.specs.Prefix.{LeavesPrefix};
-ghost use Rattle.fe_desk.specs.declared.fault.DeskFault.TheVariants as fault;
-ghost use Rattle.fe_desk.specs.declared.step.Step.{Step as Steps};
 ghost use Rattle.fe_desk.specs.Output.{Extends};
-ghost use Rattle.fe_desk.specs.Standing.{Standing, IsFirstStanding, discharged};
-ghost use Rattle.fe_desk.specs.Steps.{DeskStep, Acts, IsAgain};
-ghost use Rattle.fe_desk.specs.Checks.{Checks};
-ghost use Rattle.fe_desk.specs.Messages.{outputs, TellsFed};
-ghost use Rattle.fe_desk.specs.Crash.{DeskState, Advances, IsFrom, IsFine, TellsStep, disk_of};
-ghost use Rattle.fe_desk.specs.Ends.{discharged_desk, FindsNoMemory, Breaks};
-ghost use Rattle.fe_desk.specs.Quiet.{AreWritten};
+ghost use Rattle.fe_desk.specs.Standing.{IsFirstStanding};
+ghost use Rattle.fe_desk.specs.Messages.{outputs};
+ghost use Rattle.fe_desk.specs.Crash.{DeskState, Advances, IsFrom, disk_of};
+ghost use Rattle.fe_desk.specs.Taken.{IsStep};
+ghost use Rattle.fe_desk.specs.Acknowledged.{IsAcknowledged, StepAsksFor};
 ghost use Rattle.fe_desk.specs.Traces.{IsTraceOf};
 
 use crate::fault::DeskFault;
@@ -65,6 +59,7 @@ impl<D: Disk> Desk<D> {
         requires first { IsFirst keeper.state front }
         requires stands { D.honest keeper.store.disk → EachStandsFor D.may_leave keeper.store.disk keeper.state }
         ensures first { IsFirstStanding keeper.state result.standing }
+        ensures acknowledged { (asked : ℕ → List ℕ) → IsAcknowledged keeper.state asked result }
         ensures keeper { result.keeper ≡ keeper }
         ensures synced { result.synced ≡ 0 }
     {
@@ -87,10 +82,10 @@ impl<D: Disk> Desk<D> {
     ///
     /// After a fault of the device each step answers `Store(Failed)` and does nothing.
     pub fn step(&mut self, step: &Step) -> Result<(), DeskFault>
-        // Of a schedule: the step of a run, whatever pieces the bytes come in. To the store it does what it says, and no more.
-        ensures stepped { OnOk result (DeskStep self.old.standing step.now self.new.standing) }
-        ensures checked { OnOk result (Checks step.now self.old self.new) }
-        ensures boxes { OnOk result ((conn : ℕ) → mails_on self.new.standing.front.connections conn ≡ []) }
+        // What it answers and what it did: of a schedule, of faults, and to the store.
+        ensures is_step { IsStep D.failures self.old step.now result self.new }
+        // What is written goes on from what was.
+        ensures extends { Extends (outputs self.old.standing) (outputs self.new.standing) }
 
         // Of a crash: the groups are a history from the state that was opened. A stop at any moment leaves a prefix of it, with
         // all groups that were stored before.
@@ -100,23 +95,10 @@ impl<D: Disk> Desk<D> {
         ensures few { self.new.synced ≤ length self.new.standing.groups }
         ensures synced { self.new.keeper.store.has_failed ≡ false → self.new.synced ≡ length self.new.standing.groups }
 
-        // Of faults: where memory is short, the step is given again to the same effect, with an empty piece where its bytes
-        // were read (`fed`). What a step at fault did is said of each fault, and nothing else is done.
-        ensures again { (fed : Bool) (next : Steps) (t : Standing) → IsErrOf result (fault.NoMemory fed) → IsAgain fed step.now next
-            → DeskStep self.new.standing next t → DeskStep self.old.standing step.now t }
-        ensures fed { (fed : Bool) → IsErrOf result (fault.NoMemory fed) → TellsFed fed self.old.standing step.now self.new.standing }
-        ensures short { (fed : Bool) → IsErrOf result (fault.NoMemory fed) → FindsNoMemory fed step.now self.old self.new }
-        ensures unwritten { IsErrOf result fault.Unwritten → DeskStep self.old.standing step.now (discharged self.new.standing) × (self.new.standing.owes ≡ true) × Checks step.now self.old self.new }
-        ensures waits { IsErrOf result fault.Unwritten → AreWritten self.new.standing.clients → ⊥ }
-        ensures breaks { IsErrOf result (fault.Store keeper.Device) → Breaks step.now (discharged_desk self.old) self.new }
-        ensures silent { IsErrOf result (fault.Store keeper.Device) → outputs self.new.standing ≡ outputs (discharged self.old.standing) }
-        ensures failed { self.old.keeper.store.has_failed ≡ true → (result ≡ Err (fault.Store keeper.Failed)) × (self.new ≡ self.old) }
-        ensures fine { self.old.keeper.store.has_failed ≡ false → OnOk result (IsFine D.failures self.old self.new) }
-        ensures fault { self.old.keeper.store.has_failed ≡ false → IfErr result (TellsStep D.failures self.old self.new) }
-
-        // Of what is written: it goes on from what was, and a step that memory was short for adds nothing, where no mails were owed.
-        ensures output { (fed : Bool) → IsErrOf result (fault.NoMemory fed) → self.old.standing.owes ≡ false → outputs self.new.standing ≡ outputs self.old.standing }
-        ensures extends { Extends (outputs self.old.standing) (outputs self.new.standing) }
+        // Of answers, whatever the step answers: each mail is that of an entry that is stored, of a session that its connection
+        // asked for.
+        ensures acknowledged { (begun : ServerState) (asked : ℕ → List ℕ) → IsWithinLimits begun → StepAsksFor asked self.old step.now
+            → IsAcknowledged begun asked self.old → IsAcknowledged begun asked self.new }
     {
         let still = self.quiet && step.mails_nothing();
         let outcome = self.parts.step(step, still);

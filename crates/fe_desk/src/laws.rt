@@ -4,6 +4,7 @@ ghost use Rattle.fe_desk.specs.Acknowledged.{AcknowledgedStand};
 ghost use Rattle.fe_desk.specs.Laws.{LivesJoin};
 ghost use Rattle.fe_desk.specs.Lives.{StopsAreLives, GivenAgain};
 
+use fe_disk::Disk;
 use fe_keeper::images_stand_for_one;
 
 /// Over any number of stops, what each of them kept and what came after the last is one history, in which no number of a
@@ -14,17 +15,17 @@ pub fn lives_join()
 
 /// Each answer that was written, or lies in a box to be written, is that of an entry of the groups that were stored before,
 /// at the entry's place, and the operation table's in the state there; or it was kept when the store was opened. And each
-/// welcome, goodbye and settled floor is that of an entry of those groups.
-pub fn acknowledged_answers_stand()
-    ensures { AcknowledgedStand }
+/// welcome, goodbye and settled floor is that of an entry of those groups. So it is after any steps, whatever they answered.
+pub fn acknowledged_answers_stand<D: Disk>()
+    ensures { AcknowledgedStand D.failures }
 {}
 
 /// Over any number of stops, where each store was opened from the image that the stop before left, there is one history: it
 /// has what each stop kept, and goes on with the groups of the last desk. A request number takes effect once in it while its
 /// session is kept. And each answer, welcome, goodbye and settled floor that was written in any of the lives is that of its
 /// entry in it.
-pub fn stops_are_lives()
-    ensures { StopsAreLives }
+pub fn stops_are_lives<D: Disk>()
+    ensures { StopsAreLives D }
 {
     images_stand_for_one();
 }

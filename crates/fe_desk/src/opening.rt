@@ -1,4 +1,4 @@
-ghost use Rattle.std.specs.Prelude.{◌≡◌, ◌≢◌, ◌⊎◌, ◌↔◌, false, None, IfOk, IfErr, IsErrAnd};
+ghost use Rattle.std.specs.Prelude.{◌≡◌, ◌≢◌, ◌⊎◌, ◌↔◌, ℕ, List, false, None, IfOk, IfErr, IsErrAnd};
 ghost use Rattle.fe_disk.specs.Disk.{Rises};
 ghost use Rattle.fe_state.specs.State.{ServerState, first_state};
 ghost use Rattle.fe_journal.specs.Damage.{IsUnformatted};
@@ -9,6 +9,7 @@ ghost use Rattle.fe_keeper.specs.Stands.{StandsFor, EachStandsFor};
 ghost use Rattle.fe_keeper.specs.declared.fault.Fault.TheVariants as keeper;
 ghost use Rattle.fe_desk.specs.declared.fault.DeskFault.TheVariants.{Store, NoMemory};
 ghost use Rattle.fe_desk.specs.Standing.{IsFirstStanding};
+ghost use Rattle.fe_desk.specs.Acknowledged.{IsAcknowledged};
 ghost use Rattle.fe_desk.specs.Crash.{disk_of};
 ghost use Rattle.fe_desk.specs.Opened.{disk_after, IsOpenFault, TellsOpening};
 
@@ -27,6 +28,7 @@ impl<D: Disk> Desk<D> {
         ensures opened { D.honest disk → IfOk result (λ desk. StandsFor (D.seen disk) desk.keeper.state) }
         ensures stands { D.honest disk → IfOk result (λ desk. EachStandsFor D.may_leave (disk_of desk) desk.keeper.state) }
         ensures first { IfOk result (λ desk. IsFirstStanding desk.keeper.state desk.standing × (desk.synced ≡ 0)) }
+        ensures acknowledged { (asked : ℕ → List ℕ) → IfOk result (λ desk. IsAcknowledged desk.keeper.state asked desk) }
         // A store that stands for a state is refused only for its device or for memory.
         ensures refused { D.honest disk → (s : ServerState) → StandsFor (D.seen disk) s → IfErr result (λ e. (e.0 ≡ Store keeper.Device) ⊎ (e.0 ≡ NoMemory false)) }
         // What is told of a store is so, and an unformatted one is told so, whatever memory there is.
@@ -52,6 +54,7 @@ impl<D: Disk> Desk<D> {
     pub fn format(alloc: Global, disk: D) -> Result<Desk<D>, (DeskFault, D)>
         ensures formatted { D.honest disk → IfOk result (λ desk. EachStandsFor D.may_leave (disk_of desk) first_state) }
         ensures first { IfOk result (λ desk. IsFirstStanding first_state desk.standing × (desk.keeper.state ≡ first_state) × (desk.synced ≡ 0)) }
+        ensures acknowledged { (asked : ℕ → List ℕ) → IfOk result (λ desk. IsAcknowledged first_state asked desk) }
         ensures store { IfOk result (λ desk. desk.keeper.store ≡ first_store (disk_of desk)) }
         ensures sized { IfOk result (λ desk. D.size disk ≡ device_bytes) }
         ensures unformatted { IfErr result (λ e. (e.0 ≡ Store keeper.Unformatted) ↔ (D.size disk ≢ device_bytes)) }
@@ -75,6 +78,7 @@ impl<D: Disk> Desk<D> {
 fn desk_over<D: Disk>(alloc: Global, keeper: Keeper<D>) -> Result<Desk<D>, (DeskFault, D)>
     requires works { keeper.store.has_failed ≡ false }
     ensures first { IfOk result (λ desk. IsFirstStanding keeper.state desk.standing) }
+    ensures acknowledged { (asked : ℕ → List ℕ) → IfOk result (λ desk. IsAcknowledged keeper.state asked desk) }
     ensures keeper { IfOk result (λ desk. desk.keeper ≡ keeper) }
     ensures synced { IfOk result (λ desk. desk.synced ≡ 0) }
     ensures fault { IfErr result (λ e. e.0 ≡ NoMemory false) }

@@ -8,6 +8,7 @@ ghost use Rattle.fe_wire.specs.Spelling.{reply_spelling};
 ghost use Rattle.fe_desk.specs.Mails.{emptied_box};
 ghost use Rattle.fe_desk.specs.Standing.{told};
 ghost use Rattle.fe_desk.specs.Steps.{BeginsStream, Reads, new_client};
+ghost use Rattle.fe_desk.specs.Writing.{StopsWriting};
 ghost use Rattle.fe_desk.specs.within.Desk.{client_of};
 ghost use Rattle.fe_desk.specs.within.Keeping.{KeepsFront, KeepsEmpty, IsToldLater};
 
@@ -94,7 +95,7 @@ impl Port {
         ensures emptied { OnOk result (front.new ≡ emptied_box front.old self.old.conn) }
         // What is not written is written later, to the same effect.
         ensures later { OnErr result (IsToldLater front.old (client_of self.old) front.new (client_of self.new)) }
-        ensures waits { OnErr result (self.new.reply ≢ None) }
+        ensures stops { OnErr result (StopsWriting front.old (client_of self.old) front.new (client_of self.new)) }
         ensures front { KeepsFront front.old front.new }
         ensures empty { KeepsEmpty front.old front.new }
     {

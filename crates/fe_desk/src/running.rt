@@ -1,11 +1,11 @@
-ghost use Rattle.std.specs.Prelude.{◌≡◌, ◌↔◌, None, List, ℕ, false, length};
+ghost use Rattle.std.specs.Prelude.{◌≡◌, ◌↔◌, None, List, ℕ, false};
 ghost use Rattle.fe_disk.specs.Disk.{LeavesOnly};
 ghost use Rattle.fe_state.specs.State.{ServerState};
 ghost use Rattle.fe_state.specs.History.{IsHistory};
 ghost use Rattle.fe_keeper.specs.Stands.{EachStandsFor};
 ghost use Rattle.fe_keeper.specs.Prefix.{LeavesPrefix};
 ghost use Rattle.fe_desk.specs.Crash.{Advances, IsFrom, disk_of};
-ghost use Rattle.fe_desk.specs.Runs.{IsRunOf, IsTaken, CountsEnd};
+ghost use Rattle.fe_desk.specs.Runs.{IsRunOf, GoesTo};
 ghost use Rattle.fe_desk.specs.Traces.{groups_of};
 
 use crate::desk::Desk;
@@ -58,13 +58,10 @@ pub fn run<D: Disk>(alloc: Global, disk: D, steps: &[Step]) -> Ran<D>
 
 /// Takes the steps as far as to a fault.
 fn take_steps<D: Disk>(desk: &mut Desk<D>, steps: &[Step]) -> Option<(u64, DeskFault)>
-    requires discharged { desk.old.standing.owes ≡ false }
     requires works { desk.old.keeper.store.has_failed ≡ false }
-    requires stored { desk.old.synced ≡ length desk.old.standing.groups }
     requires stands { D.honest (disk_of desk.old) → (begun : ServerState) → IsFrom begun desk.old → (image : List ℕ) → D.may_leave (disk_of desk.old) image
         → LeavesPrefix begun desk.old.standing.groups desk.old.synced image }
-    ensures taken { IsTaken desk.old steps.now desk.new result }
-    ensures counts { CountsEnd result (D.failures (disk_of desk.old)) (D.failures (disk_of desk.new)) }
+    ensures goes { GoesTo D.failures desk.old steps.now result desk.new }
     ensures advances { Advances D.honest D.moment D.left_since desk.old desk.new }
 {
     for k in 0..steps.len() {

@@ -2,9 +2,9 @@
 
 ghost use Rattle.std.specs.Prelude.{◌≡◌, map, OnOk, OnErr};
 ghost use Rattle.fe_desk.specs.Standing.{all_told, all_emptied};
+ghost use Rattle.fe_desk.specs.Writing.{WritesFirst};
 ghost use Rattle.fe_desk.specs.within.Desk.{client_of};
 ghost use Rattle.fe_desk.specs.within.Keeping.{KeepsFront, AreToldLater};
-ghost use Rattle.fe_desk.specs.Quiet.{AreWritten};
 
 use crate::port::Port;
 use fe_front::Front;
@@ -15,7 +15,7 @@ pub(crate) fn empty_boxes(front: &mut Front, ports: &mut Vec<Port>) -> Result<()
     ensures told { OnOk result (map client_of ports.new.items ≡ all_told front.old (map client_of ports.old.items)) }
     ensures emptied { OnOk result (front.new ≡ all_emptied front.old (map client_of ports.old.items)) }
     ensures later { OnErr result (AreToldLater front.old (map client_of ports.old.items) front.new (map client_of ports.new.items)) }
-    ensures waits { OnErr result (AreWritten (map client_of ports.new.items) → ⊥) }
+    ensures writes { OnErr result (WritesFirst front.old (map client_of ports.old.items) front.new (map client_of ports.new.items)) }
     ensures numbers { map (λ p. p.conn) ports.new.items ≡ map (λ p. p.conn) ports.old.items }
     ensures front { KeepsFront front.old front.new }
 {

@@ -11,6 +11,7 @@ use Rattle.fe_desk.specs.declared.handed.Handed.{Handed}
 use Rattle.fe_desk.specs.declared.handed.Handed.TheVariants.{Nothing, Cut, Stored}
 use Rattle.fe_desk.specs.declared.parts.Parts.{Parts}
 use Rattle.fe_desk.specs.declared.port.Port.{Port}
+use Rattle.fe_desk.specs.Acknowledged.{cut_entries}
 use Rattle.fe_desk.specs.Standing.{Client, Standing}
 use Rattle.fe_desk.specs.Steps.{find}
 use Rattle.fe_desk.specs.Crash.{DeskState, IsFrom, disk_of}
@@ -36,12 +37,7 @@ desk_of p = record { standing = standing_of p; keeper = p.keeper; synced = p.tra
 
 -- ---- what ties them
 
--- the entries that are made and not stored: those of a batch that is cut, then those that are pending
-abbrev pub cut_entries : Handed → List Entry
-cut_entries Nothing = []
-cut_entries (Cut batch) = batch.entries
-cut_entries (Stored batch) = []
-
+-- the entries that are made and not stored
 abbrev pub unstored : Standing → List Entry
 unstored s = cut_entries s.handed ++ s.front.service.pending
 

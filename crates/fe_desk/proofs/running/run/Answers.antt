@@ -5,7 +5,6 @@ use Rattle.fe_state.specs.History.{IsHistory}
 use Rattle.fe_state.specs.declared.entry.Entry.{Entry}
 use Rattle.fe_keeper.specs.Prefix.{LeavesPrefix}
 use Rattle.fe_desk.specs.Crash.{IsFrom, disk_of}
-use Rattle.fe_desk.specs.Runs.{CountsEnd}
 use Rattle.fe_desk.specs.Traces.{groups_of}
 use Rattle.fe_desk.proofs.Openings.{first_from, stands_at}
 use Rattle.fe_desk.proofs.Runnings.{stands_begun, run_moments, run_of}
@@ -48,20 +47,21 @@ returns-clause-ran g c =
     let last = c.take_steps-fault.new.desk in
     let parts = c.into_parts-trace in
     let fault = c.take_steps-fault.result in
-    let failures = g.D.Disk.failures in
     let opened = c.in-Ok.ensures in
-    let counts : CountsEnd fault (failures c.args.disk) (failures parts.result.1) =
-    subst (λ (n : ℕ). CountsEnd fault n (failures parts.result.1)) opened.still
-    (subst (λ d. CountsEnd fault (failures (disk_of first)) (failures d)) (sym parts.ensures.disk) c.take_steps-fault.ensures.counts) in
-    run_of g.D.Disk.honest g.D.Disk.seen failures c.args.disk c.args.steps.now first last parts.result.0 parts.result.1 fault
+    run_of g.D.Disk.honest g.D.Disk.seen g.D.Disk.failures c.args.disk c.args.steps.now parts.result.0 parts.result.1 fault
     (record {
+      first = first;
+      last = last;
       opened = opened.opened;
       begins = opened.first.0;
+      none_stored = opened.first.1;
+      works = opened.works;
+      still = opened.still;
+      goes = c.take_steps-fault.ensures.goes;
       history = (c.take_steps-fault.ensures.advances.from first.keeper.state (first_from first.keeper.state first refl opened.first.0.groups opened.first.1)).history;
       trace = parts.ensures.trace;
       disk_is = parts.ensures.disk;
     })
-    c.take_steps-fault.ensures.taken counts
 
 pub returns-clause-history : goal.returns-clause-history
 returns-clause-history g c = λ honest s each.

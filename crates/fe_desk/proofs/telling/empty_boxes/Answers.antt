@@ -3,17 +3,18 @@ use Rattle.fe_desk.specs.Standing.{Client}
 use Rattle.fe_desk.specs.within.Desk.{client_of}
 use Rattle.fe_desk.specs.declared.port.Port.{Port}
 use Rattle.fe_desk.proofs.Emptying.{itself, both, none_told, all_alike, port_told, port_later, on_any_err}
-use Rattle.fe_desk.proofs.Quiets.{port_waits}
+use Rattle.fe_desk.proofs.Writing.{none_done, port_done, port_stops}
 use Rattle.fe_desk.proofs.telling.empty_boxes.Goals as goal
 
 pub loop-at-init : goal.loop-at-init
-loop-at-init c = record { told = none_told c.args.front.now (map client_of c.args.ports.now.items); numbers = refl; len = refl; keeps = itself c.args.front.now }
+loop-at-init c = record { told = none_told c.args.front.now (map client_of c.args.ports.now.items); written = none_done c.args.front.now (map client_of c.args.ports.now.items); numbers = refl; len = refl; keeps = itself c.args.front.now }
 
 pub loop-at-preserved : goal.loop-at-preserved
 loop-at-preserved c =
     let within : c.loop-at.at < length c.loop-at.ports.items = search rules in
     record {
       told = port_told c.args.front.now (map client_of c.args.ports.now.items) c.loop-at.front c.take_mails.new.front c.loop-at.ports.items c.loop-at.at c.index_mut.result.now c.take_mails.new.self within c.index_mut.ensures.value c.loop-at.invariant.told c.in_ok-take_mails.ensures.emptied c.in_ok-take_mails.ensures.told;
+      written = port_done c.args.front.now (map client_of c.args.ports.now.items) c.loop-at.front c.take_mails.new.front c.loop-at.ports.items c.loop-at.at c.index_mut.result.now c.take_mails.new.self within c.index_mut.ensures.value c.loop-at.invariant.written c.in_ok-take_mails.ensures.emptied c.in_ok-take_mails.ensures.told;
       numbers = all_alike (λ (p : Port). p.conn) c.loop-at.ports.items c.loop-at.at c.index_mut.result.now c.take_mails.new.self within c.index_mut.ensures.value (ap (λ (x : Client). x.conn) c.in_ok-take_mails.ensures.told) ∙ c.loop-at.invariant.numbers;
       len = c.loop-at.invariant.len;
       keeps = both c.args.front.now c.loop-at.front c.take_mails.new.front c.loop-at.invariant.keeps c.take_mails.ensures.front;
@@ -29,7 +30,7 @@ returns-in_err-take_mails-clause-numbers c =
     let within : c.loop-at.at < length c.loop-at.ports.items = search rules in
     all_alike (λ (p : Port). p.conn) c.loop-at.ports.items c.loop-at.at c.index_mut.result.now c.take_mails.new.self within c.index_mut.ensures.value c.in_err-take_mails.ensures.later.conn ∙ c.loop-at.invariant.numbers
 
-pub returns-in_err-take_mails-clause-waits : goal.returns-in_err-take_mails-clause-waits
-returns-in_err-take_mails-clause-waits c =
+pub returns-in_err-take_mails-clause-writes : goal.returns-in_err-take_mails-clause-writes
+returns-in_err-take_mails-clause-writes c =
     let within : c.loop-at.at < length c.loop-at.ports.items = search rules in
-    on_any_err c.from_residual.result (port_waits c.loop-at.ports.items c.loop-at.at c.take_mails.new.self within c.in_err-take_mails.ensures.waits)
+    on_any_err c.from_residual.result (port_stops c.args.front.now (map client_of c.args.ports.now.items) c.loop-at.front c.take_mails.new.front c.loop-at.ports.items c.loop-at.at c.index_mut.result.now c.take_mails.new.self within c.index_mut.ensures.value c.loop-at.invariant.written c.in_err-take_mails.ensures.stops)

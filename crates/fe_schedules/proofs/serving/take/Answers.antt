@@ -1,14 +1,24 @@
-use Rattle.std.proofs.Common.{refl}
+use Rattle.std.proofs.Common.{Ok, refl}
+use Rattle.fe_disk.specs.Memory.{MemoryState}
+use Rattle.fe_desk.specs.Taken.{Ends}
+use Rattle.fe_desk.proofs.Stepping.{ends_of, tells_of}
 use Rattle.fe_schedules.proofs.Readiness.{ready_after, step_tells}
 use Rattle.fe_schedules.proofs.serving.take.Goals as goal
 
 pub returns-in-Ok-clause-ready : goal.returns-in-Ok-clause-ready
 returns-in-Ok-clause-ready c =
     let d = c.in-Ok.ensures in
-    ready_after c.args.desk.now c.step.new.self c.args.step.now c.requires d.stepped d.advances d.stands d.synced (d.fine c.requires.works)
+    let whole : Ends (λ (disk : MemoryState). disk.failures) c.args.desk.now c.args.step.now (Ok tt) c.step.new.self =
+    ends_of (λ (disk : MemoryState). disk.failures) c.args.desk.now c.args.step.now c.step.new.self (Ok tt) c.requires.works d.is_step in
+    ready_after c.args.desk.now c.step.new.self c.args.step.now c.requires whole.took d.advances d.stands d.synced whole.sound.fine
 
 pub returns-in-Ok-clause-moved : goal.returns-in-Ok-clause-moved
-returns-in-Ok-clause-moved c = record { runs = (c.step.new.self.standing, c.in-Ok.ensures.stepped, refl); from = c.in-Ok.ensures.advances.from; checks = (c.step.new.self, c.in-Ok.ensures.checked, refl) }
+returns-in-Ok-clause-moved c =
+    let whole : Ends (λ (disk : MemoryState). disk.failures) c.args.desk.now c.args.step.now (Ok tt) c.step.new.self =
+    ends_of (λ (disk : MemoryState). disk.failures) c.args.desk.now c.args.step.now c.step.new.self (Ok tt) c.requires.works c.in-Ok.ensures.is_step in
+    record { runs = (c.step.new.self.standing, whole.took, refl); from = c.in-Ok.ensures.advances.from; checks = (c.step.new.self, whole.checked, refl) }
 
 pub returns-in-Err-clause-fault : goal.returns-in-Err-clause-fault
-returns-in-Err-clause-fault c = step_tells c.args.desk.now c.step.new.self c.in-Err.fault c.of_desk.result c.requires.calm c.of_desk.ensures (c.in-Err.ensures.fault c.requires.works)
+returns-in-Err-clause-fault c =
+    step_tells c.args.desk.now c.step.new.self c.in-Err.fault c.of_desk.result c.requires.calm c.of_desk.ensures
+    (tells_of (λ (disk : MemoryState). disk.failures) c.args.desk.now c.args.step.now c.step.new.self c.in-Err.fault c.requires.works c.in-Err.ensures.is_step)

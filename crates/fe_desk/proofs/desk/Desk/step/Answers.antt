@@ -1,31 +1,34 @@
-use Rattle.std.proofs.Common.{◌≡◌, Bool, true, subst}
-use Rattle.std.specs.Prelude.{IsErrOf}
-use Rattle.fe_desk.specs.declared.fault.DeskFault.TheVariants.{NoMemory, Unwritten}
-use Rattle.fe_desk.specs.declared.step.Step.{Step}
-use Rattle.fe_desk.specs.Standing.{Standing, discharged}
-use Rattle.fe_desk.specs.Steps.{DeskStep, IsAgain}
-use Rattle.fe_desk.specs.Checks.{Checks}
-use Rattle.fe_desk.specs.Messages.{TellsFed}
-use Rattle.fe_desk.specs.within.Desk.{standing_of, desk_of}
+use Rattle.std.proofs.Common.{subst}
 use Rattle.fe_desk.specs.Crash.{DeskState}
+use Rattle.fe_desk.specs.Taken.{IsStep}
+use Rattle.fe_desk.specs.within.Desk.{desk_of}
+use Rattle.fe_desk.proofs.Acknowledging.{keeps_below}
+use Rattle.fe_desk.proofs.Answering.{step_acknowledged}
+use Rattle.fe_desk.proofs.Stepping.{is_step}
 use Rattle.fe_desk.proofs.desk.Desk.step.Goals as goal
 
-pub returns-clause-again : goal.returns-clause-again
-returns-clause-again g c =
-    subst
-    (λ (d : DeskState g.row.D.Denot).
-    (fed : Bool) (next : Step) (t : Standing) → IsErrOf c.step-outcome.result (NoMemory fed) → IsAgain fed c.args.step.now next → DeskStep (standing_of c.step-outcome.new.self) next t → DeskStep d.standing c.args.step.now t)
-    c.self.view_is c.step-outcome.ensures.again
+pub returns-clause-is_step : goal.returns-clause-is_step
+returns-clause-is_step g c =
+    let says = c.step-outcome.ensures in
+    subst (λ (d : DeskState g.row.D.Denot). IsStep g.D.Disk.failures d c.args.step.now c.step-outcome.result (desk_of c.step-outcome.new.self)) c.self.view_is
+    (is_step g.D.Disk.failures (desk_of c.self.inside.parts) c.args.step.now (desk_of c.step-outcome.new.self) c.step-outcome.result (record {
+      failed = says.failed;
+      stepped = says.stepped;
+      quiet = says.quiet;
+      checked = says.checked;
+      fine = says.fine;
+      fault = says.fault;
+      stored = says.desk.all;
+      again = says.again;
+      fed = says.fed;
+      short = says.short;
+      output = says.output;
+      unwritten = says.unwritten;
+      owing = says.owing;
+      breaks = says.breaks;
+      silent = says.silent;
+    }))
 
-pub returns-clause-unwritten : goal.returns-clause-unwritten
-returns-clause-unwritten g c =
-    subst
-    (λ (d : DeskState g.row.D.Denot).
-    IsErrOf c.step-outcome.result Unwritten → DeskStep d.standing c.args.step.now (discharged (standing_of c.step-outcome.new.self)) × (c.step-outcome.new.self.owes ≡ true) × Checks c.args.step.now d (desk_of c.step-outcome.new.self))
-    c.self.view_is c.step-outcome.ensures.unwritten
-
-pub returns-clause-fed : goal.returns-clause-fed
-returns-clause-fed g c =
-    subst
-    (λ (d : DeskState g.row.D.Denot). (fed : Bool) → IsErrOf c.step-outcome.result (NoMemory fed) → TellsFed fed d.standing c.args.step.now (standing_of c.step-outcome.new.self))
-    c.self.view_is c.step-outcome.ensures.fed
+pub returns-clause-acknowledged : goal.returns-clause-acknowledged
+returns-clause-acknowledged g c = λ begun asked limits asks is.
+    step_acknowledged begun asked (keeps_below begun limits) g.D.Disk.failures c.args.self.now c.args.step.now c.step-outcome.result (desk_of c.step-outcome.new.self) asks (returns-clause-is_step g c) is

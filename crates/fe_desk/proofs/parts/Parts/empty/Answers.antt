@@ -2,6 +2,7 @@ use Rattle.std.proofs.Common.{refl}
 use Rattle.fe_desk.specs.declared.parts.Parts.{Parts}
 use Rattle.fe_desk.proofs.Quiets.{all_quiet}
 use Rattle.fe_desk.proofs.StepParts.{emptied_desk, all_written, some_written, written_more, none_boxed}
+use Rattle.fe_desk.proofs.Writing.{writes_some}
 use Rattle.fe_desk.proofs.parts.Parts.empty.Goals as goal
 
 pub returns-clause-desk : goal.returns-clause-desk
@@ -38,3 +39,10 @@ returns-clause-extends g c =
     let boxes = c.empty_boxes-outcome in
     let q : Parts g.row.D.Denot = record p { front = boxes.new.front; trace = record p.trace { ports = boxes.new.ports }; owes = c.is_err-self.result } in
     written_more p q boxes.result boxes.ensures.told boxes.ensures.later
+
+pub returns-clause-writes : goal.returns-clause-writes
+returns-clause-writes g c =
+    let p = c.args.self.now in
+    let boxes = c.empty_boxes-outcome in
+    let q : Parts g.row.D.Denot = record p { front = boxes.new.front; trace = record p.trace { ports = boxes.new.ports }; owes = c.is_err-self.result } in
+    writes_some p q boxes.result boxes.ensures.writes c.is_err-self.ensures.value refl refl refl

@@ -3,7 +3,8 @@ use Rattle.std.proofs.lemmas.Result.{err_from_is_err_and}
 use Rattle.fe_desk.specs.declared.fault.DeskFault.TheVariants.{NoMemory, Store}
 use Rattle.fe_keeper.specs.declared.fault.Fault.TheVariants.{Device}
 use Rattle.fe_desk.specs.declared.step.Step.{Step}
-use Rattle.fe_desk.specs.Steps.{DeskStep}
+use Rattle.fe_desk.specs.Standing.{Standing}
+use Rattle.fe_desk.specs.Steps.{Acts, DeskStep}
 use Rattle.fe_desk.specs.within.Desk.{standing_of, desk_of}
 use Rattle.fe_desk.specs.Messages.{outputs}
 use Rattle.fe_desk.proofs.Outputs.{extends_itself, extends_both, extends_as, acts_extends}
@@ -59,6 +60,12 @@ returns-then-is_err-2-clause-unwritten g c = λ is.
     (record { keeper = c.finish.ensures.keeper; groups = c.finish.ensures.groups; synced = c.finish.ensures.synced }) c.in_ok-act.ensures.checked in
     (stepped_owing s mid last u c.args.step.now settles c.in_ok-act.ensures.acts later.0 later.1, later.1, checked)
 
+pub returns-then-is_err-2-clause-owing : goal.returns-then-is_err-2-clause-owing
+returns-then-is_err-2-clause-owing g c = λ is.
+    let settles = when_ok c.settle.result (sym c.if-is_err.ensures.value) c.settle.ensures.discharged in
+    let writes = when_err c.finish.result (sym c.if-is_err-2.ensures.value) c.finish.ensures.writes in
+    (standing_of c.act.new.self, subst (λ (s : Standing). Acts s c.args.step.now (standing_of c.act.new.self)) settles c.in_ok-act.ensures.acts, writes)
+
 pub returns-clause-stepped : goal.returns-clause-stepped
 returns-clause-stepped g c =
     let s = standing_of c.args.self.now in
@@ -94,8 +101,8 @@ pub returns-then-is_err-clause-short : goal.returns-then-is_err-clause-short
 returns-then-is_err-clause-short g c = λ fed asked.
     let none : false ≡ fed = cc in
     let owed = when_err c.settle.result (sym c.if-is_err.ensures.value) c.settle.ensures.owed in
-    let later = when_err c.settle.result (sym c.if-is_err.ensures.value) c.settle.ensures.later in
-    short_owed fed c.args.step.now (desk_of c.args.self.now) (desk_of c.settle.new.self) none owed later c.settle.ensures.keeper c.settle.ensures.synced
+    let writes = when_err c.settle.result (sym c.if-is_err.ensures.value) c.settle.ensures.writes in
+    short_owed fed c.args.step.now (desk_of c.args.self.now) (desk_of c.settle.new.self) none owed writes c.settle.ensures.keeper c.settle.ensures.synced
 
 pub returns-in_err-act-clause-short : goal.returns-in_err-act-clause-short
 returns-in_err-act-clause-short g c = λ fed asked.

@@ -1,0 +1,190 @@
+-- A desk's answers stand on the groups that are stored, whatever its steps answer.
+use Rattle.std.proofs.Common.{◌≡◌, inl, inr, ℕ, Bool, true, false, true≢false, List, [], ◌∷◌, ◌++◌, length, take, take_all, Result, Ok, Err, refl, sym, ap, subst, ◌∙◌, arith}
+use Rattle.std.specs.Prelude.{if◌then◌else◌, MatchBool, Option, Some}
+use Rattle.std.specs.List.{AllByRecursion}
+use Rattle.std.proofs.Math.Seq.{take-append_seam}
+use Rattle.fe_state.specs.State.{ServerState}
+use Rattle.fe_state.specs.declared.entry.Entry.{Entry}
+use Rattle.fe_keeper.specs.declared.fault.Fault.TheVariants as keeper
+use Rattle.fe_wire.specs.Stream.{Decoding}
+use Rattle.fe_desk.specs.declared.fault.DeskFault.{DeskFault}
+use Rattle.fe_desk.specs.declared.fault.DeskFault.TheVariants.{Store, NoMemory, Unwritten}
+use Rattle.fe_desk.specs.declared.step.Step.{Step}
+use Rattle.fe_desk.specs.declared.step.Step.TheVariants as step
+use Rattle.fe_desk.specs.Acknowledged.{IsWritten, AsksFor, StepAsksFor, IsAcknowledged, AreStepsFor, AcknowledgedStand, stored_groups}
+use Rattle.fe_desk.specs.Crash.{DeskState}
+use Rattle.fe_desk.specs.Ends.{Tears, TearsBytes, BreaksOff, Lacks, Breaks, FindsNoMemory, discharged_desk}
+use Rattle.fe_desk.specs.Messages.{read_by}
+use Rattle.fe_desk.specs.Standing.{Client, Standing, IsFirstStanding, emptied, discharged}
+use Rattle.fe_desk.specs.Taken.{Ends, IsStep}
+use Rattle.fe_desk.proofs.Acknowledging.{AllTell, Tells, Holds, HoldsAt, StepAsks, KeepsBelow, keeps_below, some_holds, emptied_holds, discharged_holds, acts_hold, before_holds, unread_holds, behind_holds, first_holds}
+use Rattle.fe_desk.proofs.Boxes.{all_weaker}
+use Rattle.fe_desk.proofs.Feeding.{discharged_reads}
+use Rattle.fe_desk.proofs.Seated.{HasOnly}
+
+all_written : (begun : ServerState) (groups : List (List Entry)) (asked : ℕ → List ℕ) (cs : List Client) → AllTell begun groups asked cs → AllByRecursion (IsWritten begun groups asked) cs
+all_written begun groups asked cs =
+    all_weaker (Tells begun groups asked) (IsWritten begun groups asked) (λ c t. record { mails = t.0.mails; stand = t.0.stand; written = t.0.spelling; waits = t.0.waits }) cs
+
+all_left : (begun : ServerState) (groups : List (List Entry)) (asked : ℕ → List ℕ) (cs : List Client) → AllTell begun groups asked cs → AllByRecursion (λ (c : Client). AllByRecursion (AsksFor (asked c.conn)) c.left) cs
+all_left begun groups asked cs = all_weaker (Tells begun groups asked) (λ (c : Client). AllByRecursion (AsksFor (asked c.conn)) c.left) (λ c t. t.1) cs
+
+all_told_back : (begun : ServerState) (groups : List (List Entry)) (asked : ℕ → List ℕ) (cs : List Client) → AllByRecursion (IsWritten begun groups asked) cs
+    → AllByRecursion (λ (c : Client). AllByRecursion (AsksFor (asked c.conn)) c.left) cs → AllTell begun groups asked cs
+all_told_back begun groups asked [] written left = tt
+all_told_back begun groups asked (c ∷ cs) written left =
+    let w = written.0 in
+    ((record { waits = w.waits; mails = w.mails; stand = w.stand; spelling = w.written }, left.0), all_told_back begun groups asked cs written.1 left.1)
+
+discharged_groups : (s : Standing) → (discharged s).groups ≡ s.groups
+discharged_groups s = by s.owes
+  where
+    by : (b : Bool) → (if b then emptied s else s).groups ≡ s.groups
+    by true = refl
+    by false = refl
+
+module _ {D : Type 0} (begun : ServerState) (asked : ℕ → List ℕ) where
+  abbrev HoldsIn : DeskState D → List (List Entry) → Type 0
+  HoldsIn d groups = Holds begun asked d.standing.front d.standing.clients d.standing.handed groups
+
+  from_holds_in : (d : DeskState D) → HoldsIn d (stored_groups d) → (d.keeper.store.has_failed ≡ false → d.synced ≡ length d.standing.groups) → IsAcknowledged begun asked d
+  from_holds_in d h all = record {
+    answers = record { boxed = h.boxes; written = all_written begun (stored_groups d) asked d.standing.clients h.tell };
+    left = all_left begun (stored_groups d) asked d.standing.clients h.tell;
+    holders = h.has.holders;
+    sessions = h.has.sessions;
+    state = h.state;
+    answered = h.answered;
+    way = h.way;
+    all = all;
+  }
+
+  -- where all groups are stored
+  whole_groups : (d : DeskState D) → d.synced ≡ length d.standing.groups → stored_groups d ≡ d.standing.groups
+  whole_groups d all = take_all d.synced d.standing.groups (omega (arith, all))
+
+  pub acknowledged_by : (d : DeskState D) → d.synced ≡ length d.standing.groups → HoldsAt begun asked d.standing → IsAcknowledged begun asked d
+  acknowledged_by d all h = from_holds_in d (subst (λ (gs : List (List Entry)). HoldsIn d gs) (sym (whole_groups d all)) h) (λ works. all)
+
+  holds_of : (d : DeskState D) → d.synced ≡ length d.standing.groups → IsAcknowledged begun asked d → HoldsAt begun asked d.standing
+  holds_of d all is =
+      let h : HoldsIn d (stored_groups d) = record {
+        state = is.state;
+        answered = is.answered;
+        way = is.way;
+        boxes = is.answers.boxed;
+        tell = all_told_back begun (stored_groups d) asked d.standing.clients is.answers.written is.left;
+        has = record { holders = is.holders; sessions = is.sessions };
+      } in
+      subst (λ (gs : List (List Entry)). HoldsIn d gs) (whole_groups d all) h
+
+  pub first_acknowledged : (d : DeskState D) → IsFirstStanding begun d.standing → d.synced ≡ 0 → IsAcknowledged begun asked d
+  first_acknowledged d first none =
+      let few = ap (λ (gs : List (List Entry)). length gs) first.groups in
+      acknowledged_by d (omega (arith, few, none)) (first_holds begun asked d.standing first)
+
+  -- the batch that was torn is not stored
+  torn : (last : Standing) (d : DeskState D) → Tears last d → d.keeper.store.has_failed ≡ true → HoldsAt begun asked last → IsAcknowledged begun asked d
+  torn last d tears failed h =
+      let batch : List Entry = tears.at_hand.batch.entries in
+      let stored : stored_groups d ≡ last.groups =
+      ap (λ (s : Standing). take d.synced s.groups) tears.standing ∙ ap (λ (n : ℕ). take n (last.groups ++ batch ∷ [])) tears.synced ∙ take-append_seam last.groups (batch ∷ []) in
+      let here : Holds begun asked d.standing.front d.standing.clients d.standing.handed last.groups =
+      subst (λ (s : Standing). Holds begun asked s.front s.clients s.handed last.groups) (sym tears.standing) h in
+      from_holds_in d (subst (λ (gs : List (List Entry)). HoldsIn d gs) (sym stored) here) (λ works. absurd (true≢false (sym failed ∙ works)))
+
+  broken_off : (old new : DeskState D) → BreaksOff old new → old.synced ≡ length old.standing.groups → HoldsAt begun asked old.standing → IsAcknowledged begun asked new
+  broken_off old new off all h =
+      let same = ap (λ (s : Standing). length s.groups) off.standing in
+      let synced = off.synced in
+      acknowledged_by new (omega (arith, same, synced, all)) (subst (λ (s : Standing). HoldsAt begun asked s) (sym off.standing) h)
+
+  module _ (below : KeepsBelow begun) (failures : D → ℕ) where
+    -- what a step at fault did, where no mails are owed
+    lacks_hold : (fed : Bool) (x : Step) (old new : DeskState D) → StepAsks begun asked below old.standing x → Lacks fed x old new → HoldsAt begun asked old.standing → HoldsAt begun asked new.standing
+    lacks_hold false (step.Connect conn) old new asks lacks h = subst (λ (d : DeskState D). HoldsAt begun asked d.standing) (sym lacks.1) h
+    lacks_hold false (step.Bytes conn piece) old new asks lacks h = elim lacks.0 [
+      | inl stops ↦ before_holds begun asked below old.standing conn new.standing stops h
+      | inr stops ↦ unread_holds begun asked below old.standing conn new.standing stops h
+    ]
+    lacks_hold true (step.Bytes conn piece) old new asks lacks h = behind_holds begun asked below old.standing conn piece.items new.standing asks lacks.0 h
+    lacks_hold false step.Append old new asks lacks h = subst (λ (d : DeskState D). HoldsAt begun asked d.standing) (sym lacks.1) h
+    lacks_hold false step.CheckBegin old new asks lacks h = subst (λ (d : DeskState D). HoldsAt begun asked d.standing) (sym lacks.1) h
+    lacks_hold false (step.Gone conn) old new asks lacks h = absurd lacks
+    lacks_hold false step.Cut old new asks lacks h = absurd lacks
+    lacks_hold false step.Post old new asks lacks h = absurd lacks
+    lacks_hold false step.CheckStep old new asks lacks h = absurd lacks
+    lacks_hold false step.CheckFinish old new asks lacks h = absurd lacks
+    lacks_hold true (step.Connect conn) old new asks lacks h = absurd lacks
+    lacks_hold true (step.Gone conn) old new asks lacks h = absurd lacks
+    lacks_hold true step.Cut old new asks lacks h = absurd lacks
+    lacks_hold true step.Append old new asks lacks h = absurd lacks
+    lacks_hold true step.Post old new asks lacks h = absurd lacks
+    lacks_hold true step.CheckBegin old new asks lacks h = absurd lacks
+    lacks_hold true step.CheckStep old new asks lacks h = absurd lacks
+    lacks_hold true step.CheckFinish old new asks lacks h = absurd lacks
+
+    breaks_acknowledged : (x : Step) (old new : DeskState D) → StepAsks begun asked below old.standing x → Breaks x old new → new.keeper.store.has_failed ≡ true → old.synced ≡ length old.standing.groups → HoldsAt begun asked old.standing → IsAcknowledged begun asked new
+    breaks_acknowledged (step.Bytes conn piece) old new asks breaks failed all h = elim breaks.stops [
+      | inl stops ↦ torn breaks.last new breaks.tears failed (before_holds begun asked below old.standing conn breaks.last stops h)
+      | inr stops ↦ torn breaks.last new breaks.tears failed (behind_holds begun asked below old.standing conn piece.items breaks.last asks stops h)
+    ]
+    breaks_acknowledged step.Append old new asks breaks failed all h = torn old.standing new breaks failed h
+    breaks_acknowledged step.CheckBegin old new asks breaks failed all h = broken_off old new breaks all h
+    breaks_acknowledged step.CheckStep old new asks breaks failed all h = broken_off old new breaks all h
+    breaks_acknowledged step.CheckFinish old new asks breaks failed all h = broken_off old new breaks all h
+    breaks_acknowledged (step.Connect conn) old new asks breaks failed all h = absurd breaks
+    breaks_acknowledged (step.Gone conn) old new asks breaks failed all h = absurd breaks
+    breaks_acknowledged step.Cut old new asks breaks failed all h = absurd breaks
+    breaks_acknowledged step.Post old new asks breaks failed all h = absurd breaks
+
+    -- what is read of a connection's stream is the same where mails that were owed are written
+    asks_discharged : (d : DeskState D) (x : Step) → StepAsksFor asked d x → StepAsks begun asked below (discharged d.standing) x
+    asks_discharged d (step.Bytes conn piece) asks = λ before after more read reads. asks before after more (sym (discharged_reads d.standing conn) ∙ read) reads
+    asks_discharged d (step.Connect conn) asks = tt
+    asks_discharged d (step.Gone conn) asks = tt
+    asks_discharged d step.Cut asks = tt
+    asks_discharged d step.Append asks = tt
+    asks_discharged d step.Post asks = tt
+    asks_discharged d step.CheckBegin asks = tt
+    asks_discharged d step.CheckStep asks = tt
+    asks_discharged d step.CheckFinish asks = tt
+
+    ends_acknowledged : (old : DeskState D) (x : Step) (r : Result (Unit {0}) DeskFault) (new : DeskState D) → StepAsksFor asked old x → Ends failures old x r new → old.synced ≡ length old.standing.groups
+        → HoldsAt begun asked old.standing → IsAcknowledged begun asked new
+    ends_acknowledged old x r new asks ends all h = by r ends
+      where
+        there : HoldsAt begun asked (discharged old.standing)
+        there = discharged_holds begun asked old.standing h
+
+        mine : StepAsks begun asked below (discharged old.standing) x
+        mine = asks_discharged old x asks
+
+        by : (r : Result (Unit {0}) DeskFault) → Ends failures old x r new → IsAcknowledged begun asked new
+        by (Ok done) ends =
+            acknowledged_by new ends.sound.stored (subst (λ (s : Standing). HoldsAt begun asked s) (sym ends.took.after)
+            (emptied_holds begun asked ends.took.last (acts_hold begun asked below (discharged old.standing) x ends.took.last mine ends.took.acts there)))
+        by (Err (Store cause)) ends =
+            breaks_acknowledged x (discharged_desk old) new mine ends.1.breaks ends.1.failed.failed (all ∙ ap (λ (gs : List (List Entry)). length gs) (sym (discharged_groups old.standing))) there
+        by (Err (NoMemory fed)) ends = acknowledged_by new ends.sound.stored (elim ends.finds [
+          | inl still ↦ some_holds begun asked old.standing new.standing still.1.writes h
+          | inr lacks ↦ lacks_hold fed x (discharged_desk old) new mine lacks there
+        ])
+        by (Err Unwritten) ends =
+            acknowledged_by new ends.sound.stored (some_holds begun asked ends.last new.standing ends.writes (acts_hold begun asked below (discharged old.standing) x ends.last mine ends.acts there))
+
+    pub step_acknowledged : (old : DeskState D) (x : Step) (r : Result (Unit {0}) DeskFault) (new : DeskState D) → StepAsksFor asked old x → IsStep failures old x r new → IsAcknowledged begun asked old
+        → IsAcknowledged begun asked new
+    step_acknowledged old x r new asks is h = by old.keeper.store.has_failed refl is
+      where
+        by : (b : Bool) → old.keeper.store.has_failed ≡ b → MatchBool b ((r ≡ Err (Store keeper.Failed)) × (new ≡ old)) (Ends failures old x r new) → IsAcknowledged begun asked new
+        by true failed refused = subst (λ (d : DeskState D). IsAcknowledged begun asked d) (sym refused.1) h
+        by false works ends = ends_acknowledged old x r new asks ends (h.all works) (holds_of old (h.all works) h)
+
+    steps_acknowledged : (old new : DeskState D) (steps : List (Step × Result (Unit {0}) DeskFault)) → AreStepsFor failures asked old steps new → IsAcknowledged begun asked old → IsAcknowledged begun asked new
+    steps_acknowledged old new [] is h = subst (λ (d : DeskState D). IsAcknowledged begun asked d) (sym is) h
+    steps_acknowledged old new (x ∷ xs) is h = steps_acknowledged is.0 new xs is.3 (step_acknowledged old x.0 x.1 is.0 is.1 is.2 h)
+
+pub acknowledged_stand : {D : Type 0} (failures : D → ℕ) → AcknowledgedStand failures
+acknowledged_stand failures begun asked first last steps limits begins none taken =
+    steps_acknowledged begun asked (keeps_below begun limits) failures first last steps taken (first_acknowledged begun asked first begins none)
