@@ -14,21 +14,21 @@ pub either : {T E P Q : Type 0} (r : Result T E) → OnOk r P → OnErr r Q → 
 either (Ok x) ok err = inl ok
 either (Err e) ok err = inr err
 
--- at most so many calls, and then at most so many
+-- at most this many calls, and then at most this many
 rises_joined : (n m old mid new : ℕ) → RisesAtMost n old mid → RisesAtMost m mid new → RisesAtMost (n + m) old new
 rises_joined n m old mid new (low, high) (low', high') = (omega arith, omega arith)
 
 pub most_joined : (r w s r' w' s' : ℕ) (old mid new : Calls) → MakesAtMost r w s old mid → MakesAtMost r' w' s' mid new → MakesAtMost (r + r') (w + w') (s + s') old new
 most_joined r w s r' w' s' old mid new first second = (
-    rises_joined r r' old.reads mid.reads new.reads first.0 second.0,
-    rises_joined w w' old.writes mid.writes new.writes first.1 second.1,
-    rises_joined s s' old.syncs mid.syncs new.syncs first.2 second.2,
-  )
+  rises_joined r r' old.reads mid.reads new.reads first.0 second.0,
+  rises_joined w w' old.writes mid.writes new.writes first.1 second.1,
+  rises_joined s s' old.syncs mid.syncs new.syncs first.2 second.2,
+)
 
 pub most_within : (r w s r' w' s' : ℕ) (old new : Calls) → r ≤ r' → w ≤ w' → s ≤ s' → MakesAtMost r w s old new → MakesAtMost r' w' s' old new
 most_within r w s r' w' s' old new few_reads few_writes few_syncs ((a, b), (c, d), (e, f)) = ((a, omega arith), (c, omega arith), (e, omega arith))
 
--- just so many, and then just so many
+-- exactly this many, and then exactly this many
 pub just_joined : (r w s r' w' s' : ℕ) (old mid new : Calls) → MakesJust r w s old mid → MakesJust r' w' s' mid new → MakesJust (r + r') (w + w') (s + s') old new
 just_joined r w s r' w' s' old mid new (a, b, c) (d, e, f) = (omega arith, omega arith, omega arith)
 

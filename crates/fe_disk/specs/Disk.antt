@@ -2,7 +2,7 @@
 use Rattle.std.specs.Prelude.{◌≡◌, ◌⊎◌, ℕ, ◌+◌, ◌-◌, ◌^◌, ◌<◌, ◌≤◌, List, ◌++◌, length, take, drop, slice_index}
 use Rattle.fe_disk.specs.declared.calls.Calls.{Calls}
 
--- an image of a disk: so many bytes
+-- an image of a disk: this many bytes
 pub record IsImage (size : ℕ) (image : List ℕ) : Type 0 where
   pub whole : length image ≡ size
   pub bytes : (i : ℕ) → slice_index image i < 2 ^ 8
@@ -39,20 +39,20 @@ pub record Elapses {D : Type 0} (moment : D → ℕ) (left_since : D → ℕ →
   pub nothing_else : (t : ℕ) (image : List ℕ) → t ≤ moment old → left_since new t image → left_since old t image ⊎ may_leave new image
   pub keeps : (t : ℕ) (image : List ℕ) → t ≤ moment old → left_since old t image → left_since new t image
 
--- A count of faults rose in a call. At the top of a `u64` it stands still, and that counts as a rise.
+-- A count of faults rose in a call. At the top of a `u64` it stays as it is, and that counts as a rise.
 abbrev pub Rises : ℕ → ℕ → Type 0
 Rises before now = (before < now) ⊎ ((before ≡ 2 ^ 64 - 1) × (now ≡ before))
 
--- a count went up by so many or fewer
+-- a count went up by this many or fewer
 abbrev pub RisesAtMost : ℕ → ℕ → ℕ → Type 0
 RisesAtMost most before now = (before ≤ now) × (now ≤ before + most)
 
--- So many reads, writes and syncs, or fewer, were made between two counts.
+-- This many reads, writes and syncs, or fewer, were made between two counts.
 abbrev pub MakesAtMost : ℕ → ℕ → ℕ → Calls → Calls → Type 0
 MakesAtMost reads writes syncs before now =
     RisesAtMost reads before.reads now.reads × RisesAtMost writes before.writes now.writes × RisesAtMost syncs before.syncs now.syncs
 
--- Just so many were made.
+-- Exactly this many were made.
 abbrev pub MakesJust : ℕ → ℕ → ℕ → Calls → Calls → Type 0
 MakesJust reads writes syncs before now =
     (now.reads ≡ before.reads + reads) × (now.writes ≡ before.writes + writes) × (now.syncs ≡ before.syncs + syncs)

@@ -4,7 +4,7 @@ use Rattle.std.specs.Prelude.{◌≡◌, ◌↔◌, ℕ, ◌+◌, ◌≤◌, Res
 use Rattle.fe_disk.specs.Disk.{Rises, MakesAtMost, MakesJust}
 use Rattle.fe_disk.specs.declared.calls.Calls.{Calls}
 
--- Just so many calls were made where it succeeds, and at most so many where it fails. It fails exactly where the count of faults rose.
+-- Exactly this many calls were made where it succeeds, and at most this many where it fails. It fails exactly where the count of faults rose.
 pub record Asks {D T E : Type 0} (size failures : D → ℕ) (calls : D → Calls) (honest : D → Type 0) (reads writes syncs : ℕ) (result : Result T E) (old new : D) : Type 0 where
   pub fault : IsErr result ↔ Rises (failures old) (failures new)
   pub still : OnOk result (failures new ≡ failures old)
@@ -23,7 +23,7 @@ pub record AsksAtMost {D T E : Type 0} (size failures : D → ℕ) (calls : D �
   pub honesty : honest new ↔ honest old
   pub same_size : size new ≡ size old
 
--- A function with other faults beside `device`, for which the count of faults stays. At most so many calls were made.
+-- A function with other faults beside `device`, for which the count of faults stays. At most this many calls were made.
 pub record Runs {D T E : Type 0} (size failures : D → ℕ) (calls : D → Calls) (honest : D → Type 0) (reads writes syncs : ℕ) (device : E) (result : Result T E) (old new : D) : Type 0 where
   pub fault : IsErrOf result device → Rises (failures old) (failures new)
   pub still : (IsErrOf result device → ⊥) → failures new ≡ failures old

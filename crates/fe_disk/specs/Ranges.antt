@@ -5,7 +5,7 @@ use Rattle.fe_disk.specs.declared.memory_disk.Torn.{Torn}
 use Rattle.fe_disk.specs.declared.memory_disk.Torn.TheVariants.{Kept, Lost, Byte}
 use Rattle.fe_disk.specs.Memory.{Event, Write, Sync}
 
--- each write lies within so many bytes
+-- each write lies within this many bytes
 abbrev pub AreWithin : ℕ → List Event → Type 0
 AreWithin size [] = Unit {0}
 AreWithin size (Sync ∷ earlier) = AreWithin size earlier

@@ -31,7 +31,7 @@ const MODE: u32 = 0o600;
 /// the device, and would give their bytes to whoever reads the file until it needs the memory.
 ///
 /// A disk that writes has an advisory lock of its file for as long as it lives, and is the only one that writes it meanwhile. Its
-/// syncs succeed only where, behind them, the file still has its size and the path by which it was opened: what is written into a
+/// syncs succeed only where, after them, the file still has its size and the path by which it was opened: what is written into a
 /// file that was cut, renamed, replaced or removed is lost.
 ///
 /// Nothing is claimed of what a file gives or keeps, so it is not honest.
@@ -66,7 +66,7 @@ impl FileDisk {
         }
     }
 
-    /// The disk over the file at the path, which has so many bytes.
+    /// The disk over the file at the path, which has this many bytes.
     pub fn at<R: Files<File = File>>(rt: &R, path: &str, size: usize) -> Result<FileDisk, FileFault>
         ensures size { IfOk result (λ disk. file_size disk ≡ size) }
         ensures failures { IfOk result (λ disk. fault_count disk ≡ 0) }
@@ -162,7 +162,7 @@ fn made<R: Files<File = File>>(rt: &R, path: &str, size: u64) -> io::Result<File
     Ok(file)
 }
 
-// Writes so many zeros. A file that only has the length would have holes, and a sync of what is written into one later has
+// Writes this many zeros. A file that only has the length would have holes, and a sync of what is written into one later has
 // to find room for it.
 fn fill(mut file: &File, size: u64) -> io::Result<()> {
     let zeros = [0; PIECE];

@@ -168,11 +168,13 @@ impl Disk for MemoryDisk {
 
     ghost seen_is_image = { λ disk honest. honest };
 
-    ghost left_is_image = { λ disk t image honest left. left_is_image_law (length disk.image) disk.image disk.events t image left };
+    ghost left_is_image = { λ disk t image honest left. left_is_image_law
+        (length disk.image) disk.image disk.events t image left };
 
     ghost seen_may_stay = { λ disk honest. seen_may_stay_law disk.image disk.events honest };
 
-    ghost counts_now = { λ disk t image honest now may. counts_now_law (length disk.image) disk.image disk.events t image now may };
+    ghost counts_now = { λ disk t image honest now may. counts_now_law
+        (length disk.image) disk.image disk.events t image now may };
 
     ghost only_now = { λ disk image honest left. only_now_law (length disk.image) disk.image disk.events image left };
 

@@ -42,7 +42,7 @@ module _ (c : Contents) (payload bytes : List ℕ) (gate : ℕ) (at_gate : gate 
   within : gate + 1 + length bytes ≤ header_of c.slot + 2101248
   within = omega (arith, long, fits.within)
 
-  -- the contents stay while the bytes behind the closed gate are torn
+  -- the contents stay while the bytes after the closed gate are torn
   pub bytes_torn_holds : (was image : List ℕ) → Holds c was → IsTorn (gate + 1) (length bytes) was image → Holds c image
   bytes_torn_holds was image holds torn =
       holds_same c was image torn.whole

@@ -13,7 +13,7 @@ use Rattle.fe_journal.proofs.Spelled.{length-behind_gate, bytes_whole}
 pub buffer_whole : (new items : List ℕ) (len : ℕ) → length new ≡ len → take len (new ++ drop (length new) items) ≡ new
 buffer_whole new items len long = take-append-le len new (drop (length new) items) (omega arith) ∙ take_all len new (omega arith)
 
--- what stands in it behind the first byte
+-- what is in it after the first byte
 pub buffer_tail : (new payload : List ℕ) (m : ℕ) → 6 + length payload ≤ length new → take (6 + length payload) new ≡ 1 ∷ behind_gate payload → m ≡ 5 + length payload → take m (drop 1 new) ≡ behind_gate payload
 buffer_tail new payload m room staged size =
     let long = length-behind_gate payload in
@@ -21,7 +21,7 @@ buffer_tail new payload m room staged size =
     let tail = same_part all 1 m 1 1 (omega arith) refl refl in
     same_bytes_at tail ∙ bytes_whole (behind_gate payload) m (omega arith)
 
--- a piece written behind a front
+-- a piece written after a front
 pub front_written : (bytes front piece : List ℕ) (at : ℕ) → length front ≡ at → at + length piece ≤ length bytes → take at bytes ≡ front → take (at + length piece) (after_write bytes at piece) ≡ front ++ piece
 front_written bytes front piece at long room is =
     let rest = drop (at + length piece) bytes in
@@ -47,7 +47,7 @@ none_put [] catch_up some none = absurd (omega arith)
 none_put (byte ∷ bytes) [] some none = refl
 none_put (byte ∷ bytes) (x ∷ xs) some none = absurd (omega arith)
 
--- how many bytes a new area begins with, and where the gate behind them stands
+-- how many bytes a new area begins with, and where the gate after them stands
 pub start_end : (buffer catch_up : List ℕ) (count : ℕ) → count ≤ length buffer → take count buffer ≡ area_start catch_up → count - 1 ≡ end_of (catch_up_groups catch_up)
 start_end buffer [] count fits is = let long : count ≡ 1 = sym (length-take-le count buffer fits) ∙ ap (λ (l : List ℕ). length l) is in omega arith
 start_end buffer (x ∷ xs) count fits is =

@@ -76,7 +76,7 @@ part_same image at n fits =
           (subst (λ (k : ℕ). get_or image (at + i) 0 ≡ get_or (bytes_at image at n) k 0) (sym at_i) (sym (get_or-bytes_at image at n i low)));
     }
 
--- one list behind another
+-- one list after another
 pub joined_same : (xs : List ℕ) (a : ℕ) (ys zs : List ℕ) (m n : ℕ) → length ys ≡ m → length zs ≡ n → SameBytes xs a ys 0 m → SameBytes xs (a + m) zs 0 n → SameBytes xs a (ys ++ zs) 0 (m + n)
 joined_same xs a ys zs m n long_ys long_zs s t =
     let there : a + m + n ≤ length xs = t.here in

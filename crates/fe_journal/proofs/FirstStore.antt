@@ -12,7 +12,7 @@ use Rattle.fe_format.specs.declared.format.Format.TheVariants.{One, Two}
 use Rattle.fe_journal.proofs.Bytes.{same_back, same_through, same_byte, torn_same, written_same, known_same}
 use Rattle.fe_journal.proofs.Spelled.{HasFields, fields_spelled, length-header_fields}
 
--- the header and the empty image, written behind closed gates
+-- the header and the empty image, written after closed gates
 pub first_written : (format : Format) (seen mid new fields : List ℕ) (header image : ℕ) → length seen ≡ 4202496 → IsCleared seen → header ≡ header_of 0 → image ≡ image_of 0 → fields ≡ header_fields format 1 24
     → mid ≡ after_write seen header fields → new ≡ after_write mid image empty_image → IsFirst format new
 first_written format seen mid new fields header image whole cleared header_is image_at fields_are mid_is new_is =

@@ -56,7 +56,7 @@ module _ (image : List ℕ) (store : Store) (whole : length image ≡ device_byt
         groups_are = groups_there;
       }
 
--- the journal behind the groups, and the groups from the first on
+-- the journal after the groups, and the groups from the first on
 abbrev pub opened_as : {D : Type 0} → D → Store → JournalState D
 opened_as disk store = record { disk = disk; slot = store.slot; format = store.header.format; generation = store.header.generation; used = store.parts.used; begun = None; has_failed = false }
 
@@ -176,7 +176,7 @@ module _ (c : Contents) (image : List ℕ) (holds : Holds c image) where
   refused_only Device told = inl refl
   refused_only NoMemory told = inr refl
 
--- ---- what is told of a store that is unformatted
+-- ---- what is reported of a store that is unformatted
 
 none_counts : (image : List ℕ) (slot : ℕ) (format : Format) → length image ≡ device_bytes → Counts image slot format → IsUnformatted image → ⊥
 none_counts image slot format whole counts (inl odd) = odd whole

@@ -52,7 +52,7 @@ reaches_end format bytes at so_far shut =
 pub reaches_odd : (format : Format) (bytes : List ℕ) (at : ℕ) → Reaches format bytes at → IsOpen bytes at → (Fits format at (number_at bytes (at + 1) 4) → ⊥) → IsOddAt format bytes at
 reaches_odd format bytes at so_far is_open odd = record { groups = so_far.groups; stand = so_far.stand; at_is = so_far.at_is; is_open = is_open; odd = odd }
 
--- the groups behind the first
+-- the groups after the first
 pub rest_holds : (format : Format) (bytes : List ℕ) (at : ℕ) (payload : List ℕ) (rest : List (List ℕ)) → HoldsGroups format bytes 0 at (payload ∷ rest) → HoldsGroups format bytes 0 (at + (5 + length payload)) rest
 rest_holds format bytes at payload rest holds =
     let there : 0 + (at + (5 + length payload + end_of rest)) ≡ 0 + (at + (5 + length payload) + end_of rest) = omega arith in

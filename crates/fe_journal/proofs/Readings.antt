@@ -94,7 +94,7 @@ module _ (image : List ℕ) where
       subst (λ (k : ℕ). CountsAs image (Some (k, header))) (sym is.0)
       (second_counts first header one (subst (λ (o : Option Header). IsHeader image (header_of 1) o) is.1 two) is.2)
 
-  -- what is told of a slot that counts
+  -- what is reported of a slot that counts
   pub header_tells : (slot : ℕ) (header : Header) (fault : StoreFault) → length image ≡ device_bytes → CountsAs image (Some (slot, header)) → HeaderFault slot header fault → TellsFound fault image
   header_tells slot header (Damaged offset) whole counts (inl none) = (whole, NoGeneration slot header.format counts.0 (counts.1 ∙ none.0) none.1)
   header_tells slot header (Damaged offset) whole counts (inr odd) =

@@ -43,7 +43,7 @@ module _ (c : Contents) (was image : List ℕ) (holds : Holds c was) (at n : ℕ
       (λ is_open. holds.groups_are.ended (same_byte mine (1052672 + end_of c.groups) (area_of c.slot + (0 + end_of c.groups)) (area_of c.slot + (0 + end_of c.groups)) within (omega arith) (omega arith) ∙ is_open))
       rise holds
 
-  -- a range behind the header leaves a closed gate closed
+  -- a range after the header leaves a closed gate closed
   pub stays_shut : header_of (other_than c.slot) + 4096 ≤ at → IsShut was (gate_of (other_than c.slot)) → IsShut image (gate_of (other_than c.slot))
   stays_shut behind shut = λ is_open. shut (sym (torn.below (gate_of (other_than c.slot)) (omega arith)) ∙ is_open)
 
@@ -115,7 +115,7 @@ area_holds format image area (byte ∷ bytes) is s =
           let one : get_or image (area + 1 + 4 + length payload) 0 ≡ 1 = subst (λ (k : ℕ). get_or image k 0 ≡ 1) there is_open in omega (arith, zero, one);
     }
 
--- a slot whose gate opens behind its draft and a new area
+-- a slot whose gate opens after its draft and a new area
 finished_holds : (c : Contents) (d : Draft) (catch_up : List ℕ) (image : List ℕ) → length image ≡ 4202496 → IsDraft (other_than c.slot) d image → d.generation ≡ c.generation + 1 → length d.bytes ≡ d.image_length → IsCatchUp d.format catch_up
     → SameBytes image (area_of (other_than c.slot)) (area_start catch_up) 0 (length (area_start catch_up)) → Counts image (other_than c.slot) d.format → Holds (finished c d catch_up) image
 finished_holds c d catch_up image whole is next full allowed area counts =

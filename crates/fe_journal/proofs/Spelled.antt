@@ -16,7 +16,7 @@ use Rattle.fe_journal.proofs.Bytes.{SameBytes, same_part, same_byte, same_bytes_
 pub length-big_bytes : (n x : ℕ) → length (big_bytes n x) ≡ n
 length-big_bytes n x = length-bytes_high_first n x
 
--- the part of a list behind its front
+-- the part of a list after its front
 pub behind_same : (xs ys : List ℕ) (n : ℕ) → length xs ≡ n → SameBytes (xs ++ ys) n ys 0 (length ys)
 behind_same xs ys n long =
     record {

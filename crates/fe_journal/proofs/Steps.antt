@@ -33,7 +33,7 @@ byte_read seen gate buffer read =
     subst (λ (k : ℕ). get_or seen k 0 ≡ get_or buffer 0 0) (add-zero gate)
     (sym (ap (λ (l : List ℕ). get_or l 0 0) read ∙ get_or-bytes_at seen gate 1 0 (omega arith)))
 
--- the header's fields torn behind a closed gate
+-- the header's fields torn after a closed gate
 pub header_torn : (seen mid image : List ℕ) (slot n : ℕ) → n ≤ 4095 → IsTorn (gate_of slot) 1 seen mid → IsShut mid (gate_of slot) → IsTorn (header_of slot) n mid image → IsHeaderTorn seen slot image
 header_torn seen mid image slot n short torn shut fields =
     record {

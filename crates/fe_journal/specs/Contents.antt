@@ -1,4 +1,4 @@
--- What an image of a device holds: the slot that counts, and what stands in it.
+-- What an image of a device holds: the slot that counts, and what is in it.
 use Rattle.std.specs.Prelude.{◌≡◌, ◌⊎◌, ℕ, ◌+◌, ◌<◌, ◌≤◌, List, [], ◌∷◌, ◌++◌, length}
 use Rattle.fe_disk.specs.Disk.{bytes_at}
 use Rattle.fe_journal.specs.Layout.{device_bytes, header_of, gate_of, image_of, area_of, other_than, number_at, IsOpen}

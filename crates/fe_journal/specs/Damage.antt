@@ -1,4 +1,4 @@
--- When an image holds no contents, and what is told of it.
+-- When an image holds no contents, and what is reported of it.
 use Rattle.std.specs.Prelude.{◌≡◌, ◌≢◌, ◌⊎◌, ℕ, ◌+◌, ◌<◌, ◌≤◌, List, length}
 use Rattle.fe_journal.specs.Layout.{device_bytes, header_of, area_of, number_at, IsOpen}
 use Rattle.fe_format.specs.Layout.{IsImageLength}
@@ -19,7 +19,7 @@ pub data IsDamagedAt (image : List ℕ) (offset : ℕ) : Type 0 where
   -- an image length that the format does not allow, at its field
   OddImage : (slot : ℕ) (format : Format) → Counts image slot format → 1 ≤ generation_at image slot → (IsImageLength format (image_length_at image slot) → ⊥)
       → offset ≡ header_of slot + 16 → IsDamagedAt image offset
-  -- behind open groups, an open gate with a length that is not allowed or does not fit, at the gate
+  -- after open groups, an open gate with a length that is not allowed or does not fit, at the gate
   OddGroup : (slot : ℕ) (format : Format) (groups : List (List ℕ)) → Counts image slot format → 1 ≤ generation_at image slot → IsImageLength format (image_length_at image slot)
       → StandFrom format image (area_of slot) 0 groups → IsOpen image (area_of slot + end_of groups) → (Fits format (end_of groups) (number_at image (area_of slot + end_of groups + 1) 4) → ⊥)
       → offset ≡ area_of slot + end_of groups → IsDamagedAt image offset

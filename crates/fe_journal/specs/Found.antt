@@ -19,7 +19,7 @@ pub record IsFound {D : Type 0} (seen : D → List ℕ) (may_leave : D → List 
   pub start_is : found.groups.start ≡ area_of contents.slot
   pub from_the_first : found.groups.at ≡ 0
 
--- whatever the disk said: the groups that stand in the area read, up to the gate where the journal goes on
+-- whatever the disk said: the groups that are in the area read, up to the gate where the journal goes on
 pub record AreListed {D : Type 0} (found : Found D) : Type 0 where
   pub groups : List (List ℕ)
   pub lists : Lists found.groups groups

@@ -7,7 +7,7 @@ use Rattle.fe_journal.specs.Layout.{number_at, IsOpen, IsShut, area_bytes}
 use Rattle.fe_format.specs.Layout.{IsPayloadLength}
 use Rattle.fe_format.specs.declared.format.Format.{Format}
 
--- a payload of this length is allowed, and fits with its gate at `at` and one more gate behind it
+-- a payload of this length is allowed, and fits with its gate at `at` and one more gate after it
 pub record Fits (format : Format) (at n : ℕ) : Type 0 where
   pub allowed : IsPayloadLength format n
   pub within : at + 6 + n ≤ area_bytes
@@ -19,12 +19,12 @@ pub record IsGroup (format : Format) (bytes : List ℕ) (area at : ℕ) (payload
   pub fits : Fits format at (length payload)
   pub payload_is : bytes_at bytes (area + at + 5) (length payload) ≡ payload
 
--- these groups stand one behind the other, the gate of the first at `at`
+-- these groups stand one after the other, the gate of the first at `at`
 abbrev pub StandFrom : Format → List ℕ → ℕ → ℕ → List (List ℕ) → Type 0
 StandFrom format bytes area at [] = Unit {0}
 StandFrom format bytes area at (payload ∷ payloads) = IsGroup format bytes area at payload × StandFrom format bytes area (at + (5 + length payload)) payloads
 
--- how many bytes groups take: the offset of the gate behind them
+-- how many bytes groups take: the offset of the gate after them
 abbrev pub end_of : List (List ℕ) → ℕ
 end_of [] = 0
 end_of (payload ∷ payloads) = 5 + length payload + end_of payloads
@@ -34,7 +34,7 @@ pub record HoldsGroups (format : Format) (bytes : List ℕ) (area at : ℕ) (pay
   pub stand : StandFrom format bytes area at payloads
   pub ended : IsShut bytes (area + (at + end_of payloads))
 
--- what stands behind the gate of a group: its length, its payload, and the next gate, which is closed
+-- what follows the gate of a group: its length, its payload, and the next gate, which is closed
 abbrev pub behind_gate : List ℕ → List ℕ
 behind_gate payload = big_bytes 4 (length payload) ++ (payload ++ 0 ∷ [])
 

@@ -30,7 +30,7 @@ pub record IsReady {D : Type 0} (journal : JournalState D) : Type 0 where
   pub none_begun : journal.begun ≡ None
   pub works : journal.has_failed ≡ false
 
--- How a call of a journal ends that makes at most so many device calls: after a fault of the device the journal has failed, and a journal that had failed does nothing.
+-- How a call of a journal ends that makes at most this many device calls: after a fault of the device the journal has failed, and a journal that had failed does nothing.
 pub record Ends {D T : Type 0} (failures : D → ℕ) (calls : D → Calls) (honest : D → Type 0) (reads writes syncs : ℕ) (result : Result T JournalFault) (old new : JournalState D) : Type 0 where
   pub device : old.has_failed ≡ false → (IsErrOf result Device ↔ Rises (failures old.disk) (failures new.disk))
   pub still : OnOk result (failures new.disk ≡ failures old.disk)
@@ -61,7 +61,7 @@ pub record IsDraft (slot : ℕ) (draft : Draft) (image : List ℕ) : Type 0 wher
   pub bytes_are : bytes_at image (image_of slot) (length draft.bytes) ≡ draft.bytes
   pub within : length draft.bytes ≤ draft.image_length
 
--- an image that a stop leaves while the journal stands there: it holds the contents, and the gate of a slot begun is closed
+-- an image that a stop leaves while the journal is there: it holds the contents, and the gate of a slot begun is closed
 pub record IsLeft (c : Contents) (draft : Option Draft) (image : List ℕ) : Type 0 where
   pub holds : Holds c image
   pub shut : IsSome draft → IsShut image (gate_of (other_than c.slot))

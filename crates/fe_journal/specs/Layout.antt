@@ -7,7 +7,7 @@ use Rattle.fe_disk.specs.Disk.{bytes_at}
 abbrev pub header_bytes : ℕ
 header_bytes = 4096
 
--- where a slot's journal area begins, behind its header and the place of its image
+-- where a slot's journal area begins, after its header and the place of its image
 abbrev pub area_begin : ℕ
 area_begin = 1052672
 
@@ -19,7 +19,7 @@ area_bytes = 1048576
 abbrev pub slot_bytes : ℕ
 slot_bytes = 2101248
 
--- a device has two slots, one behind the other
+-- a device has two slots, one after the other
 abbrev pub device_bytes : ℕ
 device_bytes = 4202496
 

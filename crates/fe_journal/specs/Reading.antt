@@ -31,7 +31,7 @@ IsCounting first second (Some (slot, header)) =
     ((slot ≡ 0) × (first ≡ Some header) × ((other : Header) → second ≡ Some other → other.generation ≤ header.generation))
     ⊎ ((slot ≡ 1) × (second ≡ Some header) × ((other : Header) → first ≡ Some other → other.generation < header.generation))
 
--- the length behind the gate, where a group with it fits
+-- the length after the gate, where a group with it fits
 abbrev pub IsFitting : Format → List ℕ → ℕ → Option ℕ → Type 0
 IsFitting format bytes at None = Fits format at (number_at bytes (at + 1) 4) → ⊥
 IsFitting format bytes at (Some n) = (n ≡ number_at bytes (at + 1) 4) × Fits format at n
@@ -42,7 +42,7 @@ pub record Reaches (format : Format) (bytes : List ℕ) (at : ℕ) : Type 0 wher
   pub stand : StandFrom format bytes 0 0 groups
   pub at_is : at ≡ end_of groups
 
--- groups stand from the area's beginning to `at`, and behind an open gate there is no group
+-- groups stand from the area's beginning to `at`, and after an open gate there is no group
 pub record IsOddAt (format : Format) (bytes : List ℕ) (at : ℕ) : Type 0 where
   pub groups : List (List ℕ)
   pub stand : StandFrom format bytes 0 0 groups

@@ -38,7 +38,7 @@ pub record IsLeftInShutting (seen : List ℕ) (gate : ℕ) (image : List ℕ) : 
   pub torn : IsTorn gate 1 seen image
   pub opens_none : IsOpen image gate → IsOpen seen gate
 
--- which calls a gate is closed with, and so many writes after that: a read, and where it was open a write and a sync
+-- which calls a gate is closed with, and this many writes after that: a read, and where it was open a write and a sync
 pub record Shuts (seen : List ℕ) (gate writes : ℕ) (before now : Calls) : Type 0 where
   pub opened : IsOpen seen gate → MakesJust 1 (writes + 1) 1 before now
   pub closed : IsShut seen gate → MakesJust 1 writes 0 before now

@@ -29,7 +29,7 @@ impl<D: Disk> Journal<D> {
         ensures formatted { D.honest disk
             → IfOk result (λ journal. Keeps D.seen D.may_leave journal (first_contents Two) None) }
 
-        // Over any disk: a journal that stands at the beginning.
+        // Over any disk: a journal that is at the beginning.
         ensures value { IfOk result (λ journal. journal ≡ new_journal Two journal.disk) }
         ensures ends { Formats D.size D.failures D.calls D.honest (told result) disk (disk_left result) }
     {
@@ -41,7 +41,7 @@ impl<D: Disk> Journal<D> {
         ensures formatted { D.honest disk
             → IfOk result (λ journal. Keeps D.seen D.may_leave journal (first_contents format) None) }
 
-        // Over any disk: a journal that stands at the beginning.
+        // Over any disk: a journal that is at the beginning.
         ensures value { IfOk result (λ journal. journal ≡ new_journal format journal.disk) }
         ensures ends { Formats D.size D.failures D.calls D.honest (told result) disk (disk_left result) }
     {

@@ -47,7 +47,7 @@ impl<D: Disk> Model for Journal<D> {
 }
 
 impl<D: Disk> Journal<D> {
-    // A journal that stands behind the groups of an opened or new store.
+    // A journal that comes after the groups of an opened or new store.
     pub(crate) fn opened(
         disk: D,
         buffer: Vec<u8>,

@@ -4,7 +4,7 @@ ghost use Rattle.fe_journal.specs.Layout.{header_of, gate_of, image_of, area_of}
 /// The bytes of a slot's header area, whose last one is the gate (`docs/formats.md`, "Device").
 pub const HEADER_BYTES: usize = 4_096;
 
-/// Where a slot's journal area begins in it, behind the header and the place of the image.
+/// Where a slot's journal area begins in it, after the header and the place of the image.
 const AREA_BEGIN: usize = 1_052_672;
 
 /// The bytes of a slot's journal area.

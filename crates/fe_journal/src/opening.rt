@@ -35,7 +35,7 @@ impl<D: Disk> Journal<D> {
         ensures found { D.honest disk → IfOk result (IsFound D.seen D.may_leave (D.seen disk)) }
         ensures refused { D.honest disk → IfErr result (λ e. TellsFound e.0 (D.seen disk)) }
 
-        // An unformatted store is told so, whatever memory there is.
+        // An unformatted store is reported as such, however much memory there is.
         ensures unformatted { D.honest disk → IsUnformatted (D.seen disk)
             → IsErrAnd result (λ e. (e.0 ≡ Unformatted) ⊎ (e.0 ≡ Device)) }
 

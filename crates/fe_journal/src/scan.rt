@@ -26,7 +26,7 @@ pub fn scan(area: &[u8], format: Format) -> Result<usize, usize>
     Ok(at)
 }
 
-// The length behind an open gate, where it is allowed and fits with a gate behind it.
+// The length after an open gate, where it is allowed and fits with a gate after it.
 fn payload_length(area: &[u8], at: usize, format: Format) -> Option<usize>
     requires area { length area.now ≡ area_bytes }
     requires within { at < area_bytes }

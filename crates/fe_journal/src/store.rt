@@ -145,7 +145,7 @@ fn check_header(slot: usize, header: &Header) -> Result<(), StoreFault>
     Ok(())
 }
 
-// So many bytes of the device.
+// This many bytes of the device.
 fn read_bytes<D: Disk>(
     alloc: Global,
     disk: &mut D,

@@ -1,4 +1,4 @@
--- How many mails stand in all boxes, after each change of the connections.
+-- How many mails are in all boxes, after each change of the connections.
 use Rattle.std.proofs.Common.{◌≡◌, ℕ, ◌+◌, List, [], ◌∷◌, ◌++◌, length, drop, slice_get, Option, Some, None, IsSome, is_some, true≢false, refl, sym, ap, ◌∙◌, arith, length-append}
 use Rattle.std.specs.Option.{option_map_or}
 use Rattle.std.specs.Ordering.{nat_cmp}
@@ -41,7 +41,7 @@ module _ (m : FinMap nat_cmp Connection) (conn : ℕ) where
       by None is = absurd (true≢false (sym there ∙ ap is_some is))
       by (Some c) is = rw (with_mails-at m conn c is, mails_on-at m conn c is) (total_replaced count m conn (record { session = c.session; mails = mails }) c is)
 
-  -- one more mail stands in a box
+  -- one more mail is in a box
   pub mails_in-put : (mail : Mail) → IsSome (get m conn) → mails_in (with_mails m conn (mails_on m conn ++ mail ∷ [])) ≡ mails_in m + 1
   mails_in-put mail there = omega (arith, mails_in-with_mails (mails_on m conn ++ mail ∷ []) there, length-append (mails_on m conn) (mail ∷ []))
 

@@ -3,7 +3,7 @@ use Rattle.std.specs.Prelude.{◌≡◌, ℕ, ◌+◌, ◌-◌, ◌^◌, ◌≤�
 use Rattle.std.specs.Coded.{Coded, code_by, coded×, coded_ℕ, coded_bool}
 
 -- Of the calls, those completed, waiting, withdrawn, repeated and refused; of the mails, those taken, dropped and
--- left. Books that are spent stand still.
+-- left. Books that are spent stay as they are.
 pub record Books : Type 0 where
   pub calls : ℕ
   pub completed : ℕ
@@ -22,14 +22,14 @@ abbrev pub books_code : Coded Books
 books_code =
     code_by (ℕ × (ℕ × (ℕ × (ℕ × (ℕ × (ℕ × (ℕ × (ℕ × (ℕ × (ℕ × Bool)))))))))) (coded× coded_ℕ (coded× coded_ℕ (coded× coded_ℕ (coded× coded_ℕ (coded× coded_ℕ (coded× coded_ℕ (coded× coded_ℕ (coded× coded_ℕ (coded× coded_ℕ (coded× coded_ℕ coded_bool)))))))))) (λ b. (b.calls, (b.completed, (b.waiting, (b.withdrawn, (b.repeated, (b.refused, (b.mails, (b.taken, (b.dropped, (b.left, b.spent))))))))))) (λ p. record { calls = p.0; completed = p.1.0; waiting = p.1.1.0; withdrawn = p.1.1.1.0; repeated = p.1.1.1.1.0; refused = p.1.1.1.1.1.0; mails = p.1.1.1.1.1.1.0; taken = p.1.1.1.1.1.1.1.0; dropped = p.1.1.1.1.1.1.1.1.0; left = p.1.1.1.1.1.1.1.1.1.0; spent = p.1.1.1.1.1.1.1.1.1.1 }) (λ _. refl)
 
--- what is always true of books, spent or not: each call stands in one column, and so does each mail
+-- what is always true of books, spent or not: each call is in one column, and so is each mail
 pub record AddUp (b : Books) : Type 0 where
   pub calls : b.calls ≡ b.completed + b.waiting + b.withdrawn + b.repeated + b.refused
   pub mails : b.mails ≡ b.taken + b.dropped + b.left
   pub few_calls : b.calls ≤ 2 ^ 63 - 1
   pub few_mails : b.mails ≤ 2 ^ 63 - 1
 
--- books that balance where so many calls wait and so many mails stand in boxes
+-- books that balance where this many calls wait and this many mails are in boxes
 pub record Balances (b : Books) (waiting left : ℕ) : Type 0 where
   pub columns : AddUp b
   pub waiting_is : b.spent ≡ false → b.waiting ≡ waiting
@@ -41,12 +41,12 @@ first_books =
     record { calls = 0; completed = 0; waiting = 0; withdrawn = 0; repeated = 0; refused = 0; mails = 0; taken = 0; dropped = 0; left = 0; spent = false }
 
 -- books after a call or a mail, where `count` is how many of its kind there were: they are as counted where there is
--- room for one more, and spent where there is not; spent books stand still
+-- room for one more, and spent where there is not; spent books stay as they are
 abbrev pub counting : Books → ℕ → Books → Books
 counting b count counted =
     if b.spent then b else if nat_lt count (2 ^ 63 - 1) then counted else record b { spent = true }
 
--- books after calls or mails went from one column to another; spent books stand still
+-- books after calls or mails went from one column to another; spent books stay as they are
 abbrev pub moving : Books → Books → Books
 moving b moved = if b.spent then b else moved
 
@@ -71,12 +71,12 @@ abbrev pub waiter_completed : Books → Books
 waiter_completed b =
     let k = min 1 b.waiting in moving b (record b { waiting = b.waiting - k; completed = b.completed + k })
 
--- so many calls that waited were withdrawn, and no more than wait
+-- this many calls that waited were withdrawn, and no more than wait
 abbrev pub waiters_withdrawn : ℕ → Books → Books
 waiters_withdrawn n b =
     let k = min n b.waiting in moving b (record b { waiting = b.waiting - k; withdrawn = b.withdrawn + k })
 
--- one more mail, which stands in a box
+-- one more mail, which is in a box
 abbrev pub mail_boxed : Books → Books
 mail_boxed b = counting b b.mails (record b { mails = b.mails + 1; left = b.left + 1 })
 
@@ -89,7 +89,7 @@ abbrev pub mail_taken : Books → Books
 mail_taken b =
     let k = min 1 b.left in moving b (record b { left = b.left - k; taken = b.taken + k })
 
--- a box with so many mails was dropped, and no more than are left
+-- a box with this many mails was dropped, and no more than are left
 abbrev pub box_dropped : ℕ → Books → Books
 box_dropped n b =
     let k = min n b.left in moving b (record b { left = b.left - k; dropped = b.dropped + k })

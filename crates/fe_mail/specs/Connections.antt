@@ -1,4 +1,4 @@
--- The connections with their sessions and boxes, and how many mails stand in all boxes.
+-- The connections with their sessions and boxes, and how many mails are in all boxes.
 use Rattle.std.specs.Prelude.{ℕ, List, [], length, Option, None, option_and_then}
 use Rattle.std.specs.Option.{option_map_or}
 use Rattle.std.specs.Ordering.{nat_cmp}
@@ -29,6 +29,6 @@ abbrev pub with_mails : FinMap nat_cmp Connection → ℕ → List Mail → FinM
 with_mails m conn mails =
     option_map_or (λ c. insert m conn (record { session = c.session; mails = mails })) (get m conn) m
 
--- how many mails stand in all boxes together
+-- how many mails are in all boxes together
 abbrev pub mails_in : FinMap nat_cmp Connection → ℕ
 mails_in m = total (λ c. length c.mails) m

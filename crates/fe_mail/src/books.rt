@@ -36,7 +36,19 @@ impl Model for Books {
 
     ghost invariant = { λ a. AddUp (books_of a) };
 
-    ghost inverse = { λ b. record { calls = b.calls; completed = b.completed; waiting = b.waiting; withdrawn = b.withdrawn; repeated = b.repeated; refused = b.refused; mails = b.mails; taken = b.taken; dropped = b.dropped; left = b.left; spent = b.spent } };
+    ghost inverse = { λ b. record {
+      calls = b.calls;
+      completed = b.completed;
+      waiting = b.waiting;
+      withdrawn = b.withdrawn;
+      repeated = b.repeated;
+      refused = b.refused;
+      mails = b.mails;
+      taken = b.taken;
+      dropped = b.dropped;
+      left = b.left;
+      spent = b.spent;
+    } };
 }
 
 impl Books {
@@ -116,7 +128,7 @@ impl Books {
         }
     }
 
-    /// So many calls that waited were withdrawn, and no more than wait.
+    /// This many calls that waited were withdrawn, and no more than wait.
     pub fn waiters_withdrawn(&mut self, n: u32)
         ensures books { self.new ≡ waiters_withdrawn n self.old }
         ensures balance { (waiting left : ℕ) → Balances self.old (waiting + n) left → Balances self.new waiting left }

@@ -1,4 +1,4 @@
--- Where a node stands in a list, and lists in which none stands twice.
+-- Where a node is in a list, and lists in which none is there twice.
 use Rattle.std.proofs.Common.{◌≡◌, ◌≢◌, ℕ, zero, suc, ◌<◌, ◌≤◌, ◌⊎◌, List, [], ◌∷◌, ◌++◌, length, get_or, true, false, eqb, Option, Some, refl, sym, ap, inl, inr, arith, subst, true≢false}
 use Rattle.std.specs.Prelude.{Contains, AllPairs}
 use Rattle.std.specs.List.{last_or, list_any, IsDistinct, AllByRecursion}
@@ -10,7 +10,7 @@ use Rattle.std.proofs.lemmas.Bool.Decides.{Decides-eqb}
 use Rattle.fe_pool.specs.Pool.{first_or, without}
 use Rattle.fe_pool.specs.within.Runs.{IsAmong, AllDifferent}
 
--- a node stands in a list or does not
+-- a node is in a list or is not
 pub among_cases : (n : ℕ) (xs : List ℕ) → IsAmong n xs ⊎ (IsAmong n xs → ⊥)
 among_cases n [] = inr (λ i. i)
 among_cases n (x ∷ xs) =
@@ -61,7 +61,7 @@ among-Contains n xs (k, within, same) = by_index xs k within same
     by_index (x ∷ xs) zero within same = inl (sym same)
     by_index (x ∷ xs) (suc k) within same = inr (by_index xs k (omega arith) same)
 
--- the last of a list stands in it
+-- the last of a list is in it
 pub last-among : (x : ℕ) (xs : List ℕ) (l : ℕ) → last_or (Some x) xs ≡ Some l → IsAmong l (x ∷ xs)
 last-among x [] l e = inl (sym (cc))
 last-among x (y ∷ ys) l e = inr (last-among y ys l e)
@@ -118,7 +118,7 @@ distinct (x ∷ xs) d = IsDistinct-cons eqb x xs (others xs d.0) (distinct xs d.
 pub all_pairs : (xs : List ℕ) → AllDifferent xs → AllPairs (λ a b. a ≢ b) xs
 all_pairs xs d = AllPairs-from_IsDistinct Decides-eqb xs (distinct xs d)
 
--- so many different numbers below a bound are at most as many as it
+-- this many different numbers below a bound are at most as many as it
 pub length-le_bound : (xs : List ℕ) (bound : ℕ) → AllDifferent xs → ((n : ℕ) → IsAmong n xs → n < bound) → length xs ≤ bound
 length-le_bound xs bound d below = length-le_from_distinct_below xs bound (distinct xs d) (λ q e. below q (found q xs e))
   where

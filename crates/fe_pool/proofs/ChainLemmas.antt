@@ -145,7 +145,7 @@ module _ {T : Type 0} (c : Columns T) (first : Option ℕ) (pool : IsPool c firs
       relinks = subst (λ old. Relinks (links_of c family) (unlinked (links_of c family) (last_or None xs) (first_or None ys) n) old (xs ++ ys) n) (sym split) (unlink-relinks (links_of c family) xs ys n split-whole);
     }
 
-    -- the nodes before and behind have neighbours throughout
+    -- the nodes before and after have neighbours throughout
     pub unlink-previous : (previous : Option ℕ) → previous ≡ last_or None xs → (x : ℕ) → previous ≡ Some x → IsLinked c family x
     unlink-previous previous p x e = split-member x (among-append_left x xs (n ∷ ys) (last_among xs x (sym p ∙ e)))
 

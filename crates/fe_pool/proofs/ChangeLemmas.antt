@@ -18,7 +18,7 @@ pub length-with_previous : (links : List Link) (at previous : Option ℕ) → le
 length-with_previous links None previous = refl
 length-with_previous links (Some a) previous = length-set links a _
 
--- the first of a list stands in it, and so does the last
+-- the first of a list is in it, and so is the last
 pub first_among : (xs : List ℕ) (m : ℕ) → first_or None xs ≡ Some m → IsAmong m xs
 first_among [] m e = cc
 first_among (x ∷ xs) m e = inl (cc)
@@ -27,7 +27,7 @@ pub last_among : (xs : List ℕ) (m : ℕ) → last_or None xs ≡ Some m → Is
 last_among [] m e = cc
 last_among (x ∷ xs) m e = last-among x xs m e
 
--- the neighbours once the node stands at the end of the list
+-- the neighbours once the node is at the end of the list
 abbrev pub pushed : List Link → List ℕ → ℕ → List Link
 pushed links xs n = with_next (set links n (Some (record { previous = last_or None xs; next = None }))) (last_or None xs) (Some n)
 

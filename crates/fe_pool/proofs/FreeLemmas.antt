@@ -169,7 +169,7 @@ none_listed n m v found = none_some (sym (replicate-at n m None) ∙ found)
     none_some : {P : Type 0} → None ≡ Some v → P
     none_some e = cc
 
--- so many free nodes are a pool
+-- this many free nodes are a pool
 pub pool-made : {T : Type 0} (c : Columns T) (n : ℕ) (first : Option ℕ) → n < 2 ^ 32 → c.items ≡ replicate n None → c.followers ≡ before_each n → c.of_word ≡ replicate n None → c.of_session ≡ replicate n None → first ≡ place_before n → IsPool c first
 pool-made c n first fits items followers of_word of_session e =
     let sized : length c.items ≡ n = ap length items ∙ length-replicate n None in
@@ -197,7 +197,7 @@ lists-replicate n =
     ext_get_or [] (lists (replicate n None)) (replicate n []) (length-lists (replicate n None) ∙ length-replicate n None ∙ sym (length-replicate n []))
     (λ k below. lists-none n k ∙ sym (replicate-at n k []))
 
--- the last of so many nodes
+-- the last of this many nodes
 pub place_before-none : (n : ℕ) → n ≡ 0 → place_before n ≡ None
 place_before-none zero e = refl
 place_before-none (suc n) e = absurd (omega arith)

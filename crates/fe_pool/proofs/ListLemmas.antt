@@ -48,7 +48,7 @@ pub list_from-whole : (links : List Link) (xs : List ℕ) → IsWhole links xs �
 list_from-whole links [] r = refl
 list_from-whole links (x ∷ xs) r = lists-begun links x xs r
 
--- each list is whole, and stands at its first node
+-- each list is whole, and is at its first node
 pub record IsListAt (links : List Link) (place : ℕ) : Type 0 where
   pub whole : IsWhole links (get_or (lists links) place [])
   pub begins : (node : ℕ) → first_or None (get_or (lists links) place []) ≡ Some node → node ≡ place
@@ -94,7 +94,7 @@ pub list_from_is_whole : (links : List Link) → AllListed links → (first : Op
 list_from_is_whole links listed None = tt
 list_from_is_whole links listed (Some place) = (list_at links listed place).whole
 
--- a node with neighbours stands on one of the lists
+-- a node with neighbours is on one of the lists
 pub linked_is_on : (links : List Link) → AllListed links → (n : ℕ) (v : Neighbours) → link_at links n ≡ Some v → (first : ℕ) × IsAmong n (get_or (lists links) first [])
 linked_is_on links listed n v found = let list = listed n v found in at_first list.0 list.1 list.2
   where
@@ -126,7 +126,7 @@ module _ (links links' : List Link) (old new : List ℕ) (node : ℕ) (re : Reli
       (λ m i. re.kept m (off m i) (λ same. let i' = subst (λ k. IsAmong k xs) same i in off node i' (re.only xs r i')))
       r
 
-  -- each node with neighbours still stands on a whole list
+  -- each node with neighbours still is on a whole list
   pub relinks-listed : AllListed links → AllListed links'
   relinks-listed listed m v found =
       elim (among_cases m new) as (λ _. (nodes : List ℕ) × IsWhole links' nodes × IsAmong m nodes) [

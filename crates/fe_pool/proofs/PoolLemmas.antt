@@ -151,7 +151,7 @@ module _ {T : Type 0} (c : Columns T) (first : Option ℕ) (pool : IsPool c firs
   pub on-linked : IsOn (contents c) family n → IsSome (link_at (links_of c family) n)
   on-linked on = let found = pool-on c first pool family n on in ap is_some found.1
 
-  -- the next node is the one behind it on each list
+  -- the next node is the one after it on each list
   pub pool-next : IsNext (contents c) family n (next_of (link_at (links_of c family) n))
   pool-next first before after e =
       let whole = subst (IsWhole (links_of c family)) (sym (ap (λ ls. list_from ls first) (lists_of-contents c family)) ∙ e) (list_from_is_whole (links_of c family) (pool-listed c _ pool family) first) in

@@ -122,7 +122,7 @@ module _ {T : Type 0} (p p' : Contents T) (family : Family) (links links' : List
         subst (λ ls. IsOnOne ls m) (sym e) (among_on (lists links) m stood),
   )
 
-  -- a node that has left the list stands on none
+  -- a node that has left the list is on none
   pub changed-off : (IsAmong node new → ⊥) → IsOff p' family node
   changed-off off on =
       let found = on_is_linked links' (relinks-listed links links' old new node re listed) node _ (on_among (lists links') node (subst (λ ls. IsOnOne ls node) e' on)).1 in

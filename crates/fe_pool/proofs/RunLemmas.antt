@@ -46,14 +46,14 @@ run-linked links p [] q n r i = absurd i
 run-linked links p (x ∷ xs) q n r (inl same) = (record { previous = p; next = first_or q xs }, ap (link_at links) same ∙ r.0)
 run-linked links p (x ∷ xs) q n r (inr i) = run-linked links (Some x) xs q n r.1 i
 
--- behind the first node each has one before it, on the list
+-- after the first node each has one before it, on the list
 pub run-back : (links : List Link) (p : Option ℕ) (x : ℕ) (xs : List ℕ) (q : Option ℕ) (n : ℕ) → IsRun links p (x ∷ xs) q → IsAmong n xs → (m : ℕ) × IsAmong m (x ∷ xs) × (previous_of (link_at links n) ≡ Some m)
 run-back links p x [] q n r i = absurd i
 run-back links p x (y ∷ ys) q n r (inl same) = (x, inl refl, ap (λ m. previous_of (link_at links m)) same ∙ ap previous_of r.1.0)
 run-back links p x (y ∷ ys) q n r (inr i) =
     let rest = run-back links (Some x) y ys q n r.1 i in (rest.0, inr rest.1, rest.2)
 
--- no node stands twice on a list that no node of it comes before
+-- no node is there twice on a list that no node of it comes before
 pub run-different : (links : List Link) (p : Option ℕ) (xs : List ℕ) (q : Option ℕ) → IsRun links p xs q → ((m : ℕ) → p ≡ Some m → IsAmong m xs → ⊥) → AllDifferent xs
 run-different links p [] q r before = tt
 run-different links p (x ∷ xs) q r before = (off, run-different links (Some x) xs q r.1 after)
@@ -94,7 +94,7 @@ whole-first links (y ∷ ys) n r (inr i) e = let back = run-back links None y ys
     clash : {m : ℕ} → None ≡ Some m → ⊥
     clash e = cc
 
--- a whole list that has a node behind another has the other too
+-- a whole list that has a node after another has the other too
 pub whole-reaches : (links : List Link) (w : ℕ) (zs : List ℕ) (q : Option ℕ) (n : ℕ) (ys : List ℕ) → IsRun links (Some w) zs q → IsAmong n zs → IsWhole links ys → IsAmong n ys → IsAmong w ys
 whole-reaches links w [] q n ys r i whole j = absurd i
 whole-reaches links w (z ∷ zs) q n ys r (inl same) whole j = whole-previous links ys n w whole j (ap (λ k. previous_of (link_at links k)) same ∙ ap previous_of r.0)
@@ -134,7 +134,7 @@ run_from-run links p (x ∷ xs) zero r fits = absurd (omega arith)
 run_from-run links p (x ∷ xs) (suc steps) r fits =
     ap (λ ys. x ∷ ys) (ap (run_from links steps) (ap next_of r.0) ∙ run_from-run links (Some x) xs steps r.1 (omega arith))
 
--- the last node of a list is given another one behind it
+-- the last node of a list is given another one after it
 pub run-with_next_at : (links : List Link) (p : Option ℕ) (x : ℕ) (xs : List ℕ) (q : Option ℕ) (l : ℕ) (next : Option ℕ) → last_or (Some x) xs ≡ Some l → AllDifferent (x ∷ xs) → IsRun links p (x ∷ xs) q → IsRun (with_next links (Some l) next) p (x ∷ xs) next
 run-with_next_at links p x [] q l next e d r =
     let same : x ≡ l = cc in

@@ -1,4 +1,4 @@
--- The columns of so many free nodes.
+-- The columns of this many free nodes.
 use Rattle.std.proofs.Common.{◌≡◌, ◌≤◌, subst, ℕ, zero, suc, ◌+◌, List, [], ◌∷◌, ◌++◌, map, Option, Some, None, replicate, refl, ap, ◌∙◌, add-one}
 use Rattle.std.proofs.Math.Nat.{le_antisymm}
 use Rattle.std.proofs.lemmas.List.{map-append}
@@ -7,7 +7,7 @@ use Rattle.fe_pool.specs.declared.places.Place.TheVariants.{Free}
 use Rattle.fe_pool.specs.Columns.{Columns, before_each, place_before}
 use Rattle.fe_pool.specs.within.Places.{item_of, follower_of, word_link_of, session_link_of, columns_of}
 
--- so many free nodes stand in the columns, and `before` is the last of them
+-- this many free nodes are in the columns, and `before` is the last of them
 pub record IsMade {T : Type 0} (c : Columns T) (count : ℕ) (before : Option ℕ) : Type 0 where
   pub items : c.items ≡ replicate count None
   pub of_word : c.of_word ≡ replicate count None

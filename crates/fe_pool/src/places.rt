@@ -57,7 +57,7 @@ impl<T> Model for Places<T> {
 }
 
 impl<T: Drop> Places<T> {
-    // So many free nodes, each followed by the one before it.
+    // This many free nodes, each followed by the one before it.
     pub(crate) fn with_count(alloc: Global, count: u32) -> Result<Places<T>, AllocError>
         ensures items { IfOk result (λ p. p.items ≡ replicate count None) }
         ensures of_word { IfOk result (λ p. p.of_word ≡ replicate count None) }
@@ -85,7 +85,11 @@ impl<T: Drop> Places<T> {
         requires within { node < length self.old.items }
         requires free { slice_index_or self.old.items node None ≡ None }
         ensures follower { result ≡ slice_index_or self.old.followers node None }
-        ensures after { self.new ≡ record self.old { items = slice_set self.old.items node (Some item); followers = slice_set self.old.followers node None } }
+        ensures after { self.new
+            ≡ record self.old {
+              items = slice_set self.old.items node (Some item);
+              followers = slice_set self.old.followers node None;
+            } }
     {
         let entry = Entry {
             item,
@@ -103,7 +107,11 @@ impl<T: Drop> Places<T> {
         requires taken { IsSome (slice_index_or self.old.items node None) }
         requires loose { IsLoose self.old node }
         ensures item { slice_index_or self.old.items node None ≡ Some result }
-        ensures after { self.new ≡ record self.old { items = slice_set self.old.items node None; followers = slice_set self.old.followers node follower } }
+        ensures after { self.new
+            ≡ record self.old {
+              items = slice_set self.old.items node None;
+              followers = slice_set self.old.followers node follower;
+            } }
     {
         match mem::replace(&mut self.places[node.place()], Place::Free(follower)) {
             Place::Taken(entry) => entry.item,

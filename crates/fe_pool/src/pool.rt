@@ -62,7 +62,8 @@ impl<T: Drop> Pool<T> {
         ensures full { IsNone result ↔ ((node : ℕ) → ¬ (IsFree self.old node)) }
         ensures was_free { IfSome result (IsFree self.old) }
         ensures off { IfSome result (λ node. (family : _) → IsOff self.old family node) }
-        ensures taken { IfSome result (λ node. self.new ≡ record self.old { items = slice_set self.old.items node (Some item) }) }
+        ensures taken { IfSome result
+            (λ node. self.new ≡ record self.old { items = slice_set self.old.items node (Some item) }) }
         ensures unchanged { IfNone result (self.new ≡ self.old) }
         ensures sound { IsSound self.new }
     {

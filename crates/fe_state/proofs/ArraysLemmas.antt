@@ -1,4 +1,4 @@
--- The order of creation: where an id stands in it, and what it is after one more.
+-- The order of creation: where an id is in it, and what it is after one more.
 use Rattle.std.proofs.Common.{◌≡◌, ℕ, zero, suc, ◌+◌, ◌<◌, ◌≤◌, true, false, List, [], ◌∷◌, length, take, map, nat_eq, position, slice_get, Option, Some, None, IsSome, is_some, true≢false, eqb-true, refl, sym, ap, subst, ◌∙◌, arith, add-one}
 use Rattle.std.proofs.lemmas.List.{length-map, get_or-map, map-append}
 use Rattle.std.proofs.lemmas.List.Quantifiers.{position-Some}
@@ -30,7 +30,7 @@ module _ {X : Type 0} (m : FinMap nat_cmp X) where
     get_missed : false ≡ list_any (nat_eq id) ids → get m id ≡ None
     get_missed missed = is_none _ (sym (missed ∙ found_by))
 
-    -- one that it finds stands in the table where the set says
+    -- one that it finds is in the table where the set says
     at_place : (place : ℕ) → Some place ≡ position (nat_eq id) ids → IsAt (entries m) id place
     at_place place found =
         let seen = position-Some (nat_eq id) (keys m) place id (sym (found ∙ ap (position (nat_eq id)) order)) in

@@ -74,7 +74,7 @@ put_words m id index w a is = omega (arith, total_replaced size_of m id (with_wo
 
 -- ---- names
 
--- an entry behind a key has a greater one
+-- an entry after a key has a greater one
 below_found : (x q : ℕ) (a : Array) (es : List (ℕ × Array)) → T (below_all nat_cmp x es) → map.find nat_cmp q es ≡ Some a → x < q
 below_found x q a [] h is = cc
 below_found x q a (e ∷ es) h is = by (nat_cmp x e.0) (nat_cmp q e.0) refl refl h is (λ b f. below_found x q a es b f)

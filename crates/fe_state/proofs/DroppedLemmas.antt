@@ -68,7 +68,7 @@ answers_room l undos dropped h more = omega (arith, h.paired, h.dropped_room, pa
 pub dropped_length : (floor end : ℕ) (before after : FinMap nat_cmp Kept) (old new : List Dropped) (h : WereDropped floor end before after old new) → length new ≡ length old + length h.answers
 dropped_length floor end before after old new h = ap length h.added ∙ length-append old (reverse h.answers) ∙ ap (λ n. length old + n) (length-reverse h.answers)
 
--- with the latest first, what was dropped stands at the head
+-- with the latest first, what was dropped is at the head
 pub dropped_first : (floor end : ℕ) (before after : FinMap nat_cmp Kept) (old new : List Dropped) (h : WereDropped floor end before after old new) → reverse new ≡ h.answers ++ reverse old
 dropped_first floor end before after old new h = ap reverse h.added ∙ reverse-append old (reverse h.answers) ∙ ap (λ ds. ds ++ reverse old) (reverse-reverse h.answers)
 

@@ -17,7 +17,7 @@ abbrev pub keeping_all : FinMap nat_cmp Kept → List Dropped → FinMap nat_cmp
 keeping_all m [] = m
 keeping_all m (d ∷ ds) = keeping_all (insert m d.number d.kept) ds
 
--- a session with another floor that keeps so many of the dropped answers again
+-- a session with another floor that keeps this many of the dropped answers again
 abbrev pub kept_again : Session → ℕ → ℕ → List Dropped → Session
 kept_again s floor answers dropped = record { floor = floor; kept = keeping_all s.kept (take answers dropped) }
 
@@ -41,7 +41,7 @@ pub record MayReopen (floor answers : ℕ) (dropped : List Dropped) (sessions : 
   pub free : get sessions session ≡ None
   pub few : len sessions < SESSIONS
 
--- what was dropped for the numbers from a floor on and below an end came behind what had been dropped, and
+-- what was dropped for the numbers from a floor on and below an end came after what had been dropped, and
 -- brings back what was kept before
 pub record WereDropped (floor end : ℕ) (before after : FinMap nat_cmp Kept) (old new : List Dropped) : Type 0 where
   -- the latest first

@@ -1,4 +1,4 @@
--- A name's bytes in a row of fixed length, with zeros behind them.
+-- A name's bytes in a row of fixed length, with zeros after them.
 use Rattle.std.specs.Prelude.{◌≡◌, ℕ, ◌≤◌, ◌-◌, ◌++◌, List, length, take, drop, replicate}
 use Rattle.std.proofs.Common.{arith, sym, ap, ◌∙◌, take-append-drop, length-take-le}
 use Rattle.fe_state.specs.declared.bounds.TheConstants.{NAME_BYTES}
@@ -7,7 +7,7 @@ use Rattle.fe_state.specs.declared.bounds.TheConstants.{NAME_BYTES}
 abbrev pub padded : ℕ → List ℕ → List ℕ
 padded n bytes = bytes ++ replicate (n - length bytes) 0
 
--- a front of the cells with zeros behind it gives the cells back
+-- a front of the cells with zeros after it gives the cells back
 pub padded-take : (n : ℕ) (cells : List ℕ) → (n ≤ NAME_BYTES) × (length cells ≡ NAME_BYTES) × (drop n cells ≡ replicate (NAME_BYTES - n) 0) → (length (take n cells) ≡ n) × (padded NAME_BYTES (take n cells) ≡ cells)
 padded-take n cells h =
     let long : length (take n cells) ≡ n = length-take-le n cells (omega (arith, h.0, h.1)) in

@@ -47,7 +47,7 @@ answers_of _ = 0
 abbrev pub with_room : Undo → ℕ
 with_room u = min WINDOW (answers_of u.session_change)
 
--- what is always true of a log whose memory has room for so many entries and so many dropped answers
+-- what is always true of a log whose memory has room for this many entries and this many dropped answers
 pub record HasMemory (l : UndoLog) (undos dropped : ℕ) : Type 0 where
   -- there are no more entries than the room
   pub few : length l.undos ≤ l.room

@@ -41,7 +41,8 @@ impl Model for Directory {
 
     ghost view = { λ a. record { arrays = a.arrays; next_id = a.next_id } };
 
-    ghost invariant = { λ a. IsDirectory (record { arrays = a.arrays; next_id = a.next_id }) × (a.words ≡ word_count a.arrays) };
+    ghost invariant = { λ a. IsDirectory (record { arrays = a.arrays; next_id = a.next_id })
+        × (a.words ≡ word_count a.arrays) };
 }
 
 impl Directory {
@@ -320,7 +321,11 @@ impl Directory {
     /// Adds an array of an image, its words empty and of value 0. The one error is that memory is short.
     pub fn load_array(&mut self, id: u64, name: Name, length: u32) -> Result<(), AllocError>
         requires { MayCome self.old id (new_array name length Tag.Empty) }
-        ensures loaded { OnOk result (self.new ≡ record { arrays = insert self.old.arrays id (new_array name length Tag.Empty); next_id = self.old.next_id }) }
+        ensures loaded { OnOk result (self.new
+            ≡ record {
+              arrays = insert self.old.arrays id (new_array name length Tag.Empty);
+              next_id = self.old.next_id;
+            }) }
         ensures unchanged { OnErr result (self.new ≡ self.old) }
     {
         let words = Words::new(self.alloc, length, Tag::Empty)?;
@@ -331,7 +336,10 @@ impl Directory {
     /// Puts a word in the place of the one at an index of an array. It takes no memory.
     pub fn load_word(&mut self, array: u64, index: u32, word: Word)
         requires { IsSome (word_in (get self.old.arrays array) index) }
-        ensures { self.new ≡ record { arrays = put_word self.old.arrays array index word (get self.old.arrays array); next_id = self.old.next_id } }
+        ensures { self.new ≡ record {
+          arrays = put_word self.old.arrays array index word (get self.old.arrays array);
+          next_id = self.old.next_id;
+        } }
     {
         self.arrays.get_mut(array).words.set(index, word);
     }

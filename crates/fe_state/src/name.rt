@@ -22,7 +22,8 @@ impl Model for Name {
 
     ghost view = { λ a. take a.len a.cells };
 
-    ghost invariant = { λ a. (a.len ≤ NAME_BYTES) × (length a.cells ≡ NAME_BYTES) × (drop a.len a.cells ≡ replicate (NAME_BYTES - a.len) 0) };
+    ghost invariant = { λ a. (a.len ≤ NAME_BYTES) × (length a.cells ≡ NAME_BYTES)
+        × (drop a.len a.cells ≡ replicate (NAME_BYTES - a.len) 0) };
 
     ghost inverse = { λ bytes. record { len = length bytes; cells = padded NAME_BYTES bytes } };
 

@@ -101,7 +101,8 @@ impl Session {
     /// The first number from one of the window on for which something is kept, with that.
     pub(crate) fn first_kept(&self, from: u64) -> Option<(u64, &Kept)>
         requires { self.now.floor ≤ from }
-        ensures first { IfSome result (λ x. answers_from self.now from ≡ shown_entry x ∷ answers_from self.now (x.0 + 1)) }
+        ensures first { IfSome result
+            (λ x. answers_from self.now from ≡ shown_entry x ∷ answers_from self.now (x.0 + 1)) }
         ensures least { IfSome result (λ x. from ≤ x.0) }
         ensures most { IfSome result (λ x. x.0 < 2 ^ 63) }
         ensures none { IfNone result (answers_from self.now from ≡ []) }

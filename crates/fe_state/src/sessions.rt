@@ -122,7 +122,8 @@ fn close(sessions: &mut Sessions, session: u64, change: Change, log: &mut UndoLo
 fn settle(sessions: &mut Sessions, session: u64, floor: u64, change: Change, log: &mut UndoLog)
     requires room { length log.old.undos < log.old.room }
     requires rises { IsSomeAnd (get sessions.old session) (λ x. MayRise x.floor floor) }
-    ensures after { sessions.new ≡ put_session sessions.old session (option_map (λ s. raised s floor) (get sessions.old session)) }
+    ensures after { sessions.new
+        ≡ put_session sessions.old session (option_map (λ s. raised s floor) (get sessions.old session)) }
     ensures remembered { Remembers change log.old log.new sessions.old sessions.new }
 {
     log.settle(session, sessions.get_mut(session), floor, change);
@@ -138,7 +139,8 @@ fn finish(
 )
     requires room { length log.old.undos < log.old.room }
     requires usable { IsSomeAnd (get sessions.old session) (λ x. IsUsable x number) }
-    ensures after { sessions.new ≡ put_session sessions.old session (option_map (λ s. keeping s number kept) (get sessions.old session)) }
+    ensures after { sessions.new
+        ≡ put_session sessions.old session (option_map (λ s. keeping s number kept) (get sessions.old session)) }
     ensures remembered { Remembers change log.old log.new sessions.old sessions.new }
 {
     sessions.get_mut(session).keep(number, kept);

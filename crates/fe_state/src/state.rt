@@ -51,9 +51,20 @@ impl Model for State {
 
     ghost coded = { state_code };
 
-    ghost view = { λ a. record { arrays = a.directory.arrays; sessions = a.sessions; next_id = a.directory.next_id; place = a.place } };
+    ghost view = { λ a. record {
+      arrays = a.directory.arrays;
+      sessions = a.sessions;
+      next_id = a.directory.next_id;
+      place = a.place;
+    } };
 
-    ghost invariant = { λ a. IsWithinLimits (record { arrays = a.directory.arrays; sessions = a.sessions; next_id = a.directory.next_id; place = a.place }) };
+    ghost invariant = { λ a. IsWithinLimits
+        (record {
+          arrays = a.directory.arrays;
+          sessions = a.sessions;
+          next_id = a.directory.next_id;
+          place = a.place;
+        }) };
 }
 
 impl State {
@@ -69,7 +80,8 @@ impl State {
         requires place { place < 2 ^ 63 }
         requires least { 1 ≤ next_id }
         requires most { next_id ≤ place + 1 }
-        ensures { IfOk result (λ state. state ≡ record { arrays = empty; sessions = empty; next_id = next_id; place = place }) }
+        ensures { IfOk result
+            (λ state. state ≡ record { arrays = empty; sessions = empty; next_id = next_id; place = place }) }
     {
         let directory = Directory::starting(alloc, next_id)?;
         let sessions = Table::new(alloc)?;
@@ -284,7 +296,8 @@ impl State {
     /// Adds an array of an image, its words empty and of value 0. The one error is that memory is short.
     pub fn load_array(&mut self, id: u64, name: Name, length: u32) -> Result<(), AllocError>
         requires { MayCome (directory_of self.old) id (new_array name length Empty) }
-        ensures ok { OnOk result (self.new ≡ with_arrays self.old (insert self.old.arrays id (new_array name length Empty))) }
+        ensures ok { OnOk result (self.new
+            ≡ with_arrays self.old (insert self.old.arrays id (new_array name length Empty))) }
         ensures err { OnErr result (self.new ≡ self.old) }
     {
         self.directory.load_array(id, name, length)?;
@@ -294,7 +307,8 @@ impl State {
     /// Puts a word of an image at an index of an array. It takes no memory.
     pub fn load_word(&mut self, array: u64, index: u32, word: Word)
         requires { IsSome (word_in (get self.old.arrays array) index) }
-        ensures { self.new ≡ with_arrays self.old (put_word self.old.arrays array index word (get self.old.arrays array)) }
+        ensures { self.new ≡ with_arrays self.old
+            (put_word self.old.arrays array index word (get self.old.arrays array)) }
     {
         self.directory.load_word(array, index, word);
     }
@@ -305,7 +319,8 @@ impl State {
         requires few { len self.old.sessions < SESSIONS }
         requires least { 1 ≤ floor }
         requires most { floor ≤ GREATEST_FLOOR }
-        ensures { self.new ≡ with_sessions self.old (insert self.old.sessions session (record { floor = floor; kept = empty })) }
+        ensures { self.new ≡ with_sessions self.old
+            (insert self.old.sessions session (record { floor = floor; kept = empty })) }
     {
         self.sessions.insert(session, Session::starting(floor));
     }
@@ -314,7 +329,9 @@ impl State {
     pub fn load_kept(&mut self, session: u64, number: u64, kept: Kept)
         requires window { IsSomeAnd (get self.old.sessions session) (λ x. IsInWindow x.floor number) }
         requires place { kept.place < self.old.place }
-        ensures { self.new ≡ with_sessions self.old (put_session self.old.sessions session (option_map (λ x. keeping x number kept) (get self.old.sessions session))) }
+        ensures { self.new ≡ with_sessions self.old
+            (put_session self.old.sessions session (option_map
+            (λ x. keeping x number kept) (get self.old.sessions session))) }
     {
         self.sessions.get_mut(session).keep(number, kept);
     }

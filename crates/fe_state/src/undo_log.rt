@@ -36,7 +36,8 @@ impl Model for UndoLog {
 
     ghost view = { λ a. log_of a.room a.undos.items a.dropped.items };
 
-    ghost invariant = { λ a. HasMemory (log_of a.room a.undos.items a.dropped.items) (vec_capacity a.undos) (vec_capacity a.dropped) };
+    ghost invariant = { λ a. HasMemory (log_of a.room a.undos.items a.dropped.items) (vec_capacity a.undos)
+        (vec_capacity a.dropped) };
 }
 
 impl UndoLog {
@@ -93,7 +94,11 @@ impl UndoLog {
     pub(crate) fn add(&mut self, undo: Undo)
         requires room { length self.old.undos < self.old.room }
         requires none { answers_of undo.session_change ≡ 0 }
-        ensures { self.new ≡ record { room = self.old.room; undos = undo ∷ self.old.undos; dropped = self.old.dropped } }
+        ensures { self.new ≡ record {
+          room = self.old.room;
+          undos = undo ∷ self.old.undos;
+          dropped = self.old.dropped;
+        } }
     {
         named::<Request>();
         self.undos.push_reserved(undo);
@@ -105,7 +110,8 @@ impl UndoLog {
         requires rise { MayRise here.old.floor floor }
         ensures settled { here.new ≡ raised here.old floor }
         ensures lowered { MayLower here.new here.old.floor }
-        ensures remembered { HasDropped session (SessionChange.Settled here.old.floor) change self.old self.new here.old here.new }
+        ensures remembered { HasDropped session
+            (SessionChange.Settled here.old.floor) change self.old self.new here.old here.new }
     {
         let before = here.floor();
         let first = self.dropped.len();
@@ -128,7 +134,8 @@ impl UndoLog {
         ensures least { 1 ≤ here.old.floor }
         ensures most { here.old.floor ≤ GREATEST_FLOOR }
         ensures emptied { here.new.kept ≡ empty }
-        ensures remembered { HasDropped session (SessionChange.Closed here.old.floor) change self.old self.new here.old here.new }
+        ensures remembered { HasDropped session
+            (SessionChange.Closed here.old.floor) change self.old self.new here.old here.new }
     {
         let before = here.floor();
         let first = self.dropped.len();

@@ -51,7 +51,7 @@ module _ {X : Type 0} where
         get_seen (zip ks vs) m h seen k ∙ find_at (zip ks vs) k i (k, v) h (at_seen (zip ks vs) m h seen k i a)
         ∙ ap Some (ap (λ e. e.1) (pair_at ks vs i (k, v) paired (key_below k i a)) ∙ sym read)
 
-    -- a key that stands at a place is at it
+    -- a key that is at a place is at it
     pub key_stands : (i k : ℕ) → i < length ks → k ≡ get_or ks i k → IsAt (entries m) k i
     key_stands i k lt read =
         let size = length-pairs ks vs paired in

@@ -14,7 +14,7 @@ use Rattle.fe_table.proofs.TableLemmas.{first, second, less, above}
 not_there : {A X : Type 0} (e : X) → None ≡ Some e → A
 not_there e h = absurd (true≢false (ap is_some (sym h)))
 
--- the first so many of a list, and the next one
+-- the first n of a list, and the next one
 pub take-push : {X : Type 0} (es : List X) (i : ℕ) (e : X) → slice_get es i ≡ Some e → take (suc i) es ≡ take i es ++ e ∷ []
 take-push [] i e h = not_there e h
 take-push (x ∷ es) zero e h = cc

@@ -67,7 +67,7 @@ module _ {X : Type 0} where
   rises_at (e ∷ es) zero d h lt = below_at e.0 es 0 d (first _ _ h) (omega arith)
   rises_at (e ∷ es) (suc i) d h lt = rises_at es i d (second _ _ h) (omega arith)
 
-  -- the keys as they stand in the entries
+  -- the keys as they are in the entries
   key_at : (ks : List ℕ) (vs : List X) → length vs ≡ length ks → (i : ℕ) (d : ℕ × X) → i < length ks → (get_or (zip ks vs) i d).0 ≡ get_or ks i d.0
   key_at ks vs paired i d lt = ap (λ e. e.0) (get_or-zip ks vs i d lt (omega (arith, paired)))
 

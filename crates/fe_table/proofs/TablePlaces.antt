@@ -1,4 +1,4 @@
--- A key that stands at a place: its value, and what a new value there makes of the map.
+-- A key that is at a place: its value, and what a new value there makes of the map.
 use Rattle.std.proofs.Common.{◌≡◌, ℕ, zero, suc, List, [], ◌∷◌, get_or, set, map, slice_get, Option, Some, None, IsSome, is_some, true≢false, refl, sym, ap, ◌∙◌}
 use Rattle.std.proofs.lemmas.Option.{unwrap_or-slice_get}
 use Rattle.std.specs.FinMap.{FinMap, get, insert, keys, entries, entries_sorted}

@@ -14,7 +14,7 @@ shown_entry e = (e.0, e.1.now)
 abbrev pub put_at : {X : Type 0} → FinMap nat_cmp X → ℕ → X → FinMap nat_cmp X
 put_at m place x = option_map_or (λ e. insert m e.0 x) (slice_get (entries m) place) m
 
--- what is always true of the keys and the values of a table with this room, whose memory holds so many of each
+-- what is always true of the keys and the values of a table with this room, whose memory holds this many of each
 pub record IsTable {X : Type 0} (room : ℕ) (keys : List ℕ) (values : List X) (key_capacity value_capacity : ℕ) : Type 0 where
   -- the keys rise, so no two are equal
   pub ascending : T (is_sorted nat_cmp (zip keys values))

@@ -7,7 +7,7 @@ use Rattle.fe_waits.specs.Pair.{pair_cmp, pair_cmp_total, pair_cmp-IsAntisymmetr
 use Rattle.fe_waits.specs.Waiting.{Waiter, of_slot, count_of}
 use Rattle.fe_waits.proofs.MemberLemmas.{none_some, key_cases, get-of_slot, get-insert_other, get-remove_here, get-remove_other, len-insert_new}
 
--- each key is of the slot, and its number one of so many from the floor on
+-- each key is of the slot, and its number one of this many from the floor on
 abbrev pub AreWithin : FinMap pair_cmp Waiter → ℕ → ℕ → ℕ → Type 0
 AreWithin m slot floor many = (key : ℕ × ℕ) (waiter : Waiter) → get m key ≡ Some waiter → (key.0 ≡ slot) × (floor ≤ key.1) × (key.1 < floor + many)
 

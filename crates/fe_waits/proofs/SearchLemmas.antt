@@ -14,7 +14,7 @@ use Rattle.fe_waits.specs.Waiting.{Waiter, key_of, waiter_of, row_at}
 use Rattle.fe_waits.specs.within.Inner.{members_of, row_in, IsKept}
 use Rattle.fe_waits.proofs.MemberLemmas.{none_some, some_same, members-node, members-row}
 
--- so many nodes of the slot's list are seen, none of them of the number, and this is the next
+-- this many nodes of the slot's list are seen, none of them of the number, and this is the next
 pub record IsSearched (pool : Contents Row) (sessions : List Chain) (slot number : ℕ) (at : Option ℕ) (steps end : ℕ) : Type 0 where
   pub chain : Chain
   pub is_chain : slice_get sessions slot ≡ Some chain

@@ -20,7 +20,7 @@ use Rattle.fe_waits.specs.within.Inner.{members_of, row_in, IsKept}
 use Rattle.fe_waits.proofs.MemberLemmas.{none_some, some_same, members-node, members-row}
 use Rattle.fe_waits.proofs.SearchLemmas.{first-of, none-left}
 
--- what is told of a request, under its number
+-- what is reported of a request, under its number
 abbrev pub told_row : Row → ℕ × (ℕ × ℕ × Op)
 told_row row = (row.number, (row.array, row.index, row.op))
 
@@ -33,7 +33,7 @@ pub record Told (pool : Contents Row) (slot : ℕ) (before : List ℕ) (x : ℕ 
   pub tells : told_row row ≡ x
   pub among : IsAmong node before
 
--- so many nodes of the slot's list are seen, just what they stand for is told, and this is the next
+-- this many nodes of the slot's list are seen, just what they stand for is told, and this is the next
 pub record IsTelling (pool : Contents Row) (sessions : List Chain) (slot : ℕ) (at : Option ℕ) (steps end : ℕ) (told : List (ℕ × (ℕ × ℕ × Op))) : Type 0 where
   pub chain : Chain
   pub is_chain : slice_get sessions slot ≡ Some chain
@@ -63,7 +63,7 @@ alone y x same = (0, omega arith, same)
 element : {X : Type 0} (xs : List X) (k : ℕ) (d : X) → k < length xs → Contains xs (get_or xs k d)
 element xs k d below = (k, below, grind (arith, common_steps))
 
--- no node stands twice where all differ
+-- no node is there twice where all differ
 twice : (node : ℕ) (before after : List ℕ) → AllPairs (λ a b. a ≢ b) (before ++ node ∷ after) → IsAmong node before → ⊥
 twice node before after different among =
     let at = Contains-among node before among in
@@ -147,7 +147,7 @@ module _ (pool : Contents Row) (sessions : List Chain) (words : FinMap nat_cmp (
       pub telling-row : (row : Row) × (row_in pool.items node ≡ Some row) × (row.slot ≡ slot)
       telling-row = kept.by_session.belongs slot walk.chain node walk.is_chain contains
 
-      -- its number is not told yet, since no node stands twice on the list
+      -- its number is not told yet, since no node is there twice on the list
       new_number : AllPairs (λ a b. a ≢ b) (list_of pool OfSession walk.chain) → (row : Row) → row_in pool.items node ≡ Some row → (x : ℕ × (ℕ × ℕ × Op)) → Contains told x → x.0 ≢ row.number
       new_number different row is x c same =
           let found = walk.sound x c in

@@ -21,7 +21,7 @@ impl Model for Chains {
 }
 
 impl Chains {
-    // So many empty chains.
+    // This many empty chains.
     pub(crate) fn new(alloc: Global, count: usize) -> Result<Chains, AllocError>
         ensures { IfOk result (λ chains. chains ≡ replicate count empty_chain) }
     {

@@ -107,7 +107,8 @@ impl Waits {
         requires new { map.get self.old.members (slot, number) ≡ None }
         requires room { count_of self.old.members slot < 32 }
         requires word { IsWord self.old.arrays array index }
-        ensures added { self.new.members ≡ map.insert self.old.members (slot, number) (record { array = array; index = index; op = op }) }
+        ensures added { self.new.members
+            ≡ map.insert self.old.members (slot, number) (record { array = array; index = index; op = op }) }
         ensures arrays { self.new.arrays ≡ self.old.arrays }
     {
         let row = Row {
@@ -230,7 +231,8 @@ impl Waits {
     // The node of a request of the slot, if it waits.
     fn node_of(&self, slot: u8, number: u64) -> Option<Node>
         requires slot { slot < 64 }
-        ensures found { IfSome result (λ node. (row_of self.now node ≡ row_at self.now.members slot number) × IsSome (row_of self.now node)) }
+        ensures found { IfSome result
+            (λ node. (row_of self.now node ≡ row_at self.now.members slot number) × IsSome (row_of self.now node)) }
         ensures absent { IfNone result (map.get self.now.members (slot, number) ≡ None) }
     {
         let chain = self.sessions.at(slot as usize);

@@ -9,7 +9,7 @@ use Rattle.fe_journal.specs.declared.journal.Journal.TheInside.{Inside}
 abbrev pub state_of : {D : Type 0} → Inside D → JournalState D
 state_of j = record { disk = j.disk; slot = j.slot; format = j.format; generation = j.generation; used = j.used; begun = j.begun; has_failed = j.has_failed }
 
--- the disk has a store's size, the buffer an area's, and the gate behind the groups lies in the area
+-- the disk has a store's size, the buffer an area's, and the gate after the groups lies in the area
 pub record IsJournal {D : Type 0} (size : D → ℕ) (j : Inside D) : Type 0 where
   pub device : size j.disk ≡ device_bytes
   pub buffer : vec_len j.buffer ≡ area_bytes

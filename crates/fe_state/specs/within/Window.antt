@@ -13,7 +13,7 @@ abbrev pub with_cell : {X : Type 0} → FinMap nat_cmp X → ℕ → Option X �
 with_cell m number None = m
 with_cell m number (Some x) = insert m number x
 
--- what the cells hold for so many numbers from a floor on
+-- what the cells hold for this many numbers from a floor on
 unfoldable pub held : {X : Type 0} → List (Option X) → ℕ → ℕ → FinMap nat_cmp X
 held cells floor zero = empty
 held cells floor (suc n) = with_cell (held cells floor n) (floor + n) (cell_of cells (floor + n))
