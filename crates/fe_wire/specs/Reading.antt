@@ -11,26 +11,11 @@ use Rattle.fe_wire.specs.declared.client_message.ClientMessage.TheVariants.{Atta
 use Rattle.fe_wire.specs.declared.server_message.ServerMessage.{ServerMessage}
 use Rattle.fe_wire.specs.declared.server_message.ServerMessage.TheVariants as server
 use Rattle.fe_wire.specs.Spelling.{name_room}
-
--- what a function returned, seen by view, is what reading gives
-abbrev pub Gives : {X Y : Type 0} → (X → Y) → Option X → Option Y → Type 0
-Gives view (Some x) read = read ≡ Some (view x)
-Gives view None read = read ≡ None
-
--- A field is a value and the bytes after it.
-abbrev pub next_number : Width → List ℕ → Option (ℕ × List ℕ)
-next_number w bytes = if nat_lt (length bytes) (byte_len w) then None else Some (from_be_bytes w (take (byte_len w) bytes), drop (byte_len w) bytes)
-
-abbrev pub next_byte : List ℕ → Option (ℕ × List ℕ)
-next_byte [] = None
-next_byte (b ∷ rest) = Some (b, rest)
+pub use Rattle.fe_fields.specs.Fields.{Gives, next_number, next_byte, next_bytes}
 
 -- each byte is zero
 abbrev pub are_zero : List ℕ → Bool
 are_zero bytes = list_all (λ b. b == 0) bytes
-
-abbrev pub next_bytes : ℕ → List ℕ → Option (List ℕ × List ℕ)
-next_bytes n bytes = if nat_lt (length bytes) n then None else Some (take n bytes, drop n bytes)
 
 -- the least length of a name in the field of long or of short ones
 abbrev pub least_name : Bool → ℕ

@@ -7,7 +7,7 @@ use crate::client_message::ClientMessage;
 use crate::fed::Fed;
 use crate::place::{FRAME_BYTES, Place};
 use crate::version::Version;
-use fe_state::Request;
+use fe_state::{Request, named};
 use std::alloc::{AllocError, Global};
 use std::marker::Model;
 
@@ -113,7 +113,7 @@ fn read_piece(
     ensures memory { OnErr result (CompletesMessage (decoding start) piece.now) }
     ensures reads { IfOk result (λ read. GoesOn start read.0 piece.now read.1.items) }
 {
-    let _named: Option<Request> = None;
+    named::<Request>();
     let mut messages = Vec::new(alloc);
     let mut place = start;
     let mut rest = piece;

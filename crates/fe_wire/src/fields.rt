@@ -1,51 +1,11 @@
-//! Readers of fields. Each gives the value at the front and the bytes after it.
+//! The fields of frames that are no plain numbers, read.
 
-ghost use Rattle.std.specs.Prelude.{◌≡◌, length, IfSome};
-ghost use Rattle.std.specs.Int.{w32, w64};
-ghost use Rattle.fe_wire.specs.Reading.{Gives, next_number, next_byte, next_bytes, number_of, two_numbers_of, least_name, name_of, are_zero, ended};
+ghost use Rattle.std.specs.Prelude.{◌≡◌, length};
+ghost use Rattle.fe_wire.specs.Reading.{number_of, two_numbers_of, least_name, name_of, are_zero, ended};
 ghost use Rattle.fe_wire.specs.Spelling.{name_room};
 
-use byteorder::{BigEndian, ByteOrder};
+use fe_fields::next_u64;
 use fe_state::Name;
-
-pub fn next_u32(bytes: &[u8]) -> Option<(u32, &[u8])>
-    ensures { Gives (λ x. (x.0, x.1.now)) result (next_number w32 bytes.now) }
-{
-    if bytes.len() < 4 {
-        return None;
-    }
-    let (front, rest) = bytes.split_at(4);
-    Some((BigEndian::read_u32(front), rest))
-}
-
-pub fn next_u64(bytes: &[u8]) -> Option<(u64, &[u8])>
-    ensures { Gives (λ x. (x.0, x.1.now)) result (next_number w64 bytes.now) }
-{
-    if bytes.len() < 8 {
-        return None;
-    }
-    let (front, rest) = bytes.split_at(8);
-    Some((BigEndian::read_u64(front), rest))
-}
-
-pub fn next_byte(bytes: &[u8]) -> Option<(u8, &[u8])>
-    ensures { Gives (λ x. (x.0, x.1.now)) result (next_byte bytes.now) }
-{
-    match bytes {
-        [] => None,
-        [byte, rest @ ..] => Some((*byte, rest)),
-    }
-}
-
-pub fn next_bytes(count: usize, bytes: &[u8]) -> Option<(&[u8], &[u8])>
-    ensures value { Gives (λ x. (x.0.now, x.1.now)) result (next_bytes count bytes.now) }
-    ensures length { IfSome result (λ x. length x.0.now ≡ count) }
-{
-    if bytes.len() < count {
-        return None;
-    }
-    Some(bytes.split_at(count))
-}
 
 /// How many bytes the field of a name has, without that of its length.
 pub fn name_room(is_long: bool) -> u8

@@ -6,7 +6,7 @@ ghost use Rattle.fe_wire.specs.Stream.{IsHead, length_field, length_of_kind, lon
 use crate::client_message::ClientMessage;
 use crate::messages::message_of;
 use crate::version::Version;
-use byteorder::{BigEndian, ByteOrder};
+use fe_fields::u32_at;
 
 /// The bytes of a frame's length.
 pub const LENGTH_BYTES: usize = 4;
@@ -28,7 +28,7 @@ pub fn length_field(bytes: &[u8]) -> u32
     requires { 4 ≤ length bytes.now }
     ensures { result ≡ length_field bytes.now }
 {
-    BigEndian::read_u32(&bytes[..LENGTH_BYTES])
+    u32_at(bytes, 0)
 }
 
 /// The greatest length of a frame from a client.

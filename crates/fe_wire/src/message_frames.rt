@@ -5,7 +5,7 @@ ghost use Rattle.fe_wire.specs.Spelling.{spelling, Fits};
 
 use crate::client_message::ClientMessage;
 use crate::fields::name_room;
-use crate::frame::{Frame, is_long};
+use crate::frame::{Frame, frame_of, is_long, put_name};
 use crate::kinds::{access_kind, create_kind, find_kind};
 use fe_codes::{op_code, operand_of, tag_code};
 use fe_state::{Name, Request};
@@ -14,7 +14,7 @@ use fe_words::{Op, Tag};
 fn attach_frame(session: u64) -> Frame
     ensures { result ≡ spelling (ClientMessage.Attach session) }
 {
-    let mut frame = Frame::new(9, 1);
+    let mut frame = frame_of(9, 1);
     frame.put_u64(session);
     frame
 }
@@ -24,9 +24,9 @@ fn create_frame(number: u64, name: &Name, words: u32, tag: Tag) -> Frame
     ensures fits { Fits (ClientMessage.Call number (Request.Create name.now words tag)) }
 {
     let is_long = is_long(name);
-    let mut frame = Frame::new(u32::from(name_room(is_long)) + 15, create_kind(is_long));
+    let mut frame = frame_of(u32::from(name_room(is_long)) + 15, create_kind(is_long));
     frame.put_u64(number);
-    frame.put_name(name);
+    put_name(&mut frame, name);
     frame.put_u32(words);
     frame.put_u8(tag_code(tag));
     frame
@@ -37,16 +37,16 @@ fn find_frame(number: u64, name: &Name) -> Frame
     ensures fits { Fits (ClientMessage.Call number (Request.Find name.now)) }
 {
     let is_long = is_long(name);
-    let mut frame = Frame::new(u32::from(name_room(is_long)) + 10, find_kind(is_long));
+    let mut frame = frame_of(u32::from(name_room(is_long)) + 10, find_kind(is_long));
     frame.put_u64(number);
-    frame.put_name(name);
+    put_name(&mut frame, name);
     frame
 }
 
 fn remove_frame(number: u64, array: u64) -> Frame
     ensures { result ≡ spelling (ClientMessage.Call number (Request.Remove array)) }
 {
-    let mut frame = Frame::new(17, 4);
+    let mut frame = frame_of(17, 4);
     frame.put_u64(number);
     frame.put_u64(array);
     frame
@@ -56,7 +56,7 @@ fn access_frame(number: u64, array: u64, index: u32, op: Op, no_wait: bool) -> F
     ensures spelled { result ≡ spelling (ClientMessage.Call number (Request.Access array index op no_wait)) }
     ensures fits { Fits (ClientMessage.Call number (Request.Access array index op no_wait)) }
 {
-    let mut frame = Frame::new(30, access_kind(no_wait));
+    let mut frame = frame_of(30, access_kind(no_wait));
     frame.put_u64(number);
     frame.put_u8(op_code(op));
     frame.put_u64(array);
@@ -68,7 +68,7 @@ fn access_frame(number: u64, array: u64, index: u32, op: Op, no_wait: bool) -> F
 fn cancel_frame(number: u64) -> Frame
     ensures { result ≡ spelling (ClientMessage.Cancel number) }
 {
-    let mut frame = Frame::new(9, 6);
+    let mut frame = frame_of(9, 6);
     frame.put_u64(number);
     frame
 }
@@ -76,7 +76,7 @@ fn cancel_frame(number: u64) -> Frame
 fn settle_frame(floor: u64) -> Frame
     ensures { result ≡ spelling (ClientMessage.Settle floor) }
 {
-    let mut frame = Frame::new(9, 7);
+    let mut frame = frame_of(9, 7);
     frame.put_u64(floor);
     frame
 }
@@ -107,7 +107,7 @@ pub fn message_frame(message: &ClientMessage) -> Frame
         ClientMessage::Call { number, request } => call_frame(*number, request),
         ClientMessage::Cancel { number } => cancel_frame(*number),
         ClientMessage::Settle { floor } => settle_frame(*floor),
-        ClientMessage::Bye => Frame::new(1, 8),
-        ClientMessage::Report => Frame::new(1, 9),
+        ClientMessage::Bye => frame_of(1, 8),
+        ClientMessage::Report => frame_of(1, 9),
     }
 }

@@ -4,11 +4,10 @@ ghost use Rattle.std.specs.Prelude.{◌≡◌};
 ghost use Rattle.fe_wire.specs.Reading.{create_of, find_of, access_of, plain_of, message_of};
 
 use crate::client_message::ClientMessage;
-use crate::fields::{
-    ended, name_of, name_room, next_byte, next_bytes, next_u32, next_u64, number_of, two_numbers_of,
-};
+use crate::fields::{ended, name_of, name_room, number_of, two_numbers_of};
 use fe_codes::{op_of, tag_of};
-use fe_state::Request;
+use fe_fields::{next_byte, next_bytes, next_u32, next_u64};
+use fe_state::{Request, named};
 
 #[tactic(auto, unfolding(crate::specs::Reading::create_of))]
 fn create_of(is_long: bool, body: &[u8]) -> Option<ClientMessage>
@@ -61,7 +60,7 @@ fn access_of(no_wait: bool, body: &[u8]) -> Option<ClientMessage>
 fn plain_of(kind: u8, body: &[u8]) -> Option<ClientMessage>
     ensures { result ≡ plain_of kind body.now }
 {
-    let _named: Option<Request> = None;
+    named::<Request>();
     match kind {
         1 => {
             let session = number_of(body)?;

@@ -5,9 +5,10 @@ ghost use Rattle.fe_wire.specs.Spelling.{reply_spelling, ReplyFits, IsReport};
 ghost use Rattle.fe_wire.specs.Reading.{Gives, answered_of, refused_of, report_of, reply_of_kind, parts_of};
 ghost use Rattle.fe_wire.specs.declared.server_message.ServerMessage.{ServerMessage as Reply};
 
-use crate::fields::{ended, next_byte, next_u32, next_u64, number_of, two_numbers_of};
+use crate::fields::{ended, number_of, two_numbers_of};
 use crate::server_message::ServerMessage;
 use fe_codes::answer_of;
+use fe_fields::{next_byte, next_u32, next_u64};
 use fe_mail::{REPORT_BYTES, ReportText};
 use std::alloc::{AllocError, Global};
 

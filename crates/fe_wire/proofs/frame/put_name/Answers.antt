@@ -2,7 +2,7 @@ use Rattle.std.proofs.Common.{◌≡◌, ℕ, ◌-◌, ◌≤◌, List, [], ◌�
 use Rattle.std.proofs.lemmas.List.{take-replicate}
 use Rattle.fe_wire.specs.Spelling.{is_long, name_room, name_field}
 use Rattle.fe_wire.proofs.FieldLaws.{room_le}
-use Rattle.fe_wire.proofs.frame.Frame.put_name.Goals as goal
+use Rattle.fe_wire.proofs.frame.put_name.Goals as goal
 
 abbrev row : List ℕ
 row = replicate 32 0
@@ -17,4 +17,4 @@ built old name bytes a b d room same room_is first second third =
 pub returns-clause-field : goal.returns-clause-field
 returns-clause-field c =
     let room : c.from-room.result ≡ name_room (is_long c.args.name.now) = cc in
-    built c.args.self.now c.args.name.now c.bytes-bytes.result.now _ _ _ c.from-room.result c.bytes-bytes.ensures.bytes room c.put_u8.ensures c.put.ensures c.put-2.ensures
+    built c.args.frame.now c.args.name.now c.bytes-bytes.result.now _ _ _ c.from-room.result c.bytes-bytes.ensures.bytes room c.put_u8.ensures.bytes c.put.ensures.bytes c.put-2.ensures.bytes
