@@ -42,6 +42,15 @@ impl Parts {
         let _ = self.seats.len();
     }
 
+    /// Looks for a session and the array of a request, so that the look-ups of them that follow take one comparison each.
+    pub(crate) fn aim(&mut self, session: u64, request: &Request)
+        ensures { self.new ≡ self.old }
+    {
+        // Mostly the same sessions are in the state and have seats.
+        let guess = self.seats.aim(session);
+        self.state.aim(session, guess, request);
+    }
+
     /// Makes a legal entry, for which no memory is needed.
     pub(crate) fn enter(&mut self, entry: Entry)
         requires legal { IsLegal self.old.state entry }

@@ -81,6 +81,13 @@ impl Service {
         self.parts.seats.seat(session)
     }
 
+    /// Looks for a session and the array of a request, so that the look-ups of them that follow take one comparison each.
+    pub fn aim(&mut self, session: u64, request: &Request)
+        ensures { self.new ≡ self.old }
+    {
+        self.parts.aim(session, request);
+    }
+
     /// How many sessions have a seat, 0 to 64.
     pub fn seat_count(&self) -> usize
         ensures count { result ≡ len self.now.seats }
