@@ -11,7 +11,6 @@ use Rattle.fe_state.specs.declared.kept.Kept.{Kept}
 use Rattle.fe_state.specs.declared.request.Request.{Request}
 use Rattle.fe_service.specs.Service.{Waiters, AreTurns, without_turn}
 use Rattle.fe_mail.specs.Mail.{session_of, mail_of}
-use Rattle.fe_mail.specs.declared.mail.Mail.TheVariants as mail
 use Rattle.fe_desk.specs.Acknowledged.{IsAmong, IsFinishedAt, IsKeptSince, StandsOn, AreAnswered}
 use Rattle.fe_desk.proofs.Recorded.{kept_of, kept_after, cut_within}
 use Rattle.fe_desk.proofs.Boxes.{AllPosted}

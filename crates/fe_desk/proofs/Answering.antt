@@ -1,26 +1,24 @@
 -- A desk's answers stand on the groups that are stored, whatever its steps answer.
 use Rattle.std.proofs.Common.{◌≡◌, inl, inr, ℕ, Bool, true, false, true≢false, List, [], ◌∷◌, ◌++◌, length, take, take_all, Result, Ok, Err, refl, sym, ap, subst, ◌∙◌, arith}
-use Rattle.std.specs.Prelude.{if◌then◌else◌, MatchBool, Option, Some}
+use Rattle.std.specs.Prelude.{if◌then◌else◌, MatchBool}
 use Rattle.std.specs.List.{AllByRecursion}
 use Rattle.std.proofs.Math.Seq.{take-append_seam}
 use Rattle.fe_state.specs.State.{ServerState}
 use Rattle.fe_state.specs.declared.entry.Entry.{Entry}
 use Rattle.fe_keeper.specs.declared.fault.Fault.TheVariants as keeper
-use Rattle.fe_wire.specs.Stream.{Decoding}
 use Rattle.fe_desk.specs.declared.fault.DeskFault.{DeskFault}
 use Rattle.fe_desk.specs.declared.fault.DeskFault.TheVariants.{Store, NoMemory, Unwritten}
 use Rattle.fe_desk.specs.declared.step.Step.{Step}
 use Rattle.fe_desk.specs.declared.step.Step.TheVariants as step
 use Rattle.fe_desk.specs.Acknowledged.{IsWritten, AsksFor, StepAsksFor, IsAcknowledged, AreStepsFor, AcknowledgedStand, stored_groups}
 use Rattle.fe_desk.specs.Crash.{DeskState}
-use Rattle.fe_desk.specs.Ends.{Tears, TearsBytes, BreaksOff, Lacks, Breaks, FindsNoMemory, discharged_desk}
-use Rattle.fe_desk.specs.Messages.{read_by}
+use Rattle.fe_desk.specs.Ends.{Tears, BreaksOff, Lacks, Breaks, discharged_desk}
 use Rattle.fe_desk.specs.Standing.{Client, Standing, IsFirstStanding, emptied, discharged}
 use Rattle.fe_desk.specs.Taken.{Ends, IsStep}
-use Rattle.fe_desk.proofs.Acknowledging.{AllTell, Tells, Holds, HoldsAt, StepAsks, KeepsBelow, keeps_below, some_holds, emptied_holds, discharged_holds, acts_hold, before_holds, unread_holds, behind_holds, first_holds}
+use Rattle.fe_desk.proofs.Holding.{AllTell, Tells, Holds, HoldsAt, some_holds, emptied_holds, discharged_holds}
+use Rattle.fe_desk.proofs.Acknowledging.{StepAsks, KeepsBelow, keeps_below, acts_hold, before_holds, unread_holds, behind_holds, first_holds}
 use Rattle.fe_desk.proofs.Boxes.{all_weaker}
 use Rattle.fe_desk.proofs.Feeding.{discharged_reads}
-use Rattle.fe_desk.proofs.Seated.{HasOnly}
 
 all_written : (begun : ServerState) (groups : List (List Entry)) (asked : ℕ → List ℕ) (cs : List Client) → AllTell begun groups asked cs → AllByRecursion (IsWritten begun groups asked) cs
 all_written begun groups asked cs =

@@ -27,6 +27,7 @@ pub mod Seated
 pub mod Boxes
 pub mod Answered
 pub mod Messaging
+pub mod Holding
 pub mod Acknowledging
 pub mod Answering
 pub mod Given

@@ -1,6 +1,6 @@
 -- Sessions and connections let go of each other, and come together only where a connection asks for a session.
-use Rattle.std.proofs.Common.{◌≡◌, ◌≢◌, ◌⊎◌, inl, inr, ℕ, ◌+◌, Bool, true, false, List, [], ◌∷◌, length, zero, suc, drop, Option, Some, None, refl, sym, ap, subst, ◌∙◌}
-use Rattle.std.specs.Prelude.{nat_lt, is_some, if◌then◌else◌, option_and_then, Contains, Result, Ok, Err}
+use Rattle.std.proofs.Common.{◌≡◌, ◌⊎◌, inl, inr, ℕ, ◌+◌, Bool, true, false, List, [], ◌∷◌, length, zero, suc, drop, Option, Some, None, refl, sym, ap, subst, ◌∙◌}
+use Rattle.std.specs.Prelude.{nat_lt, is_some, if◌then◌else◌, option_and_then, Contains, Ok, Err}
 use Rattle.std.specs.Option.{option_map, option_map_or}
 use Rattle.std.specs.Ordering.{nat_cmp}
 use Rattle.std.specs.FinMap.{FinMap, empty, get, get-empty, insert, remove}
@@ -19,7 +19,6 @@ use Rattle.fe_mail.specs.Mail.{session_of, mail_of}
 use Rattle.fe_mail.specs.declared.connection.Connection.{Connection}
 use Rattle.fe_mail.specs.declared.mail.Mail.{Mail}
 use Rattle.fe_mail.specs.declared.mail.Mail.TheVariants as mail
-use Rattle.fe_mail.specs.declared.refusal.Refusal.{Refusal}
 use Rattle.fe_mail.specs.declared.refusal.Refusal.TheVariants.{NotAttached, Closing, BelowFloor, BeyondWindow}
 use Rattle.fe_mail.proofs.Lookups.{session_on-with_mails, session_on-with_session, session_on-with_session-beside}
 use Rattle.fe_wire.specs.declared.client_message.ClientMessage.{ClientMessage}
@@ -28,10 +27,9 @@ use Rattle.fe_front.specs.Front.{FrontState, is_connected}
 use Rattle.fe_front.specs.Steps.{parted, released, freed, departed, withdrawn_from, unboxed, dropped, boxed, overflowed, mailed, connected, attached_to, settled_to, closed_by, cancelled_from, taken, has_no_cut, cut}
 use Rattle.fe_front.specs.Posting.{delivered, vacated, ended, posted_entry, posted_all, posted}
 use Rattle.fe_front.specs.Call.{Called, call_refused_by, kept_at, repeated}
-use Rattle.fe_front.specs.Refusals.{unclosing, own, and_then, in_window, addressed}
+use Rattle.fe_front.specs.Refusals.{unclosing, and_then, in_window, addressed}
 use Rattle.fe_front.specs.declared.outcome.Outcome.{Outcome}
 use Rattle.fe_front.specs.declared.outcome.Outcome.TheVariants as outcome
-use Rattle.fe_front.specs.declared.out.Out.{Out}
 use Rattle.fe_state.specs.State.{ServerState}
 use Rattle.fe_front.specs.Front.{IsFirst}
 use Rattle.fe_front.proofs.Agreement.{holder-inserted, holder-beside, holder-removed, holder-left, holder-closing}

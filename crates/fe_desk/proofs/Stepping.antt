@@ -1,7 +1,6 @@
 -- A step, from what it says of each of its answers.
-use Rattle.std.proofs.Common.{◌≡◌, ℕ, Bool, true, false, true≢false, List, length, Result, Ok, Err, refl, sym, ap, subst, ◌∙◌}
+use Rattle.std.proofs.Common.{◌≡◌, ℕ, Bool, true, false, length, Result, Ok, Err, refl, ap, subst}
 use Rattle.std.specs.Prelude.{OnOk, IfErr, IsErrOf, MatchBool}
-use Rattle.fe_mail.specs.Connections.{mails_on}
 use Rattle.fe_keeper.specs.declared.fault.Fault.{Fault}
 use Rattle.fe_keeper.specs.declared.fault.Fault.TheVariants as keeper
 use Rattle.fe_desk.specs.declared.fault.DeskFault.{DeskFault}
@@ -14,7 +13,7 @@ use Rattle.fe_desk.specs.Messages.{outputs, TellsFed}
 use Rattle.fe_desk.specs.Quiet.{HasNoMail}
 use Rattle.fe_desk.specs.Standing.{Standing, discharged}
 use Rattle.fe_desk.specs.Steps.{Acts, DeskStep, IsAgain}
-use Rattle.fe_desk.specs.Taken.{IsSound, Ends, IsStep}
+use Rattle.fe_desk.specs.Taken.{Ends, IsStep}
 use Rattle.fe_desk.specs.Writing.{WritesSome}
 
 -- what a step says of its answers

@@ -1,5 +1,5 @@
 -- Mails are written as far as memory goes: what is written so far, client by client and mail by mail.
-use Rattle.std.proofs.Common.{◌≡◌, ◌≢◌, ℕ, zero, suc, ◌+◌, ◌<◌, true, List, [], ◌∷◌, ◌++◌, Option, Some, None, length, drop, take, map, get_or, slice_set, refl, sym, ap, ◌∙◌, subst, arith, append_assoc, append-nil, add-one, inl, inr, Result, Ok, Err, OnErr}
+use Rattle.std.proofs.Common.{◌≡◌, ◌≢◌, ℕ, zero, suc, ◌+◌, ◌<◌, List, [], ◌∷◌, ◌++◌, Some, None, length, drop, take, map, get_or, slice_set, refl, sym, ap, ◌∙◌, subst, arith, append_assoc, append-nil, add-one, inl, inr, Result, Ok, Err, OnErr}
 use Rattle.std.specs.Prelude.{slice_get, is_err}
 use Rattle.std.specs.Option.{option_map_or}
 use Rattle.std.specs.declared.alloc.AllocError.{AllocError}
@@ -15,8 +15,8 @@ use Rattle.fe_messages.specs.Mails.{reply_of, spelled}
 use Rattle.fe_desk.specs.declared.parts.Parts.{Parts}
 use Rattle.fe_desk.specs.declared.port.Port.{Port}
 use Rattle.fe_desk.specs.Mails.{taken_times, emptied_box}
-use Rattle.fe_desk.specs.Standing.{Client, Standing, told, all_told, all_emptied}
-use Rattle.fe_desk.specs.Writing.{StopsAtMail, StopsWriting, WritesFirst, WritesSome}
+use Rattle.fe_desk.specs.Standing.{Client, told, all_told, all_emptied}
+use Rattle.fe_desk.specs.Writing.{StopsWriting, WritesFirst, WritesSome}
 use Rattle.fe_desk.specs.within.Desk.{client_of, standing_of}
 use Rattle.fe_desk.proofs.Emptying.{box_of, left_in, replaced}
 

@@ -1,5 +1,5 @@
 -- What is always true of a desk.
-use Rattle.std.specs.Prelude.{◌≡◌, ℕ, ◌<◌, ◌≤◌, true, false, List, [], ◌++◌, length, map, drop, Option, None, is_some}
+use Rattle.std.specs.Prelude.{◌≡◌, ℕ, ◌<◌, ◌≤◌, true, false, List, ◌++◌, length, map, drop, Option, None, is_some}
 use Rattle.fe_state.specs.State.{ServerState, after_all}
 use Rattle.fe_state.specs.History.{AreLegal}
 use Rattle.fe_state.specs.declared.entry.Entry.{Entry}

@@ -1,4 +1,4 @@
-use Rattle.std.proofs.Common.{◌≡◌, ◌<◌, length, Ok, refl, rules}
+use Rattle.std.proofs.Common.{◌<◌, length, Ok, refl, rules}
 use Rattle.std.proofs.lemmas.Option.{slice_get_read}
 use Rattle.fe_desk.specs.Taken.{Ends, IsStep}
 use Rattle.fe_desk.proofs.Advancing.{advances_both}
