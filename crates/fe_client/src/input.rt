@@ -96,11 +96,14 @@ impl Input {
 
     /// Takes what is kept of the piece, up to the first line feed. Whether there is one.
     fn take_kept(&mut self) -> Result<bool, CallFault>
-        ensures taken { IfOk result (λ fed. (front : List ℕ) × HasNoFeed front × (self.new.line.items ≡ self.old.line.items ++ front)
-            × MatchBool fed (kept_of self.old ≡ front ++ 10 ∷ kept_of self.new) ((kept_of self.old ≡ front) × (kept_of self.new ≡ []))) }
+        ensures taken { IfOk result
+            (λ fed. (front : List ℕ) × HasNoFeed front × (self.new.line.items ≡ self.old.line.items ++ front)
+            × MatchBool fed (kept_of self.old ≡ front ++ 10 ∷ kept_of self.new) ((kept_of self.old ≡ front)
+            × (kept_of self.new ≡ []))) }
         ensures number { self.new.number ≡ self.old.number }
         ensures reads { self.new.reads ≡ self.old.reads }
-        ensures err { IfErr result (λ end. (front behind : List ℕ) × HasNoFeed front × (kept_of self.old ≡ front ++ behind)
+        ensures err { IfErr result
+            (λ end. (front behind : List ℕ) × HasNoFeed front × (kept_of self.old ≡ front ++ behind)
             × IsTooLong end self.old.number (self.old.line.items ++ front)) }
     {
         let kept = &self.piece.as_slice()[self.next..self.end];

@@ -120,7 +120,8 @@ impl Talk {
         reply: &ServerMessage,
         streams: &mut E,
     ) -> Result<(), StreamFault>
-        ensures ok { OnOk result (E.leads streams.old (written (reply_text reply.now) ++ Event.Flushed ∷ []) streams.new) }
+        ensures ok { OnOk result
+            (E.leads streams.old (written (reply_text reply.now) ++ Event.Flushed ∷ []) streams.new) }
         ensures err { OnErr result ((front : List ℕ) × IsFrontOf front (reply_text reply.now)
             × E.leads streams.old (written front) streams.new) }
         ensures reads { self.new.reads ≡ self.old.reads }

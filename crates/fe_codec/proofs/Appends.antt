@@ -1,4 +1,4 @@
--- Texts that are appended one behind another.
+-- Texts that are appended one after another.
 use Rattle.std.proofs.Common.{◌≡◌, ℕ, ◌+◌, ◌<◌, ◌≤◌, Bool, true, false, List, [], ◌∷◌, ◌++◌, length, get_or, take, drop, refl, sym, ap, subst, ◌∙◌, append_assoc, arith}
 use Rattle.std.specs.Prelude.{flat_map, slice_get, Some, Result, Ok, Err, is_ok, IsErr}
 use Rattle.std.proofs.lemmas.Grind.{flat_map-append}
@@ -37,7 +37,7 @@ module _ {X : Type 0} (f : X → List ℕ) (xs : List X) where
   one_more i d lt =
       sym (ap (flat_map f) (take_more xs i d lt) ∙ flat_map-append f (take i xs) (get_or xs i d ∷ []) ∙ ap (λ (t : List ℕ). flat_map f (take i xs) ++ t) (append-nil (f (get_or xs i d))))
 
-  -- the items so far, this one, and those behind it
+  -- the items so far, this one, and those after it
   all_items : (i : ℕ) (d : X) → i < length xs → (flat_map f (take i xs) ++ f (get_or xs i d)) ++ flat_map f (drop (i + 1) xs) ≡ flat_map f xs
   all_items i d lt =
       ap (λ (t : List ℕ). t ++ flat_map f (drop (i + 1) xs)) (one_more i d lt) ∙ sym (flat_map-append f (take (i + 1) xs) (drop (i + 1) xs)) ∙ ap (flat_map f) (take-append-drop (i + 1) xs)

@@ -15,7 +15,7 @@ wide32 = record { len = λ n. refl; again = λ n lt. from_be_bytes-to_be_bytes_4
 pub wide64 : IsWide w64 (2 ^ 64)
 wide64 = record { len = λ n. refl; again = λ n lt. from_be_bytes-to_be_bytes_8 n lt }
 
--- the number behind a front of this length
+-- the number after a front of this length
 pub number_again : (w : Width) (limit : ℕ) (wide : IsWide w limit) (front : List ℕ) (n : ℕ) (back : List ℕ) (at : ℕ) → length front ≡ at → n < limit → field_at w (front ++ (to_be_bytes w n ++ back)) at ≡ n
 number_again w limit wide front n back at long lt =
     ap (λ (t : List ℕ). from_be_bytes w (take (byte_len w) t)) (drop_at front (to_be_bytes w n ++ back) at long)

@@ -63,7 +63,7 @@ zeros (x ∷ xs) e =
     let b = both_true (eqb x 0) (list_all (λ b. eqb b 0) xs) e in
     ap (λ (y : ℕ). y ∷ xs) (eqb-true x 0 b.0) ∙ ap (λ (ys : List ℕ). 0 ∷ ys) (zeros xs b.1)
 
--- a name and the zeros behind it are its row
+-- a name and the zeros after it are its row
 is_row : (format : Format) (n : ℕ) (cells : List ℕ) → length cells ≡ name_bytes format → n ≤ name_bytes format → is_name_row n cells ≡ true → (cells ≡ name_row format (take n cells)) × (length (take n cells) ≡ n)
 is_row format n cells long le e =
     let b = both_true (is_plain (take n cells)) (list_all (λ b. eqb b 0) (drop n cells)) e in

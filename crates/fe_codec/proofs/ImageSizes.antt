@@ -22,7 +22,7 @@ use Rattle.fe_codec.proofs.ImageArrays.{row_holds}
 use Rattle.fe_codec.proofs.ImageSessions.{MayKeep, MayHave}
 use Rattle.fe_codec.proofs.ImageOnly.{all_both, each_there, sessions_remain}
 
--- ---- texts one behind another
+-- ---- texts one after another
 
 sizes : {X : Type 0} (f : X → List ℕ) (c : ℕ) (g : X → ℕ) (es : List X) → AllByRecursion (λ e. length (f e) ≤ c + 9 * g e) es → length (flat_map f es) ≤ length es * c + 9 * sum_by g es
 sizes f c g [] h = omega arith

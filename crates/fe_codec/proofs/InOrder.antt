@@ -40,7 +40,7 @@ module _ {X : Type 0} where
   before_next k v [] h = (λ q after. ltb-true k q after, tt)
   before_next k v (e ∷ es) h = (λ q after. omega (arith, h.0, ltb-true k q after), before_next k v es h.1)
 
-  -- the entries come behind those that are there
+  -- the entries come after those that are there
   pub entries-put_all : (previous : Option ℕ) (es : List (ℕ × X)) (m : FinMap nat_cmp X) → AllBefore previous (entries m) → Rises previous es → entries (put_all m es) ≡ entries m ++ es
   entries-put_all previous [] m before rises = sym (append-nil (entries m))
   entries-put_all previous (e ∷ es) m before rises =

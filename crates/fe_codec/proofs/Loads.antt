@@ -41,7 +41,7 @@ module _ {X : Type 0} (step : Walk → Result Walk ℕ) (load : ServerState → 
       pub text : Splits x.2 (flat_map spelled entries) y.2
       pub good : AllByRecursion Good entries
 
-    -- parts that were taken are spelled one behind another
+    -- parts that were taken are spelled one after another
     pub loads_all : ((x y : Walk) → IsBytes x.2 → step x ≡ Ok y → Loads x y) → (n : ℕ) (x y : Walk) → IsBytes x.2 → repeated step n x ≡ Ok y → LoadsAll n x y
     unfolding repeated
     loads_all each zero x y fits e =

@@ -118,7 +118,7 @@ length-request_row format (Find name) room fits = length-name_row format name (r
 length-request_row format (Remove array) room fits = length-array_row format array 0
 length-request_row format (Access array index op no_wait) room fits = length-array_row format array (operand_of op)
 
--- the name at the front of a row, with fields behind it
+-- the name at the front of a row, with fields after it
 row_name : (name zeros c d e f : List ℕ) → take (length name) ((name ++ zeros) ++ c ++ d ++ e ++ f) ≡ name
 row_name name zeros c d e f =
     let same : (name ++ zeros) ++ c ++ d ++ e ++ f ≡ name ++ (zeros ++ c ++ d ++ e ++ f) = simp append_assoc in

@@ -1,5 +1,5 @@
 -- The rule of images: which state an image stands for, or else the offset of its first fault. It goes over the fields
--- in the order of the format. A step gives a value and the bytes behind it, or how many bytes there are from the first
+-- in the order of the format. A step gives a value and the bytes after it, or how many bytes there are from the first
 -- fault on: the field whose value isn't allowed, given those before it, or none where the bytes run out.
 use Rattle.std.specs.Prelude.{ℕ, zero, suc, ◌+◌, ◌-◌, ◌^◌, Bool, true, ◌&&◌, List, [], ◌∷◌, length, take, drop, Option, Some, None, is_some, Result, Ok, Err, nat_le, nat_lt, ◌==◌, if◌then◌else◌}
 use Rattle.std.specs.List.{list_all}
@@ -92,7 +92,7 @@ name_length_at format [] = Err 0
 name_length_at format (n ∷ bytes) =
     if nat_le 1 n && nat_le n (name_bytes format) then Ok (n, bytes) else Err (length (n ∷ bytes))
 
--- plain bytes, and zeros behind them
+-- plain bytes, and zeros after them
 abbrev pub is_name_row : ℕ → List ℕ → Bool
 is_name_row n cells = is_plain (take n cells) && list_all (λ b. b == 0) (drop n cells)
 

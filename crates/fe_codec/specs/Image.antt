@@ -24,7 +24,7 @@ abbrev pub array_spelling : Format → ℕ × Array → List ℕ
 array_spelling format e =
     to_be_bytes w64 e.0 ++ name_field format e.1.name ++ to_be_bytes w32 (length e.1.words) ++ flat_map word_spelling e.1.words
 
--- what is kept for a number is the record of its entry behind the entry's place
+-- what is kept for a number is the record of its entry after the entry's place
 abbrev pub entry_of_kept : ℕ → ℕ × Kept → Entry
 entry_of_kept session e = Finished session e.0 e.1.request e.1.answer
 

@@ -18,7 +18,7 @@ use Rattle.fe_format.specs.declared.format.Format.TheVariants.{One, Two}
 abbrev pub codes_field : ℕ → ℕ → ℕ → ℕ → ℕ → ℕ → List ℕ
 codes_field kind request answer count tag flag = kind ∷ request ∷ answer ∷ count ∷ tag ∷ flag ∷ 0 ∷ 0 ∷ []
 
--- a name, with zeros behind it
+-- a name, with zeros after it
 abbrev pub name_row : Format → List ℕ → List ℕ
 name_row format name = padded (name_bytes format) name
 
@@ -26,7 +26,7 @@ name_row format name = padded (name_bytes format) name
 abbrev pub name_field : Format → List ℕ → List ℕ
 name_field format name = length name ∷ name_row format name
 
--- an array and an operand, with zeros behind them
+-- an array and an operand, with zeros after them
 abbrev pub array_row : Format → ℕ → ℕ → List ℕ
 array_row format array operand = to_be_bytes w64 array ++ to_be_bytes w64 operand ++ replicate (name_bytes format - 16) 0
 
@@ -61,7 +61,7 @@ abbrev pub record_spelling : List ℕ → ℕ → ℕ → List ℕ → ℕ → �
 record_spelling codes session number row size answer_size answer_value =
     codes ++ to_be_bytes w64 session ++ to_be_bytes w64 number ++ row ++ to_be_bytes w32 size ++ to_be_bytes w32 answer_size ++ to_be_bytes w64 answer_value ++ replicate 8 0
 
--- a record with nothing behind the number or the floor
+-- a record with nothing after the number or the floor
 abbrev pub short_spelling : Format → ℕ → ℕ → ℕ → List ℕ
 short_spelling format kind session number =
     record_spelling (codes_field kind 0 0 0 0 0) session number (replicate (name_bytes format) 0) 0 0 0
@@ -130,7 +130,7 @@ pub record FitsRecord (format : Format) (entry : Entry) : Type 0 where
   pub numbered : IsNumbered entry
   pub fields : FieldsFit entry
 
--- the records of a group, one behind another
+-- the records of a group, one after another
 abbrev pub group_spelling : Format → List Entry → List ℕ
 group_spelling format entries = flat_map (entry_spelling format) entries
 

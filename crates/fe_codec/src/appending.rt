@@ -15,25 +15,29 @@ use std::alloc::AllocError;
 const WORD_BYTES: usize = 9;
 
 pub fn put_bytes(out: &mut Vec<u8>, bytes: &[u8]) -> Result<(), AllocError>
-    ensures { Appends out.old.items out.new.items (vec_capacity out.old) (vec_capacity out.new) (is_ok result) bytes.now }
+    ensures { Appends out.old.items out.new.items (vec_capacity out.old) (vec_capacity out.new)
+        (is_ok result) bytes.now }
 {
     out.extend_from_slice(bytes)
 }
 
 pub fn put_u32(out: &mut Vec<u8>, value: u32) -> Result<(), AllocError>
-    ensures { Appends out.old.items out.new.items (vec_capacity out.old) (vec_capacity out.new) (is_ok result) (to_be_bytes w32 value) }
+    ensures { Appends out.old.items out.new.items (vec_capacity out.old) (vec_capacity out.new) (is_ok result)
+        (to_be_bytes w32 value) }
 {
     put_bytes(out, &u32_bytes(value))
 }
 
 pub fn put_u64(out: &mut Vec<u8>, value: u64) -> Result<(), AllocError>
-    ensures { Appends out.old.items out.new.items (vec_capacity out.old) (vec_capacity out.new) (is_ok result) (to_be_bytes w64 value) }
+    ensures { Appends out.old.items out.new.items (vec_capacity out.old) (vec_capacity out.new) (is_ok result)
+        (to_be_bytes w64 value) }
 {
     put_bytes(out, &u64_bytes(value))
 }
 
 pub fn put_word(out: &mut Vec<u8>, word: Word) -> Result<(), AllocError>
-    ensures appends { Appends out.old.items out.new.items (vec_capacity out.old) (vec_capacity out.new) (is_ok result) (word_spelling word) }
+    ensures appends { Appends out.old.items out.new.items (vec_capacity out.old) (vec_capacity out.new) (is_ok result)
+        (word_spelling word) }
     ensures fits { word.value < 2 ^ 64 }
 {
     let mut fields = Fields::<WORD_BYTES>::new();
@@ -43,7 +47,8 @@ pub fn put_word(out: &mut Vec<u8>, word: Word) -> Result<(), AllocError>
 }
 
 pub fn put_words(out: &mut Vec<u8>, words: &[Word]) -> Result<(), AllocError>
-    ensures appends { Appends out.old.items out.new.items (vec_capacity out.old) (vec_capacity out.new) (is_ok result) (flat_map word_spelling words.now) }
+    ensures appends { Appends out.old.items out.new.items (vec_capacity out.old) (vec_capacity out.new) (is_ok result)
+        (flat_map word_spelling words.now) }
     ensures fits { OnOk result (AllByRecursion (λ w. w.value < 2 ^ 64) words.now) }
 {
     for word in words {

@@ -129,7 +129,8 @@ fn length_at<'a>(state: &State, name: &Name, bytes: &'a [u8]) -> Result<(u32, &'
     requires plain { is_plain name.now ≡ true }
     requires free { is_some (named state.now.arrays name.now) ≡ false }
     requires few { len state.now.arrays < ARRAYS }
-    ensures given { Gives (λ x. (x.0, x.1.now)) result (number_in w32 1 (WORDS + 1 - word_count state.now.arrays) bytes.now) }
+    ensures given { Gives
+        (λ x. (x.0, x.1.now)) result (number_in w32 1 (WORDS + 1 - word_count state.now.arrays) bytes.now) }
     ensures least { IfOk result (λ x. 1 ≤ x.0) }
     ensures room { IfOk result (λ x. word_count state.now.arrays + x.0 ≤ WORDS) }
 {
@@ -173,7 +174,8 @@ fn next_word<'a>(
     bytes: &'a [u8],
 ) -> Result<&'a [u8], Fault>
     requires { IsSome (word_in (get state.old.arrays array) index) }
-    ensures given { Gives (λ rest. (index + 1, state.new, rest.now)) result (next_word array (index, state.old, bytes.now)) }
+    ensures given { Gives
+        (λ rest. (index + 1, state.new, rest.now)) result (next_word array (index, state.old, bytes.now)) }
     ensures ids { OnOk result (KeepsIds state.old.arrays state.new.arrays) }
     ensures sessions { OnOk result (state.new.sessions ≡ state.old.sessions) }
 {
@@ -189,7 +191,8 @@ fn load_words<'a>(
     bytes: &'a [u8],
 ) -> Result<&'a [u8], Fault>
     requires { (i : ℕ) → i < count → IsSome (word_in (get state.old.arrays array) i) }
-    ensures given { Gives (λ rest. (count, state.new, rest.now)) result (repeated (next_word array) count (0, state.old, bytes.now)) }
+    ensures given { Gives
+        (λ rest. (count, state.new, rest.now)) result (repeated (next_word array) count (0, state.old, bytes.now)) }
     ensures ids { OnOk result (KeepsIds state.old.arrays state.new.arrays) }
     ensures sessions { OnOk result (state.new.sessions ≡ state.old.sessions) }
 {
@@ -210,7 +213,8 @@ fn next_array<'a>(
 ) -> Result<(u64, &'a [u8]), Fault>
     requires fresh { IsFresh previous state.old.arrays }
     requires few { len state.old.arrays < ARRAYS }
-    ensures given { Gives (λ x. (Some x.0, state.new, x.1.now)) result (next_array format (previous, state.old, bytes.now)) }
+    ensures given { Gives
+        (λ x. (Some x.0, state.new, x.1.now)) result (next_array format (previous, state.old, bytes.now)) }
     ensures fresh { IfOk result (λ x. IsFresh (Some x.0) state.new.arrays) }
     ensures few { OnOk result (len state.new.arrays ≤ len state.old.arrays + 1) }
     ensures sessions { OnOk result (state.new.sessions ≡ state.old.sessions) }
@@ -236,7 +240,8 @@ pub fn read_arrays<'a>(
     requires fresh { IsFresh None state.old.arrays }
     requires none { len state.old.arrays ≡ 0 }
     requires few { count ≤ ARRAYS }
-    ensures given { Gives (λ x. (x.0, state.new, x.1.now)) result (repeated (next_array format) count (None, state.old, bytes.now)) }
+    ensures given { Gives
+        (λ x. (x.0, state.new, x.1.now)) result (repeated (next_array format) count (None, state.old, bytes.now)) }
     ensures sessions { OnOk result (state.new.sessions ≡ state.old.sessions) }
 {
     let mut previous = None;

@@ -67,7 +67,8 @@ pub fn read_entry(format: Format, bytes: &[u8]) -> Option<Entry>
     // What is read is spelled so.
     ensures found { IfSome result (λ entry. FitsRecord format entry × (bytes.now ≡ entry_spelling format entry)) }
     // What is spelled so is read, so that `None` comes only outside the grammar.
-    ensures only { (entry : Step) → FitsRecord format entry → bytes.now ≡ entry_spelling format entry → result ≡ Some entry }
+    ensures only { (entry : Step) → FitsRecord format entry → bytes.now ≡ entry_spelling format entry
+        → result ≡ Some entry }
     ensures exact { result ≡ record_entry format bytes.now }
 {
     if bytes.len() != format.record_bytes() {

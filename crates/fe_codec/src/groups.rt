@@ -67,7 +67,8 @@ fn is_group_size(format: Format, size: usize) -> bool
 fn next_entry(format: Format, bytes: &[u8]) -> Option<(Entry, &[u8])>
     requires { record_bytes format ≤ length bytes.now }
     ensures found { IfSome result (λ x. FitsRecord format x.0 × (bytes.now ≡ entry_spelling format x.0 ++ x.1.now)) }
-    ensures only { (entry : Step) (more : List ℕ) → FitsRecord format entry → bytes.now ≡ entry_spelling format entry ++ more → IsSome result }
+    ensures only { (entry : Step) (more : List ℕ) → FitsRecord format entry
+        → bytes.now ≡ entry_spelling format entry ++ more → IsSome result }
 {
     let (cells, behind) = bytes.split_at(format.record_bytes());
     let entry = read_entry(format, cells)?;
@@ -82,7 +83,8 @@ fn read_entries(
 ) -> Result<Option<Vec<Entry>>, AllocError>
     requires { IsGroupSize format (length bytes.now) }
     ensures found { IfOk result (λ read. IfSome read (λ entries. IsGroupOf format entries.items bytes.now)) }
-    ensures only { (entries : List Step) → IsGroupOf format entries bytes.now → IfOk result (λ read. option_map (λ v. v.items) read ≡ Some entries) }
+    ensures only { (entries : List Step) → IsGroupOf format entries bytes.now
+        → IfOk result (λ read. option_map (λ v. v.items) read ≡ Some entries) }
 {
     let count = bytes.len() / format.record_bytes();
     let mut entries = Vec::with_capacity(alloc, count)?;
@@ -109,7 +111,8 @@ pub fn read_group(
     // What is read is spelled so.
     ensures found { IfOk result (λ read. IfSome read (λ entries. IsGroupOf format entries.items bytes.now)) }
     // What is spelled so is read, so that `None` comes only outside the grammar.
-    ensures only { (entries : List Step) → IsGroupOf format entries bytes.now → IfOk result (λ read. option_map (λ v. v.items) read ≡ Some entries) }
+    ensures only { (entries : List Step) → IsGroupOf format entries bytes.now
+        → IfOk result (λ read. option_map (λ v. v.items) read ≡ Some entries) }
     // Memory is wanted only where a group may have this length.
     ensures memory { OnErr result (IsGroupSize format (length bytes.now)) }
 {

@@ -56,7 +56,8 @@ pub fn read_image(alloc: Global, format: Format, bytes: &[u8]) -> Result<State, 
     // What is read is spelled so.
     ensures found { IfOk result (λ state. FitsImage format state × (bytes.now ≡ image_spelling format state)) }
     // What is spelled so is read, unless memory runs out.
-    ensures only { (state : ServerState) → FitsImage format state → bytes.now ≡ image_spelling format state → ImageGives result (Ok state) }
+    ensures only { (state : ServerState) → FitsImage format state → bytes.now ≡ image_spelling format state
+        → ImageGives result (Ok state) }
     // Which state it is, and which fault.
     ensures exact { ImageGives result (image_at format bytes.now) }
     // A fault is told within the image, or at its end.

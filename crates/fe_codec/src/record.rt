@@ -52,7 +52,8 @@ fn put_array(fields: &mut Record, format: Format, array: u64, operand: u64)
 fn put_request(fields: &mut Record, format: Format, request: &Request)
     requires room { length fields.old + 36 ≤ RECORD_BYTES }
     requires row { HasRow format request.now }
-    ensures bytes { fields.new ≡ fields.old ++ (request_row format request.now ++ to_be_bytes w32 (request_size request.now)) }
+    ensures bytes { fields.new
+        ≡ fields.old ++ (request_row format request.now ++ to_be_bytes w32 (request_size request.now)) }
     ensures length { length fields.new ≡ length fields.old + name_bytes format + 4 }
     ensures fits { RequestFits request.now }
 {

@@ -101,7 +101,8 @@ fn next_kept<'a>(
 ) -> Result<(u64, &'a [u8]), Fault>
     requires floor { option_map (λ x. x.floor) (get state.old.sessions session) ≡ Some floor }
     requires small { floor < 2 ^ 63 }
-    ensures given { Gives (λ x. (Some x.0, state.new, x.1.now)) result (next_kept format session floor (previous, state.old, bytes.now)) }
+    ensures given { Gives
+        (λ x. (Some x.0, state.new, x.1.now)) result (next_kept format session floor (previous, state.old, bytes.now)) }
     ensures floor { OnOk result (option_map (λ x. x.floor) (get state.new.sessions session) ≡ Some floor) }
     ensures keys { OnOk result (KeepsKeys state.old.sessions state.new.sessions) }
 {
@@ -125,7 +126,9 @@ fn load_window<'a>(
 ) -> Result<(Option<u64>, &'a [u8]), Fault>
     requires floor { option_map (λ x. x.floor) (get state.old.sessions session) ≡ Some floor }
     requires small { floor < 2 ^ 63 }
-    ensures given { Gives (λ x. (x.0, state.new, x.1.now)) result (repeated (next_kept format session floor) count (None, state.old, bytes.now)) }
+    ensures given { Gives
+        (λ x. (x.0, state.new, x.1.now)) result
+        (repeated (next_kept format session floor) count (None, state.old, bytes.now)) }
     ensures keys { OnOk result (KeepsKeys state.old.sessions state.new.sessions) }
 {
     let mut previous = None;
@@ -161,7 +164,8 @@ fn next_session<'a>(
 ) -> Result<(u64, &'a [u8]), Fault>
     requires fresh { IsFresh previous state.old.sessions }
     requires few { len state.old.sessions < SESSIONS }
-    ensures given { Gives (λ x. (Some x.0, state.new, x.1.now)) result (next_session format (previous, state.old, bytes.now)) }
+    ensures given { Gives
+        (λ x. (Some x.0, state.new, x.1.now)) result (next_session format (previous, state.old, bytes.now)) }
     ensures fresh { IfOk result (λ x. IsFresh (Some x.0) state.new.sessions) }
     ensures few { OnOk result (len state.new.sessions ≤ len state.old.sessions + 1) }
 {
@@ -183,7 +187,8 @@ pub fn read_sessions<'a>(
     requires fresh { IsFresh None state.old.sessions }
     requires none { len state.old.sessions ≡ 0 }
     requires few { count ≤ SESSIONS }
-    ensures { Gives (λ x. (x.0, state.new, x.1.now)) result (repeated (next_session format) count (None, state.old, bytes.now)) }
+    ensures { Gives (λ x. (x.0, state.new, x.1.now)) result
+        (repeated (next_session format) count (None, state.old, bytes.now)) }
 {
     let mut previous = None;
     let mut rest = bytes;

@@ -17,7 +17,8 @@ use std::alloc::AllocError;
 
 fn put_array(format: Format, id: u64, array: &Array, out: &mut Vec<u8>) -> Result<(), AllocError>
     requires { ArrayOfFormat format (id, array.now) }
-    ensures appends { Appends out.old.items out.new.items (vec_capacity out.old) (vec_capacity out.new) (is_ok result) (array_spelling format (id, array.now)) }
+    ensures appends { Appends out.old.items out.new.items (vec_capacity out.old) (vec_capacity out.new) (is_ok result)
+        (array_spelling format (id, array.now)) }
     ensures fits { OnOk result (ArrayFits (id, array.now)) }
 {
     put_u64(out, id)?;
@@ -28,7 +29,8 @@ fn put_array(format: Format, id: u64, array: &Array, out: &mut Vec<u8>) -> Resul
 
 fn put_arrays(format: Format, state: &State, out: &mut Vec<u8>) -> Result<(), AllocError>
     requires { AllByRecursion (ArrayOfFormat format) (entries state.now.arrays) }
-    ensures appends { Appends out.old.items out.new.items (vec_capacity out.old) (vec_capacity out.new) (is_ok result) (flat_map (array_spelling format) (entries state.now.arrays)) }
+    ensures appends { Appends out.old.items out.new.items (vec_capacity out.old) (vec_capacity out.new) (is_ok result)
+        (flat_map (array_spelling format) (entries state.now.arrays)) }
     ensures fits { OnOk result (AllByRecursion ArrayFits (entries state.now.arrays)) }
 {
     for k in 0..state.array_count() {
@@ -47,7 +49,8 @@ fn put_kept(
     out: &mut Vec<u8>,
 ) -> Result<(), AllocError>
     requires { KeptOfFormat format session (number, kept.now) }
-    ensures appends { Appends out.old.items out.new.items (vec_capacity out.old) (vec_capacity out.new) (is_ok result) (kept_spelling format session (number, kept.now)) }
+    ensures appends { Appends out.old.items out.new.items (vec_capacity out.old) (vec_capacity out.new) (is_ok result)
+        (kept_spelling format session (number, kept.now)) }
     ensures fits { OnOk result (FieldsFit (entry_of_kept session (number, kept.now))) }
 {
     put_u64(out, kept.place)?;
@@ -68,7 +71,8 @@ fn put_answers(
     out: &mut Vec<u8>,
 ) -> Result<(), AllocError>
     requires { SessionOfFormat format (session, window.now) }
-    ensures appends { Appends out.old.items out.new.items (vec_capacity out.old) (vec_capacity out.new) (is_ok result) (flat_map (kept_spelling format session) (entries window.now.kept)) }
+    ensures appends { Appends out.old.items out.new.items (vec_capacity out.old) (vec_capacity out.new) (is_ok result)
+        (flat_map (kept_spelling format session) (entries window.now.kept)) }
     ensures fits { OnOk result (AllByRecursion (λ k. FieldsFit (entry_of_kept session k)) (entries window.now.kept)) }
 {
     for (number, kept) in window.answers() {
@@ -84,7 +88,8 @@ fn put_session(
     out: &mut Vec<u8>,
 ) -> Result<(), AllocError>
     requires { SessionOfFormat format (session, window.now) }
-    ensures appends { Appends out.old.items out.new.items (vec_capacity out.old) (vec_capacity out.new) (is_ok result) (session_spelling format (session, window.now)) }
+    ensures appends { Appends out.old.items out.new.items (vec_capacity out.old) (vec_capacity out.new) (is_ok result)
+        (session_spelling format (session, window.now)) }
     ensures fits { OnOk result (SessionFits (session, window.now)) }
 {
     put_u64(out, session)?;
@@ -95,7 +100,8 @@ fn put_session(
 
 fn put_sessions(format: Format, state: &State, out: &mut Vec<u8>) -> Result<(), AllocError>
     requires { AllByRecursion (SessionOfFormat format) (entries state.now.sessions) }
-    ensures appends { Appends out.old.items out.new.items (vec_capacity out.old) (vec_capacity out.new) (is_ok result) (flat_map (session_spelling format) (entries state.now.sessions)) }
+    ensures appends { Appends out.old.items out.new.items (vec_capacity out.old) (vec_capacity out.new) (is_ok result)
+        (flat_map (session_spelling format) (entries state.now.sessions)) }
     ensures fits { OnOk result (AllByRecursion SessionFits (entries state.now.sessions)) }
 {
     for k in 0..state.session_count() {
@@ -108,7 +114,8 @@ fn put_sessions(format: Format, state: &State, out: &mut Vec<u8>) -> Result<(), 
 
 fn put_state(format: Format, state: &State, out: &mut Vec<u8>) -> Result<(), AllocError>
     requires { HasRoomFor format state.now }
-    ensures appends { Appends out.old.items out.new.items (vec_capacity out.old) (vec_capacity out.new) (is_ok result) (image_spelling format state.now) }
+    ensures appends { Appends out.old.items out.new.items (vec_capacity out.old) (vec_capacity out.new) (is_ok result)
+        (image_spelling format state.now) }
     ensures fits { OnOk result (FitsImage format state.now) }
 {
     put_u64(out, state.place())?;

@@ -1,4 +1,4 @@
--- Messages of connections enter the front: the entries that they make are legal, and pending behind the others.
+-- Messages of connections enter the front: the entries that they make are legal, and pending after the others.
 use Rattle.std.proofs.Common.{◌≡◌, ◌⊎◌, ℕ, Bool, true, false, not, true≢false, inl, inr, List, [], ◌∷◌, ◌++◌, append-nil, Option, Some, None, Result, Ok, Err, MatchResult, IsOk, refl, sym, ap, subst, ◌∙◌}
 use Rattle.std.specs.Prelude.{nat_lt, is_ok, if◌then◌else◌}
 use Rattle.std.specs.Option.{option_map_or}

@@ -21,7 +21,7 @@ pub record IsRefused (f : FrontState) (conn number : ℕ) (refusal : Refusal) (e
   pub entries : es ≡ []
   pub front : g ≡ mailed f conn (mail.Refused number refusal)
 
--- a call is refused for what the front's definition names, or for want of memory where it wants some
+-- a call is refused for what the front's definition names, or because memory that it needs is short
 abbrev pub MayRefuse : FrontState → ℕ → ℕ → Request → Refusal → Type 0
 MayRefuse f conn number request refusal =
     IsCallRefused f conn number request refusal ⊎ ((refusal ≡ NoMemory) × WantsMemory f conn number request)

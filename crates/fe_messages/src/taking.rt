@@ -52,7 +52,8 @@ pub fn take_message(alloc: Global, front: &mut Front, conn: u64, message: Client
 
 /// Mails the report of what waits.
 fn mail_report(alloc: Global, front: &mut Front, conn: u64)
-    ensures taken { (es : List Entry) × Takes front.old conn Message.Report es front.new × Enters front.old es front.new }
+    ensures taken { (es : List Entry) × Takes front.old conn Message.Report es front.new
+        × Enters front.old es front.new }
 {
     match report(alloc, front) {
         Ok(text) => front.mail_text(conn, ReportText::new(text)),

@@ -70,7 +70,8 @@ fn replay_one<'a>(format: Format, bytes: &'a [u8], state: &mut State) -> Result<
 /// The entry whose record the first bytes are, and the bytes after it.
 fn next_entry(format: Format, bytes: &[u8]) -> Option<(Entry, &[u8])>
     ensures found { IfSome result (λ x. FitsRecord format x.0 × (bytes.now ≡ entry_spelling format x.0 ++ x.1.now)) }
-    ensures only { (entry : Step) (more : List ℕ) → FitsRecord format entry → bytes.now ≡ entry_spelling format entry ++ more → IsSome result }
+    ensures only { (entry : Step) (more : List ℕ) → FitsRecord format entry
+        → bytes.now ≡ entry_spelling format entry ++ more → IsSome result }
 {
     let (cells, behind) = bytes.split_at_checked(format.record_bytes())?;
     let entry = read_entry(format, cells)?;

@@ -8,7 +8,7 @@ use Rattle.fe_words.specs.declared.op.Op.{Op}
 use Rattle.fe_words.specs.declared.op.Op.TheVariants.{ReadFe, ReadFf, ReadXx, WriteEf, WriteFf, WriteXf, Purge, IntFetchAdd}
 use Rattle.fe_report.specs.Report.{count_line, word_line, session_line, all_wait_line}
 
--- a text that a line was written behind
+-- a text that a line was written after
 pub grown : {Z : Type 0} (old new : String Z) (line : List ℕ) (n : ℕ) → length line ≤ n → string_bytes new ≡ string_bytes old ++ line → string_len new ≤ string_len old + n
 grown old new line n h e =
     let size = ap length e in

@@ -1,4 +1,4 @@
--- Rows that are sorted by a key: where no key stands twice they are the entries of a finite map.
+-- Rows that are sorted by a key: where no key is there twice they are the entries of a finite map.
 use Rattle.std.proofs.Common.{◌≡◌, ◌≢◌, ◌⊎◌, ℕ, ◌+◌, ◌<◌, ◌≤◌, Bool, true, false, cond, ◌&&◌, List, [], ◌∷◌, ◌++◌, map, length, zero, suc, get_or, slice_get, slice_index_or, inl, inr, Some, IsSome, is_some, true≢false, refl, sym, ap, subst, ◌∙◌, T, arith, add-one}
 use Rattle.std.specs.Prelude.{Contains, sum_by}
 use Rattle.std.proofs.lemmas.List.Sums.{sum_by-append, sum_by-cons}
@@ -64,7 +64,7 @@ lt_of a Equal e l n = absurd (true≢false n)
 lt_of a Greater e l n = absurd (true≢false (sym (ap is_lt e) ∙ l))
 
 module _ {K X : Type 0} {R : K → K → Ordering} (o : IsTotalOrder R) (same : IsAntisymmetric R) where
-  -- ---- how often a key stands
+  -- ---- how often a key is there
 
   abbrev pub is_at : K → K × X → ℕ
   is_at q e = cond (eq_by_cmp R q e.0) 1 0

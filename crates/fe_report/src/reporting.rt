@@ -17,7 +17,8 @@ const OTHER_LINES: usize = 2976;
 /// It goes over the sessions and along the list of each, and looks at no word. The memory of the text is taken at once, and
 /// what it has to spare is given back.
 pub fn report(alloc: Global, front: &Front) -> Result<String, AllocError>
-    ensures text { IfOk result (λ text. string_bytes text ≡ report_text front.now.service.waiting (attached_seats front.now)) }
+    ensures text { IfOk result
+        (λ text. string_bytes text ≡ report_text front.now.service.waiting (attached_seats front.now)) }
     ensures some { IfOk result (λ text. 1 ≤ string_len text) }
     ensures few { IfOk result (λ text. string_len text ≤ 262144) }
 {

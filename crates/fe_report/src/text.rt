@@ -40,7 +40,9 @@ fn put_caller(line: &mut [u8], session: u64, number: u64, op: Op) -> usize
     requires whole { length line.old ≡ 108 }
     ensures room { 36 ≤ result }
     ensures in_bounds { result ≤ 108 }
-    ensures caller { drop result line.new ≡ codes " session " ++ (decimal session ++ (codes " number " ++ (decimal number ++ (codes " " ++ (name_of op ++ codes "\n"))))) }
+    ensures caller { drop result line.new
+        ≡ codes " session " ++
+        (decimal session ++ (codes " number " ++ (decimal number ++ (codes " " ++ (name_of op ++ codes "\n"))))) }
 {
     let at = put_piece(line, "\n", line.len());
     let at = put_piece(line, op.name(), at);
@@ -56,7 +58,8 @@ fn put_place(line: &mut [u8], array: u64, index: u32, end: usize) -> usize
     requires room { 36 ≤ end }
     requires in_bounds { end ≤ length line.old }
     ensures in_bounds { result ≤ end }
-    ensures place { drop result line.new ≡ codes "word " ++ (decimal array ++ (codes " " ++ (decimal index ++ drop end line.old))) }
+    ensures place { drop result line.new
+        ≡ codes "word " ++ (decimal array ++ (codes " " ++ (decimal index ++ drop end line.old))) }
 {
     let at = write_digits(u64::from(index), line, end);
     let at = put_piece(line, " ", at);
@@ -73,7 +76,8 @@ fn put_word(
     number: u64,
     op: Op,
 ) -> Result<(), AllocError>
-    ensures line { OnOk result (string_bytes text.new ≡ string_bytes text.old ++ word_line (((array, index), (session, number)), op)) }
+    ensures line { OnOk result (string_bytes text.new
+        ≡ string_bytes text.old ++ word_line (((array, index), (session, number)), op)) }
     ensures few { OnOk result (string_len text.new ≤ string_len text.old + 108) }
 {
     let mut line = [0; WORD_LINE];
@@ -109,7 +113,8 @@ pub(crate) fn put_sessions(
     text: &mut String,
     sessions: &BTreeMap<u64, u32>,
 ) -> Result<(), AllocError>
-    ensures lines { OnOk result (string_bytes text.new ≡ string_bytes text.old ++ flat_map session_line sessions.now.entries) }
+    ensures lines { OnOk result (string_bytes text.new
+        ≡ string_bytes text.old ++ flat_map session_line sessions.now.entries) }
     ensures few { OnOk result (string_len text.new ≤ string_len text.old + 46 * btree_map_len sessions.now) }
 {
     for (session, count) in sessions {

@@ -49,7 +49,7 @@ unfolding slots_below
 length-slots_below zero = refl
 length-slots_below (suc n) = let rest = length-slots_below n in length-append (slots_below n) (n ∷ []) ∙ omega arith
 
--- each stands at its own place
+-- each is at its own place
 slot-at : (n i slot : ℕ) → slice_get (slots_below n) i ≡ Some slot → (i ≡ slot) × (slot < n)
 unfolding slots_below
 slot-at zero i slot e = none_some e

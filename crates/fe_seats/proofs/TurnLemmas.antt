@@ -42,7 +42,7 @@ module _ (places : FinMap nat_cmp Place) (owners : List (Option ℕ)) (agree : A
     pub turn-some : (row : Row) → row_at members slot number ≡ Some row → turn_at (by_session owners members) session number ≡ Some (turn_for session row)
     turn-some row some = turn-in_slot ∙ ap (option_map (turn_for session)) some
 
-  -- what is told of the requests of a session
+  -- what is reported of the requests of a session
   pub told-in_slot : (session slot : ℕ) (told : List (ℕ × (ℕ × ℕ × Op))) → slot_in places session ≡ Some slot → AreTold members slot told → AreTold (by_session owners members) session told
   told-in_slot session slot told in_slot all = λ number what.
       let same = get-in_slot places owners agree members owned session slot number in_slot in

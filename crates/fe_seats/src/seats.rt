@@ -170,7 +170,8 @@ impl Seats {
         requires new { map.get self.old.waiting (session, number) ≡ None }
         requires room { count_of self.old.waiting session < 32 }
         requires word { IsWord self.old.arrays array index }
-        ensures added { self.new.waiting ≡ map.insert self.old.waiting (session, number) (record { array = array; index = index; op = op }) }
+        ensures added { self.new.waiting
+            ≡ map.insert self.old.waiting (session, number) (record { array = array; index = index; op = op }) }
         ensures seats { self.new.seats ≡ self.old.seats }
         ensures arrays { self.new.arrays ≡ self.old.arrays }
     {

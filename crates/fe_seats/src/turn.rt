@@ -18,7 +18,13 @@ pub struct Turn {
 impl Turn {
     // The request of a row, which waits in a slot of the session.
     pub(crate) fn of(session: u64, row: Row) -> Turn
-        ensures { result ≡ record { session = session; number = row.number; array = row.array; index = row.index; op = row.op } }
+        ensures { result ≡ record {
+          session = session;
+          number = row.number;
+          array = row.array;
+          index = row.index;
+          op = row.op;
+        } }
     {
         Turn {
             session,

@@ -1,4 +1,4 @@
--- What an entry of its own and the turns behind it leave of a service.
+-- What an entry of its own and the turns after it leave of a service.
 use Rattle.std.proofs.Common.{◌≡◌, ℕ, inl, inr, Option, Some, None, List, [], ◌∷◌, ◌++◌, refl, sym, ap, subst, ◌∙◌, arith}
 use Rattle.std.specs.Prelude.{is_some}
 use Rattle.std.specs.Option.{option_map}
@@ -70,7 +70,7 @@ append_one : (xs : List Entry) (x : Entry) (ys : List Entry) → (xs ++ x ∷ []
 append_one [] x ys = refl
 append_one (z ∷ xs) x ys = ap (λ rest. z ∷ rest) (append_one xs x ys)
 
--- with turns behind it, and quiet at the end, it completes
+-- with turns after it, and quiet at the end, it completes
 pub entered_completes : (old mid new : Parts) (own : Entry) (es : List Entry) → IsEntered old mid own → TakesTurns mid new es → IsQuiet new.state new.seats.waiting → Completes (service_of old) (service_of new) own es
 entered_completes old mid new own es e t quiet = record {
   serves = record {

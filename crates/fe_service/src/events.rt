@@ -28,7 +28,8 @@ impl Parts {
     // A connection has the seat of a session, which it gets if it has none.
     fn take_seat(&mut self, session: u64, conn: u64)
         requires { MaySit (service_of self.old) session }
-        ensures seats { self.new.seats.seats ≡ insert self.old.seats.seats session (record { holder = Some conn; closing = false }) }
+        ensures seats { self.new.seats.seats
+            ≡ insert self.old.seats.seats session (record { holder = Some conn; closing = false }) }
         ensures waiting { self.new.seats.waiting ≡ self.old.seats.waiting }
         ensures arrays { self.new.seats.arrays ≡ self.old.seats.arrays }
         ensures state { self.new.state ≡ self.old.state }
@@ -125,7 +126,10 @@ impl Parts {
         requires answered { reply self.old.state request ≡ Some answer }
         requires room { HasRoom (service_of self.old) }
         ensures sound { AreSound self.new }
-        ensures completes { IfOk result (λ count. (served : List Entry) × Completes (service_of self.old) (service_of self.new) (Finished session number request answer) served × (count ≡ 1 + length_of served)) }
+        ensures completes { IfOk result
+            (λ count. (served : List Entry)
+            × Completes (service_of self.old) (service_of self.new) (Finished session number request answer) served
+            × (count ≡ 1 + length_of served)) }
         ensures memory { OnErr result (MakesArray (Finished session number request answer)) }
         ensures err { OnErr result (service_of self.new ≡ service_of self.old) }
     {
@@ -159,7 +163,8 @@ impl Parts {
         requires free { IsFree (service_of self.old) session number }
         requires waits { reply self.old.state (requests.Access array index op false) ≡ None }
         ensures sound { AreSound self.new }
-        ensures waited { service_of self.new ≡ waited (service_of self.old) session number (record { array = array; index = index; op = op }) }
+        ensures waited { service_of self.new
+            ≡ waited (service_of self.old) session number (record { array = array; index = index; op = op }) }
     {
         self.seats.add(session, number, array, index, op);
     }

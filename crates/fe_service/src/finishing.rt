@@ -30,7 +30,10 @@ impl Parts {
         requires answered { reply self.old.state (requests.Access array index op no_wait) ≡ Some answer }
         requires room { HasRoom (service_of self.old) }
         ensures sound { AreSound self.new }
-        ensures completes { (served : List Entry) × Completes (service_of self.old) (service_of self.new) (Finished session number (requests.Access array index op no_wait) answer) served × (result ≡ 1 + length_of served) }
+        ensures completes { (served : List Entry)
+            × Completes (service_of self.old) (service_of self.new)
+            (Finished session number (requests.Access array index op no_wait) answer) served
+            × (result ≡ 1 + length_of served) }
     {
         self.limits();
         let is_there = self.state.word(array, index).is_some();
@@ -66,7 +69,9 @@ impl Parts {
         requires answered { reply self.old.state (requests.Remove array) ≡ Some answer }
         requires room { HasRoom (service_of self.old) }
         ensures sound { AreSound self.new }
-        ensures completes { (served : List Entry) × Completes (service_of self.old) (service_of self.new) (Finished session number (requests.Remove array) answer) served × (result ≡ 1 + length_of served) }
+        ensures completes { (served : List Entry)
+            × Completes (service_of self.old) (service_of self.new)
+            (Finished session number (requests.Remove array) answer) served × (result ≡ 1 + length_of served) }
     {
         self.limits();
         let length = self.state.length(array);
@@ -93,7 +98,8 @@ impl Parts {
         requires answered { reply self.old.state (requests.Find name) ≡ Some answer }
         requires room { HasRoom (service_of self.old) }
         ensures sound { AreSound self.new }
-        ensures completes { Completes (service_of self.old) (service_of self.new) (Finished session number (requests.Find name) answer) [] }
+        ensures completes { Completes (service_of self.old) (service_of self.new)
+            (Finished session number (requests.Find name) answer) [] }
     {
         self.enter(Entry::Finished {
             session,
@@ -119,7 +125,8 @@ impl Parts {
         requires refused { IsNewArray answer → ⊥ }
         requires room { HasRoom (service_of self.old) }
         ensures sound { AreSound self.new }
-        ensures completes { Completes (service_of self.old) (service_of self.new) (Finished session number (requests.Create name length tag) answer) [] }
+        ensures completes { Completes (service_of self.old) (service_of self.new)
+            (Finished session number (requests.Create name length tag) answer) [] }
     {
         self.limits();
         self.enter(Entry::Finished {
@@ -145,7 +152,9 @@ impl Parts {
         requires answered { reply self.old.state (requests.Create name length tag) ≡ Some (answers.Array id length) }
         requires room { HasRoom (service_of self.old) }
         ensures sound { AreSound self.new }
-        ensures completes { OnOk result (Completes (service_of self.old) (service_of self.new) (Finished session number (requests.Create name length tag) (answers.Array id length)) []) }
+        ensures completes { OnOk result
+            (Completes (service_of self.old) (service_of self.new)
+            (Finished session number (requests.Create name length tag) (answers.Array id length)) []) }
         ensures err { OnErr result (service_of self.new ≡ service_of self.old) }
     {
         self.limits();

@@ -102,8 +102,11 @@ impl Parts {
         requires places { self.old.state.place + len self.old.seats.waiting ≤ 2 ^ 63 - 1 }
         requires room { length_of self.old.pending + len self.old.seats.waiting ≤ 4097 }
         ensures served { (es : List Entry) × TakesTurns self.old self.new es × (result ≡ length_of es) }
-        ensures here { (tag : Tag) → WaitAtTag self.old.seats.waiting array index tag → IsQuietAt self.new.state self.new.seats.waiting array index }
-        ensures beside { (b j : ℕ) → ¬ ((b ≡ array) × (j ≡ index)) → IsQuietAt self.old.state self.old.seats.waiting b j → IsQuietAt self.new.state self.new.seats.waiting b j }
+        ensures here { (tag : Tag) → WaitAtTag self.old.seats.waiting array index tag
+            → IsQuietAt self.new.state self.new.seats.waiting array index }
+        ensures beside { (b j : ℕ) → ¬ ((b ≡ array) × (j ≡ index))
+            → IsQuietAt self.old.state self.old.seats.waiting b j
+            → IsQuietAt self.new.state self.new.seats.waiting b j }
     {
         let mut count = 0;
         while self.serve_first(array, index) {
@@ -119,8 +122,10 @@ impl Parts {
         requires places { self.old.state.place + len self.old.seats.waiting ≤ 2 ^ 63 - 1 }
         requires room { length_of self.old.pending + len self.old.seats.waiting ≤ 4097 }
         ensures served { (es : List Entry) × TakesTurns self.old self.new es × (result ≡ length_of es) }
-        ensures here { (tag : ℕ → Tag) (j : ℕ) → j < length → WaitAtTag self.old.seats.waiting array j (tag j) → IsQuietAt self.new.state self.new.seats.waiting array j }
-        ensures beside { (b j : ℕ) → b ≢ array → IsQuietAt self.old.state self.old.seats.waiting b j → IsQuietAt self.new.state self.new.seats.waiting b j }
+        ensures here { (tag : ℕ → Tag) (j : ℕ) → j < length → WaitAtTag self.old.seats.waiting array j (tag j)
+            → IsQuietAt self.new.state self.new.seats.waiting array j }
+        ensures beside { (b j : ℕ) → b ≢ array → IsQuietAt self.old.state self.old.seats.waiting b j
+            → IsQuietAt self.new.state self.new.seats.waiting b j }
     {
         let mut count = 0;
         for index in 0..length {

@@ -211,7 +211,10 @@ impl Service {
         requires free { IsFree self.old session number }
         requires answered { reply self.old.state request ≡ Some answer }
         requires room { HasRoom self.old }
-        ensures completes { IfOk result (λ count. (served : List Entry) × Completes self.old self.new (Finished session number request answer) served × (count ≡ 1 + length served)) }
+        ensures completes { IfOk result
+            (λ count. (served : List Entry)
+            × Completes self.old self.new (Finished session number request answer) served
+            × (count ≡ 1 + length served)) }
         ensures memory { OnErr result (MakesArray (Finished session number request answer)) }
         ensures err { OnErr result (self.new ≡ self.old) }
     {

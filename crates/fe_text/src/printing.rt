@@ -81,7 +81,8 @@ fn print_name(text: &mut String, conn: Option<u64>) -> Result<(), AllocError>
 
 /// Prints each line of a report after the name of the connection.
 fn print_report(text: &mut String, conn: Option<u64>, report: &str) -> Result<(), AllocError>
-    ensures { OnOk result (string_bytes text.new ≡ string_bytes text.old ++ flat_map (report_line conn) (lines report.now)) }
+    ensures { OnOk result (string_bytes text.new
+        ≡ string_bytes text.old ++ flat_map (report_line conn) (lines report.now)) }
 {
     for line in report.lines() {
         print_name(text, conn)?;

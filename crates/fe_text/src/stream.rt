@@ -80,7 +80,8 @@ pub fn write_text<W: Write>(writer: &mut W, text: &[u8]) -> Result<(), StreamFau
 /// Writes the text, and empties it. Where the writer fails, a front of it is written.
 pub fn write_out<W: Write>(text: &mut String, writer: &mut W) -> Result<(), StreamFault>
     ensures ok { OnOk result (Appends (W.contents writer.old) (W.contents writer.new) (string_bytes text.old)) }
-    ensures front { (count : ℕ) × Appends (W.contents writer.old) (W.contents writer.new) (take count (string_bytes text.old)) }
+    ensures front { (count : ℕ)
+        × Appends (W.contents writer.old) (W.contents writer.new) (take count (string_bytes text.old)) }
     ensures cleared { string_bytes text.new ≡ [] }
 {
     let written = write_text(writer, text.as_bytes());

@@ -15,7 +15,7 @@ use Rattle.fe_wire.specs.Laws.{HasReading, EachHasReading}
 use Rattle.fe_codes.proofs.Splits.{IsBytes-drop}
 use Rattle.fe_wire.proofs.FrameLaws.{body_field, reads_frame, reads_none}
 
--- a message stands whole at the front
+-- a message is whole at the front
 record HasFront (v : Version) (bytes : List ℕ) : Type 0 where
   message : ClientMessage
   fits : FitsIn v message

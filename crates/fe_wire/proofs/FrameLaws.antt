@@ -16,7 +16,7 @@ use Rattle.fe_wire.proofs.FieldLaws.{wide32}
 use Rattle.fe_codes.proofs.CodeLaws.{row, some_at}
 use Rattle.fe_wire.proofs.MessageLaws.{IsRead, message_takes, message_again, has_kind}
 
--- what stands behind the kind, as long as the frame says
+-- what follows the kind, as long as the frame says
 abbrev pub body_field : List ℕ → List ℕ
 body_field bytes = take (4 + length_field bytes - 5) (drop 5 bytes)
 
@@ -57,7 +57,7 @@ reads_none v bytes fits whole low e = (
       none-some m (sym e ∙ ap (λ (k : ℕ). message_of k (body_field bytes)) kinds ∙ ap (message_of r.kind) bodies ∙ r.read),
 )
 
--- ---- a frame, and what comes behind
+-- ---- a frame, and what comes after
 
 frame_front : (kind : ℕ) (body behind : List ℕ) → length body + 1 < 2 ^ 32 → front_frame (frame kind body ++ behind) ≡ frame kind body
 frame_front kind body behind short =
@@ -76,7 +76,7 @@ one_frame read j k b c x y m n b_short c_short is_m is_n same =
     let one : Some m ≡ Some n = sym is_m ∙ ap (λ (kind : ℕ). read kind b) kinds ∙ ap (read k) bodies ∙ is_n in
     (same_Some m n one, append_cancel_left (frame j b) x y (same ∙ ap (λ (t : List ℕ). t ++ y) (sym frames)))
 
--- ---- a message's frame, and what comes behind
+-- ---- a message's frame, and what comes after
 
 pub record IsFront (m : ClientMessage) (bytes : List ℕ) : Type 0 where
   pub read : IsRead m
@@ -135,7 +135,7 @@ front_not_bad v m behind fits bad =
 pub front_not_unfinished : (v : Version) (m : ClientMessage) (behind : List ℕ) → Fits m → IsUnfinished v (spelling m ++ behind) → ⊥
 front_not_unfinished v m behind fits h = h.0 (spelled_front m behind fits).whole
 
--- ---- bytes that come behind
+-- ---- bytes that come after
 
 pub length_field-append : (r more : List ℕ) → 4 ≤ length r → length_field (r ++ more) ≡ length_field r
 length_field-append r more le = ap (from_be_bytes w32) (take-append-le 4 r more le)

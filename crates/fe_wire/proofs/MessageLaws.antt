@@ -270,7 +270,7 @@ length-create_body number name size tag short =
 length-find_body : (number : ℕ) (name : List ℕ) → length name ≤ 32 → length (find_body number name) ≡ name_room (is_long name) + 9
 length-find_body number name short = omega (arith, length-cells_of name short)
 
--- the frames as they are written, field behind field
+-- the frames as they are written, field after field
 pub create_built : (number : ℕ) (name : List ℕ) (size : ℕ) (tag : Tag) → length name ≤ 32
     → (to_be_bytes w32 (name_room (is_long name) + 15) ++ create_kind (is_long name) ∷ []) ++ to_be_bytes w64 number ++ name_field name ++ to_be_bytes w32 size ++ tag_code tag ∷ [] ≡ spelling (Call number (Create name size tag))
 create_built number name size tag short =

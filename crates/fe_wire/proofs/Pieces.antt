@@ -73,7 +73,7 @@ pub on_err : {A E P : Type 0} (r : Result A E) → P → OnErr r P
 on_err (Ok x) p = tt
 on_err (Err e) p = p
 
--- a message behind what is read is one more than there was before the piece
+-- a message after what is read is one more than there was before the piece
 pub completes : (start place new : Place) (piece rest : List ℕ) (messages : List ClientMessage) (m : ClientMessage) (n : ℕ) → IsReadTo start place piece rest messages → GoesOn place new (take n rest) (m ∷ []) → CompletesMessage (decoding start) piece
 completes start place new piece rest messages m n h step =
     λ from before earlier all end old stream.

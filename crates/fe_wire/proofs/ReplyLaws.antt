@@ -259,7 +259,7 @@ report_at bytes kind body fits e is fitting =
     let t = parts_takes bytes kind body fits e in
     record { text = body; fits = fitting; spelled = t.0 ∙ ap (λ (k : ℕ). frame k body) is }
 
--- ---- replies one behind another
+-- ---- replies one after another
 
 -- no reply's frame begins another's
 pub one_reply : (a b : ServerMessage) (x y : List ℕ) → ReplyFits a → ReplyFits b → reply_spelling a ++ x ≡ reply_spelling b ++ y → (a ≡ b) × (x ≡ y)

@@ -62,7 +62,7 @@ one_outcome start stream a b x y version p q =
 
 -- ---- going on
 
--- the same stream, with these bytes behind its rest
+-- the same stream, with these bytes after its rest
 behind : (before parts rest more : List ℕ) → before ≡ parts ++ rest → before ++ more ≡ parts ++ (rest ++ more)
 behind before parts rest more e = ap (λ (t : List ℕ). t ++ more) e ∙ append_assoc parts rest more
 

@@ -27,7 +27,7 @@ pub record IsPlace (p : Place) : Type 0 where
 abbrev pub wanted_of : List ℕ → ℕ
 wanted_of held = if nat_lt (length held) 4 then 4 else 4 + length_field held
 
--- Whatever was read before, with these bytes behind it this place is read to, and these messages.
+-- Whatever was read before, with these bytes after it this place is read to, and these messages.
 pub record GoesOn (old new : Place) (bytes : List ℕ) (messages : List ClientMessage) : Type 0 where
   pub version : new.version ≡ old.version
   pub reads : (start : ℕ) (before : List ℕ) (earlier : List ClientMessage) → HasReadFrom start (decoding old) before earlier

@@ -21,7 +21,7 @@ are_zero bytes = list_all (λ b. b == 0) bytes
 abbrev pub least_name : Bool → ℕ
 least_name long = if long then 17 else 0
 
--- the name of this length in the cells of its field, which are zero behind it
+-- the name of this length in the cells of its field, which are zero after it
 unfoldable pub name_of : Bool → ℕ → List ℕ → Option (List ℕ)
 name_of long n cells = if nat_le (least_name long) n && nat_le n (length cells) && are_zero (drop n cells) then Some (take n cells) else None
 

@@ -23,7 +23,7 @@ is_long name = nat_lt 16 (length name)
 abbrev pub name_room : Bool → ℕ
 name_room long = if long then 32 else 16
 
--- a name: its length, and 16 or 32 bytes that are zero behind it
+-- a name: its length, and 16 or 32 bytes that are zero after it
 abbrev pub name_field : List ℕ → List ℕ
 name_field name = length name ∷ name ++ replicate (name_room (is_long name) - length name) 0
 

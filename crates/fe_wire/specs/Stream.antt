@@ -63,7 +63,7 @@ IsWhole bytes = 4 + length_field bytes ≤ length bytes
 abbrev pub HasBadBody : Version → List ℕ → Type 0
 HasBadBody v bytes = IsWhole bytes × ((m : ClientMessage) → FitsIn v m → front_frame bytes ≢ spelling m)
 
--- The frame at the front is bad, whatever comes behind these bytes.
+-- The frame at the front is bad, whatever comes after these bytes.
 abbrev pub IsBad : Version → List ℕ → Type 0
 IsBad v bytes = HasBadLength v bytes ⊎ (HasBadKind v bytes ⊎ HasBadBody v bytes)
 
@@ -88,7 +88,7 @@ pub record Decoding : Type 0 where
   -- that frame is bad
   pub is_bad : Bool
 
--- what the decoder stands at is this rest
+-- what the decoder is at is this rest
 abbrev pub StandsAt : Version → Bool → List ℕ → List ℕ → Type 0
 StandsAt v false held rest = IsUnfinished v rest × (held ≡ rest)
 StandsAt v true held rest = IsBad v rest × (held ≡ [])
@@ -104,7 +104,7 @@ pub record HasReadFrom (start : ℕ) (decoder : Decoding) (stream : List ℕ) (m
 abbrev pub HasRead : Decoding → List ℕ → List ClientMessage → Type 0
 HasRead = HasReadFrom 0
 
--- Whatever was read before, the stream has a message more with this piece behind it.
+-- Whatever was read before, the stream has a message more with this piece after it.
 abbrev pub CompletesMessage : Decoding → List ℕ → Type 0
 CompletesMessage decoder piece =
     (start : ℕ) (before : List ℕ) (earlier messages : List ClientMessage) (rest : List ℕ) → HasReadFrom start decoder before earlier

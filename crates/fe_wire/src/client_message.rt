@@ -3,7 +3,7 @@ use fe_state::Request;
 /// A message from a client.
 #[derive(Clone, Copy, PartialEq, Eq)]
 pub enum ClientMessage {
-    /// The connection wants this session.
+    /// The connection asks for this session.
     Attach { session: u64 },
     /// A request under a number of the session's window.
     Call { number: u64, request: Request },
@@ -13,6 +13,6 @@ pub enum ClientMessage {
     Settle { floor: u64 },
     /// The session is over.
     Bye,
-    /// The connection wants a report of what waits.
+    /// The connection asks for a report of what waits.
     Report,
 }

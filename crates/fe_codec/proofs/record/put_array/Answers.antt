@@ -4,7 +4,7 @@ use Rattle.fe_format.specs.Layout.{name_bytes}
 use Rattle.fe_codec.proofs.FieldLaws.{zeros_part}
 use Rattle.fe_codec.proofs.record.put_array.Goals as goal
 
--- the three parts of the row, one behind another
+-- the three parts of the row, one after another
 built : (old one two three a b d : List ℕ) → a ≡ old ++ one → b ≡ a ++ two → d ≡ b ++ three → d ≡ old ++ (one ++ two ++ three)
 built old one two three a b d first second third = rw (third, second, first) (simp append_assoc)
 

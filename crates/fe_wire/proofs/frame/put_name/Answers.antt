@@ -7,7 +7,7 @@ use Rattle.fe_wire.proofs.frame.put_name.Goals as goal
 abbrev row : List ℕ
 row = replicate 32 0
 
--- the three parts of the field, one behind another
+-- the three parts of the field, one after another
 built : (old name bytes a b d : List ℕ) (room : ℕ) → bytes ≡ name → room ≡ name_room (is_long name) → a ≡ old ++ length bytes ∷ [] → b ≡ a ++ bytes → d ≡ b ++ take (room - length bytes) row → d ≡ old ++ name_field name
 built old name bytes a b d room same room_is first second third =
     let high = room_le (is_long name) in

@@ -9,7 +9,7 @@ use Rattle.fe_wire.proofs.place.Place.step.Goals as goal
 empty : (place : Place) → place.len ≤ 0 → held_of place ≡ []
 empty place none = let zero : place.len ≡ 0 = omega arith in ap (λ (n : ℕ). take n place.cells) zero
 
--- what is read behind nothing is all that is read
+-- what is read after nothing is all that is read
 alone : (held more piece : List ℕ) → held ≡ [] → piece ≡ more → piece ≡ held ++ more
 alone held more piece none same = same ∙ ap (λ (t : List ℕ). t ++ more) (sym none)
 
