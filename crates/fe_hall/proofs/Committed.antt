@@ -16,7 +16,9 @@ use Rattle.fe_keeper.specs.Prefix.{LeavesPrefix}
 use Rattle.fe_keeper.specs.Stands.{StandsFor, StandsForEither, EachStandsFor}
 use Rattle.fe_keeper.specs.declared.fault.Fault.{Fault}
 use Rattle.fe_keeper.specs.declared.fault.Fault.TheVariants.{Device, Failed, NoMemory, Mismatch, Damaged, Unformatted}
-use Rattle.fe_hall.specs.Commits.{Append, AreAppends, HoldsSince, Commits, IsStill, HasFailed, TellsEnd, end_of}
+use Rattle.fe_hall.proofs.Noted.{none_noted, both_noted, turn_noted}
+use Rattle.fe_hall.specs.Commits.{Append, AreAppends, AreNoted, HoldsSince, Commits, IsStill, HasFailed, TellsEnd, end_of}
+use Rattle.fe_hall.specs.declared.act.Act.{Act}
 use Rattle.fe_hall.specs.declared.commit_end.CommitEnd.{CommitEnd}
 use Rattle.fe_hall.specs.declared.commit_end.CommitEnd.TheVariants.{Store, Strange}
 
@@ -237,6 +239,57 @@ module _ {D : Type 0} (honest : D → Type 0) (moment : D → ℕ) (left_since :
   commits_turn a k m n end ak km honest_ak honest_km first second rests =
       commits_both a m n end (km ∙ ak) (λ h. honest_ak.0 (honest_km.0 h), λ h. honest_km.1 (honest_ak.1 h)) (commits_both a k m None ak honest_ak first second) (commits_kept m n end rests)
 
+  -- ---- with the history
+
+  pub kept_noted : (old new : KeeperState D) (end : Option CommitEnd) (rests : Rests honest moment left_since old new) (acts : List Act)
+      → (all : Commits honest moment left_since old new end) × AreNoted moment all.appends end acts acts
+  unfolding commits_kept
+  kept_noted old new end rests acts = (commits_kept old new end rests, none_noted moment [] end acts refl)
+
+  pub group_noted : (may_leave : D → List ℕ → Type 0) → ((disk : D) (image : List ℕ) → honest disk → left_since disk (moment disk) image → may_leave disk image) → (old new : KeeperState D) (end : Option CommitEnd) (entries : List Entry) (a b : List Act)
+      → 1 ≤ length entries → AreLegal old.state entries → new.state ≡ after_all old.state entries → new.store.has_failed ≡ old.store.has_failed → (honest new.store.disk ↔ honest old.store.disk)
+      → (honest new.store.disk → new.store.has_failed ≡ false → EachStandsFor may_leave new.store.disk new.state)
+      → (honest old.store.disk → old.store.has_failed ≡ false → LeavesOnly moment left_since old.store.disk new.store.disk (StandsForEither old.state (after_all old.state entries)))
+      → AreNoted moment (record { before = old; after = new } ∷ []) end a b
+      → (all : Commits honest moment left_since old new end) × AreNoted moment all.appends end a b
+  unfolding commits_group
+  group_noted may_leave only_now old new end entries a b some legal state still honesty stands run notes =
+      (commits_group may_leave only_now old new end entries some legal state still honesty stands run, notes)
+
+  pub both_commits : (a b c : KeeperState D) (end : Option CommitEnd) (x y z : List Act) → b.store.has_failed ≡ a.store.has_failed → (honest b.store.disk ↔ honest a.store.disk)
+      → (ab : Commits honest moment left_since a b None) → AreNoted moment ab.appends None x y → (bc : Commits honest moment left_since b c end) → AreNoted moment bc.appends end y z
+      → (all : Commits honest moment left_since a c end) × AreNoted moment all.appends end x z
+  unfolding commits_both
+  both_commits a b c end x y z works honesty ab one bc two = (commits_both a b c end works honesty ab bc, both_noted moment ab.appends bc.appends end x y z one two)
+
+  pub turn_commits : (a k m n : KeeperState D) (end : Option CommitEnd) (x y z : List Act) → k.store.has_failed ≡ a.store.has_failed → m.store.has_failed ≡ k.store.has_failed
+      → (honest k.store.disk ↔ honest a.store.disk) → (honest m.store.disk ↔ honest k.store.disk) → (first : Commits honest moment left_since a k None) → AreNoted moment first.appends None x y
+      → (second : Commits honest moment left_since k m None) → AreNoted moment second.appends None y z → Rests honest moment left_since m n
+      → (all : Commits honest moment left_since a n end) × AreNoted moment all.appends end x z
+  unfolding commits_turn commits_both commits_kept
+  turn_commits a k m n end x y z ak km honest_ak honest_km first one second two rests = (
+    commits_turn a k m n end ak km honest_ak honest_km first second rests,
+    turn_noted moment first.appends second.appends end x y z one two,
+  )
+
+  -- a side that went on may end
+  pub ended_noted : (a b : KeeperState D) (end : Option CommitEnd) (x y : List Act) (c : Commits honest moment left_since a b None) → AreNoted moment c.appends None x y
+      → (all : Commits honest moment left_since a b end) × AreNoted moment all.appends end x y
+  ended_noted a b end x y c (p, inr strange) = absurd (cc strange)
+  ended_noted a b end x y c (p, inl notes) = (
+    record {
+      groups = c.groups;
+      history = c.history;
+      stored = c.stored;
+      all = ⊎_elim (λ (whole : c.stored ≡ length c.groups). inl whole) (λ (torn : (c.stored + 1 ≡ length c.groups) × (None ≡ Some (Store Device))). absurd (cc torn.1)) c.all;
+      state_is = c.state_is;
+      appends = c.appends;
+      are_appends = c.are_appends;
+      any_moment = c.any_moment;
+    },
+    (p, inl notes),
+  )
+
 -- ---- the checkpoint beside
 
 -- a slice that is written, and a checkpoint that is finished, leave the disk working
@@ -306,13 +359,15 @@ module _ {D : Type 0} (honest : D → Type 0) (may_leave : D → List ℕ → Ty
 
   -- a batch was not appended
   pub commits_fault : (failures : D → ℕ) (fault : Fault) (first : ℕ) (entries : List Entry) → Fails failures (ForBatch old first entries) old new fault → new.state ≡ old.state
-      → StopsLeave honest moment left_since old new (StandsForEither old.state (after_all old.state entries)) → Commits honest moment left_since old new (Some (end_of fault))
+      → StopsLeave honest moment left_since old new (StandsForEither old.state (after_all old.state entries))
+      → (all : Commits honest moment left_since old new (Some (end_of fault))) × (all.appends ≡ [])
+  unfolding commits_none commits_torn commits_kept
   commits_fault failures Device first entries fails state run =
       let continues = fails.0 in
-      commits_torn honest moment left_since old new entries continues.some continues.legal state run
-  commits_fault failures Failed first entries fails state run = commits_none (Some (Store Failed)) fails.1
-  commits_fault failures NoMemory first entries fails state run = commits_none (Some (Store NoMemory)) fails.1.same
-  commits_fault failures (Mismatch place) first entries fails state run = commits_none (Some Strange) fails.1.same
+      (commits_torn honest moment left_since old new entries continues.some continues.legal state run, refl)
+  commits_fault failures Failed first entries fails state run = (commits_none (Some (Store Failed)) fails.1, refl)
+  commits_fault failures NoMemory first entries fails state run = (commits_none (Some (Store NoMemory)) fails.1.same, refl)
+  commits_fault failures (Mismatch place) first entries fails state run = (commits_none (Some Strange) fails.1.same, refl)
   commits_fault failures (Damaged offset) first entries fails state run = absurd fails
   commits_fault failures Unformatted first entries fails state run = absurd fails
 

@@ -6,3 +6,6 @@ pub mod Streams
 pub mod Handling
 pub mod Written
 pub mod Sent
+pub mod Acts
+pub mod Moves
+pub mod Noted

@@ -1,5 +1,6 @@
 -- What the committing side of a hall does to the keeper that it is lent.
-use Rattle.std.specs.Prelude.{◌≡◌, ◌⊎◌, ◌↔◌, ℕ, ◌+◌, ◌≤◌, true, false, List, [], ◌∷◌, length, take, Option, Some, None}
+use Rattle.std.specs.Prelude.{◌≡◌, ◌⊎◌, ◌↔◌, ℕ, ◌+◌, ◌≤◌, true, false, List, [], ◌∷◌, ◌++◌, length, map, take, Option, Some, None}
+use mathlib.Core.List.{IsPrefix}
 use Rattle.fe_disk.specs.Disk.{LeavesOnly, Rises}
 use Rattle.fe_state.specs.State.{ServerState, after_all}
 use Rattle.fe_state.specs.History.{IsHistory, after_groups}
@@ -10,6 +11,8 @@ use Rattle.fe_keeper.specs.Keeper.{KeeperState}
 use Rattle.fe_keeper.specs.Prefix.{LeavesPrefix}
 use Rattle.fe_keeper.specs.declared.fault.Fault.{Fault}
 use Rattle.fe_keeper.specs.declared.fault.Fault.TheVariants.{Device, Failed, NoMemory, Mismatch, Damaged, Unformatted}
+use Rattle.fe_hall.specs.Acts.{stores_in}
+use Rattle.fe_hall.specs.declared.act.Act.{Act}
 use Rattle.fe_hall.specs.declared.commit_end.CommitEnd.{CommitEnd}
 use Rattle.fe_hall.specs.declared.commit_end.CommitEnd.TheVariants.{Stopped, Store, Strange, Spent}
 
@@ -55,6 +58,14 @@ pub record Commits {D : Type 0} (honest : D → Type 0) (moment : D → ℕ) (le
   pub are_appends : AreAppends old.state (take stored groups) appends
   pub any_moment : honest old.store.disk → old.store.has_failed ≡ false
       → HoldsSince moment left_since old.state groups 0 old.store.disk appends new.store.disk
+
+-- what the history notes of an append: the place after its group, and the moment of its end
+abbrev pub noted : {D : Type 0} → (D → ℕ) → Append D → ℕ × ℕ
+noted moment append = (append.after.state.place, moment append.after.store.disk)
+
+-- The history notes these appends in their order, and none besides. Only where something is strange the last may be missing.
+abbrev pub AreNoted : {D : Type 0} → (D → ℕ) → List (Append D) → Option CommitEnd → List Act → List Act → Type 0
+AreNoted moment appends end before after = IsPrefix before after × ((stores_in after ≡ stores_in before ++ map (noted moment) appends) ⊎ (end ≡ Some Strange))
 
 -- ---- ends
 

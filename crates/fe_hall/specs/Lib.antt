@@ -4,4 +4,6 @@ pub mod Holds
 pub mod Commits
 pub mod Reads
 pub mod Writes
+pub mod Acts
+pub mod Rules
 pub mod Audits

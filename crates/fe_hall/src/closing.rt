@@ -2,13 +2,18 @@
 
 ghost use Rattle.std.specs.Prelude.{◌≡◌, ◌≢◌, ◌↔◌, ℕ, false, map, All, Any, Err, IfOk, IsErr};
 ghost use Rattle.fe_mail.specs.Books.{AddUp};
+ghost use mathlib.Core.List.{IsPrefix};
+ghost use Rattle.fe_hall.specs.Acts.{EachTold, IsLegal, stores_in};
 ghost use Rattle.fe_hall.specs.Receipts.{IsBorneOut, IsFirstStrange, IsStrange};
 ghost use Rattle.fe_hall.specs.declared.closing.Unclosed.TheVariants.{SeatMissing, StrangeReceipt};
 
+use crate::act::Act;
 use crate::call_seats::CallSeats;
 use crate::hall::Hall;
+use crate::history::{History, Law};
 use crate::mail_seats::MailSeats;
 use crate::receipt::Receipt;
+use crate::store_seat::StoreSeat;
 use crate::strange::first_strange;
 use crate::tally::Tally;
 use fe_disk::Disk;
@@ -16,6 +21,7 @@ use fe_front::Books;
 use fe_keeper::Keeper;
 use fe_state::State;
 use fe_wire::ClientMessage;
+use logbook::Seen;
 use std::marker::Model;
 
 /// What a hall leaves: its books, and the keeper.
@@ -28,31 +34,33 @@ pub struct Closing<D: Disk> {
 /// Why a hall is not closed as it should be. The hall and the keeper are dropped then.
 #[derive(Clone, Copy, PartialEq, Eq)]
 pub enum Unclosed {
-    /// The seats are not those of all connections that were made.
+    /// The seats are not those of all connections that were made, or not that of the side that stored all groups.
     SeatMissing,
     /// What the keeper's replica keeps, or what was sent, speaks against the receipt of this place, the first such one.
     StrangeReceipt { place: u64 },
 }
 
-/// The result of closing a hall: its books, the lists of its read sides, and the receipts, each of them compared. Only `settle`
-/// makes it, so the books are those under the lock.
+/// The result of closing a hall: its books, the lists of its read sides, the receipts, each of them compared, and its history. Only
+/// `settle` makes it, so the books are those under the lock.
 #[derive(Drop)]
 pub struct Audit {
     books: Books,
     sent: Vec<Vec<ClientMessage>>,
     receipts: Vec<Receipt>,
+    history: Seen<Act, u64, Law>,
 }
 
 impl Model for Audit {
     ghost use Rattle.std.specs.Prelude.{◌≡◌, false, map};
     ghost use Rattle.fe_mail.specs.Books.{AddUp};
+    ghost use Rattle.fe_hall.specs.Acts.{IsLegal};
     ghost use Rattle.fe_hall.specs.Audits.{Audited};
 
     ghost Value = { Audited };
 
-    ghost view = { λ a. record { books = a.books; sent = map (λ v. v.items) a.sent.items; receipts = a.receipts.items } };
+    ghost view = { λ a. record { books = a.books; sent = map (λ v. v.items) a.sent.items; receipts = a.receipts.items; history = a.history.log } };
 
-    ghost invariant = { λ a. AddUp a.books × (a.books.spent ≡ false) };
+    ghost invariant = { λ a. AddUp a.books × (a.books.spent ≡ false) × IsLegal a.history.log };
 }
 
 impl Audit {
@@ -84,6 +92,8 @@ pub fn settle<C: Tally, M: Tally>(
     mails: MailSeats<M>,
     sent: Vec<Vec<ClientMessage>>,
     receipts: Vec<Receipt>,
+    history: History<M>,
+    seat: StoreSeat<M>,
     state: &State,
 ) -> Result<Audit, Unclosed>
     requires calls { C.all ≡ C.parts }
@@ -94,27 +104,45 @@ pub fn settle<C: Tally, M: Tally>(
     ensures unspent { IfOk result (λ audit. audit.books.spent ≡ false) }
     ensures sent { IfOk result (λ audit. audit.sent ≡ map (λ v. v.items) sent.items) }
     ensures receipts { IfOk result (λ audit. audit.receipts ≡ receipts.items) }
+    // The history goes on from that of the committing side and from the other one, with no other groups than the side noted.
+    ensures this { IfOk result (λ audit. IsPrefix seat audit.history) }
+    ensures stores { IfOk result (λ audit. stores_in audit.history ≡ stores_in seat) }
+    ensures legal { IfOk result (λ audit. IsLegal audit.history) }
+    ensures told { EachTold receipts.items history → IfOk result (λ audit. EachTold audit.receipts audit.history) }
     ensures borne_out { IfOk result (λ audit. All (IsBorneOut state.now audit.sent) audit.receipts) }
     ensures strange { (place : ℕ) → result ≡ Err (StrangeReceipt place) → IsFirstStrange state.now (map (λ v. v.items) sent.items) receipts.items place }
     // Where all seats are here, it is refused just where some receipt is strange.
     ensures refused { result ≢ Err SeatMissing → IsErr result ↔ Any (IsStrange state.now (map (λ v. v.items) sent.items)) receipts.items }
 {
-    let Some(books) = hall.into_floor().audit(calls, mails) else {
+    let (floor, chronicle) = hall.into_floor();
+    let Some(books) = floor.audit(calls, mails) else {
         drop(sent);
         drop(receipts);
+        drop(history);
+        drop(seat);
+        drop(chronicle);
         return Err(Unclosed::SeatMissing);
     };
+    let Some(history) = seat.whole(&chronicle, history) else {
+        drop(sent);
+        drop(receipts);
+        drop(chronicle);
+        return Err(Unclosed::SeatMissing);
+    };
+    drop(chronicle);
     let strange = first_strange(state, sent.as_slice(), receipts.as_slice());
     match strange {
         Some(place) => {
             drop(sent);
             drop(receipts);
+            drop(history);
             Err(Unclosed::StrangeReceipt { place })
         }
         None => Ok(Audit {
             books,
             sent,
             receipts,
+            history: history.into_seen(),
         }),
     }
 }
@@ -126,6 +154,8 @@ pub fn close<C: Tally, M: Tally, D: Disk + Drop>(
     mails: MailSeats<M>,
     sent: Vec<Vec<ClientMessage>>,
     receipts: Vec<Receipt>,
+    history: History<M>,
+    seat: StoreSeat<M>,
     keeper: Keeper<D>,
 ) -> Result<Closing<D>, Unclosed>
     requires calls { C.all ≡ C.parts }
@@ -140,7 +170,16 @@ pub fn close<C: Tally, M: Tally, D: Disk + Drop>(
     // Where all seats are here, it is refused just where some receipt is strange.
     ensures refused { result ≢ Err SeatMissing → IsErr result ↔ Any (IsStrange keeper.state (map (λ v. v.items) sent.items)) receipts.items }
 {
-    match settle(hall, calls, mails, sent, receipts, keeper.state()) {
+    match settle(
+        hall,
+        calls,
+        mails,
+        sent,
+        receipts,
+        history,
+        seat,
+        keeper.state(),
+    ) {
         Ok(audit) => {
             let books = audit.books();
             drop(audit);

@@ -4,11 +4,12 @@ ghost use Rattle.std.specs.Prelude.{◌≡◌, ◌≢◌, ◌↔◌, true, false
 ghost use Rattle.fe_keeper.specs.Ends.{Rests};
 ghost use Rattle.fe_keeper.specs.Stands.{EachStandsFor};
 ghost use Rattle.fe_keeper.specs.declared.fault.Fault.TheVariants.{Device};
-ghost use Rattle.fe_hall.specs.Commits.{Commits, IsStill, HasFailed, TellsEnd, end_of};
+ghost use Rattle.fe_hall.specs.Commits.{AreNoted, Commits, IsStill, HasFailed, TellsEnd, end_of};
 
 use crate::commit_end::CommitEnd;
 use crate::floor::Cutting;
 use crate::hall::Hall;
+use crate::store_seat::StoreSeat;
 use crate::tally::Tally;
 use fe_disk::Disk;
 use fe_keeper::{Fault, Keeper};
@@ -20,17 +21,20 @@ const MOST_USED: u32 = 524288;
 
 /// Stores what the calls of a hall make, batch by batch, and posts each batch once it is stored. After each batch it goes on with a
 /// checkpoint. It is for one thread, and ends once the hall is stopped and nothing is pending; every other end stops the hall.
+///
+/// The history has each group behind its append, and before any answer of it.
 pub fn commit_side<C: Tally, M: Tally, D: Disk, R: Wait>(
     rt: &R,
     hall: &Hall<C, M>,
     keeper: &mut Keeper<D>,
+    seat: &mut StoreSeat<M>,
 ) -> CommitEnd
-    ensures commits { Commits D.honest D.moment D.left_since keeper.old keeper.new (Some result) }
+    ensures commits { (all : Commits D.honest D.moment D.left_since keeper.old keeper.new (Some result)) × AreNoted D.moment all.appends (Some result) seat.old seat.new }
     ensures stands { D.honest keeper.new.store.disk → keeper.new.store.has_failed ≡ false → EachStandsFor D.may_leave keeper.new.store.disk keeper.new.state }
     ensures tells { TellsEnd D.failures keeper.old keeper.new (Some result) }
     ensures honesty { D.honest keeper.new.store.disk ↔ D.honest keeper.old.store.disk }
 {
-    let end = commit_all(rt, hall, keeper);
+    let end = commit_all(rt, hall, keeper, seat);
     // It is stopped already where that is the end.
     hall.stop(rt);
     end
@@ -41,8 +45,9 @@ fn commit_all<C: Tally, M: Tally, D: Disk, R: Wait>(
     rt: &R,
     hall: &Hall<C, M>,
     keeper: &mut Keeper<D>,
+    seat: &mut StoreSeat<M>,
 ) -> CommitEnd
-    ensures commits { Commits D.honest D.moment D.left_since keeper.old keeper.new (Some result) }
+    ensures commits { (all : Commits D.honest D.moment D.left_since keeper.old keeper.new (Some result)) × AreNoted D.moment all.appends (Some result) seat.old seat.new }
     ensures stands { D.honest keeper.new.store.disk → keeper.new.store.has_failed ≡ false → EachStandsFor D.may_leave keeper.new.store.disk keeper.new.state }
     ensures tells { TellsEnd D.failures keeper.old keeper.new (Some result) }
     ensures honesty { D.honest keeper.new.store.disk ↔ D.honest keeper.old.store.disk }
@@ -54,7 +59,7 @@ fn commit_all<C: Tally, M: Tally, D: Disk, R: Wait>(
         let Cutting::Batch(batch) = hall.next_batch(rt) else {
             return CommitEnd::Stopped;
         };
-        if let Some(end) = commit(rt, hall, keeper, batch) {
+        if let Some(end) = commit(rt, hall, keeper, seat, batch) {
             return end;
         }
         match tend(keeper, slices) {
@@ -65,14 +70,15 @@ fn commit_all<C: Tally, M: Tally, D: Disk, R: Wait>(
     unreachable!()
 }
 
-/// Stores a batch and posts it. Why the side ends then, if it does.
+/// Stores a batch, notes it in the history and posts it. Why the side ends then, if it does.
 fn commit<C: Tally, M: Tally, D: Disk, R: Wait>(
     rt: &R,
     hall: &Hall<C, M>,
     keeper: &mut Keeper<D>,
+    seat: &mut StoreSeat<M>,
     batch: Batch,
 ) -> Option<CommitEnd>
-    ensures commits { Commits D.honest D.moment D.left_since keeper.old keeper.new result }
+    ensures commits { (all : Commits D.honest D.moment D.left_since keeper.old keeper.new result) × AreNoted D.moment all.appends result seat.old seat.new }
     ensures stands { D.honest keeper.new.store.disk → keeper.new.store.has_failed ≡ false → EachStandsFor D.may_leave keeper.new.store.disk keeper.new.state }
     ensures tells { TellsEnd D.failures keeper.old keeper.new result }
     ensures works { result ≡ None → keeper.old.store.has_failed ≡ false }
@@ -81,11 +87,17 @@ fn commit<C: Tally, M: Tally, D: Disk, R: Wait>(
     ensures honesty { D.honest keeper.new.store.disk ↔ D.honest keeper.old.store.disk }
 {
     match keeper.append(batch) {
-        Ok(batch) => match hall.post(rt, batch, keeper) {
-            Some(Ok(_)) => None,
-            Some(Err(_)) => Some(CommitEnd::Strange),
-            None => Some(CommitEnd::Spent),
-        },
+        Ok(batch) => {
+            if !hall.note(keeper, seat) {
+                drop(batch);
+                return Some(CommitEnd::Strange);
+            }
+            match hall.post(rt, batch, keeper, seat) {
+                Some(Ok(_)) => None,
+                Some(Err(_)) => Some(CommitEnd::Strange),
+                None => Some(CommitEnd::Spent),
+            }
+        }
         Err((fault, _)) => Some(end_of(fault)),
     }
 }

@@ -10,15 +10,19 @@ ghost use Rattle.fe_front.specs.Posting.{IsOut};
 ghost use Rattle.fe_front.specs.Ringing.{Rings};
 ghost use Rattle.fe_front.specs.Step.{FrontStep};
 ghost use Rattle.fe_messages.specs.Taking.{Takes};
+ghost use mathlib.Core.List.{IsPrefix};
+ghost use Rattle.fe_hall.specs.Acts.{mark_of};
 ghost use Rattle.fe_hall.specs.Commits.{IsStored};
 ghost use Rattle.fe_hall.specs.Holds.{Cuts, Ends, TakesMail};
 ghost use Rattle.fe_hall.specs.Seats.{HasDeparted, IsOpen, ReadSeat, TookNoMessage, WriteSeat, first_read_seat, first_write_seat, message_taken, message_answered, taking_answered, takes_more, posts_more, most_connections};
 
 use crate::call_seat::CallSeat;
 use crate::call_seats::CallSeats;
+use crate::history::History;
 use crate::mail_seat::MailSeat;
 use crate::mail_seats::MailSeats;
 use crate::standing::Standing;
+use crate::store_seat::StoreSeat;
 use crate::taking::Taking;
 use crate::tally::Tally;
 use fe_disk::Disk;
@@ -44,6 +48,9 @@ pub(crate) struct Floor<C: Tally, M: Tally> {
     mails: Book<M>,
     spare_calls: Share<C>,
     spare_mails: Share<M>,
+    /// What was stored, as far as it is posted, and the place before which all entries are.
+    history: History<M>,
+    mark: u64,
     /// How many connections were made.
     made: u64,
     /// Those whose read side waits for their box.
@@ -54,6 +61,7 @@ pub(crate) struct Floor<C: Tally, M: Tally> {
     ghost mails_agree: { mails.total ≡ front.books.taken },
     ghost few: { made ≤ most_connections },
     ghost call_parts: { (spare_calls.parts + made ≡ C.all) × (spare_calls.amount ≡ 0) × (C.all ≡ most_connections + 1) },
+    ghost marked: { mark ≤ mark_of history },
     ghost mail_parts: { (spare_mails.parts + made ≡ M.all) × (spare_mails.amount ≡ 0) × (M.all ≡ most_connections + 1) },
 }
 
@@ -90,10 +98,18 @@ pub enum Unconnected {
 
 impl<C: Tally, M: Tally> Floor<C, M> {
     /// A front that is as it began, with no connection made.
-    pub(crate) fn new(alloc: Global, front: Front, calls: Blank, mails: Blank) -> Floor<C, M>
+    pub(crate) fn new(
+        alloc: Global,
+        front: Front,
+        calls: Blank,
+        mails: Blank,
+        history: History<M>,
+        mark: u64,
+    ) -> Floor<C, M>
         requires first { front.books ≡ first_books }
         requires calls { (calls.name ≡ C.name) × (calls.parts ≡ C.parts) × (C.all ≡ C.parts) × (C.all ≡ most_connections + 1) }
         requires mails { (mails.name ≡ M.name) × (mails.parts ≡ M.parts) × (M.all ≡ M.parts) × (M.all ≡ most_connections + 1) }
+        requires marked { mark ≤ mark_of history }
         ensures { result.front ≡ front }
     {
         let (called, spare_calls) = calls.open::<C>();
@@ -104,6 +120,8 @@ impl<C: Tally, M: Tally> Floor<C, M> {
             mails: taken,
             spare_calls,
             spare_mails,
+            history,
+            mark,
             made: 0,
             watched: Vec::new(alloc),
             stopped: false,
@@ -283,6 +301,15 @@ impl<C: Tally, M: Tally> Floor<C, M> {
         }
     }
 
+    /// What was stored, as far as it is posted: all entries before the place.
+    pub(crate) fn mark(&self, history: &mut History<M>) -> u64
+        ensures this { IsPrefix history.old history.new }
+        ensures mark { result ≤ mark_of history.new }
+    {
+        history.learn(&self.history);
+        self.mark
+    }
+
     /// Why no mail comes any more for a connection whose box is empty. `None` where one may.
     fn end_of_mails(&self, seat: &mut MailSeat<M>) -> Option<Taking>
         ensures ends { Ends self.now.front self.now.stopped seat.old.conn result }
@@ -372,6 +399,7 @@ impl<C: Tally, M: Tally> Floor<C, M> {
         &mut self,
         batch: Batch,
         keeper: &Keeper<D>,
+        seat: &StoreSeat<M>,
         wakes: &mut [bool; BELLS as usize],
     ) -> Result<Posted, StrangeBatch>
         requires more { IsTrue (posts_more self.old.front.books batch) }
@@ -383,6 +411,8 @@ impl<C: Tally, M: Tally> Floor<C, M> {
         ensures err { OnErr result (self.new.front ≡ self.old.front) }
     {
         let _ = keeper;
+        self.history.learn(seat.history());
+        self.mark = seat.mark();
         let _ = self.front.state();
         match self.front.post_ringing(batch, wakes) {
             Ok(()) => Ok(Posted {
@@ -421,11 +451,14 @@ impl<C: Tally, M: Tally> Floor<C, M> {
             mails: mut taken,
             spare_calls,
             spare_mails,
+            history,
+            mark: _,
             made: _,
             watched,
             stopped: _,
         } = self;
         drop(watched);
+        drop(history);
         let books = front.books();
         drop(front);
         calls.audit(&mut called, spare_calls);

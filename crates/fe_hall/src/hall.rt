@@ -1,17 +1,25 @@
-ghost use Rattle.std.specs.Prelude.{◌≡◌, ◌+◌, IfOk, IfErr, IfSome, length, true};
+ghost use Rattle.std.specs.Prelude.{◌≡◌, ◌≤◌, ◌∷◌, ◌++◌, [], ◌+◌, IsTrue, IfOk, IfErr, IfSome, length, true};
 ghost use Rattle.fe_mail.specs.Books.{first_books};
 ghost use Rattle.fe_hall.specs.Seats.{HasDeparted, ReadSeat, TookNoMessage, WriteSeat, first_read_seat, first_write_seat, message_answered, taking_answered, most_connections};
+ghost use mathlib.Core.List.{IsPrefix};
+ghost use Rattle.fe_hall.specs.Acts.{TakingTold, mark_of, stores_in};
 ghost use Rattle.fe_hall.specs.Commits.{IsStored};
+ghost use Rattle.fe_hall.specs.Rules.{told_as};
+ghost use Rattle.fe_hall.specs.declared.act.Act.TheVariants as act;
 
 use crate::call_seat::CallSeat;
 use crate::floor::{Cutting, Floor, Posted, Unconnected};
+use crate::history::{Chronicle, History, NewHistory};
 use crate::hold::Lock;
 use crate::mail_seat::MailSeat;
+use crate::receipt::Receipt;
+use crate::receipts::Receipts;
 use crate::standing::Standing;
+use crate::store_seat::StoreSeat;
 use crate::taking::Taking;
 use crate::tally::Tally;
 use fe_disk::Disk;
-use fe_front::{BELLS, Front, StrangeBatch};
+use fe_front::{BELLS, Front, Mail, StrangeBatch};
 use fe_keeper::Keeper;
 use fe_state::Batch;
 use fe_wire::ClientMessage;
@@ -25,6 +33,9 @@ use std::sync::{Condvar, Wait};
 #[derive(Drop)]
 pub struct Hall<C: Tally, M: Tally> {
     lock: Lock<C, M>,
+    /// The word of its history, and the history's beginning.
+    chronicle: Chronicle<M>,
+    begun: History<M>,
     /// Rung where entries are pending, and where the hall is stopped.
     work: Condvar,
     /// Rung where room came for an event, and where the hall is stopped.
@@ -35,26 +46,41 @@ pub struct Hall<C: Tally, M: Tally> {
 }
 
 impl<C: Tally, M: Tally> Hall<C, M> {
-    /// A hall round a front that is as `Front::new` gave it. The blanks are the ledgers', of 2^62 + 1 parts each.
+    /// A hall round a front that is as `Front::new` gave it, and the seat of its committing side. The blanks are the ledgers', of
+    /// 2^62 + 1 parts each.
     pub fn new(
         alloc: Global,
         front: Front,
         calls: Blank,
         mails: Blank,
-    ) -> Result<Hall<C, M>, (AllocError, Front)>
+        history: NewHistory,
+    ) -> Result<(Hall<C, M>, StoreSeat<M>), (AllocError, Front)>
         requires first { front.books ≡ first_books }
         requires calls { (calls.name ≡ C.name) × (calls.parts ≡ C.parts) × (C.all ≡ C.parts) × (C.all ≡ most_connections + 1) }
         requires mails { (mails.name ≡ M.name) × (mails.parts ≡ M.parts) × (M.all ≡ M.parts) × (M.all ≡ most_connections + 1) }
-        ensures { IfErr result (λ e. e.1 ≡ front) }
+        requires history { history.book ≡ M.book }
+        ensures seat { IfOk result (λ hall. hall.1 ≡ act.Began history.place ∷ []) }
+        ensures front { IfErr result (λ e. e.1 ≡ front) }
     {
         match bells(alloc) {
-            Ok(bells) => Ok(Hall {
-                lock: Lock::new(Floor::new(alloc, front, calls, mails)),
-                work: Condvar::new(),
-                room: Condvar::new(),
-                bells,
-            }),
-            Err(_) => Err((AllocError, front)),
+            Ok(bells) => {
+                let mark = history.place();
+                let (chronicle, begun) = history.named::<M>();
+                let (seen, stored) = (begun.again(), begun.again());
+                let hall = Hall {
+                    lock: Lock::new(Floor::new(alloc, front, calls, mails, seen, mark)),
+                    chronicle,
+                    begun,
+                    work: Condvar::new(),
+                    room: Condvar::new(),
+                    bells,
+                };
+                Ok((hall, StoreSeat::new(stored, mark)))
+            }
+            Err(_) => {
+                drop(history);
+                Err((AllocError, front))
+            }
         }
     }
 
@@ -164,20 +190,28 @@ impl<C: Tally, M: Tally> Hall<C, M> {
         self.ring(seat.conn());
     }
 
-    /// Waits for a mail of a connection and takes it; or tells its seat why none comes.
-    pub(crate) fn take_mail<R: Wait>(&self, rt: &R, seat: &mut MailSeat<M>) -> Taking
-        ensures { seat.new ≡ taking_answered seat.old result }
+    /// Waits for a mail of a connection and takes it; or tells its seat why none comes. An answer is told in the history then.
+    pub(crate) fn take_mail<R: Wait>(
+        &self,
+        rt: &R,
+        seat: &mut MailSeat<M>,
+        history: &mut History<M>,
+    ) -> Taking
+        ensures seat { seat.new ≡ taking_answered seat.old result }
+        ensures this { IsPrefix history.old history.new }
+        ensures told { TakingTold result history.new }
     {
         let conn = seat.conn();
         let mut hold = self.lock.enter(rt);
         for _ in rt.forever() {
             if let Some(taking) = hold.take_mail(seat) {
                 let is_awaited = !seat.more() && hold.is_watched(conn);
+                let mark = hold.mark(history);
                 hold.end();
                 if is_awaited {
                     self.ring(conn);
                 }
-                return taking;
+                return tell(&self.chronicle, history, mark, taking);
             }
             if hold.unwatch(conn) {
                 self.ring(conn);
@@ -205,6 +239,7 @@ impl<C: Tally, M: Tally> Hall<C, M> {
         rt: &R,
         batch: Batch,
         keeper: &Keeper<D>,
+        seat: &StoreSeat<M>,
     ) -> Option<Result<Posted, StrangeBatch>>
         requires stored { IsStored batch keeper.now.state }
         ensures { IfSome result (λ outcome. IfOk outcome (λ posted. posted.durable ≡ batch.first + length batch.entries)) }
@@ -214,7 +249,7 @@ impl<C: Tally, M: Tally> Hall<C, M> {
         if !hold.posts_more(&batch) {
             return None;
         }
-        let outcome = hold.post(batch, keeper, &mut wakes);
+        let outcome = hold.post(batch, keeper, seat, &mut wakes);
         hold.mark_watched(&mut wakes);
         hold.end();
         self.room.notify_all();
@@ -226,16 +261,87 @@ impl<C: Tally, M: Tally> Hall<C, M> {
         Some(outcome)
     }
 
+    /// Notes the group that a keeper has just stored (`StoreSeat::note`).
+    pub(crate) fn note<D: Disk>(&self, keeper: &Keeper<D>, seat: &mut StoreSeat<M>) -> bool
+        ensures this { IsPrefix seat.old seat.new }
+        ensures noted { IsTrue result → stores_in seat.new ≡ stores_in seat.old ++ (keeper.now.state.place, D.moment keeper.now.store.disk) ∷ [] }
+    {
+        seat.note(&self.chronicle, keeper)
+    }
+
+    /// The beginning of its history.
+    pub fn history(&self) -> History<M> {
+        self.begun.again()
+    }
+
+    /// No receipts yet.
+    pub fn no_receipts(&self, alloc: Global) -> Receipts<M>
+        ensures { result.items ≡ [] }
+    {
+        Receipts::none(alloc, self.begun.again())
+    }
+
     /// Rings for the sides of a connection that wait for its box.
     fn ring(&self, conn: u64) {
         self.bells[(conn % BELLS) as usize].notify_all();
     }
 
-    /// What lies under the lock, once no thread has the hall.
-    pub(crate) fn into_floor(self) -> Floor<C, M> {
-        let Hall { lock, .. } = self;
-        lock.into_floor()
+    /// What lies under the lock, and the word of the history, once no thread has the hall.
+    pub(crate) fn into_floor(self) -> (Floor<C, M>, Chronicle<M>) {
+        let Hall {
+            lock,
+            chronicle,
+            begun,
+            ..
+        } = self;
+        drop(begun);
+        (lock.into_floor(), chronicle)
     }
+}
+
+/// Tells what was taken out of a box. An answer is told in the history, as one whose entry was stored before; one whose entry was not
+/// would be told as withdrawn. The front has none such in its boxes.
+fn tell<M: Tally>(
+    chronicle: &Chronicle<M>,
+    history: &mut History<M>,
+    mark: u64,
+    taking: Taking,
+) -> Taking
+    requires { mark ≤ mark_of history.old }
+    ensures same { result ≡ told_as mark taking }
+    ensures this { IsPrefix history.old history.new }
+    ensures told { TakingTold result history.new }
+{
+    let Taking::Mail { mail, more } = taking else {
+        return taking;
+    };
+    let Mail::Answer {
+        session,
+        number,
+        answer,
+        place,
+    } = mail
+    else {
+        return Taking::Mail { mail, more };
+    };
+    if place >= mark {
+        let mail = Mail::Withdrawn { number };
+        return Taking::Mail { mail, more };
+    }
+    let receipt = Receipt {
+        session,
+        number,
+        answer,
+        place,
+    };
+    history.tell(chronicle, receipt);
+    let mail = Mail::Answer {
+        session,
+        number,
+        answer,
+        place,
+    };
+    Taking::Mail { mail, more }
 }
 
 /// As many condition variables as there are bells.

@@ -1,21 +1,25 @@
 //! A hold of a hall's lock, in which one event of the front is made at most.
 
 ghost use Rattle.std.specs.Sync.Mutex.{mutex_guard_value as under};
-ghost use Rattle.std.specs.Prelude.{◌≡◌, ◌≢◌, ◌+◌, ◌↔◌, ℕ, List, [], true, false, Ok, Err, Some, None, IsTrue, IsErr, IfOk, OnOk, OnErr, MatchOption, length};
+ghost use Rattle.std.specs.Prelude.{◌≡◌, ◌≢◌, ◌+◌, ◌≤◌, ◌↔◌, ℕ, List, [], true, false, Ok, Err, Some, None, IsTrue, IsErr, IfOk, OnOk, OnErr, MatchOption, length};
 ghost use Rattle.fe_state.specs.declared.entry.Entry.{Entry};
 ghost use Rattle.fe_front.specs.Event as event;
 ghost use Rattle.fe_front.specs.Posting.{IsOut};
 ghost use Rattle.fe_front.specs.Ringing.{Rings};
 ghost use Rattle.fe_front.specs.Step.{FrontStep};
 ghost use Rattle.fe_messages.specs.Taking.{Takes};
+ghost use mathlib.Core.List.{IsPrefix};
+ghost use Rattle.fe_hall.specs.Acts.{mark_of};
 ghost use Rattle.fe_hall.specs.Commits.{IsStored};
 ghost use Rattle.fe_hall.specs.Holds.{Cuts, TakesMail};
 ghost use Rattle.fe_hall.specs.Seats.{HasDeparted, ReadSeat, TookNoMessage, WriteSeat, first_read_seat, first_write_seat, message_answered, taking_answered, posts_more};
 
 use crate::call_seat::CallSeat;
 use crate::floor::{Cutting, Floor, Posted, Unconnected};
+use crate::history::History;
 use crate::mail_seat::MailSeat;
 use crate::standing::Standing;
+use crate::store_seat::StoreSeat;
 use crate::taking::Taking;
 use crate::tally::Tally;
 use fe_disk::Disk;
@@ -186,6 +190,7 @@ impl<'a, C: Tally, M: Tally> Hold<'a, C, M> {
         &mut self,
         batch: Batch,
         keeper: &Keeper<D>,
+        seat: &StoreSeat<M>,
         wakes: &mut [bool; BELLS as usize],
     ) -> Result<Posted, StrangeBatch>
         requires fresh { self.old.used ≡ false }
@@ -199,7 +204,7 @@ impl<'a, C: Tally, M: Tally> Hold<'a, C, M> {
         ensures err { OnErr result ((under self.new.floor).front ≡ (under self.old.floor).front) }
     {
         self.used = true;
-        self.floor.post(batch, keeper, wakes)
+        self.floor.post(batch, keeper, seat, wakes)
     }
 
     /// The hall is stopped. It is no event of the front, but its hold makes none.
@@ -246,6 +251,14 @@ impl<'a, C: Tally, M: Tally> Hold<'a, C, M> {
     /// Whether nothing is left to take for a connection of what was made before this place (`Floor::is_drained`).
     pub(crate) fn is_drained(&self, conn: u64, place: u64) -> bool {
         self.floor.is_drained(conn, place)
+    }
+
+    /// What was stored, as far as it is posted (`Floor::mark`).
+    pub(crate) fn mark(&self, history: &mut History<M>) -> u64
+        ensures this { IsPrefix history.old history.new }
+        ensures mark { result ≤ mark_of history.new }
+    {
+        self.floor.mark(history)
     }
 
     /// How many mails were made, also those that met a full box.

@@ -4,6 +4,7 @@
 //! and each side of a connection has a seat that says what it did, so that the books can be compared with the seats.
 #![tactic(auto)]
 
+mod act;
 mod call_seat;
 mod call_seats;
 mod closing;
@@ -13,18 +14,22 @@ mod ends;
 mod floor;
 mod hall;
 mod halves;
+mod history;
 mod hold;
 mod mail_seat;
 mod mail_seats;
 mod reading;
 mod receipt;
+mod receipts;
 mod standing;
+mod store_seat;
 mod strange;
 mod taking;
 mod tally;
 mod write_end;
 mod writing;
 
+pub use act::Act;
 pub use call_seat::CallSeat;
 pub use call_seats::CallSeats;
 pub use closing::{Audit, Closing, Unclosed, close, settle};
@@ -34,11 +39,14 @@ pub use ends::ReadEnd;
 pub use floor::Unconnected;
 pub use hall::Hall;
 pub use halves::{Gate, LineFault, MemoryRead, MemoryWrite, Open, ReadHalf, WriteHalf};
+pub use history::{History, NewHistory};
 pub use mail_seat::MailSeat;
 pub use mail_seats::MailSeats;
 pub use reading::read_side;
 pub use receipt::Receipt;
+pub use receipts::Receipts;
 pub use standing::Standing;
+pub use store_seat::StoreSeat;
 pub use tally::Tally;
 pub use write_end::WriteEnd;
 pub use writing::write_side;

@@ -4,11 +4,17 @@ use std::marker::Brand;
 use std::sync::ledger::Ledger;
 
 /// Which ledger of a hall it is, and how many parts it has in all: 2^62 + 1, one for each connection that may ever be made
-/// and one for the hall.
+/// and one for the hall. The ledger of the mails that were taken also names the hall's history.
 pub trait Tally: Ledger {
+    ghost use Rattle.logbook.specs.Pages.{Book};
+
     ghost all: { ℕ };
+
+    ghost book: { Book };
 }
 
 impl Tally for Brand {
     ghost all = { 0 };
+
+    ghost book = { record { number = 0; log_name = 0; cells_name = 0 } };
 }

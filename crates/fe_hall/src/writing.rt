@@ -4,13 +4,17 @@ ghost use Rattle.std.specs.Prelude.{◌≡◌, ◌≢◌, ◌⊎◌, true, Some,
 ghost use Rattle.fe_mail.specs.declared.mail.Mail.{Mail as Told};
 ghost use Rattle.fe_messages.specs.Mails.{spelled};
 ghost use Rattle.fe_hall.specs.Writes.{AreTaken, IsWritten, IsTold, TakesOn, IsBatch, AreSpelled, end_of, receipts_with};
+ghost use mathlib.Core.List.{IsPrefix};
+ghost use Rattle.fe_hall.specs.Acts.{AreTold};
 ghost use Rattle.fe_hall.specs.Seats.{TookNoMail};
 ghost use Rattle.fe_hall.specs.declared.taking.Taking.TheVariants as Taken;
 
 use crate::hall::Hall;
 use crate::halves::{LineFault, WriteHalf};
+use crate::history::History;
 use crate::mail_seat::MailSeat;
 use crate::receipt::Receipt;
+use crate::receipts::Receipts;
 use crate::taking::Taking;
 use crate::tally::Tally;
 use crate::write_end::WriteEnd;
@@ -36,9 +40,11 @@ pub fn write_side<C: Tally, M: Tally, H: WriteHalf, R: Wait>(
     hall: &Hall<C, M>,
     seat: MailSeat<M>,
     half: &mut H,
-) -> (MailSeat<M>, Vec<Receipt>, WriteEnd)
-    // The mails that were taken: seat and receipts tell them, and a half that tells its bytes got their spelling.
-    ensures wrote { (mails : List Told) × AreTaken seat result.0 result.1.items mails × (H.tells half.old → IsWritten (H.got half.old) mails result.2 (H.got half.new)) }
+) -> (MailSeat<M>, Receipts<M>, WriteEnd)
+    // The mails that were taken: seat and receipts tell them, a half that tells its bytes got their spelling, and the history has each
+    // answer among them, behind the group of its entry.
+    ensures wrote { (mails : List Told) × AreTaken seat result.0 result.1.items mails
+        × (H.tells half.old → IsWritten (H.got half.old) mails result.2 (H.got half.new)) × AreTold mails result.1.history }
     ensures tells { H.tells half.old → H.tells half.new }
     // Where the side ends since its connection is gone, the hall is stopped or a book is full, the hall told it so.
     ensures told { IsTold result.2 result.0.standing }
@@ -48,11 +54,17 @@ pub fn write_side<C: Tally, M: Tally, H: WriteHalf, R: Wait>(
         seat,
         receipts: Vec::new(alloc),
         frames: Vec::new(alloc),
+        history: hall.history(),
     };
     let end = writing.write_all(rt, hall, half);
     depart(rt, hall, &mut writing.seat, end);
-    let Writing { seat, receipts, .. } = writing;
-    (seat, receipts, end)
+    let Writing {
+        seat,
+        receipts,
+        history,
+        ..
+    } = writing;
+    (seat, Receipts::of(receipts, history), end)
 }
 
 /// A write side at work.
@@ -63,6 +75,8 @@ struct Writing<M: Tally> {
     receipts: Vec<Receipt>,
     /// The frames of the mails that were taken and are not written.
     frames: Vec<u8>,
+    /// The history in which those answers were told.
+    history: History<M>,
     ghost few: { length receipts.items ≤ 1024 },
 }
 
@@ -76,7 +90,7 @@ impl<M: Tally> Writing<M> {
     ) -> WriteEnd
         requires { self.old.frames.items ≡ [] }
         ensures wrote { (mails : List Told) × TakesOn self.old.seat self.new.seat self.old.receipts.items self.new.receipts.items mails
-            × (H.tells half.old → IsWritten (H.got half.old) mails result (H.got half.new)) }
+            × (H.tells half.old → IsWritten (H.got half.old) mails result (H.got half.new)) × AreTold mails self.new.history }
         ensures tells { H.tells half.old → H.tells half.new }
         ensures told { IsTold result self.new.seat.standing }
     {
@@ -97,9 +111,10 @@ impl<M: Tally> Writing<M> {
     ) -> Option<WriteEnd>
         requires { self.old.frames.items ≡ [] }
         ensures wrote { (mails : List Told) × TakesOn self.old.seat self.new.seat self.old.receipts.items self.new.receipts.items mails
-            × (H.tells half.old → MatchOption result (H.got half.new ≡ H.got half.old ++ spelled mails) (λ end. IsWritten (H.got half.old) mails end (H.got half.new))) }
+            × (H.tells half.old → MatchOption result (H.got half.new ≡ H.got half.old ++ spelled mails) (λ end. IsWritten (H.got half.old) mails end (H.got half.new))) × AreTold mails self.new.history }
         ensures frames { IfNone result (self.new.frames.items ≡ []) }
         ensures tells { H.tells half.old → H.tells half.new }
+        ensures this { IsPrefix self.old.history self.new.history }
         ensures told { IfSome result (λ end. IsTold end self.new.seat.standing) }
     {
         let taken = self.take_mails(rt, hall);
@@ -115,7 +130,8 @@ impl<M: Tally> Writing<M> {
     fn take_mails<C: Tally, R: Wait>(&mut self, rt: &R, hall: &Hall<C, M>) -> Result<(), WriteEnd>
         requires { self.old.frames.items ≡ [] }
         ensures took { (mails : List Told) × TakesOn self.old.seat self.new.seat self.old.receipts.items self.new.receipts.items mails
-            × IsBatch mails × AreSpelled [] result mails self.new.frames.items }
+            × IsBatch mails × AreSpelled [] result mails self.new.frames.items × AreTold mails self.new.history }
+        ensures this { IsPrefix self.old.history self.new.history }
         ensures told { IfErr result (λ end. IsTold end self.new.seat.standing) }
     {
         let mut more = true;
@@ -133,14 +149,15 @@ impl<M: Tally> Writing<M> {
         // It may wait, so nothing that was taken is left to write, or more mails are in the box.
         requires { (self.old.frames.items ≡ []) ⊎ (self.old.seat.more ≡ true) }
         ensures took { (mails : List Told) × TakesOn self.old.seat self.new.seat self.old.receipts.items self.new.receipts.items mails
-            × (length mails ≤ 1) × AreSpelled self.old.frames.items result mails self.new.frames.items }
+            × (length mails ≤ 1) × AreSpelled self.old.frames.items result mails self.new.frames.items × AreTold mails self.new.history }
         ensures more { IfOk result (λ more. more ≡ self.new.seat.more) }
+        ensures this { IsPrefix self.old.history self.new.history }
         ensures told { IfErr result (λ end. IsTold end self.new.seat.standing) }
     {
         if self.make_room().is_err() {
             return Err(WriteEnd::NoMemory);
         }
-        let (mail, more) = mail_in(hall.take_mail(rt, &mut self.seat))?;
+        let (mail, more) = mail_in(hall.take_mail(rt, &mut self.seat, &mut self.history))?;
         self.keep_receipt(&mail);
         match Reply::of(mail).put(&mut self.frames) {
             Ok(()) => Ok(more),
@@ -153,6 +170,7 @@ impl<M: Tally> Writing<M> {
         ensures room { OnOk result (vec_len self.new.receipts < 1024 → vec_len self.new.receipts < vec_capacity self.new.receipts) }
         ensures receipts { self.new.receipts.items ≡ self.old.receipts.items }
         ensures seat { self.new.seat ≡ self.old.seat }
+        ensures history { self.new.history ≡ self.old.history }
         ensures frames { self.new.frames.items ≡ self.old.frames.items }
     {
         if self.receipts.len() < KEPT {
@@ -166,6 +184,7 @@ impl<M: Tally> Writing<M> {
         requires { vec_len self.old.receipts < 1024 → vec_len self.old.receipts < vec_capacity self.old.receipts }
         ensures receipts { self.new.receipts.items ≡ receipts_with self.old.receipts.items (mail.now ∷ []) }
         ensures seat { self.new.seat ≡ self.old.seat }
+        ensures history { self.new.history ≡ self.old.history }
         ensures frames { self.new.frames.items ≡ self.old.frames.items }
     {
         if self.receipts.len() >= KEPT {

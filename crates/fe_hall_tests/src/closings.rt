@@ -9,7 +9,8 @@ use crate::stage::{PARTS, hall_over};
 use crate::tests::store_after;
 use fe_disk::MemoryDisk;
 use fe_hall::{
-    CallSeat, CallSeats, Hall, MailSeat, MailSeats, Receipt, Tally, Unclosed, Unconnected, close,
+    CallSeat, CallSeats, Hall, MailSeat, MailSeats, NewHistory, Receipt, Tally, Unclosed,
+    Unconnected, close,
 };
 use fe_keeper::Keeper;
 use fe_state::{Answer, Request};
@@ -109,16 +110,19 @@ fn close_as<C: Tally, M: Tally, R: Abort + Wait>(
     receipts: Vec<Receipt>,
     calls: Blank,
     mails: Blank,
+    history: NewHistory,
 ) -> Result<(), Unclosed>
     requires calls { (calls.name ≡ C.name) × (calls.parts ≡ C.parts) × (C.all ≡ C.parts) × (C.all ≡ most_connections + 1) }
     requires mails { (mails.name ≡ M.name) × (mails.parts ≡ M.parts) × (M.all ≡ M.parts) × (M.all ≡ most_connections + 1) }
+    requires history { history.book ≡ M.book }
 {
-    let hall = hall_over::<C, M>(alloc, keeper.state(), calls, mails)
+    let (hall, seat) = hall_over::<C, M>(alloc, keeper.state(), calls, mails, history)
         .ok()
         .expect(rt, "a hall");
     let (calls, mails) = connect(rt, &hall, connections).ok().expect(rt, "connected");
     let (calls, mails) = (CallSeats::of(calls), MailSeats::of(mails));
-    match close(hall, calls, mails, sent, receipts, keeper) {
+    let seen = hall.history();
+    match close(hall, calls, mails, sent, receipts, seen, seat, keeper) {
         Ok(closing) => {
             drop(closing);
             Ok(())
@@ -143,8 +147,11 @@ fn closed<R: Abort + Clock + Threads + Wait + Sync>(
     let receipts = Vec::from_slice(alloc, &[case.receipt])?;
     let keeper = stored(rt, alloc);
     let (calls, mails) = (Blank::new(PARTS), Blank::new(PARTS));
+    let history = NewHistory::new(keeper.state().place());
     let count = case.connections;
-    Ok(close_as::<Brand, Brand, R>(rt, alloc, keeper, count, sent, receipts, calls, mails))
+    Ok(close_as::<Brand, Brand, R>(
+        rt, alloc, keeper, count, sent, receipts, calls, mails, history,
+    ))
 }
 
 #[test]

@@ -10,8 +10,8 @@ use crate::saying::{Say, put_said};
 use crate::stage::{PARTS, hall_over};
 use fe_disk::Liar;
 use fe_hall::{
-    CallSeat, CommitEnd, Hall, LineFault, MemoryRead, Open, ReadEnd, ReadHalf, Tally, commit_side,
-    read_side,
+    CallSeat, CommitEnd, Hall, LineFault, MemoryRead, NewHistory, Open, ReadEnd, ReadHalf,
+    StoreSeat, Tally, commit_side, read_side,
 };
 use fe_keeper::{Fault, Keeper};
 use std::alloc::{AllocError, Global};
@@ -78,6 +78,7 @@ fn store<C: Tally, M: Tally, R: Abort + Wait>(
     alloc: Global,
     hall: &Hall<C, M>,
     keeper: &mut Keeper<Liar>,
+    stored: &mut StoreSeat<M>,
 ) -> Option<CommitEnd> {
     let bytes = stream(alloc).ok()?;
     let (seat, _) = hall.connect(rt, 1).ok()?;
@@ -88,7 +89,7 @@ fn store<C: Tally, M: Tally, R: Abort + Wait>(
     match end {
         ReadEnd::Device => {
             hall.stop(rt);
-            Some(commit_side(rt, hall, keeper))
+            Some(commit_side(rt, hall, keeper, stored))
         }
         _ => {
             assert!(rt; end == ReadEnd::NoMemory);
@@ -103,12 +104,14 @@ fn store_as<C: Tally, M: Tally, R: Abort + Wait>(
     keeper: &mut Keeper<Liar>,
     calls: Blank,
     mails: Blank,
+    history: NewHistory,
 ) -> Option<CommitEnd>
     requires calls { (calls.name ≡ C.name) × (calls.parts ≡ C.parts) × (C.all ≡ C.parts) × (C.all ≡ most_connections + 1) }
     requires mails { (mails.name ≡ M.name) × (mails.parts ≡ M.parts) × (M.all ≡ M.parts) × (M.all ≡ most_connections + 1) }
+    requires history { history.book ≡ M.book }
 {
-    let hall = hall_over::<C, M>(alloc, keeper.state(), calls, mails).ok()?;
-    let end = store(rt, alloc, &hall, keeper);
+    let (hall, mut stored) = hall_over::<C, M>(alloc, keeper.state(), calls, mails, history).ok()?;
+    let end = store(rt, alloc, &hall, keeper, &mut stored);
     drop(hall);
     end
 }
@@ -120,7 +123,8 @@ fn store_group<R: Abort + Wait>(
     keeper: &mut Keeper<Liar>,
 ) -> Option<CommitEnd> {
     let blanks = (Blank::new(PARTS), Blank::new(PARTS));
-    store_as::<Brand, Brand, R>(rt, alloc, keeper, blanks.0, blanks.1)
+    let history = NewHistory::new(keeper.state().place());
+    store_as::<Brand, Brand, R>(rt, alloc, keeper, blanks.0, blanks.1, history)
 }
 
 // Stores seven groups. How many bytes of the journal are used then.

@@ -2,7 +2,8 @@ ghost use Rattle.std.specs.Prelude.{◌≡◌};
 
 use fe_disk::Disk;
 use fe_hall::{
-    CallSeat, CallSeats, Closing, Hall, MailSeat, MailSeats, Receipt, Tally, Unclosed, close,
+    CallSeat, CallSeats, Closing, Hall, MailSeat, MailSeats, Receipts, StoreSeat, Tally, Unclosed,
+    close,
 };
 use fe_keeper::Keeper;
 use fe_wire::ClientMessage;
@@ -14,7 +15,7 @@ pub struct Register<C: Tally, M: Tally> {
     calls: Option<CallSeats<C>>,
     mails: Option<MailSeats<M>>,
     sent: Vec<Vec<ClientMessage>>,
-    receipts: Vec<Receipt>,
+    receipts: Option<Receipts<M>>,
 }
 
 impl<C: Tally, M: Tally> Register<C, M> {
@@ -24,7 +25,7 @@ impl<C: Tally, M: Tally> Register<C, M> {
             calls: None,
             mails: None,
             sent: Vec::new(alloc),
-            receipts: Vec::new(alloc),
+            receipts: None,
         }
     }
 
@@ -40,24 +41,33 @@ impl<C: Tally, M: Tally> Register<C, M> {
     }
 
     /// Adds what a write side did. The receipts are lost where there is no memory.
-    pub fn add_mails(&mut self, seat: MailSeat<M>, receipts: Vec<Receipt>)
+    pub fn add_mails(&mut self, seat: MailSeat<M>, receipts: Receipts<M>)
         requires { M.all ≡ M.parts }
     {
         match &mut self.mails {
             Some(mails) => mails.add(seat),
             None => self.mails = Some(MailSeats::of(seat)),
         }
-        let _ = self.receipts.extend_from_slice(receipts.as_slice());
+        match &mut self.receipts {
+            Some(all) => {
+                let _ = all.add(receipts);
+            }
+            None => self.receipts = Some(receipts),
+        }
     }
 
     pub fn receipts(&self) -> usize {
-        self.receipts.len()
+        match &self.receipts {
+            Some(receipts) => receipts.as_slice().len(),
+            None => 0,
+        }
     }
 
     /// Closes the hall with all of that.
     pub fn close<D: Disk + Drop>(
         self,
         hall: Hall<C, M>,
+        seat: StoreSeat<M>,
         keeper: Keeper<D>,
     ) -> Result<Closing<D>, Unclosed>
         requires calls { C.all ≡ C.parts }
@@ -69,9 +79,10 @@ impl<C: Tally, M: Tally> Register<C, M> {
             sent,
             receipts,
         } = self;
-        let (Some(calls), Some(mails)) = (calls, mails) else {
+        let (Some(calls), Some(mails), Some(receipts)) = (calls, mails, receipts) else {
             return Err(Unclosed::SeatMissing);
         };
-        close(hall, calls, mails, sent, receipts, keeper)
+        let (receipts, history) = receipts.into_parts();
+        close(hall, calls, mails, sent, receipts, history, seat, keeper)
     }
 }

@@ -10,8 +10,8 @@ use crate::register::Register;
 use fe_disk::{Disk, Hold};
 use fe_front::Front;
 use fe_hall::{
-    CallSeat, Closing, CommitEnd, Hall, MailSeat, Open, Tally, Unclosed, commit_side, read_side,
-    write_side,
+    CallSeat, Closing, CommitEnd, Hall, MailSeat, NewHistory, Open, StoreSeat, Tally, Unclosed,
+    commit_side, read_side, write_side,
 };
 use fe_keeper::Keeper;
 use fe_state::State;
@@ -58,6 +58,7 @@ pub fn perform<D: Disk + Drop + Send, R: Abort + Clock + Threads + Wait + Sync>(
     hold: &Hold,
     keeper: Keeper<D>,
 ) -> Played<D> {
+    let history = NewHistory::new(keeper.state().place());
     perform_as::<Brand, Brand, D, R>(
         rt,
         alloc,
@@ -66,6 +67,7 @@ pub fn perform<D: Disk + Drop + Send, R: Abort + Clock + Threads + Wait + Sync>(
         keeper,
         Blank::new(PARTS),
         Blank::new(PARTS),
+        history,
     )
 }
 
@@ -82,11 +84,13 @@ fn perform_as<
     keeper: Keeper<D>,
     calls: Blank,
     mails: Blank,
+    history: NewHistory,
 ) -> Played<D>
     requires calls { (calls.name ≡ C.name) × (calls.parts ≡ C.parts) × (C.all ≡ C.parts) × (C.all ≡ most_connections + 1) }
     requires mails { (mails.name ≡ M.name) × (mails.parts ≡ M.parts) × (M.all ≡ M.parts) × (M.all ≡ most_connections + 1) }
+    requires history { history.book ≡ M.book }
 {
-    let hall = hall_over::<C, M>(alloc, keeper.state(), calls, mails)
+    let (hall, seat) = hall_over::<C, M>(alloc, keeper.state(), calls, mails, history)
         .ok()
         .expect(rt, "a hall");
     let board = Board::new(alloc, play).ok().expect(rt, "a board");
@@ -97,14 +101,15 @@ fn perform_as<
         register: Mutex::new(Register::new(alloc)),
         board: Mutex::new(board),
     };
-    let (keeper, commit_end) = run(rt, alloc, &stage, keeper);
-    finish(stage, keeper, commit_end)
+    let (keeper, commit_end, seat) = run(rt, alloc, &stage, keeper, seat);
+    finish(stage, keeper, seat, commit_end)
 }
 
 /// Closes the hall of a play.
 fn finish<C: Tally, M: Tally, D: Disk + Drop>(
     stage: Stage<C, M>,
     keeper: Keeper<D>,
+    seat: StoreSeat<M>,
     commit_end: CommitEnd,
 ) -> Played<D>
     requires calls { C.all ≡ C.parts }
@@ -121,22 +126,24 @@ fn finish<C: Tally, M: Tally, D: Disk + Drop>(
         board: board.into_inner(),
         commit_end,
         receipts: register.receipts(),
-        closed: register.close(hall, keeper),
+        closed: register.close(hall, seat, keeper),
     }
 }
 
-/// A hall round a front over a copy of a state.
+/// A hall round a front over a copy of a state, and the seat of its committing side.
 pub fn hall_over<C: Tally, M: Tally>(
     alloc: Global,
     state: &State,
     calls: Blank,
     mails: Blank,
-) -> Result<Hall<C, M>, AllocError>
+    history: NewHistory,
+) -> Result<(Hall<C, M>, StoreSeat<M>), AllocError>
     requires calls { (calls.name ≡ C.name) × (calls.parts ≡ C.parts) × (C.all ≡ C.parts) × (C.all ≡ most_connections + 1) }
     requires mails { (mails.name ≡ M.name) × (mails.parts ≡ M.parts) × (M.all ≡ M.parts) × (M.all ≡ most_connections + 1) }
+    requires history { history.book ≡ M.book }
 {
     let front = Front::new(alloc, state.copy()?)?;
-    match Hall::new(alloc, front, calls, mails) {
+    match Hall::new(alloc, front, calls, mails, history) {
         Ok(hall) => Ok(hall),
         Err((short, front)) => {
             drop(front);
@@ -151,15 +158,21 @@ fn run<
     M: Tally + Send + Sync,
     D: Disk + Drop + Send,
     R: Clock + Threads + Wait + Sync,
->(rt: &R, alloc: Global, stage: &Stage<C, M>, keeper: Keeper<D>) -> (Keeper<D>, CommitEnd)
+>(
+    rt: &R,
+    alloc: Global,
+    stage: &Stage<C, M>,
+    keeper: Keeper<D>,
+    seat: StoreSeat<M>,
+) -> (Keeper<D>, CommitEnd, StoreSeat<M>)
     requires { (C.all ≡ C.parts) × (M.all ≡ M.parts) }
 {
     thread::scope(
         thread::scope_env(),
         rt,
-        move |scope| -> (Keeper<D>, CommitEnd)
+        move |scope| -> (Keeper<D>, CommitEnd, StoreSeat<M>)
             requires { (C.all ≡ C.parts) × (M.all ≡ M.parts) }
-        { run_in(rt, alloc, scope, stage, keeper) },
+        { run_in(rt, alloc, scope, stage, keeper, seat) },
     )
 }
 
@@ -176,10 +189,13 @@ fn run_in<
     scope: &Scope<'s, E>,
     stage: &'s Stage<C, M>,
     keeper: Keeper<D>,
-) -> (Keeper<D>, CommitEnd)
+    seat: StoreSeat<M>,
+) -> (Keeper<D>, CommitEnd, StoreSeat<M>)
     requires { (C.all ≡ C.parts) × (M.all ≡ M.parts) }
 {
-    match scope.spawn(move || -> (Keeper<D>, CommitEnd) { commit(rt, stage, keeper) }) {
+    match scope.spawn(move || -> (Keeper<D>, CommitEnd, StoreSeat<M>) {
+        commit(rt, stage, keeper, seat)
+    }) {
         Ok(committing) => {
             serve(rt, alloc, stage);
             stage.hall.stop(rt);
@@ -197,11 +213,13 @@ fn commit<C: Tally, M: Tally, D: Disk, R: Wait>(
     rt: &R,
     stage: &Stage<C, M>,
     keeper: Keeper<D>,
-) -> (Keeper<D>, CommitEnd) {
+    seat: StoreSeat<M>,
+) -> (Keeper<D>, CommitEnd, StoreSeat<M>) {
     let mut keeper = keeper;
-    let end = commit_side(rt, &stage.hall, &mut keeper);
+    let mut seat = seat;
+    let end = commit_side(rt, &stage.hall, &mut keeper, &mut seat);
     stage.board.lock(rt).over = true;
-    (keeper, end)
+    (keeper, end, seat)
 }
 
 /// Serves the clients, until all of them have ended.

@@ -1,3 +1,4 @@
+pub mod Acknowledged
 pub mod BooksText
 pub mod Ended
 pub mod Serving

@@ -1,15 +1,19 @@
 //! What the threads of a server share.
 
-ghost use Rattle.std.specs.Prelude.{◌≡◌, ◌+◌, ◌⊎◌, false, All, IfOk, IfErr, nat_lt};
+ghost use Rattle.std.specs.Prelude.{◌≡◌, ◌+◌, ◌⊎◌, ◌∷◌, [], false, All, IfOk, IfErr, nat_lt};
+ghost use Rattle.fe_front.specs.Front.{IsFirst};
 ghost use Rattle.fe_mail.specs.Books.{AddUp};
+ghost use mathlib.Core.List.{IsPrefix};
+ghost use Rattle.fe_hall.specs.Acts.{EachTold, IsLegal, stores_in};
 ghost use Rattle.fe_hall.specs.Receipts.{IsBorneOut};
 ghost use Rattle.fe_hall.specs.Seats.{most_connections};
+ghost use Rattle.fe_hall.specs.declared.act.Act.TheVariants as act;
 ghost use Rattle.fe_server.specs.declared.stop_fault.StopFault.TheVariants as fault;
 
 use crate::register::{Newcomer, Register};
 use crate::stop_fault::StopFault;
 use fe_front::Front;
-use fe_hall::{Audit, CallSeat, Hall, MailSeat, Receipt, Tally};
+use fe_hall::{Audit, CallSeat, Hall, MailSeat, NewHistory, Receipts, StoreSeat, Tally};
 use fe_options::Settings;
 use fe_state::State;
 use fe_wire::ClientMessage;
@@ -57,27 +61,35 @@ impl<C: Tally, M: Tally> Opened<C, M> {
         state: &State,
         calls: Blank,
         mails: Blank,
+        history: NewHistory,
         door: UnixStream,
         settings: &Settings,
-    ) -> Result<Opened<C, M>, AllocError>
+    ) -> Result<(Opened<C, M>, StoreSeat<M>), AllocError>
         requires calls { (calls.name ≡ C.name) × (calls.parts ≡ C.parts) × (C.all ≡ C.parts) × (C.all ≡ most_connections + 1) }
         requires mails { (mails.name ≡ M.name) × (mails.parts ≡ M.parts) × (M.all ≡ M.parts) × (M.all ≡ most_connections + 1) }
-        ensures begun { IfOk result (λ opened. opened.begun.value ≡ state.now) }
-        ensures most { IfOk result (λ opened. opened.house.most ≡ settings.now.connections) }
-        ensures keeps { IfOk result (λ opened. opened.house.keeps ≡ nat_lt 0 settings.now.accepts) }
+        requires history { history.book ≡ M.book }
+        ensures begun { IfOk result (λ opened. opened.0.begun.value ≡ state.now) }
+        ensures most { IfOk result (λ opened. opened.0.house.most ≡ settings.now.connections) }
+        ensures keeps { IfOk result (λ opened. opened.0.house.keeps ≡ nat_lt 0 settings.now.accepts) }
+        ensures seat { IfOk result (λ opened. opened.1 ≡ act.Began history.place ∷ []) }
     {
-        let front = Front::new(alloc, state.copy()?)?;
+        let Ok(front) = front_over(alloc, state) else {
+            drop(history);
+            drop(door);
+            return Err(AllocError);
+        };
         let begun = Snapshot::of(front.state());
-        match Hall::new(alloc, front, calls, mails) {
-            Ok(hall) => {
+        match Hall::new(alloc, front, calls, mails, history) {
+            Ok((hall, seat)) => {
+                let receipts = hall.no_receipts(alloc);
                 let house = House {
                     hall,
-                    register: Mutex::new(Register::new(alloc, door)),
+                    register: Mutex::new(Register::new(alloc, door, receipts)),
                     freed: Condvar::new(),
                     most: settings.connections,
                     keeps: settings.accepts > 0,
                 };
-                Ok(Opened { house, begun })
+                Ok((Opened { house, begun }, seat))
             }
             Err((short, front)) => {
                 drop(front);
@@ -93,18 +105,27 @@ impl<C: Tally, M: Tally> Opened<C, M> {
     }
 
     /// Closes the hall with what is in the register. `state` is what is stored.
-    pub(crate) fn close(self, over: Over, state: &State) -> Result<Audit, StopFault>
+    pub(crate) fn close(
+        self,
+        over: Over,
+        seat: StoreSeat<M>,
+        state: &State,
+    ) -> Result<Audit, StopFault>
         requires calls { C.all ≡ C.parts }
         requires mails { M.all ≡ M.parts }
         ensures add_up { IfOk result (λ audit. AddUp audit.books) }
         ensures unspent { IfOk result (λ audit. audit.books.spent ≡ false) }
         ensures borne_out { IfOk result (λ audit. All (IsBorneOut state.now audit.sent) audit.receipts) }
+        ensures this { IfOk result (λ audit. IsPrefix seat audit.history) }
+        ensures stores { IfOk result (λ audit. stores_in audit.history ≡ stores_in seat) }
+        ensures legal { IfOk result (λ audit. IsLegal audit.history) }
+        ensures told { IfOk result (λ audit. EachTold audit.receipts audit.history) }
         ensures faults { IfErr result (λ told. (told ≡ fault.Memory) ⊎ (told ≡ fault.Strange)) }
     {
         drop(over);
         let Opened { house, .. } = self;
         let House { hall, register, .. } = house;
-        register.into_inner().close(hall, state)
+        register.into_inner().close(hall, seat, state)
     }
 }
 
@@ -182,9 +203,16 @@ impl<C: Tally, M: Tally> House<C, M> {
         self.register.lock(rt).add_calls(seat, sent, self.keeps);
     }
 
-    pub(crate) fn add_mails<R: Wait>(&self, rt: &R, seat: MailSeat<M>, receipts: Vec<Receipt>)
+    pub(crate) fn add_mails<R: Wait>(&self, rt: &R, seat: MailSeat<M>, receipts: Receipts<M>)
         requires ledger { M.all ≡ M.parts }
     {
         self.register.lock(rt).add_mails(seat, receipts, self.keeps);
     }
+}
+
+/// A front over a copy of a state.
+fn front_over(alloc: Global, state: &State) -> Result<Front, AllocError>
+    ensures { IfOk result (IsFirst state.now) }
+{
+    Front::new(alloc, state.copy()?)
 }

@@ -2,12 +2,16 @@
 
 ghost use Rattle.std.specs.Prelude.{◌≡◌, ◌⊎◌, ◌∷◌, ◌++◌, [], false, IsTrue, All, IfOk, IfErr, IfSome, IsOk, IsSome, map, nat_lt};
 ghost use Rattle.fe_mail.specs.Books.{AddUp};
+ghost use mathlib.Core.List.{IsPrefix};
+ghost use Rattle.fe_hall.specs.Acts.{EachTold, IsLegal, stores_in};
 ghost use Rattle.fe_hall.specs.Receipts.{IsBorneOut};
 ghost use Rattle.fe_server.specs.declared.stop_fault.StopFault.TheVariants as fault;
 ghost use Rattle.fe_server.specs.Ended.{joined_to};
 
 use crate::stop_fault::StopFault;
-use fe_hall::{Audit, CallSeat, CallSeats, Hall, MailSeat, MailSeats, Receipt, Tally, settle};
+use fe_hall::{
+    Audit, CallSeat, CallSeats, Hall, MailSeat, MailSeats, Receipts, StoreSeat, Tally, settle,
+};
 use fe_state::State;
 use fe_wire::ClientMessage;
 use std::alloc::Global;
@@ -47,12 +51,12 @@ pub(crate) struct Register<C: Tally, M: Tally> {
     mails: Option<MailSeats<M>>,
     /// The list of each read side that ended, and the receipts of the write sides.
     sent: Vec<Vec<ClientMessage>>,
-    receipts: Vec<Receipt>,
+    receipts: Receipts<M>,
 }
 
 impl<C: Tally, M: Tally> Register<C, M> {
     /// No connection came.
-    pub(crate) fn new(alloc: Global, door: UnixStream) -> Register<C, M> {
+    pub(crate) fn new(alloc: Global, door: UnixStream, receipts: Receipts<M>) -> Register<C, M> {
         Register {
             newcomers: Vec::new(alloc),
             present: 0,
@@ -64,7 +68,7 @@ impl<C: Tally, M: Tally> Register<C, M> {
             calls: None,
             mails: None,
             sent: Vec::new(alloc),
-            receipts: Vec::new(alloc),
+            receipts,
         }
     }
 
@@ -162,7 +166,7 @@ impl<C: Tally, M: Tally> Register<C, M> {
     }
 
     /// Adds what the write side of a connection did; its receipts only where `keeps`.
-    pub(crate) fn add_mails(&mut self, seat: MailSeat<M>, receipts: Vec<Receipt>, keeps: bool)
+    pub(crate) fn add_mails(&mut self, seat: MailSeat<M>, receipts: Receipts<M>, keeps: bool)
         requires ledger { M.all ≡ M.parts }
         ensures joined { self.new.mails ≡ joined_to self.old.mails seat.mails }
         ensures receipts { IsTrue keeps → self.new.short ≡ false → self.new.receipts.items ≡ self.old.receipts.items ++ receipts.items }
@@ -175,19 +179,23 @@ impl<C: Tally, M: Tally> Register<C, M> {
             Some(mails) => mails.add(seat),
             None => self.mails = Some(MailSeats::of(seat)),
         }
-        if keeps
-            && self
-                .receipts
-                .extend_from_slice(receipts.as_slice())
-                .is_err()
-        {
+        if !keeps {
+            drop(receipts);
+            return;
+        }
+        if self.receipts.add(receipts).is_err() {
             self.short = true;
         }
     }
 
     /// Closes a hall with what its connections did. `state` is what is stored. `Memory` where not all of that could be kept; `Strange`
     /// where a book is full, a seat is missing or a receipt is strange.
-    pub(crate) fn close(self, hall: Hall<C, M>, state: &State) -> Result<Audit, StopFault>
+    pub(crate) fn close(
+        self,
+        hall: Hall<C, M>,
+        seat: StoreSeat<M>,
+        state: &State,
+    ) -> Result<Audit, StopFault>
         requires calls { C.all ≡ C.parts }
         requires mails { M.all ≡ M.parts }
         ensures calls { IfOk result (λ audit. IfSome self.calls (λ seat. audit.books.calls ≡ seat.amount)) }
@@ -195,6 +203,10 @@ impl<C: Tally, M: Tally> Register<C, M> {
         ensures sent { IfOk result (λ audit. audit.sent ≡ map (λ v. v.items) self.sent.items) }
         ensures receipts { IfOk result (λ audit. audit.receipts ≡ self.receipts.items) }
         ensures borne_out { IfOk result (λ audit. All (IsBorneOut state.now audit.sent) audit.receipts) }
+        ensures this { IfOk result (λ audit. IsPrefix seat audit.history) }
+        ensures stores { IfOk result (λ audit. stores_in audit.history ≡ stores_in seat) }
+        ensures legal { IfOk result (λ audit. IsLegal audit.history) }
+        ensures told { IfOk result (λ audit. EachTold audit.receipts audit.history) }
         ensures whole { IsOk result → (self.short ≡ false) × ((self.spent ≡ false) × (IsSome self.calls × IsSome self.mails)) }
         ensures add_up { IfOk result (λ audit. AddUp audit.books) }
         ensures unspent { IfOk result (λ audit. audit.books.spent ≡ false) }
@@ -202,11 +214,13 @@ impl<C: Tally, M: Tally> Register<C, M> {
     {
         if self.short {
             drop(self);
+            drop(seat);
             drop(hall);
             return Err(StopFault::Memory);
         }
         if self.spent {
             drop(self);
+            drop(seat);
             drop(hall);
             return Err(StopFault::Strange);
         }
@@ -226,10 +240,12 @@ impl<C: Tally, M: Tally> Register<C, M> {
         let (Some(calls), Some(mails)) = (calls, mails) else {
             drop(sent);
             drop(receipts);
+            drop(seat);
             drop(hall);
             return Err(StopFault::Strange);
         };
-        match settle(hall, calls, mails, sent, receipts, state) {
+        let (receipts, history) = receipts.into_parts();
+        match settle(hall, calls, mails, sent, receipts, history, seat, state) {
             Ok(audit) => Ok(audit),
             Err(_) => Err(StopFault::Strange),
         }

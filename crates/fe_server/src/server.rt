@@ -1,13 +1,16 @@
 //! A store is served.
 
-ghost use Rattle.std.specs.Prelude.{◌≡◌, ◌≢◌, ◌+◌, ℕ, false, All, IfOk, IsErrOf, nat_lt};
+ghost use Rattle.std.specs.Prelude.{◌≡◌, ◌≢◌, ◌+◌, ◌∷◌, ℕ, [], false, Some, All, IfOk, IsErrOf, nat_lt};
 ghost use Rattle.fe_mail.specs.Books.{AddUp};
+ghost use Rattle.fe_hall.specs.Commits.{AreNoted};
 ghost use Rattle.fe_hall.specs.Receipts.{IsBorneOut};
 ghost use Rattle.fe_hall.specs.Seats.{most_connections};
+ghost use Rattle.fe_hall.specs.declared.act.Act.TheVariants as act;
 ghost use Rattle.fe_hall.specs.declared.commit_end.CommitEnd.{CommitEnd as Ended};
 ghost use Rattle.fe_hall.specs.declared.commit_end.CommitEnd.TheVariants as hall;
 ghost use Rattle.fe_journal.specs.Layout.{device_bytes};
 ghost use Rattle.fe_store.specs.declared.fault.OpenFault.TheVariants as store;
+ghost use Rattle.fe_server.specs.Acknowledged.{IsAcknowledged};
 ghost use Rattle.fe_server.specs.Serving.{HasCommitted, IsAnswerAt, fault_in, fault_of_end, keeper_in};
 ghost use Rattle.fe_server.specs.declared.serve_fault.ServeFault.TheVariants as fault;
 
@@ -18,7 +21,7 @@ use crate::serve_fault::ServeFault;
 use crate::served::Served;
 use crate::stop_fault::StopFault;
 use fe_disk::Disk;
-use fe_hall::{Audit, CommitEnd, Gate, Tally, commit_side};
+use fe_hall::{Audit, CommitEnd, Gate, NewHistory, StoreSeat, Tally, commit_side};
 use fe_keeper::Keeper;
 use fe_options::Settings;
 use fe_store::open_store;
@@ -87,7 +90,11 @@ pub fn serve_store<D: Disk + Drop + Send, G: Gate + Sync, R: Clock + Threads + W
     ensures unspent { IfOk result (λ served. served.audit.books.spent ≡ false) }
     // What its clients were told is stored.
     ensures borne_out { IfOk result (λ served. All (IsBorneOut served.keeper.state served.audit.sent) served.audit.receipts) }
+    // Whatever a client was told is in every image that a stop may leave from then on: before an answer was told, a group with its entry
+    // was stored, and each image since the end of its append stands for a state with that group.
+    ensures acknowledged { IfOk result (λ served. IsAcknowledged D.honest D.moment D.left_since keeper served.keeper served.audit) }
 {
+    let history = NewHistory::new(keeper.state().place());
     serve_as::<Brand, Brand, D, G, R>(
         rt,
         alloc,
@@ -97,6 +104,7 @@ pub fn serve_store<D: Disk + Drop + Send, G: Gate + Sync, R: Clock + Threads + W
         gate,
         Blank::new(PARTS),
         Blank::new(PARTS),
+        history,
     )
 }
 
@@ -115,29 +123,43 @@ fn serve_as<
     gate: &G,
     calls: Blank,
     mails: Blank,
+    history: NewHistory,
 ) -> Result<Served<D>, (StopFault, Keeper<D>)>
     requires calls { (calls.name ≡ C.name) × (calls.parts ≡ C.parts) × (C.all ≡ C.parts) × (C.all ≡ most_connections + 1) }
     requires mails { (mails.name ≡ M.name) × (mails.parts ≡ M.parts) × (M.all ≡ M.parts) × (M.all ≡ most_connections + 1) }
+    requires history { history.book ≡ M.book }
+    requires place { history.place ≡ keeper.state.place }
     ensures committed { (end : Ended) × HasCommitted D.honest D.moment D.left_since D.may_leave D.failures keeper (keeper_in result) end × IsAnswerAt end (fault_in result) }
     ensures add_up { IfOk result (λ served. AddUp served.audit.books) }
     ensures unspent { IfOk result (λ served. served.audit.books.spent ≡ false) }
     ensures borne_out { IfOk result (λ served. All (IsBorneOut served.keeper.state served.audit.sent) served.audit.receipts) }
+    ensures acknowledged { IfOk result (λ served. IsAcknowledged D.honest D.moment D.left_since keeper served.keeper served.audit) }
 {
     let Ok(door) = listener.try_clone() else {
+        drop(history);
         return Err((StopFault::Memory, unserved(keeper)));
     };
     // The system ends an `accept` whose listener is shut, which only a stream can do here.
     let door = UnixStream::from(OwnedFd::from(door));
-    let Ok(opened) = Opened::<C, M>::new(alloc, keeper.state(), calls, mails, door, settings) else {
+    let Ok((opened, seat)) = Opened::<C, M>::new(
+        alloc,
+        keeper.state(),
+        calls,
+        mails,
+        history,
+        door,
+        settings,
+    ) else {
         return Err((StopFault::Memory, unserved(keeper)));
     };
-    let (keeper, end, over) = run(rt, alloc, &opened, listener, settings, keeper, gate);
+    let (keeper, end, over, seat) = run(rt, alloc, &opened, listener, settings, keeper, seat, gate);
     if let Some(fault) = fault_of_end(end) {
         drop(opened);
         drop(over);
+        drop(seat);
         return Err((fault, keeper));
     }
-    match opened.close(over, keeper.state()) {
+    match opened.close(over, seat, keeper.state()) {
         Ok(audit) => Ok(Served { audit, keeper }),
         Err(fault) => Err((fault, keeper)),
     }
@@ -159,10 +181,14 @@ struct Committed<D: Disk + Drop> {
     before: Snapshot<Keeper<D>>,
 }
 
-impl<D: Disk + Drop> Promise<(Keeper<D>, CommitEnd, Over)> for Committed<D> {
+impl<D: Disk + Drop, M: Tally> Promise<(Keeper<D>, CommitEnd, Over, StoreSeat<M>)>
+    for Committed<D> {
+    ghost use Rattle.std.specs.Prelude.{Some, [], ◌∷◌};
+    ghost use Rattle.fe_hall.specs.declared.act.Act.TheVariants.{Began};
+    ghost use Rattle.fe_hall.specs.Commits.{AreNoted};
     ghost use Rattle.fe_server.specs.Serving.{HasCommitted};
 
-    ghost kept_by = { λ p r. HasCommitted D.honest D.moment D.left_since D.may_leave D.failures p.before.value r.0 r.1 };
+    ghost kept_by = { λ p r. (all : HasCommitted D.honest D.moment D.left_since D.may_leave D.failures p.before.value r.0 r.1) × AreNoted D.moment all.commits.appends (Some r.1) (Began p.before.value.state.place ∷ []) r.3 };
 }
 
 /// Serves the clients of a listener, and stores what they do. The keeper comes back, and why the committing side ended.
@@ -179,23 +205,29 @@ fn run<
     listener: UnixListener,
     settings: &Settings,
     keeper: Keeper<D>,
+    seat: StoreSeat<M>,
     gate: &G,
-) -> (Keeper<D>, CommitEnd, Over)
+) -> (Keeper<D>, CommitEnd, Over, StoreSeat<M>)
     requires calls { C.all ≡ C.parts }
     requires mails { M.all ≡ M.parts }
     requires begun { opened.now.begun.value ≡ keeper.state }
     requires most { opened.now.house.most ≡ settings.now.connections }
     requires keeps { opened.now.house.keeps ≡ nat_lt 0 settings.now.accepts }
-    ensures { HasCommitted D.honest D.moment D.left_since D.may_leave D.failures keeper result.0 result.1 }
+    requires seat { seat ≡ act.Began keeper.state.place ∷ [] }
+    ensures { (all : HasCommitted D.honest D.moment D.left_since D.may_leave D.failures keeper result.0 result.1) × AreNoted D.moment all.commits.appends (Some result.1) (act.Began keeper.state.place ∷ []) result.3 }
 {
     let house = opened.house();
     thread::scope(
         thread::scope_env(),
         rt,
-        move |scope| -> (Keeper<D>, CommitEnd, Over)
-            requires { (C.all ≡ C.parts) × (M.all ≡ M.parts) }
-            ensures { HasCommitted D.honest D.moment D.left_since D.may_leave D.failures keeper result.0 result.1 }
-        { run_in(rt, alloc, scope, house, listener, settings, keeper, gate) },
+        move |scope| -> (Keeper<D>, CommitEnd, Over, StoreSeat<M>)
+            requires { (C.all ≡ C.parts) × (M.all ≡ M.parts) × (seat ≡ act.Began keeper.state.place ∷ []) }
+            ensures { (all : HasCommitted D.honest D.moment D.left_since D.may_leave D.failures keeper result.0 result.1) × AreNoted D.moment all.commits.appends (Some result.1) (act.Began keeper.state.place ∷ []) result.3 }
+        {
+            run_in(
+                rt, alloc, scope, house, listener, settings, keeper, seat, gate,
+            )
+        },
     )
 }
 
@@ -216,20 +248,23 @@ fn run_in<
     listener: UnixListener,
     settings: &Settings,
     keeper: Keeper<D>,
+    seat: StoreSeat<M>,
     gate: &G,
-) -> (Keeper<D>, CommitEnd, Over)
+) -> (Keeper<D>, CommitEnd, Over, StoreSeat<M>)
     requires calls { C.all ≡ C.parts }
     requires mails { M.all ≡ M.parts }
-    ensures { HasCommitted D.honest D.moment D.left_since D.may_leave D.failures keeper result.0 result.1 }
+    requires seat { seat ≡ act.Began keeper.state.place ∷ [] }
+    ensures { (all : HasCommitted D.honest D.moment D.left_since D.may_leave D.failures keeper result.0 result.1) × AreNoted D.moment all.commits.appends (Some result.1) (act.Began keeper.state.place ∷ []) result.3 }
 {
     let promise = Committed {
         before: Snapshot::of(&keeper),
     };
     let committing = scope.spawn_with(
         promise,
-        move || -> (Keeper<D>, CommitEnd, Over)
-            ensures { HasCommitted D.honest D.moment D.left_since D.may_leave D.failures keeper result.0 result.1 }
-        { commit(rt, house, keeper) },
+        move || -> (Keeper<D>, CommitEnd, Over, StoreSeat<M>)
+            requires { seat ≡ act.Began keeper.state.place ∷ [] }
+            ensures { (all : HasCommitted D.honest D.moment D.left_since D.may_leave D.failures keeper result.0 result.1) × AreNoted D.moment all.commits.appends (Some result.1) (act.Began keeper.state.place ∷ []) result.3 }
+        { commit(rt, house, keeper, seat) },
     );
     match committing {
         Ok(thread) => {
@@ -250,13 +285,16 @@ fn commit<C: Tally, M: Tally, D: Disk, R: Clock + Wait>(
     rt: &R,
     house: &House<C, M>,
     keeper: Keeper<D>,
-) -> (Keeper<D>, CommitEnd, Over)
-    ensures { HasCommitted D.honest D.moment D.left_since D.may_leave D.failures keeper result.0 result.1 }
+    seat: StoreSeat<M>,
+) -> (Keeper<D>, CommitEnd, Over, StoreSeat<M>)
+    requires { seat ≡ act.Began keeper.state.place ∷ [] }
+    ensures { (all : HasCommitted D.honest D.moment D.left_since D.may_leave D.failures keeper result.0 result.1) × AreNoted D.moment all.commits.appends (Some result.1) (act.Began keeper.state.place ∷ []) result.3 }
 {
     let mut keeper = keeper;
-    let end = commit_side(rt, &house.hall, &mut keeper);
+    let mut seat = seat;
+    let end = commit_side(rt, &house.hall, &mut keeper, &mut seat);
     let over = house.end(rt);
-    (keeper, end, over)
+    (keeper, end, over, seat)
 }
 
 /// The fault that a server ends with whose committing side ended so.

@@ -1,5 +1,8 @@
-use Rattle.std.proofs.Common.{refl, sym, true≢false}
+use Rattle.std.proofs.Common.{List, refl, sym, subst, true≢false}
 use Rattle.fe_hall.proofs.BorneOut.{one_strange, all_borne_out, none_is}
+use mathlib.Core.List.{IsPrefix}
+use Rattle.fe_hall.specs.declared.act.Act.{Act}
+use Rattle.fe_hall.proofs.Acts.{each_later}
 use Rattle.fe_hall.proofs.closing.settle.Goals as goal
 
 pub returns-in-Some-strange-clause-refused : goal.returns-in-Some-strange-clause-refused
@@ -16,3 +19,8 @@ returns-in-None-clause-refused g c = λ _. (
   λ err. absurd (true≢false (sym err)),
   λ one. absurd (none_is c.args.state.now c.args.state.now c.as_slice.result.now c.args.sent.items c.as_slice-2.result.now c.args.receipts.items (λ v. v.items) refl c.as_slice.ensures.value c.as_slice-2.ensures.value c.in-None.ensures.none one),
 )
+
+pub returns-in-None-clause-told : goal.returns-in-None-clause-told
+returns-in-None-clause-told g c = λ told.
+    let seen = subst (λ (h : List Act). IsPrefix c.args.history h) (sym c.into_seen.ensures.same) c.in-Some-whole.ensures.seen in
+    each_later c.args.receipts.items c.args.history c.into_seen.result.log seen told

@@ -1,9 +1,10 @@
-use Rattle.std.proofs.Common.{Some, None, sym, subst}
+use Rattle.std.proofs.Common.{inl, inr, Some, None, refl, sym, subst, rules}
 use Rattle.fe_state.specs.declared.batch.Batch.{Batch}
-use Rattle.fe_hall.specs.Commits.{Commits, IsStored, TellsEnd}
+use Rattle.fe_hall.specs.Commits.{AreNoted, Commits, IsStored, TellsEnd, end_of}
 use Rattle.fe_hall.specs.declared.commit_end.CommitEnd.{CommitEnd}
 use Rattle.fe_hall.specs.declared.commit_end.CommitEnd.TheVariants.{Strange, Spent}
-use Rattle.fe_hall.proofs.Committed.{commits_group, commits_fault, fault_tells, appended_works}
+use Rattle.fe_hall.proofs.Committed.{group_noted, commits_fault, fault_tells, appended_works}
+use Rattle.fe_hall.proofs.Noted.{none_noted}
 use Rattle.fe_hall.proofs.committing.commit.Goals as goal
 
 pub post-requires : goal.post-requires
@@ -19,33 +20,48 @@ returns-in-Some-Ok-clause-commits g c =
     let e = c.in-Ok.ensures.appended in
     let old = c.args.keeper.now in
     let new = c.append.new.self in
-    commits_group g.D.Disk.honest g.D.Disk.moment g.D.Disk.left_since g.D.Disk.may_leave g.met.D.Disk.only_now old new None c.args.batch.entries e.continues.some e.continues.legal e.state
+    group_noted g.D.Disk.honest g.D.Disk.moment g.D.Disk.left_since g.D.Disk.may_leave g.met.D.Disk.only_now old new None c.args.batch.entries c.args.seat.now c.note.new.seat e.continues.some e.continues.legal e.state
     (appended_works old.store new.store c.args.batch.entries new.store.disk e.store) c.append.ensures.honesty c.append.ensures.durable c.append.ensures.any_moment
+    (c.note.ensures.this, inl (c.note.ensures.noted (search rules)))
 
 pub returns-in-Some-Err-clause-commits : goal.returns-in-Some-Err-clause-commits
 returns-in-Some-Err-clause-commits g c =
     let e = c.in-Ok.ensures.appended in
     let old = c.args.keeper.now in
     let new = c.append.new.self in
-    commits_group g.D.Disk.honest g.D.Disk.moment g.D.Disk.left_since g.D.Disk.may_leave g.met.D.Disk.only_now old new (Some Strange) c.args.batch.entries e.continues.some e.continues.legal e.state
+    group_noted g.D.Disk.honest g.D.Disk.moment g.D.Disk.left_since g.D.Disk.may_leave g.met.D.Disk.only_now old new (Some Strange) c.args.batch.entries c.args.seat.now c.note.new.seat e.continues.some e.continues.legal e.state
     (appended_works old.store new.store c.args.batch.entries new.store.disk e.store) c.append.ensures.honesty c.append.ensures.durable c.append.ensures.any_moment
+    (c.note.ensures.this, inl (c.note.ensures.noted (search rules)))
 
 pub returns-in-Ok-clause-commits : goal.returns-in-Ok-clause-commits
 returns-in-Ok-clause-commits g c =
     let e = c.in-Ok.ensures.appended in
     let old = c.args.keeper.now in
     let new = c.append.new.self in
-    commits_group g.D.Disk.honest g.D.Disk.moment g.D.Disk.left_since g.D.Disk.may_leave g.met.D.Disk.only_now old new (Some Spent) c.args.batch.entries e.continues.some e.continues.legal e.state
+    group_noted g.D.Disk.honest g.D.Disk.moment g.D.Disk.left_since g.D.Disk.may_leave g.met.D.Disk.only_now old new (Some Spent) c.args.batch.entries c.args.seat.now c.note.new.seat e.continues.some e.continues.legal e.state
     (appended_works old.store new.store c.args.batch.entries new.store.disk e.store) c.append.ensures.honesty c.append.ensures.durable c.append.ensures.any_moment
+    (c.note.ensures.this, inl (c.note.ensures.noted (search rules)))
 
 pub returns-clause-commits : goal.returns-clause-commits
 returns-clause-commits g c =
     let e = c.in-Err.ensures in
-    subst (λ (end : CommitEnd). Commits g.D.Disk.honest g.D.Disk.moment g.D.Disk.left_since c.args.keeper.now c.append.new.self (Some end)) (sym c.end_of.ensures.end)
-    (commits_fault g.D.Disk.honest g.D.Disk.may_leave g.D.Disk.moment g.D.Disk.left_since g.met.D.Disk.only_now c.args.keeper.now c.append.new.self c.append.ensures.durable g.D.Disk.failures
-    c.in-Err.fault c.args.batch.first c.args.batch.entries e.ends e.err c.append.ensures.any_moment)
+    let all =
+    commits_fault g.D.Disk.honest g.D.Disk.may_leave g.D.Disk.moment g.D.Disk.left_since g.met.D.Disk.only_now c.args.keeper.now c.append.new.self c.append.ensures.durable g.D.Disk.failures c.in-Err.fault
+    c.args.batch.first c.args.batch.entries e.ends e.err c.append.ensures.any_moment in
+    let seat = c.args.seat.now in
+    subst (λ (end : CommitEnd). (all : Commits g.D.Disk.honest g.D.Disk.moment g.D.Disk.left_since c.args.keeper.now c.append.new.self (Some end)) × AreNoted g.D.Disk.moment all.appends (Some end) seat seat)
+    (sym c.end_of.ensures.end) (all.0, none_noted g.D.Disk.moment all.0.appends (Some (end_of c.in-Err.fault)) seat all.1)
 
 pub returns-clause-tells : goal.returns-clause-tells
 returns-clause-tells g c =
     subst (λ (end : CommitEnd). TellsEnd g.D.Disk.failures c.args.keeper.now c.append.new.self (Some end)) (sym c.end_of.ensures.end)
     (fault_tells g.D.Disk.failures c.args.keeper.now c.append.new.self c.in-Err.fault c.args.batch.first c.args.batch.entries c.in-Err.ensures.ends)
+
+pub returns-then-not-note-clause-commits : goal.returns-then-not-note-clause-commits
+returns-then-not-note-clause-commits g c =
+    let e = c.in-Ok.ensures.appended in
+    let old = c.args.keeper.now in
+    let new = c.append.new.self in
+    group_noted g.D.Disk.honest g.D.Disk.moment g.D.Disk.left_since g.D.Disk.may_leave g.met.D.Disk.only_now old new (Some Strange) c.args.batch.entries c.args.seat.now c.note.new.seat e.continues.some e.continues.legal e.state
+    (appended_works old.store new.store c.args.batch.entries new.store.disk e.store) c.append.ensures.honesty c.append.ensures.durable c.append.ensures.any_moment
+    (c.note.ensures.this, inr refl)

@@ -1,8 +1,8 @@
-use Rattle.std.proofs.Common.{◌≡◌, inl, inr, Option, Some, None, refl, subst, ◌∙◌, rules}
-use Rattle.fe_hall.specs.Commits.{Commits, IsStill, TellsEnd}
+use Rattle.std.proofs.Common.{◌≡◌, inl, inr, [], Option, Some, None, refl, subst, ◌∙◌, rules}
+use Rattle.fe_hall.specs.Commits.{AreNoted, Commits, IsStill, TellsEnd}
 use Rattle.fe_hall.specs.declared.commit_end.CommitEnd.{CommitEnd}
-use Rattle.fe_hall.specs.declared.commit_end.CommitEnd.TheVariants.{Store}
-use Rattle.fe_hall.proofs.Committed.{commits_kept, commits_both, commits_turn, rests_itself, still_itself, still_both}
+use Rattle.fe_hall.specs.declared.commit_end.CommitEnd.TheVariants.{Stopped, Store}
+use Rattle.fe_hall.proofs.Committed.{kept_noted, both_commits, turn_commits, ended_noted, rests_itself, still_itself, still_both}
 use Rattle.fe_hall.proofs.committing.commit_all.Goals as goal
 
 pub loop-init : goal.loop-init
@@ -10,7 +10,7 @@ loop-init g c =
     let old = c.args.keeper.now in
     let rests = rests_itself g.D.Disk.honest g.D.Disk.may_leave g.D.Disk.moment g.D.Disk.left_since g.met.D.Disk.only_now old c.state.ensures.durable in
     record {
-      commits = commits_kept g.D.Disk.honest g.D.Disk.moment g.D.Disk.left_since old old None rests;
+      commits = kept_noted g.D.Disk.honest g.D.Disk.moment g.D.Disk.left_since old old None rests c.args.seat.now;
       stands = c.state.ensures.durable;
       still = still_itself g.D.Disk.failures old;
       begun = inl refl;
@@ -22,8 +22,9 @@ loop-init g c =
 pub returns-in-Some-commit-clause-commits : goal.returns-in-Some-commit-clause-commits
 returns-in-Some-commit-clause-commits g c =
     let here = c.loop.invariant in
-    commits_both g.D.Disk.honest g.D.Disk.moment g.D.Disk.left_since c.args.keeper.now c.loop.keeper c.commit.new.keeper (Some c.in-Some-commit.end) here.still.works here.honesty here.commits
-    c.in-Some-commit.ensures.commits
+    let stored = c.in-Some-commit.ensures.commits in
+    both_commits g.D.Disk.honest g.D.Disk.moment g.D.Disk.left_since c.args.keeper.now c.loop.keeper c.commit.new.keeper (Some c.in-Some-commit.end) c.args.seat.now c.loop.seat c.commit.new.seat
+    here.still.works here.honesty here.commits.0 here.commits.1 stored.0 stored.1
 
 pub loop-preserved : goal.loop-preserved
 loop-preserved g c =
@@ -34,13 +35,15 @@ loop-preserved g c =
     let here = c.loop.invariant in
     let rests = c.tend.ensures.rests in
     let none : c.commit.result ≡ None = search rules in
-    let stored : Commits g.D.Disk.honest g.D.Disk.moment g.D.Disk.left_since before after None =
-    subst (λ (end : Option CommitEnd). Commits g.D.Disk.honest g.D.Disk.moment g.D.Disk.left_since before after end) none c.commit.ensures.commits in
+    let stored : (all : Commits g.D.Disk.honest g.D.Disk.moment g.D.Disk.left_since before after None) × AreNoted g.D.Disk.moment all.appends None c.loop.seat c.commit.new.seat =
+    subst (λ (end : Option CommitEnd). (all : Commits g.D.Disk.honest g.D.Disk.moment g.D.Disk.left_since before after end) × AreNoted g.D.Disk.moment all.appends end c.loop.seat c.commit.new.seat) none
+    c.commit.ensures.commits in
     let still : IsStill g.D.Disk.failures before after = subst (λ (end : Option CommitEnd). TellsEnd g.D.Disk.failures before after end) none c.commit.ensures.tells in
     let later : IsStill g.D.Disk.failures after new = c.in-Ok.ensures.still in
     record {
       commits =
-          commits_turn g.D.Disk.honest g.D.Disk.moment g.D.Disk.left_since old before after new None here.still.works still.works here.honesty c.commit.ensures.honesty here.commits stored rests;
+          turn_commits g.D.Disk.honest g.D.Disk.moment g.D.Disk.left_since old before after new None c.args.seat.now c.loop.seat c.commit.new.seat here.still.works still.works here.honesty
+          c.commit.ensures.honesty here.commits.0 here.commits.1 stored.0 stored.1 rests;
       stands = c.tend.ensures.stands;
       still = still_both g.D.Disk.failures old after new (still_both g.D.Disk.failures old before after here.still still) later;
       begun = inr (later.works ∙ still.works ∙ c.commit.ensures.works none);
@@ -55,8 +58,14 @@ returns-in-Err-clause-commits g c =
     let after = c.commit.new.keeper in
     let here = c.loop.invariant in
     let none : c.commit.result ≡ None = search rules in
-    let stored : Commits g.D.Disk.honest g.D.Disk.moment g.D.Disk.left_since before after None =
-    subst (λ (end : Option CommitEnd). Commits g.D.Disk.honest g.D.Disk.moment g.D.Disk.left_since before after end) none c.commit.ensures.commits in
+    let stored : (all : Commits g.D.Disk.honest g.D.Disk.moment g.D.Disk.left_since before after None) × AreNoted g.D.Disk.moment all.appends None c.loop.seat c.commit.new.seat =
+    subst (λ (end : Option CommitEnd). (all : Commits g.D.Disk.honest g.D.Disk.moment g.D.Disk.left_since before after end) × AreNoted g.D.Disk.moment all.appends end c.loop.seat c.commit.new.seat) none
+    c.commit.ensures.commits in
     let still : IsStill g.D.Disk.failures before after = subst (λ (end : Option CommitEnd). TellsEnd g.D.Disk.failures before after end) none c.commit.ensures.tells in
-    commits_turn g.D.Disk.honest g.D.Disk.moment g.D.Disk.left_since c.args.keeper.now before after c.tend.new.keeper (Some (Store c.in-Err.fault)) here.still.works still.works here.honesty
-    c.commit.ensures.honesty here.commits stored c.tend.ensures.rests
+    turn_commits g.D.Disk.honest g.D.Disk.moment g.D.Disk.left_since c.args.keeper.now before after c.tend.new.keeper (Some (Store c.in-Err.fault)) c.args.seat.now c.loop.seat c.commit.new.seat
+    here.still.works still.works here.honesty c.commit.ensures.honesty here.commits.0 here.commits.1 stored.0 stored.1 c.tend.ensures.rests
+
+pub returns-in_default-clause-commits : goal.returns-in_default-clause-commits
+returns-in_default-clause-commits g c =
+    let here = c.loop.invariant.commits in
+    ended_noted g.D.Disk.honest g.D.Disk.moment g.D.Disk.left_since c.args.keeper.now c.loop.keeper (Some Stopped) c.args.seat.now c.loop.seat here.0 here.1

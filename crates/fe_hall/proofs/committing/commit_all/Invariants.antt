@@ -1,13 +1,13 @@
 use Rattle.std.proofs.Common.{◌≡◌, ◌⊎◌, false, None}
 use Rattle.std.specs.Prelude.{◌↔◌}
 use Rattle.fe_keeper.specs.Stands.{EachStandsFor}
-use Rattle.fe_hall.specs.Commits.{Commits, IsStill}
+use Rattle.fe_hall.specs.Commits.{AreNoted, Commits, IsStill}
 use Rattle.fe_hall.proofs.committing.commit_all.Given as goal
 
 abbrev pub invariant-loop : goal.invariant-loop
 invariant-loop g l =
     record {
-      commits : Commits g.D.Disk.honest g.D.Disk.moment g.D.Disk.left_since l.initial.keeper l.keeper None;
+      commits : (all : Commits g.D.Disk.honest g.D.Disk.moment g.D.Disk.left_since l.initial.keeper l.keeper None) × AreNoted g.D.Disk.moment all.appends None l.initial.seat l.seat;
       stands : g.D.Disk.honest l.keeper.store.disk → l.keeper.store.has_failed ≡ false → EachStandsFor g.D.Disk.may_leave l.keeper.store.disk l.keeper.state;
       still : IsStill g.D.Disk.failures l.initial.keeper l.keeper;
       begun : (l.keeper ≡ l.initial.keeper) ⊎ (l.keeper.store.has_failed ≡ false);

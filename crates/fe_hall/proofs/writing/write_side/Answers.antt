@@ -1,7 +1,15 @@
 use Rattle.std.proofs.Common.{rules}
+use Rattle.fe_hall.proofs.Acts.{receipts_told}
 use Rattle.fe_hall.proofs.Written.{as_taken}
 use Rattle.fe_hall.proofs.writing.write_side.Goals as goal
 
+pub of-requires : goal.of-requires
+of-requires g c =
+    let w = c.write_all-end.ensures.wrote in
+    let took = as_taken w.1 (search rules) c.depart.ensures.untaken in
+    receipts_told _ w.0 _ took.receipts w.3
+
 pub returns-clause-wrote : goal.returns-clause-wrote
 returns-clause-wrote g c =
-    let w = c.write_all-end.ensures.wrote in (w.0, as_taken w.1 (search rules) c.depart.ensures.untaken, w.2)
+    let w = c.write_all-end.ensures.wrote in
+    rw c.of.ensures (w.0, as_taken w.1 (search rules) c.depart.ensures.untaken, w.2, w.3)

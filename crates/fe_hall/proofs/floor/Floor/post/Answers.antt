@@ -1,4 +1,6 @@
-use Rattle.std.proofs.Common.{arith}
+use Rattle.std.proofs.Common.{◌≡◌, ap, arith}
+use Rattle.fe_hall.specs.Acts.{mark_of}
+use Rattle.fe_hall.proofs.Acts.{mark_rises}
 use Rattle.fe_hall.proofs.Risings.{posted_goes, posted_steps}
 use Rattle.fe_hall.proofs.floor.Floor.post.Goals as goal
 
@@ -7,11 +9,14 @@ invariant_of-self g c =
     let s = c.args.self.now in
     let e = c.post_ringing.ensures in
     let goes = posted_goes s.front c.post_ringing.new.self c.args.batch c.post_ringing.result c.state.ensures.front s.open c.requires.more e.refused e.posted e.err in
+    let rises = mark_rises c.history.result.now c.learn.new.self c.learn.ensures.that in
+    let same : mark_of c.history.result.now ≡ mark_of c.args.seat.now = ap mark_of c.history.ensures in
     record {
       «open» = goes.books;
       calls_agree = omega (arith, s.calls_agree, goes.calls);
       mails_agree = omega (arith, s.mails_agree, goes.taken);
       few = s.few;
+      marked = omega (arith, c.mark-self.ensures, rises, same);
       call_parts = s.call_parts;
       mail_parts = s.mail_parts;
     }

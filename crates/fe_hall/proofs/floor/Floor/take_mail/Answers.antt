@@ -11,6 +11,7 @@ invariant_of-self g c =
       calls_agree = omega (arith, s.calls_agree, goes.calls);
       mails_agree = omega (arith, s.mails_agree, goes.taken, c.take.ensures.book);
       few = s.few;
+      marked = s.marked;
       call_parts = s.call_parts;
       mail_parts = s.mail_parts;
     }

@@ -3,4 +3,4 @@ use Rattle.fe_hall.proofs.hall.Hall.take_mail.Given as goal
 
 abbrev pub invariant-loop : goal.invariant-loop
 invariant-loop g l =
-    (l.hold.used ≡ false) × (l.seat ≡ l.fn.seat) × ((goal.iterator-loop g).can_next l.iterator' × (goal.iterator-loop g).is_finite l.iterator')
+    (l.hold.used ≡ false) × (l.seat ≡ l.fn.seat) × (l.history ≡ l.fn.history) × ((goal.iterator-loop g).can_next l.iterator' × (goal.iterator-loop g).is_finite l.iterator')

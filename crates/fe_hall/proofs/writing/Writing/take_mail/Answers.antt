@@ -1,6 +1,9 @@
-use Rattle.std.proofs.Common.{Bool, [], ◌∷◌, sym, ap, ◌∙◌, arith, rules}
+use Rattle.std.proofs.Common.{Bool, List, [], ◌∷◌, sym, ap, subst, ◌∙◌, arith, rules}
 use Rattle.std.proofs.lemmas.Result.{err_from_is_err_and}
+use Rattle.fe_hall.specs.Acts.{TakingTold, WasTold}
 use Rattle.fe_hall.specs.Seats.{WriteSeat}
+use Rattle.fe_hall.specs.declared.act.Act.{Act}
+use Rattle.fe_hall.specs.declared.taking.Taking.{Taking}
 use Rattle.fe_hall.proofs.Written.{takes_same, takes_one, spelled_one, lacks_one, spells_none, answered_mail, answered_end, none_since}
 use Rattle.fe_hall.proofs.writing.Writing.take_mail.Goals as goal
 
@@ -10,7 +13,7 @@ returns-then-is_err-clause-took g c =
     let r = c.make_room.ensures in
     let n = c.make_room.new.self in
     let takes = takes_same s.seat n.seat s.receipts.items n.receipts.items s.few (none_since s.seat n.seat n.seat r.seat (search rules)) r.receipts in
-    ([], takes, omega arith, lacks_one s.frames.items n.frames.items [] (omega arith) r.frames)
+    ([], takes, omega arith, lacks_one s.frames.items n.frames.items [] (omega arith) r.frames, tt)
 
 pub returns-in_err-mail-clause-took : goal.returns-in_err-mail-clause-took
 returns-in_err-mail-clause-took g c =
@@ -18,14 +21,14 @@ returns-in_err-mail-clause-took g c =
     let r = c.make_room.ensures in
     let n = c.make_room.new.self in
     let p = err_from_is_err_and c.from_residual.result c.from_residual.ensures.1 in
-    let e = answered_end n.seat c.take_mail.new.seat c.take_mail.result c.in_err-mail.field-0.0 c.take_mail.ensures c.in_err-mail.ensures.end in
+    let e = answered_end n.seat c.take_mail.new.seat c.take_mail.result c.in_err-mail.field-0.0 c.take_mail.ensures.seat c.in_err-mail.ensures.end in
     let takes = takes_same s.seat c.take_mail.new.seat s.receipts.items n.receipts.items s.few (none_since s.seat n.seat c.take_mail.new.seat r.seat e.none) r.receipts in
-    rw (p.1, p.2) ([], takes, omega arith, spells_none Bool c.in_err-mail.field-0.0 s.frames.items n.frames.items e.fine r.frames)
+    rw (p.1, p.2) ([], takes, omega arith, spells_none Bool c.in_err-mail.field-0.0 s.frames.items n.frames.items e.fine r.frames, tt)
 
 pub returns-in_err-mail-clause-told : goal.returns-in_err-mail-clause-told
 returns-in_err-mail-clause-told g c =
     let p = err_from_is_err_and c.from_residual.result c.from_residual.ensures.1 in
-    let e = answered_end c.make_room.new.self.seat c.take_mail.new.seat c.take_mail.result c.in_err-mail.field-0.0 c.take_mail.ensures c.in_err-mail.ensures.end in
+    let e = answered_end c.make_room.new.self.seat c.take_mail.new.seat c.take_mail.result c.in_err-mail.field-0.0 c.take_mail.ensures.seat c.in_err-mail.ensures.end in
     rw (p.1, p.2) e.told
 
 pub returns-in-Ok-clause-took : goal.returns-in-Ok-clause-took
@@ -34,15 +37,16 @@ returns-in-Ok-clause-took g c =
     let r = c.make_room.ensures in
     let k = c.keep_receipt.ensures in
     let m = c.in_ok-mail.mail in
-    let took = answered_mail c.make_room.new.self.seat c.take_mail.new.seat c.take_mail.result m c.in_ok-mail.more c.take_mail.ensures c.in_ok-mail.ensures.mail in
+    let took = answered_mail c.make_room.new.self.seat c.take_mail.new.seat c.take_mail.result m c.in_ok-mail.more c.take_mail.ensures.seat c.in_ok-mail.ensures.mail in
     let takes =
     takes_one s.seat c.make_room.new.self.seat c.take_mail.new.seat c.keep_receipt.new.self.seat s.receipts.items c.make_room.new.self.receipts.items c.keep_receipt.new.self.receipts.items
     m c.in_ok-mail.more r.seat r.receipts took k.seat k.receipts in
-    (m ∷ [], takes, omega arith, spelled_one s.frames.items c.keep_receipt.new.self.frames.items c.put-2.new.out.items m c.of.result (k.frames ∙ r.frames) c.of.ensures c.in-Ok.ensures.ok)
+    let told = subst (λ (h : List Act). WasTold m h) (sym k.history) (subst (λ (t : Taking). TakingTold t c.take_mail.new.history) c.in_ok-mail.ensures.mail c.take_mail.ensures.told) in
+    (m ∷ [], takes, omega arith, spelled_one s.frames.items c.keep_receipt.new.self.frames.items c.put-2.new.out.items m c.of.result (k.frames ∙ r.frames) c.of.ensures c.in-Ok.ensures.ok, (told, tt))
 
 pub returns-in-Ok-clause-more : goal.returns-in-Ok-clause-more
 returns-in-Ok-clause-more g c =
-    let took = answered_mail c.make_room.new.self.seat c.take_mail.new.seat c.take_mail.result c.in_ok-mail.mail c.in_ok-mail.more c.take_mail.ensures c.in_ok-mail.ensures.mail in
+    let took = answered_mail c.make_room.new.self.seat c.take_mail.new.seat c.take_mail.result c.in_ok-mail.mail c.in_ok-mail.more c.take_mail.ensures.seat c.in_ok-mail.ensures.mail in
     sym (ap (λ (w : WriteSeat). w.more) (c.keep_receipt.ensures.seat ∙ took))
 
 pub returns-clause-took : goal.returns-clause-took
@@ -51,8 +55,9 @@ returns-clause-took g c =
     let r = c.make_room.ensures in
     let k = c.keep_receipt.ensures in
     let m = c.in_ok-mail.mail in
-    let took = answered_mail c.make_room.new.self.seat c.take_mail.new.seat c.take_mail.result m c.in_ok-mail.more c.take_mail.ensures c.in_ok-mail.ensures.mail in
+    let took = answered_mail c.make_room.new.self.seat c.take_mail.new.seat c.take_mail.result m c.in_ok-mail.more c.take_mail.ensures.seat c.in_ok-mail.ensures.mail in
     let takes =
     takes_one s.seat c.make_room.new.self.seat c.take_mail.new.seat c.keep_receipt.new.self.seat s.receipts.items c.make_room.new.self.receipts.items c.keep_receipt.new.self.receipts.items
     m c.in_ok-mail.more r.seat r.receipts took k.seat k.receipts in
-    (m ∷ [], takes, omega arith, lacks_one s.frames.items c.put-2.new.out.items (m ∷ []) (omega arith) (c.in-Err.ensures.err ∙ k.frames ∙ r.frames))
+    let told = subst (λ (h : List Act). WasTold m h) (sym k.history) (subst (λ (t : Taking). TakingTold t c.take_mail.new.history) c.in_ok-mail.ensures.mail c.take_mail.ensures.told) in
+    (m ∷ [], takes, omega arith, lacks_one s.frames.items c.put-2.new.out.items (m ∷ []) (omega arith) (c.in-Err.ensures.err ∙ k.frames ∙ r.frames), (told, tt))

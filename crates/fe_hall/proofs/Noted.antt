@@ -1,0 +1,55 @@
+-- The history notes the groups that a committing side stored.
+use Rattle.std.proofs.Common.{◌≡◌, inl, inr, ⊎_elim, ℕ, ◌≤◌, List, [], ◌∷◌, ◌++◌, length, map, Option, Some, None, refl, sym, ap, subst, ◌∙◌, append_assoc}
+use Rattle.std.specs.Prelude.{◌⊎◌}
+use Rattle.std.proofs.lemmas.List.{append-nil, map-append}
+use mathlib.Core.List.{IsPrefix}
+use Rattle.fe_hall.specs.declared.act.Act.{Act}
+use Rattle.fe_hall.specs.declared.act.Act.TheVariants.{Stored}
+use Rattle.fe_hall.specs.declared.commit_end.CommitEnd.{CommitEnd}
+use Rattle.fe_hall.specs.declared.commit_end.CommitEnd.TheVariants.{Strange}
+use Rattle.fe_hall.specs.declared.taking.Taking.{Taking}
+use Rattle.fe_hall.specs.declared.taking.Taking.TheVariants as taking
+use Rattle.fe_hall.specs.Acts.{IsLegal, mark_of, stores_in}
+use Rattle.fe_hall.specs.Commits.{Append, AreNoted, noted}
+use Rattle.fe_hall.specs.Rules.{ComesAfter, told_as}
+use Rattle.fe_hall.specs.Seats.{WriteSeat, taking_answered}
+use Rattle.fe_hall.proofs.Acts.{mark_stored, prefix_self, prefix_trans, stores_append, stores_same}
+
+-- a group that comes next is noted, and lies below the mark
+pub note_adds : (old new : List Act) (place moment stored : ℕ) → stored ≡ length (stores_in old) → (c : ComesAfter old (Stored place moment) new) → length (stores_in c.earlier) ≡ stored
+    → stores_in new ≡ stores_in old ++ (place, moment) ∷ []
+note_adds old new place moment stored count c same =
+    ap stores_in c.is ∙ stores_append c.earlier (Stored place moment ∷ []) ∙ ap (λ (s : List (ℕ × ℕ)). s ++ (place, moment) ∷ []) (stores_same old c.earlier c.seen (same ∙ count))
+
+pub note_marks : (old new : List Act) (place moment : ℕ) → IsLegal new → ComesAfter old (Stored place moment) new → place ≤ mark_of new
+note_marks old new place moment legal c = subst (λ (acts : List Act). place ≤ mark_of acts) (sym c.is) (mark_stored c.earlier place moment (subst IsLegal c.is legal))
+
+module _ {D : Type 0} (moment : D → ℕ) where
+  -- nothing was stored
+  pub none_noted : (appends : List (Append D)) (end : Option CommitEnd) (acts : List Act) → appends ≡ [] → AreNoted moment appends end acts acts
+  none_noted appends end acts none = (
+    prefix_self acts,
+    inl (sym (append-nil (stores_in acts)) ∙ ap (λ (s : List (Append D)). stores_in acts ++ map (noted moment) s) (sym none)),
+  )
+
+  -- one behind the other
+  pub both_noted : (first second : List (Append D)) (end : Option CommitEnd) (a b c : List Act) → AreNoted moment first None a b → AreNoted moment second end b c → AreNoted moment (first ++ second) end a c
+  both_noted first second end a b c (p, inr strange) two = absurd (cc strange)
+  both_noted first second end a b c (p, inl one) (q, inr strange) = (prefix_trans a b c p q, inr strange)
+  both_noted first second end a b c (p, inl one) (q, inl two) = (
+    prefix_trans a b c p q,
+    inl
+        (two ∙ ap (λ (s : List (ℕ × ℕ)). s ++ map (noted moment) second) one ∙ append_assoc (stores_in a) (map (noted moment) first) (map (noted moment) second)
+        ∙ ap (λ (s : List (ℕ × ℕ)). stores_in a ++ s) (sym (map-append (noted moment) first second))),
+  )
+
+  -- a batch was stored, and then nothing
+  pub turn_noted : (first second : List (Append D)) (end : Option CommitEnd) (a b c : List Act) → AreNoted moment first None a b → AreNoted moment second None b c → AreNoted moment ((first ++ second) ++ []) end a c
+  turn_noted first second end a b c one two = both_noted (first ++ second) [] end a c c (both_noted first second None a b c one two) (none_noted [] end c refl)
+
+-- how a mail is told changes nothing of the seat
+pub answered_as : (s : WriteSeat) (mark : ℕ) (t : Taking) → taking_answered s (told_as mark t) ≡ taking_answered s t
+answered_as s mark (taking.Mail mail more) = refl
+answered_as s mark taking.Gone = refl
+answered_as s mark taking.Stopped = refl
+answered_as s mark taking.Spent = refl
