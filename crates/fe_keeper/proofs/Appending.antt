@@ -30,7 +30,7 @@ use Rattle.std.specs.Prelude.{vec_len, vec_capacity}
 use Rattle.fe_keeper.specs.declared.checkpoint.Checkpoint.{Checkpoint}
 use Rattle.fe_keeper.specs.declared.store.Store.{Store}
 
--- ---- entries behind entries, groups behind groups
+-- ---- entries after entries, groups after groups
 
 legal-append : (s : ServerState) (xs ys : List Entry) → AreLegal s xs → AreLegal (after_all s xs) ys → AreLegal s (xs ++ ys)
 legal-append s [] ys h k = k

@@ -1,4 +1,4 @@
--- What is told of a store that stands for no state.
+-- What is reported of a store that stands for no state.
 use Rattle.std.proofs.Common.{◌≡◌, ◌⊎◌, inl, inr, ℕ, ◌+◌, ◌≤◌, List, Result, Ok, Err, sym, ◌∙◌, ap, subst, arith}
 use Rattle.fe_state.specs.State.{ServerState}
 use Rattle.fe_state.specs.History.{IsHistory}
@@ -35,7 +35,7 @@ pub told_found : (fault : StoreFault) → (fault ≡ store.Unformatted) ⊎ (fau
 told_found fault (inl is) = inl (ap fault_of_store is)
 told_found fault (inr is) = inr (ap fault_of_store is)
 
--- what is told of contents
+-- what is reported of contents
 pub tells_slot : (image : List ℕ) (c : Contents) (fault : Fault) → Holds c image → IsSlotFault fault → ((offset : ℕ) → fault ≡ Damaged offset → IsWrongAt c offset) → TellsStore fault image
 tells_slot image c fault holds (inl is) wrong = subst (λ (f : Fault). TellsStore f image) (sym is) (founds.formatted c image holds)
 tells_slot image c fault holds (inr (offset, is)) wrong = subst (λ (f : Fault). TellsStore f image) (sym is) (InContents c holds (wrong offset is))

@@ -20,7 +20,7 @@ use Rattle.fe_keeper.specs.Damage.{IsBadFrom}
 
 -- ---- in the midst of the groups
 
--- what is left of the payloads, and what it leads to; the gate of the first of all stands at `first`
+-- what is left of the payloads, and what it leads to; the gate of the first of all is at `first`
 pub record IsGoingOn (format : Format) (payloads : List (List ℕ)) (first : ℕ) (groups : Cursor) (old now : ServerState) : Type 0 where
   pub left : List (List ℕ)
   pub lists : Lists groups left
@@ -31,7 +31,7 @@ pub record IsGoingOn (format : Format) (payloads : List (List ℕ)) (first : ℕ
 pub going_begins : (format : Format) (payloads : List (List ℕ)) (groups : Cursor) (s : ServerState) → Lists groups payloads → IsGoingOn format payloads (groups.start + groups.at) groups s s
 going_begins format payloads groups s lists = record { left = payloads; lists = lists; leads = λ t h. h; goes = λ h. h; bad = λ offset h. h }
 
--- a history that can go on goes on behind its first group
+-- a history that can go on goes on after its first group
 pub on_behind : (format : Format) (payload : List ℕ) (rest : List (List ℕ)) (now new : ServerState) → Replays format payload now new → CanGoOn format (payload ∷ rest) now → CanGoOn format rest new
 on_behind format payload rest now new replays h = by h.groups h.groups_are h.legal
   where
@@ -41,12 +41,12 @@ on_behind format payload rest now new replays h = by h.groups h.groups_are h.leg
         let same : after_all now group ≡ new = replays_once format payload now (after_all now group) new (group_replays format payload now group are.0 legal.1) replays in
         record { groups = groups; groups_are = are.1; legal = subst (λ (z : ServerState). IsHistory z groups) same legal.2 }
 
--- a cursor goes on behind the first group
+-- a cursor goes on after the first group
 abbrev pub GoesBehind : Cursor → Cursor → Type 0
 GoesBehind groups groups' =
     (payload : List ℕ) (rest : List (List ℕ)) → Lists groups (payload ∷ rest) → groups' ≡ record { bytes = groups.bytes; start = groups.start; at = groups.at + (5 + length payload) }
 
--- what is bad behind the first group
+-- what is bad after the first group
 bad_behind : (format : Format) (rest : List (List ℕ)) (new : ServerState) (groups groups' : Cursor) (n offset : ℕ) → groups' ≡ record { bytes = groups.bytes; start = groups.start; at = groups.at + n }
     → IsBadFrom format rest new (groups'.start + groups'.at) offset → IsBadFrom format rest new (groups.start + groups.at + n) offset
 bad_behind format rest new groups groups' n offset is bad =
@@ -78,7 +78,7 @@ going_ends format payloads first groups groups' old now new h next = by h.left h
     by [] leads is = leads new is.1
     by (payload ∷ rest) leads is = absurd (let e = is.0 in cc)
 
--- groups that are listed are listed behind the first
+-- groups that are listed are listed after the first
 pub listing_on : (format : Format) (groups groups' : Cursor) (now new : ServerState) → IsListing groups → GoesBehind groups groups' → ((left : List (List ℕ)) → Lists groups left → IsNext format left groups' now new true) → IsListing groups'
 listing_on format groups groups' now new listing behind next =
     let on = going_on format listing.0 (groups.start + groups.at) groups groups' now now new (going_begins format listing.0 groups now listing.1) behind next in
@@ -131,7 +131,7 @@ none_bad format (payload ∷ rest) s at offset can (inr (mid, replays, bad)) = n
 pub bad_within : (format : Format) (payload : List ℕ) (s : ServerState) (offset : ℕ) → IsFirstBad format payload s offset → offset ≤ length payload
 bad_within format payload s offset bad = omega (arith, bad.offset_is, ap (λ (l : List ℕ). length l) bad.spelled, length-append (group_spelling format bad.front) bad.rest)
 
--- the groups go on behind the payload
+-- the groups go on after the payload
 pub goes_up : (payloads : List (List ℕ)) (groups groups' : Cursor) (read : List ℕ) → IsRead groups read → Lists groups payloads
     → ((payload : List ℕ) (rest : List (List ℕ)) → Lists groups (payload ∷ rest) → groups' ≡ record { bytes = groups.bytes; start = groups.start; at = groups.at + (5 + length payload) })
     → groups.at + (5 + length read) ≤ 1048576 → (groups.at < groups'.at) × (groups'.at ≤ 1048576)

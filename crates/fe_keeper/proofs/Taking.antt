@@ -27,7 +27,7 @@ pub mismatch_told : (refused : Refused) (place : ℕ) → fault_of_refused refus
 mismatch_told (replica.Mismatch at) place is = cc
 mismatch_told replica.NoMemory place is = cc
 
--- what is no mismatch is want of memory
+-- what is no mismatch is lack of memory
 pub memory_told : (refused : Refused) → ((place : ℕ) → refused ≡ replica.Mismatch place → ⊥) → fault_of_refused refused ≡ NoMemory
 memory_told (replica.Mismatch at) none = absurd (none at refl)
 memory_told replica.NoMemory none = refl

@@ -1,4 +1,4 @@
--- When a store stands for no state, and what is told of it.
+-- When a store stands for no state, and what is reported of it.
 use Rattle.std.specs.Prelude.{◌≡◌, ◌⊎◌, ℕ, ◌+◌, ◌<◌, ◌≤◌, List, [], ◌∷◌, length, Ok, Err}
 use Rattle.fe_state.specs.State.{ServerState}
 use Rattle.fe_codec.specs.FirstFault.{image_at}
@@ -12,7 +12,7 @@ use Rattle.fe_keeper.specs.declared.fault.Fault.{Fault}
 use Rattle.fe_keeper.specs.declared.fault.Fault.TheVariants.{Device, Failed, NoMemory, Mismatch, Damaged, Unformatted}
 
 -- The first record of groups, gone through from a state on, that is no entry's or whose entry may not come next begins at
--- this offset, where the gate of the first group stands at `at`.
+-- this offset, where the gate of the first group is at `at`.
 abbrev pub IsBadFrom : Format → List (List ℕ) → ServerState → ℕ → ℕ → Type 0
 IsBadFrom format [] s at offset = ⊥
 IsBadFrom format (payload ∷ payloads) s at offset =
@@ -20,7 +20,7 @@ IsBadFrom format (payload ∷ payloads) s at offset =
     ⊎ ((mid : ServerState) × Replays format payload s mid × IsBadFrom format payloads mid (at + (5 + length payload)) offset)
 
 -- The first thing wrong in what a slot holds, in this order, and its offset on the device. The gate of the slot's first
--- group stands at `at`.
+-- group is at `at`.
 pub data IsWrongIn (slot : ℕ) (format : Format) (generation : ℕ) (image : List ℕ) (payloads : List (List ℕ)) (at offset : ℕ) : Type 0 where
   -- a field of the image, at the field
   OddField : (within : ℕ) → image_at format image ≡ Err within → offset ≡ image_of slot + within → IsWrongIn slot format generation image payloads at offset

@@ -106,7 +106,7 @@ abbrev pub AppendEnds : {D : Type 0} → (D → ℕ) → Result Batch (Fault × 
 AppendEnds failures result old new batch =
     MatchResult result (λ _. Works failures old new) (λ e. Fails failures (ForBatch old batch.first batch.entries) old new e.0)
 
--- How many device calls an append makes at most, where a whole checkpoint would have so many slices.
+-- How many device calls an append makes at most, where a whole checkpoint would have this many slices.
 pub record MakesToAppend {D : Type 0} (store : StoreState D) (entries : List Entry) (whole : ℕ) (before after : Calls) : Type 0 where
   -- the batch fits
   pub to_append : IsTrue (fits store entries) → MakesAtMost 0 2 2 before after
@@ -117,6 +117,6 @@ pub record MakesToAppend {D : Type 0} (store : StoreState D) (entries : List Ent
 
 -- ---- checkpoints
 
--- A checkpoint of so many bytes was begun where one could be, and else nothing was done.
+-- A checkpoint of this many bytes was begun where one could be, and else nothing was done.
 abbrev pub HasBegun : {D : Type 0} → KeeperState D → KeeperState D → ℕ → Type 0
 HasBegun old new size = MatchBool (can_begin old.store) (new.store ≡ record (begun old.store size) { disk = new.store.disk }) (new ≡ old)

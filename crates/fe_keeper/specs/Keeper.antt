@@ -42,7 +42,7 @@ abbrev pub is_spellable : Format → List Entry → Bool
 is_spellable One entries = list_all entry_fits_format_1 entries
 is_spellable Two entries = true
 
--- whether so many more entries fit with those since a checkpoint's beginning, at a place
+-- whether this many more entries fit with those since a checkpoint's beginning, at a place
 abbrev pub catches_up : ℕ → ℕ → Option Progress → Bool
 catches_up place n checkpoint = option_map_or (λ p. nat_le (place - p.place + n) 13107) checkpoint true
 
@@ -53,7 +53,7 @@ fits store entries =
 
 -- ---- what calls leave
 
--- how many bytes so many entries take as a group of format 2, with its gate and length; none is no group
+-- how many bytes this many entries take as a group of format 2, with its gate and length; none is no group
 abbrev pub caught_up_bytes : ℕ → ℕ
 caught_up_bytes zero = 0
 caught_up_bytes (suc n) = 5 + suc n * 80
@@ -67,7 +67,7 @@ is_behind Two (suc used) = true
 abbrev pub can_begin : {D : Type 0} → StoreState D → Bool
 can_begin store = is_none store.checkpoint && is_behind store.format store.used
 
--- a checkpoint whose image has so many bytes is begun
+-- a checkpoint whose image has this many bytes is begun
 abbrev pub begun : {D : Type 0} → StoreState D → ℕ → StoreState D
 begun store size = record store { checkpoint = Some (record { size = size; written = 0; place = store.place }) }
 
@@ -86,7 +86,7 @@ stepped store = option_map_or (stepped_by store) store.checkpoint store
 abbrev pub has_slices : Option Progress → Bool
 has_slices checkpoint = option_map_or (λ p. not (nat_le p.size p.written)) checkpoint false
 
--- how many slices so many bytes take
+-- how many slices this many bytes take
 abbrev pub slices_of : ℕ → ℕ
 slices_of bytes = (bytes + 65535) / 65536
 

@@ -21,7 +21,7 @@ pub record IsToldApart (image : List ℕ) : Type 0 where
 abbrev pub AreToldApart : Type 0
 AreToldApart = (image : List ℕ) → IsToldApart image
 
--- What was kept of a history and the history that went on from there, one behind the other.
+-- What was kept of a history and the history that went on from there, one after the other.
 pub record GoesOn (beginning : ServerState) (history next : List (List Entry)) (k : ℕ) (s : ServerState) : Type 0 where
   pub kept : ℕ
   pub least : k ≤ kept

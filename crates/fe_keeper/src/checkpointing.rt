@@ -22,9 +22,12 @@ impl<D: Disk> Store<D> {
     pub(crate) fn begin(&mut self, checkpoint: Checkpoint) -> Result<(), JournalFault>
         requires can { CanTake self.old checkpoint }
         ensures stays { StaysSound self.old self.new }
-        ensures carries { D.honest self.old.journal.disk → (s : ServerState) → Upholds D.seen D.may_leave self.old s → IsImageOf checkpoint s
+        ensures carries { D.honest self.old.journal.disk → (s : ServerState) → Upholds D.seen D.may_leave self.old s
+            → IsImageOf checkpoint s
             → Carries D.moment D.left_since D.seen D.may_leave result self.old self.new s }
-        ensures value { OnOk result (store_of self.new ≡ record (effect.begun (store_of self.old) (vec_len checkpoint.image)) { disk = self.new.journal.disk }) }
+        ensures value { OnOk result (store_of self.new
+            ≡ record (effect.begun (store_of self.old)
+            (vec_len checkpoint.image)) { disk = self.new.journal.disk }) }
         ensures ready { OnOk result (HasCheckpoint self.new) }
         ensures ends { StoreEnds D.honest D.failures result self.old.journal self.new.journal }
         ensures calls { MakesAtMost 1 2 1 (D.calls self.old.journal.disk) (D.calls self.new.journal.disk) }
@@ -42,7 +45,8 @@ impl<D: Disk> Store<D> {
         ensures stays { StaysSound self.old self.new }
         ensures carries { D.honest self.old.journal.disk → (s : ServerState) → Upholds D.seen D.may_leave self.old s
             → Carries D.moment D.left_since D.seen D.may_leave result self.old self.new s }
-        ensures value { OnOk result (store_of self.new ≡ record (stepped (store_of self.old)) { disk = self.new.journal.disk }) }
+        ensures value { OnOk result (store_of self.new
+            ≡ record (stepped (store_of self.old)) { disk = self.new.journal.disk }) }
         ensures more { IfOk result (λ more. more ≡ has_slices (store_of self.new).checkpoint) }
         ensures ready { OnOk result (HasCheckpoint self.new) }
         ensures rests { has_slices (store_of self.old).checkpoint ≡ false → self.new ≡ self.old }
@@ -62,11 +66,13 @@ impl<D: Disk> Store<D> {
         ensures stays { StaysSound self.old self.new }
         ensures carries { D.honest self.old.journal.disk → (s : ServerState) → Upholds D.seen D.may_leave self.old s
             → Carries D.moment D.left_since D.seen D.may_leave result self.old self.new s }
-        ensures value { OnOk result (finished (store_of self.new) ≡ record (finished (store_of self.old)) { disk = self.new.journal.disk }) }
+        ensures value { OnOk result (finished (store_of self.new)
+            ≡ record (finished (store_of self.old)) { disk = self.new.journal.disk }) }
         ensures ready { OnOk result (HasCheckpoint self.new) }
         ensures whole { OnOk result (has_slices (store_of self.new).checkpoint ≡ false) }
         ensures ends { StoreEnds D.honest D.failures result self.old.journal self.new.journal }
-        ensures calls { MakesAtMost 0 (slices_left (store_of self.old).checkpoint) 0 (D.calls self.old.journal.disk) (D.calls self.new.journal.disk) }
+        ensures calls { MakesAtMost 0 (slices_left (store_of self.old).checkpoint) 0 (D.calls self.old.journal.disk)
+            (D.calls self.new.journal.disk) }
     {
         while self.step()? {}
         Ok(())
@@ -79,7 +85,8 @@ impl<D: Disk> Store<D> {
         ensures stays { StaysSound self.old self.new }
         ensures carries { D.honest self.old.journal.disk → (s : ServerState) → Upholds D.seen D.may_leave self.old s
             → Carries D.moment D.left_since D.seen D.may_leave result self.old self.new s }
-        ensures value { OnOk result (store_of self.new ≡ record (finished (store_of self.old)) { disk = self.new.journal.disk }) }
+        ensures value { OnOk result (store_of self.new
+            ≡ record (finished (store_of self.old)) { disk = self.new.journal.disk }) }
         ensures ends { StoreEnds D.honest D.failures result self.old.journal self.new.journal }
         ensures calls { MakesAtMost 0 2 2 (D.calls self.old.journal.disk) (D.calls self.new.journal.disk) }
     {
@@ -97,9 +104,11 @@ impl<D: Disk> Store<D> {
         ensures stays { StaysSound self.old self.new }
         ensures carries { D.honest self.old.journal.disk → (s : ServerState) → Upholds D.seen D.may_leave self.old s
             → Carries D.moment D.left_since D.seen D.may_leave result self.old self.new s }
-        ensures value { OnOk result (store_of self.new ≡ record (finished (store_of self.old)) { disk = self.new.journal.disk }) }
+        ensures value { OnOk result (store_of self.new
+            ≡ record (finished (store_of self.old)) { disk = self.new.journal.disk }) }
         ensures ends { StoreEnds D.honest D.failures result self.old.journal self.new.journal }
-        ensures calls { MakesAtMost 0 (slices_left (store_of self.old).checkpoint + 2) 2 (D.calls self.old.journal.disk) (D.calls self.new.journal.disk) }
+        ensures calls { MakesAtMost 0 (slices_left (store_of self.old).checkpoint + 2) 2
+            (D.calls self.old.journal.disk) (D.calls self.new.journal.disk) }
     {
         self.write_rest()?;
         self.open_slot()
@@ -109,11 +118,14 @@ impl<D: Disk> Store<D> {
     fn renew(&mut self, whole: Checkpoint) -> Result<(), JournalFault>
         requires can { CanTake self.old whole }
         ensures stays { StaysSound self.old self.new }
-        ensures carries { D.honest self.old.journal.disk → (s : ServerState) → Upholds D.seen D.may_leave self.old s → IsImageOf whole s
+        ensures carries { D.honest self.old.journal.disk → (s : ServerState) → Upholds D.seen D.may_leave self.old s
+            → IsImageOf whole s
             → Carries D.moment D.left_since D.seen D.may_leave result self.old self.new s }
-        ensures value { OnOk result (store_of self.new ≡ record (renewed (store_of self.old)) { disk = self.new.journal.disk }) }
+        ensures value { OnOk result (store_of self.new
+            ≡ record (renewed (store_of self.old)) { disk = self.new.journal.disk }) }
         ensures ends { StoreEnds D.honest D.failures result self.old.journal self.new.journal }
-        ensures calls { MakesAtMost 1 (slices_of (vec_len whole.image) + 4) 3 (D.calls self.old.journal.disk) (D.calls self.new.journal.disk) }
+        ensures calls { MakesAtMost 1 (slices_of (vec_len whole.image) + 4) 3 (D.calls self.old.journal.disk)
+            (D.calls self.new.journal.disk) }
     {
         self.begin(whole)?;
         self.finish()
@@ -130,11 +142,14 @@ impl<D: Disk> Store<D> {
         requires whole { IsWholeFor self.old entries.now whole }
         ensures stays { StaysSound self.old self.new }
         ensures carries { D.honest self.old.journal.disk → (s : ServerState) → Upholds D.seen D.may_leave self.old s
-            → IfSome whole (λ made. IsImageOf made s) → Carries D.moment D.left_since D.seen D.may_leave result self.old self.new s }
-        ensures value { OnOk result (store_of self.new ≡ record (made_room (store_of self.old) entries.now) { disk = self.new.journal.disk }) }
+            → IfSome whole (λ made. IsImageOf made s)
+            → Carries D.moment D.left_since D.seen D.may_leave result self.old self.new s }
+        ensures value { OnOk result (store_of self.new
+            ≡ record (made_room (store_of self.old) entries.now) { disk = self.new.journal.disk }) }
         ensures fits { OnOk result (IsTrue (fits (store_of self.new) entries.now)) }
         ensures ends { StoreEnds D.honest D.failures result self.old.journal self.new.journal }
-        ensures calls { MakesRoom (store_of self.old) entries.now (whole_slices whole) (D.calls self.old.journal.disk) (D.calls self.new.journal.disk) }
+        ensures calls { MakesRoom (store_of self.old) entries.now (whole_slices whole) (D.calls self.old.journal.disk)
+            (D.calls self.new.journal.disk) }
     {
         if self.fits(entries) {
             return Ok(());

@@ -49,7 +49,8 @@ impl<D: Disk> Model for Keeper<D> {
 impl<D: Disk> Keeper<D> {
     /// The keeper of an opened or a new store.
     pub(crate) fn opened(alloc: Global, store: Store<D>, state: State, log: UndoLog) -> Keeper<D>
-        requires kept { IsKept D.honest D.seen D.may_leave (record { store = store; state = state; log = log; alloc = alloc }) }
+        requires kept { IsKept D.honest D.seen D.may_leave
+            (record { store = store; state = state; log = log; alloc = alloc }) }
         ensures { result ≡ record { state = state; store = store_of store } }
     {
         let parts = Parts {
@@ -83,7 +84,8 @@ impl<D: Disk> Keeper<D> {
         ensures appended { OnOk result (IsAppended self.old self.new batch.first batch.entries) }
         ensures err { OnErr result (self.new.state ≡ self.old.state) }
         ensures ends { AppendEnds D.failures result self.old self.new batch }
-        ensures calls { MakesToAppend self.old.store batch.entries (slices_of (length (image_spelling Two self.old.state)))
+        ensures calls { MakesToAppend self.old.store batch.entries
+            (slices_of (length (image_spelling Two self.old.state)))
             (D.calls self.old.store.disk) (D.calls self.new.store.disk) }
         ensures honesty { D.honest self.new.store.disk ↔ D.honest self.old.store.disk }
     {
@@ -101,7 +103,8 @@ impl<D: Disk> Keeper<D> {
         ensures durable { IsDurable D.honest D.may_leave self.new }
         ensures value { IfOk result (λ begun. begun ≡ can_begin self.old.store) }
         ensures store { OnOk result (HasBegun self.old self.new (length (image_spelling Two self.old.state))) }
-        ensures ends { Ends D.failures (ForDeviceAndMemory (IsTrue (can_begin self.old.store))) result self.old self.new }
+        ensures ends { Ends D.failures
+            (ForDeviceAndMemory (IsTrue (can_begin self.old.store))) result self.old self.new }
         ensures calls { MakesAtMost 1 2 1 (D.calls self.old.store.disk) (D.calls self.new.store.disk) }
     {
         if self.parts.store.journal.has_failed() {
@@ -124,7 +127,8 @@ impl<D: Disk> Keeper<D> {
         ensures store { OnOk result (self.new.store ≡ record (stepped self.old.store) { disk = self.new.store.disk }) }
         // Where no slice is left, it makes no device call.
         ensures idle { has_slices self.old.store.checkpoint ≡ false → self.new ≡ self.old }
-        ensures ends { Ends D.failures (ForDevice (IsTrue (has_slices self.old.store.checkpoint))) result self.old self.new }
+        ensures ends { Ends D.failures
+            (ForDevice (IsTrue (has_slices self.old.store.checkpoint))) result self.old self.new }
         ensures calls { MakesAtMost 0 1 0 (D.calls self.old.store.disk) (D.calls self.new.store.disk) }
     {
         if self.parts.store.journal.has_failed() {
@@ -146,8 +150,10 @@ impl<D: Disk> Keeper<D> {
         ensures store { OnOk result (self.new.store ≡ record (finished self.old.store) { disk = self.new.store.disk }) }
         // Where none is under way, it makes no device call.
         ensures idle { is_some self.old.store.checkpoint ≡ false → self.new ≡ self.old }
-        ensures ends { Ends D.failures (ForDevice (IsTrue (is_some self.old.store.checkpoint))) result self.old self.new }
-        ensures calls { MakesAtMost 0 (slices_left self.old.store.checkpoint + 2) 2 (D.calls self.old.store.disk) (D.calls self.new.store.disk) }
+        ensures ends { Ends D.failures
+            (ForDevice (IsTrue (is_some self.old.store.checkpoint))) result self.old self.new }
+        ensures calls { MakesAtMost 0 (slices_left self.old.store.checkpoint + 2) 2 (D.calls self.old.store.disk)
+            (D.calls self.new.store.disk) }
     {
         if self.parts.store.journal.has_failed() {
             return Err(Fault::Failed);

@@ -32,12 +32,15 @@ impl<D: Disk> Keeper<D> {
     pub fn open(alloc: Global, disk: D) -> Result<Keeper<D>, (Fault, D)>
         // What the disk reads stands for the keeper's state, and so does each image that a stop may leave.
         ensures opened { D.honest disk → IfOk result (λ keeper. StandsFor (D.seen disk) keeper.state) }
-        ensures stands { D.honest disk → IfOk result (λ keeper. EachStandsFor D.may_leave keeper.store.disk keeper.state) }
-        // A store that stands for a state is refused only for its device or for memory.
-        ensures refused { D.honest disk → (s : ServerState) → StandsFor (D.seen disk) s → IfErr result (λ e. (e.0 ≡ Device) ⊎ (e.0 ≡ NoMemory)) }
-        // What is told of a store is so, and an unformatted one is told so, whatever memory there is.
+        ensures stands { D.honest disk
+            → IfOk result (λ keeper. EachStandsFor D.may_leave keeper.store.disk keeper.state) }
+        // A valid store is refused only if the device fails or memory runs out.
+        ensures refused { D.honest disk → (s : ServerState) → StandsFor (D.seen disk) s
+            → IfErr result (λ e. (e.0 ≡ Device) ⊎ (e.0 ≡ NoMemory)) }
+        // A reported fault is the store's, and an unformatted store is reported as such, however much memory there is.
         ensures told { D.honest disk → IfErr result (λ e. TellsStore e.0 (D.seen disk)) }
-        ensures unformatted { D.honest disk → IsUnformatted (D.seen disk) → IsErrAnd result (λ e. (e.0 ≡ Unformatted) ⊎ (e.0 ≡ Device)) }
+        ensures unformatted { D.honest disk → IsUnformatted (D.seen disk)
+            → IsErrAnd result (λ e. (e.0 ≡ Unformatted) ⊎ (e.0 ≡ Device)) }
         // No stop leaves what could not be left before, and what is read stays the same.
         ensures reads { D.honest disk → OnlyReads D.seen D.may_leave D.moment D.left_since disk (disk_after result) }
 
@@ -49,7 +52,7 @@ impl<D: Disk> Keeper<D> {
         ensures device { IfErr result (λ e. (e.0 ≡ Device) ↔ Rises (D.failures disk) (D.failures e.1)) }
         ensures faults { IfErr result (λ e. IsOpenFault e.0) }
         ensures still { IfOk result (λ keeper. D.failures keeper.store.disk ≡ D.failures disk) }
-        // Nor was it a call of a device whose count stands still at its top.
+        // Nor was it a call of a device whose count stays as it is at its top.
         ensures calm { IfOk result (λ keeper. Rises (D.failures disk) (D.failures keeper.store.disk) → ⊥) }
         ensures calls { MakesAtMost 4 0 1 (D.calls disk) (D.calls (disk_after result)) }
         ensures honesty { D.honest (disk_after result) ↔ D.honest disk }
@@ -78,7 +81,8 @@ impl<D: Disk> Keeper<D> {
     /// Makes a new store of format 2 on the device, whatever was there. Nothing is promised of a device whose
     /// formatting was stopped or failed: it is formatted again.
     pub fn format(alloc: Global, disk: D) -> Result<Keeper<D>, (Fault, D)>
-        ensures formatted { D.honest disk → IfOk result (λ keeper. EachStandsFor D.may_leave keeper.store.disk first_state) }
+        ensures formatted { D.honest disk
+            → IfOk result (λ keeper. EachStandsFor D.may_leave keeper.store.disk first_state) }
         ensures state { IfOk result (λ keeper. keeper.state ≡ first_state) }
         ensures store { IfOk result (λ keeper. keeper.store ≡ first_store keeper.store.disk) }
         ensures sized { IfOk result (λ keeper. D.size disk ≡ device_bytes) }

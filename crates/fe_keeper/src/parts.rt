@@ -49,8 +49,10 @@ impl<D: Disk> Parts<D> {
         ensures taken { OnOk result (HasTaken (state_before self.old) entries.now self.new.state self.new.log) }
         ensures room { self.new.log.room ≡ self.old.log.room }
         ensures made { IfOk result (IsMadeFor self.old entries.now) }
-        ensures err { OnErr result ((self.new.state ≡ state_before self.old) × (self.new.log ≡ empty_log self.old.log.room)) }
-        ensures memory { IfErr result (λ fault. (fault ≡ NoMemory) × IsTrue (must_begin (store_of self.old.store) entries.now)) }
+        ensures err { OnErr result ((self.new.state ≡ state_before self.old)
+            × (self.new.log ≡ empty_log self.old.log.room)) }
+        ensures memory { IfErr result
+            (λ fault. (fault ≡ NoMemory) × IsTrue (must_begin (store_of self.old.store) entries.now)) }
     {
         if !self.store.must_begin(entries) {
             return Ok(None);
@@ -66,14 +68,20 @@ impl<D: Disk> Parts<D> {
         requires batch { HasBatch self.old entries.now }
         requires made { IsMadeFor self.old entries.now whole }
         ensures rest { AreAtRest self.old self.new }
-        ensures leads { D.honest self.old.store.journal.disk → Upholds D.seen D.may_leave self.old.store (state_before self.old)
-            → Leads D.moment D.left_since D.seen D.may_leave result self.old.store self.new.store (state_before self.old)
+        ensures leads { D.honest self.old.store.journal.disk
+            → Upholds D.seen D.may_leave self.old.store (state_before self.old)
+            → Leads D.moment D.left_since D.seen D.may_leave result self.old.store self.new.store
+            (state_before self.old)
             (after_all (state_before self.old) entries.now) }
         ensures state { OnOk result (self.new.state ≡ after_all (state_before self.old) entries.now) }
-        ensures value { OnOk result (store_of self.new.store ≡ record (appended (made_room (store_of self.old.store) entries.now) entries.now) { disk = self.new.store.journal.disk }) }
+        ensures value { OnOk result (store_of self.new.store
+            ≡ record (appended
+            (made_room
+            (store_of self.old.store) entries.now) entries.now) { disk = self.new.store.journal.disk }) }
         ensures err { OnErr result (self.new.state ≡ state_before self.old) }
         ensures ends { StoreEnds D.honest D.failures result self.old.store.journal self.new.store.journal }
-        ensures calls { MakesToAppend (store_of self.old.store) entries.now (whole_slices whole) (D.calls self.old.store.journal.disk) (D.calls self.new.store.journal.disk) }
+        ensures calls { MakesToAppend (store_of self.old.store) entries.now (whole_slices whole)
+            (D.calls self.old.store.journal.disk) (D.calls self.new.store.journal.disk) }
     {
         self.limits();
         let outcome = self.store.put(entries, whole);
@@ -93,8 +101,10 @@ impl<D: Disk> Parts<D> {
             (StandsForEither self.old.state (after_all self.old.state entries.now)) }
         ensures appended { OnOk result (IsAppended (kept_of self.old) (kept_of self.new) first entries.now) }
         ensures err { OnErr result (self.new.state ≡ self.old.state) }
-        ensures ends { Ends D.failures (ForBatch (kept_of self.old) first entries.now) result (kept_of self.old) (kept_of self.new) }
-        ensures calls { MakesToAppend (store_of self.old.store) entries.now (slices_of (length (image_spelling Two self.old.state)))
+        ensures ends { Ends D.failures (ForBatch (kept_of self.old) first entries.now) result (kept_of self.old)
+            (kept_of self.new) }
+        ensures calls { MakesToAppend (store_of self.old.store) entries.now
+            (slices_of (length (image_spelling Two self.old.state)))
             (D.calls self.old.store.journal.disk) (D.calls self.new.store.journal.disk) }
         ensures honesty { D.honest self.new.store.journal.disk ↔ D.honest self.old.store.journal.disk }
     {

@@ -29,11 +29,14 @@ pub(crate) fn recovered(
 ) -> Result<State, Fault>
     requires is_slot { slot < 2 }
     requires listing { IsListing groups.old }
-    ensures state { (payloads : List (List ℕ)) → Lists groups.old payloads → IfOk result (IsRecovered format generation image.now payloads) }
-    // A slot that stands for a state is refused only for want of memory.
-    ensures refused { (c : Contents) (s : ServerState) → ArePartsOf c format generation image.now groups.old → Stands c s → IfErr result (λ fault. fault ≡ NoMemory) }
-    // What is told of one that does not is the first thing wrong in it.
-    ensures damaged { (offset : ℕ) (payloads : List (List ℕ)) → IsErrOf result (Damaged offset) → Lists groups.old payloads
+    ensures state { (payloads : List (List ℕ)) → Lists groups.old payloads
+        → IfOk result (IsRecovered format generation image.now payloads) }
+    // A slot that stands for a state is refused only if memory runs out.
+    ensures refused { (c : Contents) (s : ServerState) → ArePartsOf c format generation image.now groups.old
+        → Stands c s → IfErr result (λ fault. fault ≡ NoMemory) }
+    // Of one that does not, the first thing wrong in it is reported.
+    ensures damaged { (offset : ℕ) (payloads : List (List ℕ)) → IsErrOf result (Damaged offset)
+        → Lists groups.old payloads
         → IsWrongIn slot format generation image.now payloads (groups.old.start + groups.old.at) offset }
     ensures faults { IfErr result IsSlotFault }
 {
@@ -53,7 +56,8 @@ fn base_of(
     requires is_slot { slot < 2 }
     ensures base { IfOk result (IsBase format generation image.now) }
     ensures exact { IfOk result (λ state. image_at format image.now ≡ Ok state) }
-    ensures refused { (s : ServerState) → IsBase format generation image.now s → IfErr result (λ fault. fault ≡ NoMemory) }
+    ensures refused { (s : ServerState) → IsBase format generation image.now s
+        → IfErr result (λ fault. fault ≡ NoMemory) }
     ensures damaged { (offset at : ℕ) (payloads : List (List ℕ)) → IsErrOf result (Damaged offset)
         → IsWrongIn slot format generation image.now payloads at offset }
     ensures faults { IfErr result IsSlotFault }
@@ -88,9 +92,12 @@ fn greatest_generation(format: Format, state: &State) -> u64
 /// Goes through all groups.
 fn replay_all(format: Format, groups: &mut Groups, state: &mut State) -> Result<(), Fault>
     requires listing { IsListing groups.old }
-    ensures all { (payloads : List (List ℕ)) → Lists groups.old payloads → OnOk result (ReplaysAll format payloads state.old state.new) }
-    ensures refused { (payloads : List (List ℕ)) → Lists groups.old payloads → CanGoOn format payloads state.old → IfErr result (λ fault. fault ≡ NoMemory) }
-    ensures damaged { (offset : ℕ) (payloads : List (List ℕ)) → IsErrOf result (Damaged offset) → Lists groups.old payloads
+    ensures all { (payloads : List (List ℕ)) → Lists groups.old payloads
+        → OnOk result (ReplaysAll format payloads state.old state.new) }
+    ensures refused { (payloads : List (List ℕ)) → Lists groups.old payloads → CanGoOn format payloads state.old
+        → IfErr result (λ fault. fault ≡ NoMemory) }
+    ensures damaged { (offset : ℕ) (payloads : List (List ℕ)) → IsErrOf result (Damaged offset)
+        → Lists groups.old payloads
         → IsBadFrom format payloads state.old (groups.old.start + groups.old.at) offset }
     ensures faults { IfErr result IsSlotFault }
 {
@@ -101,12 +108,15 @@ fn replay_all(format: Format, groups: &mut Groups, state: &mut State) -> Result<
 /// Goes through the next group. Whether there was one.
 fn replay_next(format: Format, groups: &mut Groups, state: &mut State) -> Result<bool, Fault>
     requires listing { IsListing groups.old }
-    ensures next { (payloads : List (List ℕ)) → Lists groups.old payloads → IfOk result (IsNext format payloads groups.new state.old state.new) }
+    ensures next { (payloads : List (List ℕ)) → Lists groups.old payloads
+        → IfOk result (IsNext format payloads groups.new state.old state.new) }
     ensures place { (payload : List ℕ) (rest : List (List ℕ)) → Lists groups.old (payload ∷ rest)
         → OnOk result (groups.new ≡ record groups.old { at = groups.old.at + (5 + length payload) }) }
     ensures on { IfOk result (λ more. more ≡ true → (groups.old.at < groups.new.at) × (groups.new.at ≤ 1048576)) }
-    ensures refused { (payloads : List (List ℕ)) → Lists groups.old payloads → CanGoOn format payloads state.old → IfErr result (λ fault. fault ≡ NoMemory) }
-    ensures damaged { (offset : ℕ) (payloads : List (List ℕ)) → IsErrOf result (Damaged offset) → Lists groups.old payloads
+    ensures refused { (payloads : List (List ℕ)) → Lists groups.old payloads → CanGoOn format payloads state.old
+        → IfErr result (λ fault. fault ≡ NoMemory) }
+    ensures damaged { (offset : ℕ) (payloads : List (List ℕ)) → IsErrOf result (Damaged offset)
+        → Lists groups.old payloads
         → IsBadFrom format payloads state.old (groups.old.start + groups.old.at) offset }
     ensures faults { IfErr result IsSlotFault }
 {

@@ -28,7 +28,8 @@ use std::rt::Files;
 /// Writes the text of a state.
 fn show<W: Write>(alloc: Global, state: &State, writer: &mut W) -> Result<(), LookFault>
     ensures ok { OnOk result (Appends (W.contents writer.old) (W.contents writer.new) (state_text state.now)) }
-    ensures front { (count : ℕ) × Appends (W.contents writer.old) (W.contents writer.new) (take count (state_text state.now)) }
+    ensures front { (count : ℕ)
+        × Appends (W.contents writer.old) (W.contents writer.new) (take count (state_text state.now)) }
     ensures opened { (why : OpenFault) → IsErrOf result (fault.Store why) → ⊥ }
 {
     let Ok(text) = state_text(alloc, state) else {
@@ -47,10 +48,13 @@ pub fn look_at<D: Disk, W: Write>(
     writer: &mut W,
 ) -> (Result<(), LookFault>, D)
     // What is written is the text of the state that the disk stands for.
-    ensures shows { D.honest disk → OnOk result.0 (Shows (D.seen disk) (W.contents writer.old) (W.contents writer.new)) }
-    // What is told of the store is so, and one that stands for a state is refused only for its device or for memory.
-    ensures told { D.honest disk → (why : OpenFault) → IsErrOf result.0 (fault.Store why) → TellsImage why (D.seen disk) }
-    ensures refused { D.honest disk → (s : ServerState) → StandsFor (D.seen disk) s → (why : OpenFault) → IsErrOf result.0 (fault.Store why)
+    ensures shows { D.honest disk
+        → OnOk result.0 (Shows (D.seen disk) (W.contents writer.old) (W.contents writer.new)) }
+    // A reported fault is the store's, and a valid store is refused only if the device fails or memory runs out.
+    ensures told { D.honest disk → (why : OpenFault) → IsErrOf result.0 (fault.Store why)
+        → TellsImage why (D.seen disk) }
+    ensures refused { D.honest disk → (s : ServerState) → StandsFor (D.seen disk) s → (why : OpenFault)
+        → IsErrOf result.0 (fault.Store why)
         → (why ≡ store.Device) ⊎ (why ≡ store.Memory) }
     // No stop leaves what could not be left before, and what is read stays the same.
     ensures reads { D.honest disk → OnlyReads D.seen D.may_leave D.moment D.left_since disk result.1 }
@@ -58,7 +62,8 @@ pub fn look_at<D: Disk, W: Write>(
     // Of any disk, what is written is the text of a state, or at a fault a front of it; where no store is opened, nothing is.
     ensures written { OnOk result.0 (ShowsSome (W.contents writer.old) (W.contents writer.new)) }
     ensures front { ShowsFront (W.contents writer.old) (W.contents writer.new) }
-    ensures silent { (why : OpenFault) → IsErrOf result.0 (fault.Store why) → Keeps (W.contents writer.old) (W.contents writer.new) }
+    ensures silent { (why : OpenFault) → IsErrOf result.0 (fault.Store why)
+        → Keeps (W.contents writer.old) (W.contents writer.new) }
     ensures sized { (found : ℕ) → IsErrOf result.0 (fault.Store (store.Size found)) → ⊥ }
     ensures device { IsErrOf result.0 (fault.Store store.Device) ↔ Rises (D.failures disk) (D.failures result.1) }
     ensures honesty { D.honest result.1 ↔ D.honest disk }
@@ -86,7 +91,8 @@ pub fn look<R: Files<File = File>, W: Write>(
     // What is written is the text of a state, or at a fault a front of it; where no store is opened, nothing is.
     ensures written { OnOk result (ShowsSome (W.contents writer.old) (W.contents writer.new)) }
     ensures front { ShowsFront (W.contents writer.old) (W.contents writer.new) }
-    ensures silent { (why : OpenFault) → IsErrOf result (fault.Store why) → Keeps (W.contents writer.old) (W.contents writer.new) }
+    ensures silent { (why : OpenFault) → IsErrOf result (fault.Store why)
+        → Keeps (W.contents writer.old) (W.contents writer.new) }
     ensures wrong_size { (found : ℕ) → IsErrOf result (fault.Store (store.Size found)) → found ≢ device_bytes }
 {
     let copy = copied(rt, alloc, path)?;

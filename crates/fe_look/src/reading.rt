@@ -86,7 +86,7 @@ fn counting<D: Disk>(disk: &mut D) -> Result<Option<(usize, Header)>, DeviceFaul
     }
 }
 
-// The header at this place. The gate is read behind the fields.
+// The header at this place. The gate is read after the fields.
 fn read_header<D: Disk>(disk: &mut D, at: usize) -> Result<Header, DeviceFault>
     requires { at ≤ 2101248 }
 {
@@ -128,7 +128,7 @@ fn slot_in<D: Disk>(
     }
 }
 
-// Reads a part of the disk to where it stands in the bytes.
+// Reads a part of the disk to where it is in the bytes.
 fn read_part<D: Disk>(
     disk: &mut D,
     bytes: &mut [u8],
@@ -157,7 +157,7 @@ fn put_header(bytes: &mut [u8], start: usize, fields: &[u8; FIELDS])
     put(bytes, start + GATE, 1);
 }
 
-// The place in a journal area of the gate that ends its groups, which was not open. Each gate is read before what stands behind
+// The place in a journal area of the gate that ends its groups, which was not open. Each gate is read before what follows
 // it. `None` where a length is none that fits.
 fn end_of_groups<D: Disk>(disk: &mut D, area: usize) -> Result<Option<usize>, DeviceFault>
     requires { area ≤ 3153920 }

@@ -21,7 +21,8 @@ fn put_array(text: &mut String, id: u64, array: &Array) -> Result<(), AllocError
 
 /// Writes the lines of the arrays.
 fn put_arrays(text: &mut String, state: &State) -> Result<(), AllocError>
-    ensures { OnOk result (string_bytes text.new ≡ string_bytes text.old ++ flat_map array_line (entries state.now.arrays)) }
+    ensures { OnOk result (string_bytes text.new
+        ≡ string_bytes text.old ++ flat_map array_line (entries state.now.arrays)) }
 {
     let _ = state.place();
     for k in 0..state.array_count() {
@@ -43,7 +44,8 @@ fn put_session(text: &mut String, number: u64, session: &Session) -> Result<(), 
 
 /// Writes the lines of the sessions.
 fn put_sessions(text: &mut String, state: &State) -> Result<(), AllocError>
-    ensures { OnOk result (string_bytes text.new ≡ string_bytes text.old ++ flat_map session_line (entries state.now.sessions)) }
+    ensures { OnOk result (string_bytes text.new
+        ≡ string_bytes text.old ++ flat_map session_line (entries state.now.sessions)) }
 {
     for k in 0..state.session_count() {
         if let Some((number, session)) = state.session_entry(k) {

@@ -20,7 +20,8 @@ pub fn open_existing<D: Disk>(alloc: Global, disk: D) -> Result<Keeper<D>, (Open
     ensures opened { D.honest disk → IfOk result (λ keeper. StandsFor (D.seen disk) keeper.state) }
     ensures stands { D.honest disk → IfOk result (λ keeper. EachStandsFor D.may_leave keeper.store.disk keeper.state) }
     // A valid store is refused only if the device fails or memory runs out, and a reported fault is the store's.
-    ensures refused { D.honest disk → (s : ServerState) → StandsFor (D.seen disk) s → IfErr result (λ e. (e.0 ≡ fault.Device) ⊎ (e.0 ≡ fault.Memory)) }
+    ensures refused { D.honest disk → (s : ServerState) → StandsFor (D.seen disk) s
+        → IfErr result (λ e. (e.0 ≡ fault.Device) ⊎ (e.0 ≡ fault.Memory)) }
     ensures told { D.honest disk → IfErr result (λ e. TellsImage e.0 (D.seen disk)) }
     // No stop leaves what could not be left before, and what is read stays the same.
     ensures reads { D.honest disk → OnlyReads D.seen D.may_leave D.moment D.left_since disk (disk_after result) }
@@ -46,10 +47,12 @@ pub fn open_on<D: Disk>(alloc: Global, disk: D, format: bool) -> Result<Keeper<D
     ensures opened { D.honest disk → IfOk result (λ keeper. Opens (D.seen disk) format keeper.state) }
     ensures stands { D.honest disk → IfOk result (λ keeper. EachStandsFor D.may_leave keeper.store.disk keeper.state) }
     // A valid store is refused only if the device fails or memory runs out, and a reported fault is the store's.
-    ensures refused { D.honest disk → (s : ServerState) → StandsFor (D.seen disk) s → IfErr result (λ e. (e.0 ≡ fault.Device) ⊎ (e.0 ≡ fault.Memory)) }
+    ensures refused { D.honest disk → (s : ServerState) → StandsFor (D.seen disk) s
+        → IfErr result (λ e. (e.0 ≡ fault.Device) ⊎ (e.0 ≡ fault.Memory)) }
     ensures told { D.honest disk → IfErr result (λ e. TellsImage e.0 (D.seen disk)) }
     // Where no store is made, no stop leaves what could not be left before, and what is read stays the same.
-    ensures reads { D.honest disk → (IsToFormat (D.seen disk) format → ⊥) → OnlyReads D.seen D.may_leave D.moment D.left_since disk (disk_after result) }
+    ensures reads { D.honest disk → (IsToFormat (D.seen disk) format → ⊥)
+        → OnlyReads D.seen D.may_leave D.moment D.left_since disk (disk_after result) }
 
     ensures works { IfOk result (λ keeper. keeper.store.has_failed ≡ false) }
     ensures none_under_way { IfOk result (λ keeper. keeper.store.checkpoint ≡ None) }

@@ -15,12 +15,12 @@ pub record IsSpelledBatch (format : Format) (group : List ℕ) (entries : List E
   pub each : AllByRecursion (CanPut Two) entries
   pub few : length entries ≤ BATCH_ENTRIES
 
--- room for the records of so many entries more, if a checkpoint is under way
+-- room for the records of this many entries more, if a checkpoint is under way
 abbrev pub HasRoomFor : Option Checkpoint → ℕ → Type 0
 HasRoomFor None n = Unit {0}
 HasRoomFor (Some c) n = vec_len c.catch_up + n * 80 ≤ vec_capacity c.catch_up
 
--- the same checkpoint, with the records of more entries behind those that it catches up with
+-- the same checkpoint, with the records of more entries after those that it catches up with
 pub record HasMore (entries : List Entry) (old new : Checkpoint) : Type 0 where
   pub image : new.image ≡ old.image
   pub written : new.written ≡ old.written

@@ -56,7 +56,7 @@ pub record CarriesDraft {T D : Type 0} (moment : D → ℕ) (left_since : D → 
 
 -- ---- calls of the device
 
--- How many of them make room for a batch, where a whole checkpoint would have so many slices.
+-- How many of them make room for a batch, where a whole checkpoint would have this many slices.
 pub record MakesRoom {D : Type 0} (store : StoreState D) (entries : List Entry) (whole : ℕ) (before after : Calls) : Type 0 where
   pub none : IsTrue (fits store entries) → MakesAtMost 0 0 0 before after
   pub to_finish : must_begin store entries ≡ false → MakesAtMost 0 (slices_left store.checkpoint + 2) 2 before after
