@@ -137,13 +137,13 @@ module _ (f g : FrontState) where
 -- ---- refusals that are mailed
 
 module _ (f g k : FrontState) (conn number : ℕ) (r : Refusal) where
-  -- an event that was refused, and its refusal behind it
+  -- an event that was refused, and its refusal after it
   pub refusal_told : {A : Type 0} (x : Result ℕ Refusal) (result : Result A Refusal) (h : ℕ → FrontState) → Answers x result h f g → result ≡ Err r → k ≡ mailed g conn (mail.Refused number r)
       → (x ≡ Err r) × FrontStep f (event.Tell conn (mail.Refused number r)) [] k
   refusal_told x result h p is told =
       let refuses = when_err x result h f g r p is in
       (refuses.refused, refusal_step f k conn number r (told ∙ ap (λ (y : FrontState). mailed y conn (mail.Refused number r)) refuses.same))
 
-  -- a call that was refused is booked, and its refusal is mailed behind it
+  -- a call that was refused is booked, and its refusal is mailed after it
   pub call_refusal_told : g ≡ call_refused_by f → k ≡ mailed g conn (mail.Refused number r) → k ≡ refused_to f conn number r
   call_refusal_told same told = told ∙ ap (λ (y : FrontState). mailed y conn (mail.Refused number r)) same

@@ -44,7 +44,7 @@ moved b c unspent = ap (λ (s : Bool). if s then b else c) unspent
 stay : (b : Books) → b.spent ≡ false → Rise b 0 0 0 b
 stay b unspent = record { unspent = unspent; calls = omega arith; taken = omega arith; no_fewer = omega arith; mails = omega arith }
 
--- a rise, and another behind it
+-- a rise, and another after it
 both : {a b c : Books} {called took most more others mails : ℕ} → Rise a called took most b → Rise b more others mails c → Rise a (called + more) (took + others) (most + mails) c
 both p q = record {
   unspent = q.unspent;
@@ -229,7 +229,7 @@ refused_to_rises f conn number refusal room =
 
 -- ---- a mail that is taken
 
--- a mail that is there stands in a box, and the books count it as left
+-- a mail that is there is in a box, and the books count it as left
 some_left : (f : FrontState) (conn : ℕ) → f.books.spent ≡ false → Balances f.books (len f.service.waiting) (mails_in f.connections)
     → IsSome (slice_get (mails_on f.connections conn) 0) → 1 ≤ f.books.left
 some_left f conn unspent balance there = let one = mails_in-take f.connections conn there in let same = balance.left_is unspent in omega (arith, one, same)

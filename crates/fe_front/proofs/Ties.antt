@@ -26,7 +26,7 @@ quiet_sound t service connections books sound place pending agree balance = reco
   spare = sound.spare;
 }
 
--- an event that makes so many
+-- an event that makes this many
 pub made_sound : (t : Tables) (service : ServiceState) (connections : FinMap nat_cmp Connection) (books : Books) (made : ℕ) → AreSound t
     → service.state.place ≡ t.service.state.place + made → length service.pending ≡ length t.service.pending + made
     → Agree service.seats connections → Balances books (len service.waiting) (mails_in connections)

@@ -41,7 +41,7 @@ abbrev pub IsCallRefused : FrontState → ℕ → ℕ → Request → Refusal �
 IsCallRefused f conn number request refusal =
     MatchResult (addressed f conn number) (λ session. IsNumberRefused f number request session refusal) (λ first. refusal ≡ first)
 
--- a call is refused for want of memory: it is the first of its number and there is a place for it, but it makes an array
+-- a call is refused because memory is short: it is the first of its number and there is a place for it, but it makes an array
 pub record WantsMemory (f : FrontState) (conn number : ℕ) (request : Request) : Type 0 where
   pub session : ℕ
   pub answer : Answer
@@ -72,12 +72,12 @@ answered_again f conn session number =
 abbrev pub repeated : FrontState → ℕ → ℕ → ℕ → FrontState
 repeated f conn session number = answered_again (record f { books = call_repeated f.books }) conn session number
 
--- books after so many calls that waited completed
+-- books after this many calls that waited completed
 abbrev pub waiters_completed : ℕ → Books → Books
 waiters_completed zero b = b
 waiters_completed (suc n) b = waiter_completed (waiters_completed n b)
 
--- a new request completes with so many entries: its own, and those of the requests that may be served then, whoever
+-- a new request completes with this many entries: its own, and those of the requests that may be served then, whoever
 -- comes first
 pub record Completed (f : FrontState) (session number : ℕ) (request : Request) (n : ℕ) (es : List Entry) (f' : FrontState) : Type 0 where
   pub answer : Answer

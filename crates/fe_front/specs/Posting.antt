@@ -40,7 +40,7 @@ abbrev pub posted_all : FrontState → List Entry → ℕ → FrontState
 posted_all f [] place = f
 posted_all f (e ∷ es) place = posted_all (posted_entry f e place) es (place + 1)
 
--- the front after the batch that was out was posted: what stands before the batch's end is durable
+-- the front after the batch that was out was posted: what comes before the batch's end is durable
 abbrev pub posted : FrontState → Batch → FrontState
 posted f batch =
     record (posted_all f batch.entries batch.first) { durable = batch.first + length batch.entries; out = None }

@@ -10,13 +10,13 @@ use Rattle.fe_front.specs.Call.{call_refused_by}
 use Rattle.fe_front.specs.Step.{FrontStep}
 use Rattle.fe_front.specs.Steps.{mailed}
 
--- books that are not spent, with places for so many more calls and mails
+-- books that are not spent, with places for this many more calls and mails
 pub record HaveRoom (b : Books) (calls mails : ℕ) : Type 0 where
   pub unspent : b.spent ≡ false
   pub few_calls : b.calls + calls ≤ 2 ^ 63 - 1
   pub few_mails : b.mails + mails ≤ 2 ^ 63 - 1
 
--- Books go to others that are not spent, with so many calls more, so many more mails that were taken, and at most so
+-- Books go to others that are not spent, with this many calls more, this many more mails that were taken, and at most so
 -- many more mails.
 pub record Rise (b : Books) (called took most : ℕ) (b' : Books) : Type 0 where
   pub unspent : b'.spent ≡ false

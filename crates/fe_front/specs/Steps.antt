@@ -49,7 +49,7 @@ dropped f conn = if is_connected f conn then unboxed (departed f conn) conn else
 abbrev pub departing : FrontState → ℕ → ℕ
 departing f conn = option_map_or (count_of f.service.waiting) (session_on f.connections conn) 0
 
--- a mail behind the others in a box
+-- a mail after the others in a box
 abbrev pub boxed : FrontState → ℕ → Mail → FrontState
 boxed f conn mail =
     record f { connections = with_mails f.connections conn (mails_on f.connections conn ++ mail ∷ []); books = mail_boxed f.books }

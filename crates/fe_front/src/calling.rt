@@ -99,7 +99,9 @@ impl Tables {
         requires answered { reply self.old.service.state request ≡ Some answer }
         requires room { HasRoom self.old.service }
         ensures sound { AreSound self.new }
-        ensures completed { IfOk result (λ outcome. (count : ℕ) × (entries : List Entry) × (outcome ≡ Outcome.Completed count) × Completed (front_of self.old) session number request count entries (front_of self.new)) }
+        ensures completed { IfOk result
+            (λ outcome. (count : ℕ) × (entries : List Entry) × (outcome ≡ Outcome.Completed count)
+            × Completed (front_of self.old) session number request count entries (front_of self.new)) }
         ensures refusal { IfErr result (λ refusal. refusal ≡ Refusal.NoMemory) }
         ensures memory { OnErr result (MakesArray (Finished session number request answer)) }
         ensures err { OnErr result (self.new ≡ self.old) }
@@ -145,9 +147,13 @@ impl Tables {
         requires unspent { is_spent (front_of self.old) ≡ false }
         requires room { HasRoom self.old.service }
         ensures sound { AreSound self.new }
-        ensures called { (conn : ℕ) → IfOk result (λ outcome. (entries : List Entry) × Called (front_of self.old) conn session number request outcome entries (front_of self.new)) }
+        ensures called { (conn : ℕ)
+            → IfOk result
+            (λ outcome. (entries : List Entry)
+            × Called (front_of self.old) conn session number request outcome entries (front_of self.new)) }
         ensures refusal { IfErr result (λ refusal. refusal ≡ Refusal.NoMemory) }
-        ensures memory { OnErr result ((answer : _) × (reply self.old.service.state request ≡ Some answer) × MakesArray (Finished session number request answer)) }
+        ensures memory { OnErr result ((answer : _) × (reply self.old.service.state request ≡ Some answer)
+            × MakesArray (Finished session number request answer)) }
         ensures err { OnErr result (self.new ≡ self.old) }
     {
         match self.service.state().answer_to(&request) {
@@ -169,9 +175,15 @@ impl Tables {
         requires sound { AreSound self.old }
         requires room { IsTrue (has_room (front_of self.old)) }
         ensures sound { AreSound self.new }
-        ensures called { IfOk result (λ outcome. (session : ℕ) × (entries : List Entry) × (addressed (front_of self.old) conn number ≡ Ok session) × Called (front_of self.old) conn session number request outcome entries (front_of self.new)) }
-        ensures refused { (refusal : refusals.Refusal) → IsCallRefused (front_of self.old) conn number request refusal → result ≡ Err refusal }
-        ensures refusal { IfErr result (λ refusal. IsCallRefused (front_of self.old) conn number request refusal ⊎ ((refusal ≡ Refusal.NoMemory) × WantsMemory (front_of self.old) conn number request)) }
+        ensures called { IfOk result
+            (λ outcome. (session : ℕ) × (entries : List Entry)
+            × (addressed (front_of self.old) conn number ≡ Ok session)
+            × Called (front_of self.old) conn session number request outcome entries (front_of self.new)) }
+        ensures refused { (refusal : refusals.Refusal) → IsCallRefused (front_of self.old) conn number request refusal
+            → result ≡ Err refusal }
+        ensures refusal { IfErr result
+            (λ refusal. IsCallRefused (front_of self.old) conn number request refusal
+            ⊎ ((refusal ≡ Refusal.NoMemory) × WantsMemory (front_of self.old) conn number request)) }
         ensures err { OnErr result (self.new ≡ self.old) }
     {
         self.limits();

@@ -102,7 +102,9 @@ impl Front {
     /// has the session loses it; what waits of either goes on waiting.
     pub fn attach(&mut self, conn: u64, session: u64) -> Result<(), Refusal>
         requires room { IsTrue (has_room self.old) }
-        ensures attached { MatchResult (attaching self.old conn session) (λ _. IsOk result × (self.new ≡ attached_to self.old conn session)) (λ refusal. (result ≡ Err refusal) × (self.new ≡ self.old)) }
+        ensures attached { MatchResult (attaching self.old conn session)
+            (λ _. IsOk result × (self.new ≡ attached_to self.old conn session))
+            (λ refusal. (result ≡ Err refusal) × (self.new ≡ self.old)) }
     {
         self.tables.attach(conn, session)
     }
@@ -111,9 +113,14 @@ impl Front {
     /// Each call is booked.
     pub fn call(&mut self, conn: u64, number: u64, request: Request) -> Result<Outcome, Refusal>
         requires room { IsTrue (has_room self.old) }
-        ensures step { IfOk result (λ outcome. (entries : List Entry) × FrontStep self.old (event.Call conn number request outcome) entries self.new) }
-        ensures refused { (refusal : refusals.Refusal) → IsCallRefused self.old conn number request refusal → result ≡ Err refusal }
-        ensures refusal { IfErr result (λ refusal. IsCallRefused self.old conn number request refusal ⊎ ((refusal ≡ Refusal.NoMemory) × WantsMemory self.old conn number request)) }
+        ensures step { IfOk result
+            (λ outcome. (entries : List Entry)
+            × FrontStep self.old (event.Call conn number request outcome) entries self.new) }
+        ensures refused { (refusal : refusals.Refusal) → IsCallRefused self.old conn number request refusal
+            → result ≡ Err refusal }
+        ensures refusal { IfErr result
+            (λ refusal. IsCallRefused self.old conn number request refusal
+            ⊎ ((refusal ≡ Refusal.NoMemory) × WantsMemory self.old conn number request)) }
         ensures err { OnErr result (self.new ≡ call_refused_by self.old) }
     {
         let result = self.tables.call(conn, number, request);
@@ -126,7 +133,9 @@ impl Front {
     /// Raises the least usable number of the connection's session, with an entry of it.
     pub fn settle(&mut self, conn: u64, floor: u64) -> Result<(), Refusal>
         requires room { IsTrue (has_room self.old) }
-        ensures settled { MatchResult (settling self.old conn floor) (λ session. IsOk result × (self.new ≡ settled_to self.old session floor)) (λ refusal. (result ≡ Err refusal) × (self.new ≡ self.old)) }
+        ensures settled { MatchResult (settling self.old conn floor)
+            (λ session. IsOk result × (self.new ≡ settled_to self.old session floor))
+            (λ refusal. (result ≡ Err refusal) × (self.new ≡ self.old)) }
     {
         self.tables.settle(conn, floor)
     }
@@ -135,14 +144,18 @@ impl Front {
     /// entry is posted.
     pub fn bye(&mut self, conn: u64) -> Result<(), Refusal>
         requires room { IsTrue (has_room self.old) }
-        ensures closed { MatchResult (leaving self.old conn) (λ session. IsOk result × (self.new ≡ closed_by self.old session)) (λ refusal. (result ≡ Err refusal) × (self.new ≡ self.old)) }
+        ensures closed { MatchResult (leaving self.old conn)
+            (λ session. IsOk result × (self.new ≡ closed_by self.old session))
+            (λ refusal. (result ≡ Err refusal) × (self.new ≡ self.old)) }
     {
         self.tables.bye(conn)
     }
 
     /// Takes out a waiting request of the connection's session, and tells the connection.
     pub fn cancel(&mut self, conn: u64, number: u64) -> Result<(), Refusal>
-        ensures cancelled { MatchResult (cancelling self.old conn number) (λ session. IsOk result × (self.new ≡ cancelled_by self.old conn session number)) (λ refusal. (result ≡ Err refusal) × (self.new ≡ self.old)) }
+        ensures cancelled { MatchResult (cancelling self.old conn number)
+            (λ session. IsOk result × (self.new ≡ cancelled_by self.old conn session number))
+            (λ refusal. (result ≡ Err refusal) × (self.new ≡ self.old)) }
     {
         self.tables.cancel(conn, number)
     }

@@ -74,7 +74,9 @@ impl Tables {
         requires sound { AreSound self.old }
         requires room { IsTrue (has_room (front_of self.old)) }
         ensures sound { AreSound self.new }
-        ensures attached { MatchResult (attaching (front_of self.old) conn session) (λ _. IsOk result × (front_of self.new ≡ attached_to (front_of self.old) conn session)) (λ refusal. (result ≡ Err refusal) × (self.new ≡ self.old)) }
+        ensures attached { MatchResult (attaching (front_of self.old) conn session)
+            (λ _. IsOk result × (front_of self.new ≡ attached_to (front_of self.old) conn session))
+            (λ refusal. (result ≡ Err refusal) × (self.new ≡ self.old)) }
     {
         self.attaching(conn, session)?;
         self.release(conn);
@@ -127,7 +129,9 @@ impl Tables {
         requires sound { AreSound self.old }
         requires room { IsTrue (has_room (front_of self.old)) }
         ensures sound { AreSound self.new }
-        ensures settled { MatchResult (settling (front_of self.old) conn floor) (λ session. IsOk result × (front_of self.new ≡ settled_to (front_of self.old) session floor)) (λ refusal. (result ≡ Err refusal) × (self.new ≡ self.old)) }
+        ensures settled { MatchResult (settling (front_of self.old) conn floor)
+            (λ session. IsOk result × (front_of self.new ≡ settled_to (front_of self.old) session floor))
+            (λ refusal. (result ≡ Err refusal) × (self.new ≡ self.old)) }
     {
         self.limits();
         let session = self.settling(conn, floor)?;
@@ -149,7 +153,9 @@ impl Tables {
         requires sound { AreSound self.old }
         requires room { IsTrue (has_room (front_of self.old)) }
         ensures sound { AreSound self.new }
-        ensures closed { MatchResult (leaving (front_of self.old) conn) (λ session. IsOk result × (front_of self.new ≡ closed_by (front_of self.old) session)) (λ refusal. (result ≡ Err refusal) × (self.new ≡ self.old)) }
+        ensures closed { MatchResult (leaving (front_of self.old) conn)
+            (λ session. IsOk result × (front_of self.new ≡ closed_by (front_of self.old) session))
+            (λ refusal. (result ≡ Err refusal) × (self.new ≡ self.old)) }
     {
         self.limits();
         let session = self.leaving(conn)?;
@@ -177,7 +183,9 @@ impl Tables {
     pub(crate) fn cancel(&mut self, conn: u64, number: u64) -> Result<(), Refusal>
         requires sound { AreSound self.old }
         ensures sound { AreSound self.new }
-        ensures cancelled { MatchResult (cancelling (front_of self.old) conn number) (λ session. IsOk result × (front_of self.new ≡ cancelled_by (front_of self.old) conn session number)) (λ refusal. (result ≡ Err refusal) × (self.new ≡ self.old)) }
+        ensures cancelled { MatchResult (cancelling (front_of self.old) conn number)
+            (λ session. IsOk result × (front_of self.new ≡ cancelled_by (front_of self.old) conn session number))
+            (λ refusal. (result ≡ Err refusal) × (self.new ≡ self.old)) }
     {
         let session = self.cancelling(conn, number)?;
         self.take_out(session, number);
