@@ -1,7 +1,7 @@
 ghost use Rattle.std.specs.Prelude.{◌≡◌, ◌+◌, ◌≤◌, ◌⊎◌, ◌↔◌, ℕ, List, [], length, Some, None, Ok, Err, IsTrue, false, IfOk, IfErr, OnErr, MatchResult};
 ghost use Rattle.fe_front.specs.Call.{request_at, IsCallRefused, IsNumberRefused, WantsMemory, Called, Completed, Waits, repeat_of, repeated, waiters_completed};
 ghost use Rattle.fe_front.specs.Front.{has_room, is_spent};
-ghost use Rattle.fe_front.specs.Refusals.{addressed, in_window};
+ghost use Rattle.fe_front.specs.Refusals.{addressed, own, in_window};
 ghost use Rattle.fe_front.specs.within.Tables.{front_of, AreSound};
 ghost use Rattle.fe_mail.specs.Books.{Balances};
 ghost use Rattle.fe_mail.specs.declared.refusal.Refusal as refusals;
@@ -32,11 +32,27 @@ impl Tables {
         }
     }
 
-    /// The session of a call, or why it is refused.
-    fn addressed(&self, conn: u64, number: u64) -> Result<u64, Refusal>
-        ensures { result ≡ addressed (front_of self.now) conn number }
+    /// The session of a connection that has one, or why an event of it is refused. The look-ups of the session and of the
+    /// request's array that follow take one comparison each.
+    fn aimed(&mut self, conn: u64, request: &Request) -> Result<u64, Refusal>
+        ensures session { result ≡ own (front_of self.old) conn }
+        ensures same { self.new ≡ self.old }
     {
-        match self.own(conn) {
+        match self.connections.session_of(conn) {
+            None => Err(Refusal::NotAttached),
+            Some(session) => {
+                self.service.aim(session, request);
+                self.unclosing(session)
+            }
+        }
+    }
+
+    /// The session of a call, or why it is refused.
+    fn addressed(&mut self, conn: u64, number: u64, request: &Request) -> Result<u64, Refusal>
+        ensures session { result ≡ addressed (front_of self.old) conn number }
+        ensures same { self.new ≡ self.old }
+    {
+        match self.aimed(conn, request) {
             Ok(session) => self.in_window(session, number),
             Err(refusal) => Err(refusal),
         }
@@ -186,8 +202,28 @@ impl Tables {
             ⊎ ((refusal ≡ Refusal.NoMemory) × WantsMemory (front_of self.old) conn number request)) }
         ensures err { OnErr result (self.new ≡ self.old) }
     {
+        let session = self.addressed(conn, number, &request)?;
+        self.call_within(conn, session, number, request)
+    }
+
+    /// A call, whose number is in its session's window.
+    fn call_within(
+        &mut self,
+        conn: u64,
+        session: u64,
+        number: u64,
+        request: Request,
+    ) -> Result<Outcome, Refusal>
+        requires sound { AreSound self.old }
+        requires room { IsTrue (has_room (front_of self.old)) }
+        requires addressed { addressed (front_of self.old) conn number ≡ Ok session }
+        ensures sound { AreSound self.new }
+        ensures called { IfOk result (λ outcome. (entries : List Entry) × Called (front_of self.old) conn session number request outcome entries (front_of self.new)) }
+        ensures refused { (refusal : refusals.Refusal) → IsCallRefused (front_of self.old) conn number request refusal → result ≡ Err refusal }
+        ensures refusal { IfErr result (λ refusal. IsCallRefused (front_of self.old) conn number request refusal ⊎ ((refusal ≡ Refusal.NoMemory) × WantsMemory (front_of self.old) conn number request)) }
+        ensures err { OnErr result (self.new ≡ self.old) }
+    {
         self.limits();
-        let session = self.addressed(conn, number)?;
         match self.request_at(session, number) {
             Some(before) => {
                 if is_same(&before, &request) {

@@ -39,7 +39,7 @@ impl Tables {
     {
         if let Some(conn) = self.holder(session_of(entry)) {
             ring(bells, conn);
-            self.mail(conn, Mail::of(entry, place));
+            self.put(conn, Mail::of(entry, place));
         }
     }
 

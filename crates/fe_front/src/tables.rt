@@ -1,10 +1,10 @@
-ghost use Rattle.std.specs.Prelude.{◌≡◌, Some, None, IsSome};
+ghost use Rattle.std.specs.Prelude.{◌≡◌, Some, None, IsSome, true};
 ghost use Rattle.fe_seats.specs.Seating.{count_of, holder_of, is_closing};
 ghost use Rattle.fe_service.specs.ServiceState.{IsService};
 ghost use Rattle.fe_state.specs.State.{IsWithinLimits};
 ghost use Rattle.fe_mail.specs.Connections.{session_on};
 ghost use Rattle.fe_front.specs.Front.{is_connected, is_spent};
-ghost use Rattle.fe_front.specs.Refusals.{own};
+ghost use Rattle.fe_front.specs.Refusals.{own, unclosing};
 ghost use Rattle.fe_front.specs.Steps.{withdrawn_from, parted, released, freed, departed, departing, unboxed, dropped, mailed};
 ghost use Rattle.fe_front.specs.within.Tables.{front_of, AreSound};
 
@@ -70,13 +70,18 @@ impl Tables {
     {
         match self.connections.session_of(conn) {
             None => Err(Refusal::NotAttached),
-            Some(session) => {
-                if self.is_closing(session) {
-                    Err(Refusal::Closing)
-                } else {
-                    Ok(session)
-                }
-            }
+            Some(session) => self.unclosing(session),
+        }
+    }
+
+    /// A session that is not closing.
+    pub(crate) fn unclosing(&self, session: u64) -> Result<u64, Refusal>
+        ensures { result ≡ unclosing (front_of self.now) session }
+    {
+        if self.is_closing(session) {
+            Err(Refusal::Closing)
+        } else {
+            Ok(session)
         }
     }
 
@@ -174,9 +179,18 @@ impl Tables {
         ensures sound { AreSound self.new }
         ensures mailed { front_of self.new ≡ mailed (front_of self.old) conn mail }
     {
-        if !self.connections.is_connected(conn) {
-            return;
+        if self.connections.is_connected(conn) {
+            self.put(conn, mail);
         }
+    }
+
+    /// As `mail`, where the connection is there.
+    pub(crate) fn put(&mut self, conn: u64, mail: Mail)
+        requires sound { AreSound self.old }
+        requires connected { is_connected (front_of self.old) conn ≡ true }
+        ensures sound { AreSound self.new }
+        ensures mailed { front_of self.new ≡ mailed (front_of self.old) conn mail }
+    {
         match self.connections.put(conn, mail) {
             Ok(()) => self.books.mail_boxed(),
             Err(_) => {

@@ -1,29 +1,25 @@
-use Rattle.std.proofs.Common.{◌≡◌, [], Some, sym, ap, ◌∙◌}
-use Rattle.fe_front.specs.within.Tables.{front_of}
-use Rattle.fe_front.proofs.Admitted.{addresses, own_there, free_number}
-use Rattle.fe_front.proofs.Repeating.{called_again, if_ok}
+use Rattle.std.proofs.Common.{sym, ◌∙◌}
+use Rattle.fe_front.proofs.Repeating.{if_ok}
 use Rattle.fe_front.proofs.tables.Tables.call.Goals as goal
 
-pub begin-requires-clause-free : goal.begin-requires-clause-free
-begin-requires-clause-free c =
-    let old = front_of c.args.self.now in
-    let session = c.in_ok-session.session in
-    let (mine, window) = addresses old c.args.conn session c.args.number (sym c.addressed.ensures ∙ c.in_ok-session.was) in
-    free_number old session c.args.number (own_there old c.args.conn session c.limits.ensures.service c.requires.sound.tied.agree mine) window (sym c.request_at.ensures ∙ c.in-None.is)
+-- the tables are the same once their session is looked at
+pub call_within-requires : goal.call_within-requires
+call_within-requires c = record {
+  sound = rw c.addressed.ensures.same c.requires.sound;
+  room = rw c.addressed.ensures.same c.requires.room;
+  addressed = rw c.addressed.ensures.same (sym c.addressed.ensures.session ∙ c.in_ok-session.was);
+}
 
-pub returns-then-is_same-clause-called : goal.returns-then-is_same-clause-called
-returns-then-is_same-clause-called c =
-    let old = front_of c.args.self.now in
-    let session = c.in_ok-session.session in
-    let same : c.in-Some.before ≡ c.args.request = c.is_same.ensures.0 c.if-is_same.true in (
-      session,
-      [],
-      sym c.addressed.ensures ∙ c.in_ok-session.was,
-      called_again old c.args.conn session c.args.number c.args.request c.repeat.result (front_of c.repeat.new.self) (sym c.request_at.ensures ∙ c.in-Some.is ∙ ap Some same) c.repeat.ensures.outcome c.repeat.ensures.repeated,
-    )
+pub returns : goal.returns
+returns c =
+    let within = rw c.addressed.ensures.same at c.call_within.ensures in
+    record {
+      sound = within.sound;
+      called = if_ok c.call_within.result _ _ (λ outcome called. (c.in_ok-session.session, called.0, sym c.addressed.ensures.session ∙ c.in_ok-session.was, called.1)) within.called;
+      refused = within.refused;
+      refusal = within.refusal;
+      err = within.err;
+    }
 
-pub returns-else-is_spent-clause-called : goal.returns-else-is_spent-clause-called
-returns-else-is_spent-clause-called c =
-    let old = front_of c.args.self.now in
-    let session = c.in_ok-session.session in
-    if_ok c.begin.result _ _ (λ outcome called. (session, called.0, sym c.addressed.ensures ∙ c.in_ok-session.was, called.1)) (c.begin.ensures.called c.args.conn)
+pub returns-in_err-session-clause-sound : goal.returns-in_err-session-clause-sound
+returns-in_err-session-clause-sound c = rw c.addressed.ensures.same c.requires.sound

@@ -6,15 +6,15 @@ use Rattle.fe_mail.proofs.MailCounts.{mails_in-put}
 use Rattle.fe_front.specs.within.Tables.{AreSound}
 use Rattle.fe_front.proofs.Agreement.{Agree, agree-boxed}
 use Rattle.fe_front.proofs.Ties.{quiet_sound}
-use Rattle.fe_front.proofs.tables.Tables.mail.Goals.{in-Ok, in-Err}
-use Rattle.fe_front.proofs.tables.Tables.mail.Goals as goal
+use Rattle.fe_front.proofs.tables.Tables.put.Goals.{in-Ok, in-Err}
+use Rattle.fe_front.proofs.tables.Tables.put.Goals as goal
 
 pub returns-clause-sound : goal.returns-clause-sound
 returns-clause-sound c = elim c.match-put.branch [
   | in-Ok w ↦
       let old = c.args.self.now in
       let is = w.in-Ok.ensures.put in
-      let there = sym c.is_connected.ensures ∙ c.if-not-is_connected.false in
+      let there = c.requires.connected in
       let mails = ap mails_in is ∙ mails_in-put old.connections c.args.conn c.args.mail there in
       let books = w.mail_boxed.ensures.balance (len old.service.waiting) (mails_in old.connections) c.requires.sound.tied.balance in
       subst AreSound (sym w.self-is)
