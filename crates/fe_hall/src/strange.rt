@@ -3,8 +3,6 @@
 ghost use Rattle.std.specs.Prelude.{◌≡◌, ◌↔◌, ℕ, IsTrue, Some, All, map, Any, IfSome, IfNone};
 ghost use Rattle.std.specs.Bool.{OnTrue, OnFalse};
 ghost use Rattle.std.specs.FinMap.{get};
-ghost use Rattle.fe_state.specs.Sessions.{IsInWindow};
-ghost use Rattle.fe_state.specs.State.{IsWithinLimits};
 ghost use Rattle.fe_state.specs.declared.kept.Kept.{Kept};
 ghost use Rattle.fe_wire.specs.declared.client_message.ClientMessage.TheVariants.{Call};
 ghost use Rattle.fe_hall.specs.Receipts.{IsAsTold, IsCalledBehind, WasSent, AreWhole, IsStrange, IsBorneOut, IsFirstStrange, Keeps};
@@ -16,9 +14,6 @@ use fe_wire::ClientMessage;
 
 /// How many messages of a connection are kept at most.
 const MESSAGES: usize = 1024;
-
-/// How many numbers a session may use from its floor on.
-const WINDOW: u64 = 32;
 
 /// The place of the first strange receipt, if one is.
 pub(crate) fn first_strange(
@@ -59,7 +54,6 @@ fn is_strange(state: &State, sent: &[Vec<ClientMessage>], receipt: &Receipt) -> 
 
 /// Whether a state keeps something else than what a receipt says, at the receipt's place.
 fn keeps_other(state: &State, receipt: &Receipt) -> bool
-    requires { IsWithinLimits state.now }
     ensures other { OnTrue result ((session : ℕ) × (number : ℕ) × (k : Kept) × Keeps state.now session number k × (k.place ≡ receipt.now.place) × (IsAsTold receipt.now session number k → ⊥)) }
     ensures none { OnFalse result ((session : ℕ) (number : ℕ) (k : Kept) → Keeps state.now session number k → k.place ≡ receipt.now.place → IsAsTold receipt.now session number k) }
 {
@@ -74,16 +68,12 @@ fn keeps_other(state: &State, receipt: &Receipt) -> bool
 
 /// Whether a session keeps something else than what a receipt says, at the receipt's place.
 fn holds_other(session: u64, held: &Session, receipt: &Receipt) -> bool
-    requires { (number : ℕ) (k : Kept) → get held.now.kept number ≡ Some k → IsInWindow held.now.floor number }
     ensures other { OnTrue result ((number : ℕ) × (k : Kept) × (get held.now.kept number ≡ Some k) × (k.place ≡ receipt.now.place) × (IsAsTold receipt.now session number k → ⊥)) }
     ensures none { OnFalse result ((number : ℕ) (k : Kept) → get held.now.kept number ≡ Some k → k.place ≡ receipt.now.place → IsAsTold receipt.now session number k) }
 {
-    let floor = held.floor();
-    for number in floor..floor + WINDOW {
-        if let Some(kept) = held.kept(number) {
-            if kept.place == receipt.place && !is_as_told(receipt, session, number, &kept) {
-                return true;
-            }
+    for (number, kept) in held.answers() {
+        if kept.place == receipt.place && !is_as_told(receipt, session, number, kept) {
+            return true;
         }
     }
     false

@@ -4,14 +4,13 @@ use crate::play::{Play, Replies, Script, Step};
 use crate::saying::{Say, put_said};
 use fe_disk::Hold;
 use fe_hall::{ReadEnd, WriteEnd};
+use fe_state::WINDOW;
 use fe_words::Op;
 use std::alloc::{AllocError, Global};
 use std::sync::Wait;
 
-/// The calls of a window, and how many replies a client gets that says one: one more is of the attach or the settling.
-const WINDOW: u64 = 32;
-
-const REPLIES: usize = 33;
+/// How many replies a client gets that says a window: one for each call, and one for the attach or the settling.
+const REPLIES: usize = WINDOW as usize + 1;
 
 /// How many words the windows are about.
 const WORDS: u64 = 16;

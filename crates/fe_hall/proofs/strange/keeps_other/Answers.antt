@@ -16,13 +16,6 @@ loop-k-init c = of_none c.args.state.now.sessions (AllAsTold c.args.receipt.now)
 pub unwrap-session-requires : goal.unwrap-session-requires
 unwrap-session-requires c = shown_there c.args.state.now.sessions c.loop-k.k c.session_entry.result c.session_entry.ensures (subst (λ n. c.loop-k.k < n) c.session_count-k-end.ensures c.loop-k-test.true)
 
-pub holds_other-requires : goal.holds_other-requires
-holds_other-requires c =
-    let sessions = c.args.state.now.sessions in
-    let e = shown_entry c.unwrap-session.result in
-    let entry = sym c.session_entry.ensures ∙ ap (option_map shown_entry) c.unwrap-session.ensures in
-    λ number k kept. ((c.requires.each e.0 e.1 (get-at nat_cmp_total nat_cmp-IsAntisymmetric sessions c.loop-k.k e entry)).kept number k kept).0
-
 pub returns-then-holds_other-clause-other : goal.returns-then-holds_other-clause-other
 returns-then-holds_other-clause-other c =
     let sessions = c.args.state.now.sessions in
