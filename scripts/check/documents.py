@@ -13,7 +13,7 @@ sys.path.insert(0, os.path.normpath(os.path.join(os.path.dirname(os.path.realpat
 
 from release import pages  # noqa: E402
 
-MOST_WORDS = {"README.md": 1500, "docs/proved.md": 5000, "docs/DECISIONS.md": 4000, "docs/model.md": 4700}
+MOST_WORDS = {"README.md": 1500, "docs/proved.md": 5000, "docs/DECISIONS.md": 4000, "docs/model.md": 4900}
 
 
 def listed(heading):
