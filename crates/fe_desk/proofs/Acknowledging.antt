@@ -1,4 +1,4 @@
--- At every point of a run, the mails in boxes and those that were written stand on the groups that were stored.
+-- At every point of a run, the mails in boxes and those that were written are on the groups that were stored.
 use Rattle.std.proofs.Common.{◌≡◌, inl, inr, ℕ, ◌+◌, ◌<◌, ◌≤◌, Bool, true, false, true≢false, List, [], ◌∷◌, ◌++◌, append-nil, append_assoc, length, Option, Some, None, refl, sym, ap, subst, ◌∙◌, arith}
 use Rattle.std.specs.Prelude.{nat_eq, is_some, if◌then◌else◌, ◌||◌, MatchBool, IfSome}
 use Rattle.std.specs.List.{AllByRecursion}
@@ -97,7 +97,7 @@ more_entries groups group rest = ap (λ (es : List Entry). es ++ rest) (sym (fla
 pub entries-append : (front groups : List (List Entry)) → entries_of (front ++ groups) ≡ entries_of front ++ entries_of groups
 entries-append front groups = flat_map-append (λ (g : List Entry). g) front groups
 
--- it stands where more groups come behind
+-- it stands where more groups come after
 pub stands_behind : (begun : ServerState) (groups more : List (List Entry)) (mine : List ℕ) (m : Mail) → StandsOn begun groups mine m → StandsOn begun (groups ++ more) mine m
 stands_behind begun groups more mine m is = by m is
   where
@@ -154,7 +154,7 @@ stored_holds begun asked s h = by s.handed h
 
 -- ---- it is posted
 
--- the mark behind a batch that is posted
+-- the mark after a batch that is posted
 mark_moves : (begun : ServerState) (groups : List (List Entry)) (f : FrontState) (batch : Batch) → IsLast begun groups f.durable batch → batch.first + length batch.entries ≡ begun.place + length (entries_of groups)
 mark_moves begun groups f batch last =
     let whole : length (entries_of groups) ≡ length (entries_of last.before) + length batch.entries =
@@ -301,7 +301,7 @@ gone_holds begun asked s conn h = by (is_making s conn)
 
 -- ---- messages are taken
 
--- what is kept of a state stands at a place before it
+-- what is kept of a state is at a place before it
 abbrev pub KeepsBelow : ServerState → Type 0
 KeepsBelow begun = (session number : ℕ) (k : Kept) → kept_of begun session number ≡ Some k → k.place < begun.place
 

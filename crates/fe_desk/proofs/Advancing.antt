@@ -115,7 +115,7 @@ module _ {D : Type 0} (honest : D → Type 0) (may_leave : D → List ℕ → Ty
       → IsDesk honest may_leave d → Advances honest moment left_since d d
   advances_itself only_now d desk = advances_as only_now d d desk (store_itself d)
 
-  -- calls behind calls
+  -- calls after calls
   pub advances_both : (a b c : DeskState D) → b.keeper.store.has_failed ≡ false → Advances honest moment left_since a b → Advances honest moment left_since b c → Advances honest moment left_since a c
   advances_both a b c works ab bc =
       record {

@@ -41,14 +41,14 @@ finished_at begun es before behind session number request answer place all is at
   replied = (answered-split begun before (Finished session number request answer ∷ behind) (subst (λ (xs : List Entry). AreAnswered begun xs) is all)).1.0;
 }
 
--- an entry stays where more come behind, or before
+-- an entry stays where more come after, or before
 pub among_more : (xs ys : List Entry) (e : Entry) → IsAmong xs e → IsAmong (xs ++ ys) e
 among_more xs ys e is = record { before = is.before; behind = is.behind ++ ys; entries = ap (λ (zs : List Entry). zs ++ ys) is.entries ∙ append_assoc is.before (e ∷ is.behind) ys }
 
 pub among_behind : (xs ys : List Entry) (e : Entry) → IsAmong ys e → IsAmong (xs ++ ys) e
 among_behind xs ys e is = record { before = xs ++ is.before; behind = is.behind; entries = ap (λ (zs : List Entry). xs ++ zs) is.entries ∙ sym (append_assoc xs is.before (e ∷ is.behind)) }
 
--- it still is where more entries come behind
+-- it still is where more entries come after
 pub finished_more : (begun : ServerState) (xs ys : List Entry) (session number : ℕ) (answer : Answer) (place : ℕ) → IsFinishedAt begun xs session number answer place
     → IsFinishedAt begun (xs ++ ys) session number answer place
 finished_more begun xs ys session number answer place is = record {
@@ -73,7 +73,7 @@ kept_stands begun groups rest session number k all limits kept below = elim (kep
       inr (finished_at begun front r.before behind session number k.request k.answer k.place (answered-split begun front rest all).0 is r.at)
 ]
 
--- the mails of entries of the groups, which stand in them behind others
+-- the mails of entries of the groups, which are in them after others
 pub posts_stand : (begun : ServerState) (asked : ℕ → List ℕ) (groups : List (List Entry)) (front es rest : List Entry) (place : ℕ) → AreAnswered begun (flat_map (λ (g : List Entry). g) groups)
     → flat_map (λ (g : List Entry). g) groups ≡ front ++ (es ++ rest) → place ≡ begun.place + length front → AllPosted asked (λ conn. StandsOn begun groups (asked conn)) es place
 posts_stand begun asked groups front [] rest place all is at = tt

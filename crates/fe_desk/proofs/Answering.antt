@@ -1,4 +1,4 @@
--- A desk's answers stand on the groups that are stored, whatever its steps answer.
+-- A desk's answers are on the groups that are stored, whatever its steps answer.
 use Rattle.std.proofs.Common.{◌≡◌, inl, inr, ℕ, Bool, true, false, true≢false, List, [], ◌∷◌, ◌++◌, length, take, take_all, Result, Ok, Err, refl, sym, ap, subst, ◌∙◌, arith}
 use Rattle.std.specs.Prelude.{if◌then◌else◌, MatchBool}
 use Rattle.std.specs.List.{AllByRecursion}

@@ -84,7 +84,7 @@ taken_is f conn m ms box =
 pub nothing_taken : (f : FrontState) (conn : ℕ) → mails_on f.connections conn ≡ [] → taken f conn ≡ f
 nothing_taken f conn box = ap (λ (xs : List Mail). if nat_lt 0 (length xs) then shorter f conn else f) box
 
--- where no mail stands in all boxes, each is empty
+-- where no mail is in all boxes, each is empty
 pub each_empty : (f : FrontState) → mails_in f.connections ≡ 0 → (conn : ℕ) → mails_on f.connections conn ≡ []
 each_empty f none conn = none_of (mails_on f.connections conn) (omega (arith, mails_in-remove f.connections conn, none))
   where
@@ -92,7 +92,7 @@ each_empty f none conn = none_of (mails_on f.connections conn) (omega (arith, ma
     none_of [] is = refl
     none_of (x ∷ xs) is = absurd (omega (arith, is))
 
--- the mails behind the first are left
+-- the mails after the first are left
 pub left_in : (f : FrontState) (conn : ℕ) (m : Mail) (ms : List Mail) → mails_on f.connections conn ≡ m ∷ ms → mails_on (taken f conn).connections conn ≡ ms
 left_in f conn m ms box =
     ap (λ (g : FrontState). mails_on g.connections conn) (taken_is f conn m ms box)

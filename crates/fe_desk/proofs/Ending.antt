@@ -53,7 +53,7 @@ pub short_owed : {D : Type 0} (fed : Bool) (x : Step) (a b : DeskState D) → fa
     → FindsNoMemory fed x a b
 short_owed fed x a b none owed writes keeper synced = inl (sym none, record { owed = owed; writes = writes; keeper = keeper; synced = synced })
 
--- or what the step does behind them
+-- or what the step does after them
 pub short_acts : {D : Type 0} (fed : Bool) (x : Step) (a mid b : DeskState D) → mid ≡ discharged_desk a → Lacks fed x mid b → FindsNoMemory fed x a b
 short_acts {D} fed x a mid b is lacks = inr (subst (λ (d : DeskState D). Lacks fed x d b) is lacks)
 

@@ -33,7 +33,7 @@ use Rattle.fe_desk.specs.Crash.{DeskState, IsFrom, Advances, disk_of}
 use Rattle.fe_desk.specs.Acknowledged.{cut_entries}
 use Rattle.fe_desk.specs.within.Desk.{IsHanded, IsAhead, IsDesk, unstored}
 
--- ---- entries behind entries
+-- ---- entries after entries
 
 pub legal_both : (s : ServerState) (xs ys : List Entry) → AreLegal s (xs ++ ys) → AreLegal s xs × AreLegal (after_all s xs) ys
 legal_both s [] ys legal = (tt, legal)
@@ -168,7 +168,7 @@ appends_working {D} store entries = by (must_begin store entries) (fits store en
 
 -- ---- what images stand for
 
--- the state after so many of the groups
+-- the state after this many of the groups
 pub leaves_at : (begun : ServerState) (groups : List (List Entry)) (k : ℕ) (image : List ℕ) (s : ServerState) → s ≡ after_groups begun (take k groups) → k ≤ length groups → StandsFor image s → LeavesPrefix begun groups k image
 leaves_at begun groups k image s is few stands = record {
   state = s;

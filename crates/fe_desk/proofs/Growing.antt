@@ -42,7 +42,7 @@ stores_then a b c ab same = stores_both a b c ab (stores_none b c same)
 pub stores_after : {D : Type 0} (a b c : DeskState D) → HasStore a b → StoresMore b c → StoresMore a c
 stores_after a b c same bc = stores_both a b c (stores_none a b same) bc
 
--- what a step does to the store, from before what does not touch it to behind that
+-- what a step does to the store, from before what does not touch it to after that
 pub checks_as : {D : Type 0} (x : Step) (a b c d : DeskState D) → HasStore a b → HasStore c d → Checks x b c → Checks x a d
 checks_as {D} x a b c d before behind checked = by x checked
   where

@@ -27,7 +27,7 @@ use Rattle.fe_desk.proofs.Seated.{Loses, HasOnly, has_lost, both_lose, times_los
 
 -- ---- what holds
 
--- what was written is the spelling of mails that stand on the groups, and so does that of a reply that waits
+-- what was written is the spelling of mails that are on the groups, and so does that of a reply that waits
 pub record TellsCall (begun : ServerState) (groups : List (List Entry)) (mine : List ℕ) (reply : Option ServerMessage) (written : List ℕ) : Type 0 where
   pub waits : IfSome reply (λ r. (m : Mail) × (r ≡ reply_of m) × StandsOn begun groups mine m)
   pub mails : List Mail

@@ -32,7 +32,7 @@ use Rattle.fe_desk.proofs.Reading.{on_client-twice, find-on_client, found-on_cli
 use Rattle.fe_desk.proofs.Growing.{stores_none, stores_both, stores_then}
 use Rattle.fe_desk.proofs.Advancing.{HasStore, store_itself, advances_then, advances_both, desk_as, fine_both, fine_as, advances_itself}
 
--- ---- entries behind entries
+-- ---- entries after entries
 
 legal-append : (s : ServerState) (xs ys : List Entry) → AreLegal s xs → AreLegal (after_all s xs) ys → AreLegal s (xs ++ ys)
 legal-append s [] ys h k = k
@@ -227,7 +227,7 @@ clients_then conn s a u clients taken =
 pub rest_then : (conn : ℕ) (s a u : Standing) → u.clients ≡ a.clients → IsTaken conn s a → EndsWith (left_of s conn) (left_of u conn)
 rest_then conn s a u clients taken = subst (λ (cs : List Client). EndsWith (left_of s conn) (left_among (find conn cs))) (sym clients) taken.rest
 
--- ---- what is told of the disk
+-- ---- what is reported of the disk
 
 pub tells_after : {D : Type 0} (failures : D → ℕ) (a b c : DeskState D) (fault : Fault) → IsFine failures a b → TellsCall failures b c fault → TellsCall failures a c fault
 tells_after failures a b c keeper.Device fine tells = record { failed = tells.failed; rises = subst (λ (n : ℕ). Rises n (failures (disk_of c))) fine.still tells.rises }
@@ -243,7 +243,7 @@ told_on r q told fault other is same was asked = let there : fault ≡ other = c
 
 -- ---- the loop
 
--- messages of the connection whose client stands there were taken as far as to a desk
+-- messages of the connection whose client is there were taken as far as to a desk
 pub record Going {D : Type 0} (honest : D → Type 0) (may_leave : D → List ℕ → Type 0) (moment : D → ℕ) (left_since : D → ℕ → List ℕ → Type 0) (failures : D → ℕ) (conn at : ℕ) (old new : DeskState D) : Type 0 where
   pub desk : IsDesk honest may_leave new
   pub place : IsFirstAt new.standing.clients conn at

@@ -1,4 +1,4 @@
--- Lives of a store, one after the other: what each stop kept and what comes behind the last are one history.
+-- Lives of a store, one after the other: what each stop kept and what comes after the last are one history.
 use Rattle.std.proofs.Common.{◌≡◌, List, [], ◌∷◌, ◌++◌, take, drop, sym, ap, ◌∙◌, subst, refl, append_assoc}
 use Rattle.std.proofs.lemmas.List.{take-append-drop}
 use Rattle.fe_state.specs.State.{ServerState, after_all}

@@ -75,7 +75,7 @@ begun_twice s conn = by (is_making s conn) refl
 room_by : (s : Standing) (b : Bool) → has_room s.front ≡ b → with_room s ≡ (if b then s else made (committed (cleared s)))
 room_by s b is = ap (λ (c : Bool). if c then s else made (committed (cleared s))) is
 
--- for want of memory nothing was done, or what was done is gone on with
+-- because memory is short nothing was done, or what was done is gone on with
 pub roomy_later : (s mid t : Standing) (conn : ℕ) → mid ≡ begun_room s conn → IsHanded mid.handed mid.front.out → has_room mid.front ≡ false
     → (t ≡ mid) ⊎ (begun_room t conn ≡ made (committed (cleared mid))) → roomy t conn ≡ roomy s conn
 roomy_later s mid t conn begun handed none (inl is) = ap (λ (u : Standing). roomy u conn) (is ∙ begun) ∙ ap with_room (begun_twice s conn)

@@ -44,7 +44,7 @@ legal_answered s (e ∷ es) legal = (legal.0.answered, legal_answered (after s e
 history_answered : (s : ServerState) (groups : List (List Entry)) → IsHistory s groups → AreAnswered s (entries_of groups)
 history_answered s groups history = legal_answered s (entries_of groups) (legal-flat s groups history)
 
--- at least so many of a list and another begin with the first
+-- at least this many of a list and another begin with the first
 take_past : (xs ys : List (List Entry)) (k : ℕ) → length xs ≤ k → (more : List (List Entry)) × (take k (xs ++ ys) ≡ xs ++ more)
 take_past [] ys k le = (take k ys, refl)
 take_past (x ∷ xs) ys zero le = absurd (omega (arith, le))
@@ -56,7 +56,7 @@ take_within m xs ys k few le =
     let r = take_past (take m xs) (drop m xs ++ ys) k (omega (arith, length-take-le m xs few, le)) in
     (r.0, ap (λ (zs : List (List Entry)). take k zs) (ap (λ (zs : List (List Entry)). zs ++ ys) (sym (take-append-drop m xs)) ∙ append_assoc (take m xs) (drop m xs) ys) ∙ r.1)
 
--- ---- what stands, behind more groups
+-- ---- what stands, after more groups
 
 -- what is kept after groups is kept at a place before
 below_after : (begun : ServerState) (groups : List (List Entry)) → KeepsBelow begun → KeepsBelow (after_groups begun groups)
@@ -68,7 +68,7 @@ below_after begun groups below session number k kept =
     ]
 
 module _ (begun : ServerState) (below : KeepsBelow begun) (front : List (List Entry)) (all : AreAnswered begun (entries_of front)) where
-  -- an entry after the front is one behind it
+  -- an entry after the front is one after it
   finished_behind : (groups : List (List Entry)) (session number : ℕ) (answer : Answer) (place : ℕ) → IsFinishedAt (after_groups begun front) (entries_of groups) session number answer place
       → IsFinishedAt begun (entries_of (front ++ groups)) session number answer place
   finished_behind groups session number answer place is =

@@ -1,5 +1,5 @@
 -- What a message of a connection leaves of a front, whether its entries are legal or not: they are answered, lead to the state
--- now, and are pending behind the others; and its mails stand on the groups that were stored.
+-- now, and are pending after the others; and its mails are on the groups that were stored.
 use Rattle.std.proofs.Common.{◌≡◌, ◌⊎◌, inl, inr, ℕ, ◌<◌, Bool, true, false, List, [], ◌∷◌, ◌++◌, append-nil, Option, Some, None, refl, sym, ap, subst, ◌∙◌}
 use Rattle.std.specs.Prelude.{nat_lt, if◌then◌else◌, Contains}
 use Rattle.std.specs.Option.{option_map_or}
@@ -31,7 +31,7 @@ use Rattle.fe_desk.proofs.Answered.{turns_answered}
 use Rattle.fe_desk.proofs.Seated.{HasOnly, addressed_has}
 use Rattle.fe_desk.proofs.Boxes.{AllIn, boxes-mailed, boxes-attached}
 
--- entries were made: they are answered, lead to the state now, and are pending behind the others
+-- entries were made: they are answered, lead to the state now, and are pending after the others
 pub record Makes (f : FrontState) (es : List Entry) (g : FrontState) : Type 0 where
   pub answered : AreAnswered f.service.state es
   pub state : g.service.state ≡ after_all f.service.state es
@@ -172,7 +172,7 @@ module _ (begun : ServerState) (groups : List (List Entry)) (asked : ℕ → Lis
   abbrev pub StandsTo : ℕ → Mail → Type 0
   StandsTo conn m = StandsOn begun groups (asked conn) m
 
-  -- each mail in a box stands on the groups
+  -- each mail in a box is on the groups
   abbrev Stand : FrontState → Type 0
   Stand f = AllIn StandsTo f.connections
 

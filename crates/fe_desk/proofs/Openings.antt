@@ -44,7 +44,7 @@ none_connected : (begun : ServerState) (f : FrontState) (conn : ℕ) → IsFirst
 none_connected begun f conn first is =
     true≢false (sym is ∙ ap (λ (m : FinMap nat_cmp Connection). is_some (get m conn)) first.connections ∙ ap (λ (o : Option Connection). is_some o) (get-empty nat_cmp conn))
 
--- want of memory is no fault of the store
+-- lack of memory is no fault of the store
 none_both : (fault : DeskFault) {cause : Fault} → fault ≡ NoMemory false → fault ≡ Store cause → ⊥
 none_both fault {cause} short is = cc
 
@@ -86,7 +86,7 @@ module _ {D : Type 0} (r : Result (DeskState D) (DeskFault × D)) (k : KeeperSta
       by (Ok d) same none = ap (λ (x : KeeperState D). x.store.disk) same
       by (Err e) none same = same
 
-  -- what is told is want of memory, and no call of the device failed
+  -- what is told is lack of memory, and no call of the device failed
   pub device_told : (failures : D → ℕ) (before : ℕ) → (Rises before (failures k.store.disk) → ⊥) → IfErr r (λ e. e.0 ≡ NoMemory false) → IfErr r (λ e. e.1 ≡ k.store.disk)
       → IfErr r (λ e. (e.0 ≡ Store keeper.Device) ↔ Rises before (failures e.1))
   device_told failures before calm = by r
@@ -113,7 +113,7 @@ written_as (p ∷ ps) = let here : ℕ × List ℕ = (p.conn, p.written) in ap (
 pub is_trace : {D : Type 0} (p : Parts D) → IsTraceOf p.trace (standing_of p) p.trace.synced
 is_trace p = record { groups = refl; written = written_as p.trace.ports.items; synced_is = refl }
 
--- ---- what is told of a store
+-- ---- what is reported of a store
 
 pub tells_opening : (image : List ℕ) (fault : Fault) → store.TellsStore fault image → TellsOpening (told_as fault false) image
 tells_opening image keeper.Device tells = tells

@@ -221,7 +221,7 @@ gone_already s conn off unmaking none =
 
 -- ---- pieces
 
--- a piece behind another
+-- a piece after another
 pub reads_both : (a b c : Decoding) (piece : List ℕ) (more others : List ClientMessage) → Reads a b piece more → Reads b c [] others → Reads a c piece (more ++ others)
 reads_both a b c piece more others one two =
     record {
@@ -234,7 +234,7 @@ reads_both a b c piece more others one two =
         subst (λ (ms : List ClientMessage). HasReadFrom start c (before ++ piece) ms) (append_assoc earlier more others)
         (subst (λ (bytes : List ℕ). HasReadFrom start c bytes ((earlier ++ more) ++ others)) (append-nil (before ++ piece)) h)
 
--- where the messages that were left go on later, the piece is taken behind them
+-- where the messages that were left go on later, the piece is taken after them
 pub first_again : (s u : Standing) (conn : ℕ) (ms ns : List ClientMessage) (d : Decoding) (piece : List ℕ) (t : Standing)
     → ((v : Standing) → TakesAll (with_left u conn []) conn ns v → TakesAll (with_left s conn []) conn ms v) → TakesFrom u conn ns d piece t → TakesFrom s conn ms d piece t
 first_again s u conn ms ns d piece t again h = record { mid = h.mid; leftovers = again h.mid h.leftovers; reading = h.reading }

@@ -22,7 +22,7 @@ pub steps_more : {D : Type 0} (failures : D → ℕ) (d e f : DeskState D) (give
 steps_more {D} failures d e f [] x are is = (f, subst (λ (y : DeskState D). IsStep failures y x.0 x.1 f) are is, refl)
 steps_more failures d e f (y ∷ ys) x are is = (are.0, are.1, steps_more failures are.0 e f ys x are.2 is)
 
--- the step at a place, behind those before it
+-- the step at a place, after those before it
 pub steps_next : {D : Type 0} (failures : D → ℕ) (d e f : DeskState D) (steps : List Step) (k : ℕ) (step : Step) (r : Result (Unit {0}) DeskFault) → r ≡ Ok tt → k < length steps → step ≡ get_or steps k step
     → AreSteps failures d (whole (take k steps)) e → IsStep failures e step r f → AreSteps failures d (whole (take (k + 1) steps)) f
 steps_next {D} failures d e f steps k step r ok lt is are taken =

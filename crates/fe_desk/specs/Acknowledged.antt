@@ -1,4 +1,4 @@
--- What the answers that go out stand on, whatever the steps of a desk answer.
+-- What the answers that go out are on, whatever the steps of a desk answer.
 use Rattle.std.specs.Prelude.{◌≡◌, ◌⊎◌, ℕ, ◌+◌, ◌<◌, true, false, List, [], ◌∷◌, ◌++◌, length, take, is_some, Some, IfSome, Contains, Result}
 use Rattle.std.specs.List.{flat_map, AllByRecursion}
 use Rattle.std.specs.FinMap.{get}
@@ -67,7 +67,7 @@ StandsOn begun groups asked (mail.Settled floor) = (session : ℕ) × Contains a
 StandsOn begun groups asked (mail.Goodbye session) = Contains asked session × IsAmong (entries_of groups) (Closed session)
 StandsOn begun groups asked (mail.Report text) = Unit {0}
 
--- What was written to a client is the spelling of mails, and a reply that waits is that of one; each of them stands on the groups.
+-- What was written to a client is the spelling of mails, and a reply that waits is that of one; each of them is on the groups.
 pub record IsWritten (begun : ServerState) (groups : List (List Entry)) (asked : ℕ → List ℕ) (c : Client) : Type 0 where
   pub mails : List Mail
   pub stand : AllByRecursion (StandsOn begun groups (asked c.conn)) mails
@@ -78,7 +78,7 @@ pub record IsWritten (begun : ServerState) (groups : List (List Entry)) (asked :
 abbrev pub stored_groups : {D : Type 0} → DeskState D → List (List Entry)
 stored_groups d = take d.synced d.standing.groups
 
--- Every mail that lies in a box stands on the groups that are stored, and so does all that was written, each for a session that
+-- Every mail that lies in a box is on the groups that are stored, and so does all that was written, each for a session that
 -- the connection's number asked for.
 pub record AnswersStand {D : Type 0} (begun : ServerState) (asked : ℕ → List ℕ) (d : DeskState D) : Type 0 where
   pub boxed : (conn : ℕ) → AllByRecursion (StandsOn begun (stored_groups d) (asked conn)) (mails_on d.standing.front.connections conn)
@@ -125,13 +125,13 @@ pub record IsLast (begun : ServerState) (groups : List (List Entry)) (durable : 
   pub first : batch.first ≡ durable
   pub mark : durable ≡ begun.place + length (entries_of before)
 
--- the mark stands behind the groups that were posted; a batch is out where one is on its way
+-- the mark comes after the groups that were posted; a batch is out where one is on its way
 abbrev pub IsOnItsWay : ServerState → List (List Entry) → FrontState → Handed → Type 0
 IsOnItsWay begun groups f Nothing = f.durable ≡ begun.place + length (entries_of groups)
 IsOnItsWay begun groups f (Cut batch) = (f.durable ≡ begun.place + length (entries_of groups)) × (is_some f.out ≡ true) × (batch.first ≡ f.durable)
 IsOnItsWay begun groups f (Stored batch) = IsLast begun groups f.durable batch × (is_some f.out ≡ true)
 
--- A desk over a state that was opened, whatever its steps answered. Each answer stands on the groups that are stored. And it stays
+-- A desk over a state that was opened, whatever its steps answered. Each answer is on the groups that are stored. And it stays
 -- so: a connection has only sessions that its number asked for, the front is ahead of the groups by what was made since, each entry of it was answered as the table says, and only what is
 -- stored is posted.
 pub record IsAcknowledged {D : Type 0} (begun : ServerState) (asked : ℕ → List ℕ) (d : DeskState D) : Type 0 where

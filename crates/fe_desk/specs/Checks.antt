@@ -25,7 +25,7 @@ abbrev pub AreAppended : {D : Type 0} → KeeperState D → List (List Entry) �
 AreAppended old [] new = new ≡ old
 AreAppended {D} old (group ∷ groups) new = (mid : KeeperState D) × IsAppended old group mid × AreAppended mid groups new
 
--- the groups that came behind the others were appended, and nothing else was done
+-- the groups that came after the others were appended, and nothing else was done
 pub record StoresMore {D : Type 0} (old new : DeskState D) : Type 0 where
   pub more : List (List Entry)
   pub groups : new.standing.groups ≡ old.standing.groups ++ more

@@ -32,7 +32,7 @@ pub record IsFrom {D : Type 0} (begun : ServerState) (d : DeskState D) : Type 0 
   pub history : IsHistory begun d.standing.groups
   pub replica : d.keeper.state ≡ after_groups begun (take d.synced d.standing.groups)
 
--- Calls go on with the store: the groups get more behind them, no fewer are stored, and at every moment each image that a
+-- Calls go on with the store: the groups get more after them, no fewer are stored, and at every moment each image that a
 -- stop leaves stands for a prefix of the history, which holds all groups that were stored before.
 pub record Advances {D : Type 0} (honest : D → Type 0) (moment : D → ℕ) (left_since : D → ℕ → List ℕ → Type 0) (old new : DeskState D) : Type 0 where
   pub more : List (List Entry)

@@ -24,7 +24,7 @@ abbrev pub discharged_desk : {D : Type 0} → DeskState D → DeskState D
 discharged_desk d = record d { standing = discharged d.standing }
 
 -- What a step found no memory for, where no mails are owed. A connection came, a batch is at hand, or a checkpoint could
--- begin, and nothing was done. Or of a connection's messages the first were taken, before its piece was read or behind it
+-- begin, and nothing was done. Or of a connection's messages the first were taken, before its piece was read or after it
 -- (`fed`), and what that stored is all that was done to the store. Other steps take no memory.
 abbrev pub Lacks : {D : Type 0} → Bool → Step → DeskState D → DeskState D → Type 0
 Lacks false (step.Connect conn) old new = (is_connected old.standing.front conn ≡ false) × (new ≡ old)
@@ -35,7 +35,7 @@ Lacks false step.Append old new = HasCut old.standing × (new ≡ old)
 Lacks false step.CheckBegin old new = IsTrue (can_begin old.keeper.store) × (new ≡ old)
 Lacks fed other old new = ⊥
 
--- a step found no memory: for mails that were owed, or for what it does behind them
+-- a step found no memory: for mails that were owed, or for what it does after them
 abbrev pub FindsNoMemory : {D : Type 0} → Bool → Step → DeskState D → DeskState D → Type 0
 FindsNoMemory fed step old new = ((fed ≡ false) × StillOwes old new) ⊎ Lacks fed step (discharged_desk old) new
 

@@ -22,7 +22,7 @@ abbrev pub kept_groups : List Life → List (List Entry)
 kept_groups [] = []
 kept_groups (life ∷ lives) = take life.kept life.groups ++ kept_groups lives
 
--- The groups that each stop kept and those that come behind the last are one history, which leads to the same state.
+-- The groups that each stop kept and those that come after the last are one history, which leads to the same state.
 pub record AreOne (begun : ServerState) (lives : List Life) (s : ServerState) (next : List (List Entry)) : Type 0 where
   pub history : IsHistory begun (kept_groups lives ++ next)
   pub leads : after_groups begun (kept_groups lives ++ next) ≡ after_groups s next

@@ -61,12 +61,12 @@ FinishOnceIn groups = (before between behind : List Entry) (session number : ℕ
     → flat_map (λ group. group) groups ≡ before ++ Finished session number first one ∷ between ++ Finished session number second other ∷ behind
     → Contains between (Closed session)
 
--- All that was written in a life stands on the groups.
+-- All that was written in a life is on the groups.
 abbrev pub WrittenStand : ServerState → List (List Entry) → (ℕ → List ℕ) → Standing → Type 0
 WrittenStand begun groups asked s = AllByRecursion (IsWritten begun groups asked) s.clients
 
 -- The groups that the stops kept are one history, with any that goes on from the last image; in it a number takes effect once
--- while its session is kept; and each answer that was written in any life, or is in one that goes on, stands on it.
+-- while its session is kept; and each answer that was written in any life, or is in one that goes on, is on it.
 pub record AreOneStore {D : Type 0} (begun : ServerState) (stops : List (Stop D)) (s : ServerState) : Type 0 where
   pub lives : List Life
   pub same : map handed_by lives ≡ map stored_by stops

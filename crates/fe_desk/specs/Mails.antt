@@ -4,7 +4,7 @@ use Rattle.fe_mail.specs.Connections.{mails_on}
 use Rattle.fe_front.specs.Front.{FrontState}
 use Rattle.fe_front.specs.Steps.{taken}
 
--- the front after so many mails of a connection were taken
+-- the front after this many mails of a connection were taken
 abbrev pub taken_times : ℕ → FrontState → ℕ → FrontState
 taken_times zero f conn = f
 taken_times (suc n) f conn = taken_times n (taken f conn) conn

@@ -50,7 +50,7 @@ EndsWith all last = (first : List ClientMessage) × (all ≡ first ++ last)
 abbrev pub ReadsNone : Standing → Standing → Type 0
 ReadsNone s t = (conn : ℕ) → read_by t conn ≡ read_by s conn
 
--- The piece of a connection was read behind what was read before, and nothing of another one. Of the messages that it
+-- The piece of a connection was read after what was read before, and nothing of another one. Of the messages that it
 -- completes the first were taken, and the others, one at least, are left.
 pub record ReadsPiece (s : Standing) (conn : ℕ) (piece : List ℕ) (t : Standing) : Type 0 where
   pub before : Decoding

@@ -6,7 +6,7 @@ use Rattle.fe_desk.specs.Standing.{Client}
 abbrev pub output_of : Client → ℕ × List ℕ
 output_of c = (c.conn, c.written)
 
--- What was written to each connection number goes on with more or nothing, and numbers that came since stand behind.
+-- What was written to each connection number goes on with more or nothing, and numbers that came since come after.
 abbrev pub Extends : List (ℕ × List ℕ) → List (ℕ × List ℕ) → Type 0
 Extends [] new = Unit {0}
 Extends (x ∷ xs) [] = ⊥

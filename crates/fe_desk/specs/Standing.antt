@@ -16,7 +16,7 @@ use Rattle.fe_messages.specs.Mails.{spelled}
 use Rattle.fe_desk.specs.Mails.{emptied_box}
 
 -- A connection number as the desk knows it: what it has read of the stream, the messages that came whole and were not
--- taken, for want of memory, the reply of a mail that was taken out of its box and is not written, and what was written to it.
+-- taken, because memory is short, the reply of a mail that was taken out of its box and is not written, and what was written to it.
 pub record Client : Type 0 where
   pub conn : ℕ
   pub decoder : Decoding
@@ -50,7 +50,7 @@ pub record IsFirstStanding (begun : ServerState) (s : Standing) : Type 0 where
 abbrev pub unwritten : FrontState → Client → List ℕ
 unwritten f c = option_map_or reply_spelling c.reply [] ++ spelled (mails_on f.connections c.conn)
 
--- a client is written all its mails, in their order, behind what was written to it
+-- a client is written all its mails, in their order, after what was written to it
 abbrev pub told : FrontState → Client → Client
 told f c = record c { reply = None; written = c.written ++ unwritten f c }
 

@@ -39,7 +39,7 @@ pub record BeginsStream (d : Decoding) : Type 0 where
 abbrev pub new_client : ℕ → Decoding → Client
 new_client conn d = record { conn = conn; decoder = d; left = []; reply = None; written = [] }
 
--- the clients after a connection came: what is written goes on behind what was written to its number before
+-- the clients after a connection came: what is written goes on after what was written to its number before
 abbrev pub clients_with : List Client → ℕ → Decoding → List Client
 clients_with cs conn d =
     if is_some (find conn cs) then on_client conn (λ c. record c { decoder = d; left = [] }) cs else cs ++ new_client conn d ∷ []
@@ -60,7 +60,7 @@ gone s conn = record (with_left (unmade s conn) conn []) { front = front.dropped
 
 -- ---- bytes of a connection
 
--- The piece is read behind what was read before, and completes these messages.
+-- The piece is read after what was read before, and completes these messages.
 pub record Reads (old new : Decoding) (piece : List ℕ) (more : List ClientMessage) : Type 0 where
   pub version : new.version ≡ old.version
   pub reads : (start : ℕ) (before : List ℕ) (earlier : List ClientMessage) → HasReadFrom start old before earlier

@@ -29,7 +29,7 @@ abbrev pub StopsMaking : Standing → ℕ → Standing → Type 0
 StopsMaking s conn t = ((is_making s conn ≡ true) × (t ≡ s)) ⊎ ((has_room s.front ≡ false) × MayBegin (begun_room s conn) conn t)
 
 -- The first of a connection's messages are taken. The next has no room, for want of the batch at hand: it did nothing, and it
--- and those behind it are left.
+-- and those after it are left.
 pub record TakesFirst (s : Standing) (conn : ℕ) (messages : List ClientMessage) (t : Standing) : Type 0 where
   pub taken : List ClientMessage
   pub next : ClientMessage

@@ -32,21 +32,34 @@ impl<D: Disk> Parts<D> {
         ensures desk { IsDesk D.honest D.may_leave (desk_of self.new) }
         ensures stepped { OnOk result (DeskStep (standing_of self.old) step.now (standing_of self.new)) }
         ensures checked { OnOk result (Checks step.now (desk_of self.old) (desk_of self.new)) }
-        ensures again { (fed : Bool) (next : Steps) (t : Standing) → IsErrOf result (fault.NoMemory fed) → IsAgain fed step.now next
+        ensures again { (fed : Bool) (next : Steps) (t : Standing) → IsErrOf result (fault.NoMemory fed)
+            → IsAgain fed step.now next
             → DeskStep (standing_of self.new) next t → DeskStep (standing_of self.old) step.now t }
-        ensures fed { (fed : Bool) → IsErrOf result (fault.NoMemory fed) → TellsFed fed (standing_of self.old) step.now (standing_of self.new) }
-        ensures unwritten { IsErrOf result fault.Unwritten → DeskStep (standing_of self.old) step.now (discharged (standing_of self.new)) × (self.new.owes ≡ true) × Checks step.now (desk_of self.old) (desk_of self.new) }
+        ensures fed { (fed : Bool) → IsErrOf result (fault.NoMemory fed)
+            → TellsFed fed (standing_of self.old) step.now (standing_of self.new) }
+        ensures unwritten { IsErrOf result fault.Unwritten
+            → DeskStep (standing_of self.old) step.now (discharged (standing_of self.new)) × (self.new.owes ≡ true)
+            × Checks step.now (desk_of self.old) (desk_of self.new) }
         ensures quiet { OnOk result (HasNoMail (standing_of self.new)) }
         ensures advances { Advances D.honest D.moment D.left_since (desk_of self.old) (desk_of self.new) }
-        ensures failed { self.old.keeper.store.has_failed ≡ true → (result ≡ Err (fault.Store keeper.Failed)) × (desk_of self.new ≡ desk_of self.old) }
-        ensures fine { self.old.keeper.store.has_failed ≡ false → OnOk result (IsFine D.failures (desk_of self.old) (desk_of self.new)) }
-        ensures fault { self.old.keeper.store.has_failed ≡ false → IfErr result (TellsStep D.failures (desk_of self.old) (desk_of self.new)) }
-        ensures silent { IsErrOf result (fault.Store keeper.Device) → outputs (standing_of self.new) ≡ outputs (discharged (standing_of self.old)) }
-        ensures output { (fed : Bool) → IsErrOf result (fault.NoMemory fed) → self.old.owes ≡ false → outputs (standing_of self.new) ≡ outputs (standing_of self.old) }
+        ensures failed { self.old.keeper.store.has_failed ≡ true
+            → (result ≡ Err (fault.Store keeper.Failed)) × (desk_of self.new ≡ desk_of self.old) }
+        ensures fine { self.old.keeper.store.has_failed ≡ false
+            → OnOk result (IsFine D.failures (desk_of self.old) (desk_of self.new)) }
+        ensures fault { self.old.keeper.store.has_failed ≡ false
+            → IfErr result (TellsStep D.failures (desk_of self.old) (desk_of self.new)) }
+        ensures silent { IsErrOf result (fault.Store keeper.Device)
+            → outputs (standing_of self.new) ≡ outputs (discharged (standing_of self.old)) }
+        ensures output { (fed : Bool) → IsErrOf result (fault.NoMemory fed) → self.old.owes ≡ false
+            → outputs (standing_of self.new) ≡ outputs (standing_of self.old) }
         ensures extends { Extends (outputs (standing_of self.old)) (outputs (standing_of self.new)) }
-        ensures short { (fed : Bool) → IsErrOf result (fault.NoMemory fed) → FindsNoMemory fed step.now (desk_of self.old) (desk_of self.new) }
-        ensures breaks { IsErrOf result (fault.Store keeper.Device) → Breaks step.now (discharged_desk (desk_of self.old)) (desk_of self.new) }
-        ensures owing { IsErrOf result fault.Unwritten → (last : Standing) × Acts (discharged (standing_of self.old)) step.now last × WritesSome last (standing_of self.new) }
+        ensures short { (fed : Bool) → IsErrOf result (fault.NoMemory fed)
+            → FindsNoMemory fed step.now (desk_of self.old) (desk_of self.new) }
+        ensures breaks { IsErrOf result (fault.Store keeper.Device)
+            → Breaks step.now (discharged_desk (desk_of self.old)) (desk_of self.new) }
+        ensures owing { IsErrOf result fault.Unwritten
+            → (last : Standing) × Acts (discharged (standing_of self.old)) step.now last
+            × WritesSome last (standing_of self.new) }
     {
         if self.keeper.has_failed() {
             return Err(DeskFault::Store(Fault::Failed));
@@ -86,7 +99,8 @@ impl<D: Disk> Parts<D> {
         requires still { still ≡ true → HasNoMail (standing_of self.old) }
         ensures desk { IsDesk D.honest D.may_leave (desk_of self.new) }
         ensures emptied { OnOk result (standing_of self.new ≡ emptied (standing_of self.old)) }
-        ensures later { OnErr result ((emptied (standing_of self.new) ≡ emptied (standing_of self.old)) × (self.new.owes ≡ true)) }
+        ensures later { OnErr result ((emptied (standing_of self.new) ≡ emptied (standing_of self.old))
+                × (self.new.owes ≡ true)) }
         ensures quiet { OnOk result (HasNoMail (standing_of self.new)) }
         ensures keeper { self.new.keeper ≡ self.old.keeper }
         ensures synced { self.new.trace.synced ≡ self.old.trace.synced }
@@ -105,7 +119,8 @@ impl<D: Disk> Parts<D> {
         requires desk { IsDesk D.honest D.may_leave (desk_of self.old) }
         ensures desk { IsDesk D.honest D.may_leave (desk_of self.new) }
         ensures emptied { OnOk result (standing_of self.new ≡ emptied (standing_of self.old)) }
-        ensures later { OnErr result ((emptied (standing_of self.new) ≡ emptied (standing_of self.old)) × (self.new.owes ≡ true)) }
+        ensures later { OnErr result ((emptied (standing_of self.new) ≡ emptied (standing_of self.old))
+                × (self.new.owes ≡ true)) }
         ensures quiet { OnOk result (HasNoMail (standing_of self.new)) }
         ensures keeper { self.new.keeper ≡ self.old.keeper }
         ensures synced { self.new.trace.synced ≡ self.old.trace.synced }
@@ -125,17 +140,21 @@ impl<D: Disk> Parts<D> {
         ensures desk { IsDesk D.honest D.may_leave (desk_of self.new) }
         ensures acts { OnOk result (Acts (standing_of self.old) step.now (standing_of self.new)) }
         ensures checked { OnOk result (Checks step.now (desk_of self.old) (desk_of self.new)) }
-        ensures again { (fed : Bool) (next : Steps) (t : Standing) → IsErrOf result (fault.NoMemory fed) → IsAgain fed step.now next
+        ensures again { (fed : Bool) (next : Steps) (t : Standing) → IsErrOf result (fault.NoMemory fed)
+            → IsAgain fed step.now next
             → Acts (standing_of self.new) next t → Acts (standing_of self.old) step.now t }
-        ensures fed { (fed : Bool) → IsErrOf result (fault.NoMemory fed) → TellsFed fed (standing_of self.old) step.now (standing_of self.new) }
+        ensures fed { (fed : Bool) → IsErrOf result (fault.NoMemory fed)
+            → TellsFed fed (standing_of self.old) step.now (standing_of self.new) }
         ensures owes { self.new.owes ≡ self.old.owes }
         ensures outputs { OnErr result (outputs (standing_of self.new) ≡ outputs (standing_of self.old)) }
         ensures advances { Advances D.honest D.moment D.left_since (desk_of self.old) (desk_of self.new) }
         ensures fine { OnOk result (IsFine D.failures (desk_of self.old) (desk_of self.new)) }
         ensures fault { IfErr result (TellsStep D.failures (desk_of self.old) (desk_of self.new)) }
         ensures written { OnErr result (IsErrOf result fault.Unwritten → ⊥) }
-        ensures lacks { (fed : Bool) → IsErrOf result (fault.NoMemory fed) → Lacks fed step.now (desk_of self.old) (desk_of self.new) }
-        ensures breaks { IsErrOf result (fault.Store keeper.Device) → Breaks step.now (desk_of self.old) (desk_of self.new) }
+        ensures lacks { (fed : Bool) → IsErrOf result (fault.NoMemory fed)
+            → Lacks fed step.now (desk_of self.old) (desk_of self.new) }
+        ensures breaks { IsErrOf result (fault.Store keeper.Device)
+            → Breaks step.now (desk_of self.old) (desk_of self.new) }
     {
         match step {
             Step::Connect { conn } => self

@@ -50,7 +50,8 @@ impl<D: Disk> Model for Desk<D> {
 
     ghost view = { λ d. desk_of d.parts };
 
-    ghost invariant = { λ d. IsDesk D.honest D.may_leave (desk_of d.parts) × (d.quiet ≡ true → HasNoMail (standing_of d.parts)) };
+    ghost invariant = { λ d. IsDesk D.honest D.may_leave (desk_of d.parts)
+        × (d.quiet ≡ true → HasNoMail (standing_of d.parts)) };
 }
 
 impl<D: Disk> Desk<D> {
@@ -90,14 +91,16 @@ impl<D: Disk> Desk<D> {
         // Of a crash: the groups are a history from the state that was opened. A stop at any moment leaves a prefix of it, with
         // all groups that were stored before.
         ensures advances { Advances D.honest D.moment D.left_since self.old self.new }
-        ensures stands { D.honest (disk_of self.new) → (begun : ServerState) → IsFrom begun self.new → (image : List ℕ) → D.may_leave (disk_of self.new) image
+        ensures stands { D.honest (disk_of self.new) → (begun : ServerState) → IsFrom begun self.new → (image : List ℕ)
+            → D.may_leave (disk_of self.new) image
             → LeavesPrefix begun self.new.standing.groups self.new.synced image }
         ensures few { self.new.synced ≤ length self.new.standing.groups }
         ensures synced { self.new.keeper.store.has_failed ≡ false → self.new.synced ≡ length self.new.standing.groups }
 
         // Of answers, whatever the step answers: each mail is that of an entry that is stored, of a session that its connection
         // asked for.
-        ensures acknowledged { (begun : ServerState) (asked : ℕ → List ℕ) → IsWithinLimits begun → StepAsksFor asked self.old step.now
+        ensures acknowledged { (begun : ServerState) (asked : ℕ → List ℕ) → IsWithinLimits begun
+            → StepAsksFor asked self.old step.now
             → IsAcknowledged begun asked self.old → IsAcknowledged begun asked self.new }
     {
         let still = self.quiet && step.mails_nothing();
@@ -125,7 +128,8 @@ impl<D: Disk> Desk<D> {
         ensures trace { IsTraceOf result.0 self.standing self.synced }
         ensures disk { result.1 ≡ disk_of self }
         ensures size { D.size result.1 ≡ device_bytes }
-        ensures stands { D.honest (disk_of self) → (begun : ServerState) → IsFrom begun self → (image : List ℕ) → D.may_leave (disk_of self) image
+        ensures stands { D.honest (disk_of self) → (begun : ServerState) → IsFrom begun self → (image : List ℕ)
+            → D.may_leave (disk_of self) image
             → LeavesPrefix begun self.standing.groups self.synced image }
     {
         let Desk { parts, quiet: _ } = self;

@@ -30,9 +30,12 @@ impl<D: Disk> Parts<D> {
         requires desk { IsDesk D.honest D.may_leave (desk_of self.old) }
         requires works { self.old.keeper.store.has_failed ≡ false }
         ensures desk { IsDesk D.honest D.may_leave (desk_of self.new) }
-        ensures taken { OnOk result (TakesBytes (standing_of self.old) (find conn (standing_of self.old).clients) piece.now (standing_of self.new)) }
+        ensures taken { OnOk result
+            (TakesBytes (standing_of self.old) (find conn (standing_of self.old).clients) piece.now
+                (standing_of self.new)) }
         ensures again { (fed : Bool) → IsErrOf result (fault.NoMemory fed) → (t : Standing)
-            → TakesBytes (standing_of self.new) (find conn (standing_of self.new).clients) (if fed then [] else piece.now) t
+            → TakesBytes (standing_of self.new) (find conn (standing_of self.new).clients)
+                (if fed then [] else piece.now) t
             → TakesBytes (standing_of self.old) (find conn (standing_of self.old).clients) piece.now t }
         ensures fed { (fed : Bool) → IsErrOf result (fault.NoMemory fed)
             → MatchBool fed (ReadsPiece (standing_of self.old) conn piece.now (standing_of self.new))
@@ -45,7 +48,8 @@ impl<D: Disk> Parts<D> {
         ensures stops { (fed : Bool) → IsErrOf result (fault.NoMemory fed)
             → MatchBool fed (StopsBehind (standing_of self.old) conn piece.now (standing_of self.new))
             (StopsBefore (standing_of self.old) conn (standing_of self.new) ⊎ StopsUnread (standing_of self.old) conn (standing_of self.new)) }
-        ensures torn { IsErrOf result (fault.Store keeper.Device) → TearsBytes (standing_of self.old) conn piece.now (desk_of self.new) }
+        ensures torn { IsErrOf result (fault.Store keeper.Device)
+            → TearsBytes (standing_of self.old) conn piece.now (desk_of self.new) }
         ensures grows { self.new.keeper.store.has_failed ≡ false → StoresMore (desk_of self.old) (desk_of self.new) }
         ensures written { IsErrOf result fault.Unwritten → ⊥ }
     {
@@ -77,20 +81,25 @@ impl<D: Disk> Parts<D> {
         requires works { self.old.keeper.store.has_failed ≡ false }
         requires place { IsFirstAt (standing_of self.old).clients conn at }
         ensures desk { IsDesk D.honest D.may_leave (desk_of self.new) }
-        ensures taken { OnOk result (TakesAll (with_left (standing_of self.old) conn []) conn (left_of (standing_of self.old) conn) (standing_of self.new)) }
+        ensures taken { OnOk result
+            (TakesAll (with_left (standing_of self.old) conn []) conn (left_of (standing_of self.old) conn)
+                (standing_of self.new)) }
         ensures again { IsErrOf result keeper.NoMemory → (t : Standing)
             → TakesAll (with_left (standing_of self.new) conn []) conn (left_of (standing_of self.new) conn) t
             → TakesAll (with_left (standing_of self.old) conn []) conn (left_of (standing_of self.old) conn) t }
         ensures still { IsErrOf result keeper.NoMemory → 0 < length (left_of (standing_of self.new) conn) }
         ensures rest { EndsWith (left_of (standing_of self.old) conn) (left_of (standing_of self.new) conn) }
-        ensures clients { (standing_of self.new).clients ≡ (with_left (standing_of self.old) conn (left_of (standing_of self.new) conn)).clients }
+        ensures clients { (standing_of self.new).clients
+            ≡ (with_left (standing_of self.old) conn (left_of (standing_of self.new) conn)).clients }
         ensures place { IsFirstAt (standing_of self.new).clients conn at }
         ensures owes { self.new.owes ≡ self.old.owes }
         ensures advances { Advances D.honest D.moment D.left_since (desk_of self.old) (desk_of self.new) }
         ensures fine { OnOk result (IsFine D.failures (desk_of self.old) (desk_of self.new)) }
         ensures fault { IfErr result (TellsCall D.failures (desk_of self.old) (desk_of self.new)) }
-        ensures stops { IsErrOf result keeper.NoMemory → StopsBefore (standing_of self.old) conn (standing_of self.new) }
-        ensures torn { IsErrOf result keeper.Device → (last : Standing) × StopsBefore (standing_of self.old) conn last × Tears last (desk_of self.new) }
+        ensures stops { IsErrOf result keeper.NoMemory
+            → StopsBefore (standing_of self.old) conn (standing_of self.new) }
+        ensures torn { IsErrOf result keeper.Device
+            → (last : Standing) × StopsBefore (standing_of self.old) conn last × Tears last (desk_of self.new) }
         ensures grows { self.new.keeper.store.has_failed ≡ false → StoresMore (desk_of self.old) (desk_of self.new) }
     {
         while self.trace.ports[at].has_left() {

@@ -26,14 +26,18 @@ impl<D: Disk> Desk<D> {
     /// no connection is there.
     pub fn open(alloc: Global, disk: D) -> Result<Desk<D>, (DeskFault, D)>
         ensures opened { D.honest disk → IfOk result (λ desk. StandsFor (D.seen disk) desk.keeper.state) }
-        ensures stands { D.honest disk → IfOk result (λ desk. EachStandsFor D.may_leave (disk_of desk) desk.keeper.state) }
+        ensures stands { D.honest disk
+            → IfOk result (λ desk. EachStandsFor D.may_leave (disk_of desk) desk.keeper.state) }
         ensures first { IfOk result (λ desk. IsFirstStanding desk.keeper.state desk.standing × (desk.synced ≡ 0)) }
-        ensures acknowledged { (asked : ℕ → List ℕ) → IfOk result (λ desk. IsAcknowledged desk.keeper.state asked desk) }
-        // A store that stands for a state is refused only for its device or for memory.
-        ensures refused { D.honest disk → (s : ServerState) → StandsFor (D.seen disk) s → IfErr result (λ e. (e.0 ≡ Store keeper.Device) ⊎ (e.0 ≡ NoMemory false)) }
-        // What is told of a store is so, and an unformatted one is told so, whatever memory there is.
+        ensures acknowledged { (asked : ℕ → List ℕ)
+            → IfOk result (λ desk. IsAcknowledged desk.keeper.state asked desk) }
+        // A valid store is refused only if the device fails or memory runs out.
+        ensures refused { D.honest disk → (s : ServerState) → StandsFor (D.seen disk) s
+            → IfErr result (λ e. (e.0 ≡ Store keeper.Device) ⊎ (e.0 ≡ NoMemory false)) }
+        // A reported fault is the store's, and an unformatted store is reported as such, however much memory there is.
         ensures told { D.honest disk → IfErr result (λ e. TellsOpening e.0 (D.seen disk)) }
-        ensures unformatted { D.honest disk → IsUnformatted (D.seen disk) → IsErrAnd result (λ e. (e.0 ≡ Store keeper.Unformatted) ⊎ (e.0 ≡ Store keeper.Device)) }
+        ensures unformatted { D.honest disk → IsUnformatted (D.seen disk)
+            → IsErrAnd result (λ e. (e.0 ≡ Store keeper.Unformatted) ⊎ (e.0 ≡ Store keeper.Device)) }
         ensures reads { D.honest disk → OnlyReads D.seen D.may_leave D.moment D.left_since disk (disk_after result) }
         ensures works { IfOk result (λ desk. desk.keeper.store.has_failed ≡ false) }
         ensures none_under_way { IfOk result (λ desk. desk.keeper.store.checkpoint ≡ None) }
@@ -53,7 +57,9 @@ impl<D: Disk> Desk<D> {
     /// Makes a new store of format 2 on the device, whatever was there. Where memory is short the device may be formatted already.
     pub fn format(alloc: Global, disk: D) -> Result<Desk<D>, (DeskFault, D)>
         ensures formatted { D.honest disk → IfOk result (λ desk. EachStandsFor D.may_leave (disk_of desk) first_state) }
-        ensures first { IfOk result (λ desk. IsFirstStanding first_state desk.standing × (desk.keeper.state ≡ first_state) × (desk.synced ≡ 0)) }
+        ensures first { IfOk result
+            (λ desk. IsFirstStanding first_state desk.standing × (desk.keeper.state ≡ first_state)
+                × (desk.synced ≡ 0)) }
         ensures acknowledged { (asked : ℕ → List ℕ) → IfOk result (λ desk. IsAcknowledged first_state asked desk) }
         ensures store { IfOk result (λ desk. desk.keeper.store ≡ first_store (disk_of desk)) }
         ensures sized { IfOk result (λ desk. D.size disk ≡ device_bytes) }
@@ -63,7 +69,8 @@ impl<D: Disk> Desk<D> {
         // Another fault is told where no call of the device failed.
         ensures still { IfOk result (λ desk. D.failures (disk_of desk) ≡ D.failures disk) }
         ensures calm { IfErr result (λ e. e.0 ≢ Store keeper.Device → D.failures e.1 ≡ D.failures disk) }
-        ensures faults { IfErr result (λ e. (e.0 ≡ Store keeper.Device) ⊎ ((e.0 ≡ Store keeper.Unformatted) ⊎ (e.0 ≡ NoMemory false))) }
+        ensures faults { IfErr result
+            (λ e. (e.0 ≡ Store keeper.Device) ⊎ ((e.0 ≡ Store keeper.Unformatted) ⊎ (e.0 ≡ NoMemory false))) }
         ensures honesty { D.honest (disk_after result) ↔ D.honest disk }
         ensures size { D.size (disk_after result) ≡ D.size disk }
     {

@@ -30,12 +30,14 @@ pub fn run<D: Disk>(alloc: Global, disk: D, steps: &[Step]) -> Ran<D>
     // The run ends at the opening, at a step, or whole: what was done, what is told, and whether the device failed.
     ensures ran { IsRunOf D.honest D.seen D.failures disk steps.now result }
     // A stop at any moment leaves a prefix of the history, which begins with the state that was there.
-    ensures history { D.honest disk → (s : ServerState) → EachStandsFor D.may_leave disk s → IsHistory s (groups_of result.trace) }
+    ensures history { D.honest disk → (s : ServerState) → EachStandsFor D.may_leave disk s
+        → IsHistory s (groups_of result.trace) }
     ensures any_moment { D.honest disk → (s : ServerState) → EachStandsFor D.may_leave disk s
         → LeavesOnly D.moment D.left_since disk result.disk (LeavesPrefix s (groups_of result.trace) 0) }
     // And at the end one that holds all groups that were stored.
     ensures stands { D.honest disk → (s : ServerState) → EachStandsFor D.may_leave disk s
-        → (image : List ℕ) → D.may_leave result.disk image → LeavesPrefix s (groups_of result.trace) result.trace.synced image }
+        → (image : List ℕ) → D.may_leave result.disk image
+            → LeavesPrefix s (groups_of result.trace) result.trace.synced image }
     // The disk is one to open again.
     ensures honesty { D.honest result.disk ↔ D.honest disk }
     ensures size { D.size result.disk ≡ D.size disk }
@@ -59,7 +61,8 @@ pub fn run<D: Disk>(alloc: Global, disk: D, steps: &[Step]) -> Ran<D>
 /// Takes the steps as far as to a fault.
 fn take_steps<D: Disk>(desk: &mut Desk<D>, steps: &[Step]) -> Option<(u64, DeskFault)>
     requires works { desk.old.keeper.store.has_failed ≡ false }
-    requires stands { D.honest (disk_of desk.old) → (begun : ServerState) → IsFrom begun desk.old → (image : List ℕ) → D.may_leave (disk_of desk.old) image
+    requires stands { D.honest (disk_of desk.old) → (begun : ServerState) → IsFrom begun desk.old → (image : List ℕ)
+        → D.may_leave (disk_of desk.old) image
         → LeavesPrefix begun desk.old.standing.groups desk.old.synced image }
     ensures goes { GoesTo D.failures desk.old steps.now result desk.new }
     ensures advances { Advances D.honest D.moment D.left_since desk.old desk.new }

@@ -70,14 +70,18 @@ impl<D: Disk> Parts<D> {
         requires desk { IsDesk D.honest D.may_leave (with_handed (desk_of self.old) (Cut batch)) }
         requires works { self.old.keeper.store.has_failed ≡ false }
         ensures desk { IsDesk D.honest D.may_leave (with_handed (desk_of self.new) result.0) }
-        ensures stored { OnOk result.1 (handing (standing_of self.new) result.0 ≡ stored (handing (standing_of self.old) (Cut batch))) }
-        ensures memory { IsErrOf result.1 NoMemory → with_handed (desk_of self.new) result.0 ≡ with_handed (desk_of self.old) (Cut batch) }
+        ensures stored { OnOk result.1 (handing (standing_of self.new) result.0
+                ≡ stored (handing (standing_of self.old) (Cut batch))) }
+        ensures memory { IsErrOf result.1 NoMemory
+            → with_handed (desk_of self.new) result.0 ≡ with_handed (desk_of self.old) (Cut batch) }
         ensures owes { self.new.owes ≡ self.old.owes }
         ensures ports { self.new.trace.ports ≡ self.old.trace.ports }
-        ensures advances { Advances D.honest D.moment D.left_since (with_handed (desk_of self.old) (Cut batch)) (with_handed (desk_of self.new) result.0) }
+        ensures advances { Advances D.honest D.moment D.left_since (with_handed (desk_of self.old) (Cut batch))
+            (with_handed (desk_of self.new) result.0) }
         ensures fine { OnOk result.1 (IsFine D.failures (desk_of self.old) (desk_of self.new)) }
         ensures fault { IfErr result.1 (TellsCall D.failures (desk_of self.old) (desk_of self.new)) }
-        ensures torn { IsErrOf result.1 Device → Tears (handing (standing_of self.old) (Cut batch)) (with_handed (desk_of self.new) result.0) }
+        ensures torn { IsErrOf result.1 Device
+            → Tears (handing (standing_of self.old) (Cut batch)) (with_handed (desk_of self.new) result.0) }
         ensures grows { self.new.keeper.store.has_failed ≡ false → StoresMore (desk_of self.old) (desk_of self.new) }
     {
         // It names a type for the checker (`docs/DECISIONS.md`, "Toolchain").
@@ -149,14 +153,17 @@ impl<D: Disk> Parts<D> {
         ensures desk { IsDesk D.honest D.may_leave (desk_of self.new) }
         ensures made { OnOk result (standing_of self.new ≡ roomy (standing_of self.old) conn) }
         ensures room { OnOk result (IsTrue (has_room self.new.front)) }
-        ensures memory { IsErrOf result NoMemory → roomy (standing_of self.new) conn ≡ roomy (standing_of self.old) conn }
+        ensures memory { IsErrOf result NoMemory
+            → roomy (standing_of self.new) conn ≡ roomy (standing_of self.old) conn }
         ensures owes { self.new.owes ≡ self.old.owes }
         ensures ports { self.new.trace.ports ≡ self.old.trace.ports }
         ensures advances { Advances D.honest D.moment D.left_since (desk_of self.old) (desk_of self.new) }
         ensures fine { OnOk result (IsFine D.failures (desk_of self.old) (desk_of self.new)) }
         ensures fault { IfErr result (TellsCall D.failures (desk_of self.old) (desk_of self.new)) }
-        ensures stops { IsErrOf result NoMemory → StopsMaking (standing_of self.old) conn (standing_of self.new) × HasCut (standing_of self.new) }
-        ensures torn { IsErrOf result Device → (last : Standing) × StopsMaking (standing_of self.old) conn last × Tears last (desk_of self.new) }
+        ensures stops { IsErrOf result NoMemory
+            → StopsMaking (standing_of self.old) conn (standing_of self.new) × HasCut (standing_of self.new) }
+        ensures torn { IsErrOf result Device
+            → (last : Standing) × StopsMaking (standing_of self.old) conn last × Tears last (desk_of self.new) }
         ensures grows { self.new.keeper.store.has_failed ≡ false → StoresMore (desk_of self.old) (desk_of self.new) }
     {
         self.go_on(conn)?;
@@ -197,13 +204,15 @@ impl<D: Disk> Parts<D> {
         requires works { self.old.keeper.store.has_failed ≡ false }
         ensures desk { IsDesk D.honest D.may_leave (desk_of self.new) }
         ensures committed { OnOk result (standing_of self.new ≡ made (committed (cleared (standing_of self.old)))) }
-        ensures stops { IsErrOf result NoMemory → MayBegin (standing_of self.old) conn (standing_of self.new) × HasCut (standing_of self.new) }
+        ensures stops { IsErrOf result NoMemory
+            → MayBegin (standing_of self.old) conn (standing_of self.new) × HasCut (standing_of self.new) }
         ensures owes { self.new.owes ≡ self.old.owes }
         ensures ports { self.new.trace.ports ≡ self.old.trace.ports }
         ensures advances { Advances D.honest D.moment D.left_since (desk_of self.old) (desk_of self.new) }
         ensures fine { OnOk result (IsFine D.failures (desk_of self.old) (desk_of self.new)) }
         ensures fault { IfErr result (TellsCall D.failures (desk_of self.old) (desk_of self.new)) }
-        ensures torn { IsErrOf result Device → (last : Standing) × MayBegin (standing_of self.old) conn last × Tears last (desk_of self.new) }
+        ensures torn { IsErrOf result Device
+            → (last : Standing) × MayBegin (standing_of self.old) conn last × Tears last (desk_of self.new) }
         ensures grows { self.new.keeper.store.has_failed ≡ false → StoresMore (desk_of self.old) (desk_of self.new) }
     {
         self.clear()?;

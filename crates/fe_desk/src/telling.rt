@@ -14,8 +14,10 @@ use std::alloc::AllocError;
 pub(crate) fn empty_boxes(front: &mut Front, ports: &mut Vec<Port>) -> Result<(), AllocError>
     ensures told { OnOk result (map client_of ports.new.items ≡ all_told front.old (map client_of ports.old.items)) }
     ensures emptied { OnOk result (front.new ≡ all_emptied front.old (map client_of ports.old.items)) }
-    ensures later { OnErr result (AreToldLater front.old (map client_of ports.old.items) front.new (map client_of ports.new.items)) }
-    ensures writes { OnErr result (WritesFirst front.old (map client_of ports.old.items) front.new (map client_of ports.new.items)) }
+    ensures later { OnErr result
+        (AreToldLater front.old (map client_of ports.old.items) front.new (map client_of ports.new.items)) }
+    ensures writes { OnErr result
+        (WritesFirst front.old (map client_of ports.old.items) front.new (map client_of ports.new.items)) }
     ensures numbers { map (λ p. p.conn) ports.new.items ≡ map (λ p. p.conn) ports.old.items }
     ensures front { KeepsFront front.old front.new }
 {

@@ -27,7 +27,7 @@ fn add_line(rt: &impl Abort, alloc: Global, steps: &mut Vec<Step>, conn: u64, sa
     }
 }
 
-// The first path, with a checkpoint behind it.
+// The first path, with a checkpoint after it.
 fn steps(rt: &impl Abort, alloc: Global) -> Vec<Step> {
     let mut steps = Vec::new(alloc);
     for (conn, said) in FIRST.lines {

@@ -58,7 +58,7 @@ fn batch_at_last(rt: &impl Abort, alloc: Global, first: u64) -> Batch {
     }
 }
 
-// A batch of so many times the entry.
+// A batch of this many times the entry.
 fn batch_of(rt: &impl Abort, alloc: Global, first: u64, entry: &Entry, count: usize) -> Batch {
     let mut batch = batch_at_last(rt, alloc, first);
     for _ in 0..count {
@@ -75,7 +75,7 @@ fn is_same(batch: &Batch, first: u64, entry: &Entry, count: usize) -> bool {
     batch.first == first && entries.len() == count && entries.iter().all(|one| one == entry)
 }
 
-// Appends so many times the entry, at the second try if not at the first: the batch comes back and the state stays.
+// Appends this many times the entry, at the second try if not at the first: the batch comes back and the state stays.
 fn append_at_last(
     rt: &impl Abort,
     alloc: Global,

@@ -9,7 +9,7 @@ use fe_disk::Liar;
 use std::alloc::Global;
 use std::process::Abort;
 
-/// The refusals of a creation and of a report for want of memory, up to the number.
+/// The refusals of a creation and of a report because memory is short, up to the number.
 const NO_MEMORY: u8 = 8;
 
 /// What a report tells where nothing waits.
@@ -96,7 +96,7 @@ fn take_line(rt: &impl Abort, alloc: Global, desk: &mut Desk<Liar>, conn: u64, s
     }
 }
 
-// Whether the frame refuses something for want of memory.
+// Whether the frame refuses something because memory is short.
 fn is_refusal(frame: &[u8]) -> bool {
     frame.len() == 14 && frame[4] == 70 && frame[13] == NO_MEMORY
 }
@@ -132,7 +132,7 @@ fn written_to(desk: &Desk<Liar>, conn: u64) -> &[u8] {
     &[]
 }
 
-// Takes a line. Where it is refused for want of memory it is said again, and that is a creation or a report.
+// Takes a line. Where it is refused because memory is short it is said again, and that is a creation or a report.
 fn take_told(
     rt: &impl Abort,
     alloc: Global,

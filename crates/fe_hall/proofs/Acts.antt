@@ -84,7 +84,7 @@ prefix_trans xs ys zs p q = (p.0 ++ q.0, sym (append_assoc xs p.0 q.0) ∙ (ap (
 pub prefix_self : {A : Type 0} (xs : List A) → IsPrefix xs xs
 prefix_self xs = ([], append-nil xs)
 
--- what stands in a beginning stands in the whole
+-- what is in a beginning is in the whole
 get_rises : {A : Type 0} (xs rest : List A) (k : ℕ) (x : A) → slice_get xs k ≡ Some x → slice_get (xs ++ rest) k ≡ Some x
 get_rises [] rest k x h = absurd cc
 get_rises (y ∷ xs) rest zero x h = h

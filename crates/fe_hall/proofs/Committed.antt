@@ -22,7 +22,7 @@ use Rattle.fe_hall.specs.declared.act.Act.{Act}
 use Rattle.fe_hall.specs.declared.commit_end.CommitEnd.{CommitEnd}
 use Rattle.fe_hall.specs.declared.commit_end.CommitEnd.TheVariants.{Store, Strange}
 
--- ---- groups behind groups
+-- ---- groups after groups
 
 after_groups-append : (s : ServerState) (front rest : List (List Entry)) → after_groups s (front ++ rest) ≡ after_groups (after_groups s front) rest
 after_groups-append s [] rest = refl
@@ -34,7 +34,7 @@ take_behind (x ∷ xs) ys m =
     let one : length (x ∷ xs) + m ≡ suc (length xs + m) = omega arith in
     ap (λ k. take k (x ∷ (xs ++ ys))) one ∙ ap (λ t. x ∷ t) (take_behind xs ys m)
 
--- the state after all groups and some of those behind them
+-- the state after all groups and some of those after them
 after_behind : (begun : ServerState) (groups more : List (List Entry)) (m : ℕ) → after_groups begun (take (length groups + m) (groups ++ more)) ≡ after_groups (after_groups begun groups) (take m more)
 after_behind begun groups more m = ap (λ gs. after_groups begun gs) (take_behind groups more m) ∙ after_groups-append begun groups (take m more)
 
@@ -55,7 +55,7 @@ prefix_front begun groups more k image p =
     leaves_at begun (groups ++ more) k q.kept image p.state q.least (omega (arith, q.most, length-append groups more))
     (q.state_is ∙ ap (λ (gs : List (List Entry)). after_groups begun gs) (sym (take-append-le q.kept groups more q.most))) p.stands
 
--- so is all of the first groups with a prefix of those behind
+-- so is all of the first groups with a prefix of those after
 prefix_behind : (begun : ServerState) (groups more : List (List Entry)) (s : ServerState) (k : ℕ) (image : List ℕ) → s ≡ after_groups begun groups → LeavesPrefix s more k image
     → LeavesPrefix begun (groups ++ more) (length groups + k) image
 prefix_behind begun groups more s k image is p =
@@ -75,7 +75,7 @@ appends_length s [] (append ∷ appends) are = absurd are
 appends_length s (group ∷ groups) [] are = absurd are
 appends_length s (group ∷ groups) (append ∷ appends) are = ap suc (appends_length (after_all s group) groups appends are.2)
 
--- appends behind appends
+-- appends after appends
 appends_both : {D : Type 0} (s t : ServerState) (groups more : List (List Entry)) (first second : List (Append D)) → t ≡ after_groups s groups → AreAppends s groups first → AreAppends t more second
     → AreAppends s (groups ++ more) (first ++ second)
 appends_both s t [] more [] second is one two = subst (λ (u : ServerState). AreAppends u more second) is two
@@ -95,7 +95,7 @@ module _ {D : Type 0} (moment : D → ℕ) (left_since : D → ℕ → List ℕ 
       → HoldsSince moment left_since begun history m here appends last
   holds_as begun history n m here appends last is holds = subst (λ (k : ℕ). HoldsSince moment left_since begun history k here appends last) is holds
 
-  -- the groups stand behind others
+  -- the groups come after others
   holds_behind : (begun : ServerState) (groups more : List (List Entry)) (s : ServerState) → s ≡ after_groups begun groups → (n : ℕ) (here : D) (appends : List (Append D)) (last : D)
       → HoldsSince moment left_since s more n here appends last → HoldsSince moment left_since begun (groups ++ more) (length groups + n) here appends last
   holds_behind begun groups more s is n here [] last holds =
@@ -108,7 +108,7 @@ module _ {D : Type 0} (moment : D → ℕ) (left_since : D → ℕ → List ℕ 
         (holds_behind begun groups more s is (n + 1) append.after.store.disk appends last holds.3),
   )
 
-  -- what holds of the first groups holds while those behind are stored too
+  -- what holds of the first groups holds while those after are stored too
   holds_longer : (begun : ServerState) (groups more : List (List Entry)) (n : ℕ) (here mid last : D) → n ≤ length groups → LeavesOnly moment left_since here mid (LeavesPrefix begun groups n)
       → LeavesOnly moment left_since mid last (LeavesPrefix begun (groups ++ more) (length groups)) → LeavesOnly moment left_since here last (LeavesPrefix begun (groups ++ more) n)
   holds_longer begun groups more n here mid last le first second =
@@ -198,7 +198,7 @@ module _ {D : Type 0} (honest : D → Type 0) (moment : D → ℕ) (left_since :
         (λ image two. either old.state entries image two) (run h works);
   }
 
-  -- calls behind calls
+  -- calls after calls
   pub commits_both : (a b c : KeeperState D) (end : Option CommitEnd) → b.store.has_failed ≡ a.store.has_failed → (honest b.store.disk ↔ honest a.store.disk)
       → Commits honest moment left_since a b None → Commits honest moment left_since b c end → Commits honest moment left_since a c end
   commits_both a b c end works honesty ab bc = record {
@@ -331,7 +331,7 @@ module _ {D : Type 0} (honest : D → Type 0) (may_leave : D → List ℕ → Ty
       → (honest new.store.disk → new.store.has_failed ≡ false → EachStandsFor may_leave new.store.disk new.state) → Rests honest moment left_since old new
   rests_as only_now old new same stands = subst (λ (k : KeeperState D). Rests honest moment left_since k new) same (rests_itself only_now new stands)
 
-  -- calls behind calls
+  -- calls after calls
   pub rests_both : (a b c : KeeperState D) → b.store.has_failed ≡ a.store.has_failed → Rests honest moment left_since a b → Rests honest moment left_since b c → Rests honest moment left_since a c
   rests_both a b c works ab bc = record {
     state = bc.state ∙ ab.state;

@@ -10,7 +10,7 @@ use Rattle.fe_hall.specs.Seats.{ReadSeat, TookNoMessage, calls_in, message_taken
 use Rattle.fe_hall.specs.Reads.{is_sent, calls_among, sent_among, listed_with, most_listed, AreHandled, HandlesStream}
 use Rattle.fe_hall.specs.declared.ends.ReadEnd.{ReadEnd}
 
--- the first elements of a list, with one more behind it
+-- the first elements of a list, with one more after it
 first_with : (n : ℕ) (xs : List ClientMessage) (m : ClientMessage) → take n (xs ++ m ∷ []) ≡ (if nat_lt (length (take n xs)) n then take n xs ++ m ∷ [] else take n xs)
 first_with n xs m =
     elim (cases_lt (length xs) n) [
@@ -40,7 +40,7 @@ handled_more before old new listed list messages m rises lists handled =
       listed = lists ∙ ap (λ (ms : List ClientMessage). listed_with ms m) handled.listed ∙ sym (listed_more messages m);
     }
 
--- the message behind the first i is handled
+-- the message after the first i is handled
 pub handled_next : (before old new : ReadSeat) (listed list earlier messages : List ClientMessage) (i : ℕ) (m : ClientMessage) → i < length messages → m ≡ get_or messages i m
     → new ≡ message_taken old m → list ≡ listed_with listed m → AreHandled before old listed (earlier ++ take i messages) → AreHandled before new list (earlier ++ take (i + 1) messages)
 handled_next before old new listed list earlier messages i m lt at rises lists handled =

@@ -12,7 +12,7 @@ use Rattle.fe_hall.specs.declared.receipt.Receipt.{Receipt}
 use Rattle.fe_table.proofs.TableCopyLemmas.{made, made-next, made_all}
 
 module _ {X : Type 0} (m : FinMap nat_cmp X) (P : ℕ → X → Type 0) where
-  -- what holds of each of the first so many entries
+  -- what holds of each of the first n entries
   abbrev pub OfFirst : ℕ → Type 0
   OfFirst k = (s : ℕ) (x : X) → get (made m k) s ≡ Some x → P s x
 

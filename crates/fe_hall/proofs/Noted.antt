@@ -32,7 +32,7 @@ module _ {D : Type 0} (moment : D → ℕ) where
     inl (sym (append-nil (stores_in acts)) ∙ ap (λ (s : List (Append D)). stores_in acts ++ map (noted moment) s) (sym none)),
   )
 
-  -- one behind the other
+  -- one after the other
   pub both_noted : (first second : List (Append D)) (end : Option CommitEnd) (a b c : List Act) → AreNoted moment first None a b → AreNoted moment second end b c → AreNoted moment (first ++ second) end a c
   both_noted first second end a b c (p, inr strange) two = absurd (cc strange)
   both_noted first second end a b c (p, inl one) (q, inr strange) = (prefix_trans a b c p q, inr strange)

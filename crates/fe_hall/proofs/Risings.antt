@@ -24,7 +24,7 @@ use Rattle.fe_front.proofs.Rising as rising
 use Rattle.fe_messages.specs.Taking.{Takes, IsRefused}
 use Rattle.fe_hall.specs.Seats.{IsOpen, calls_in, most_counted, takes_more, posts_more}
 
--- the books of the front after an event: open still, with so many calls and taken mails more
+-- the books of the front after an event: open still, with this many calls and taken mails more
 pub record Goes (f g : FrontState) (called took : ℕ) : Type 0 where
   pub books : IsOpen g.books
   pub calls : g.books.calls ≡ f.books.calls + called

@@ -1,4 +1,4 @@
--- Whether lists of messages have a call behind an attach.
+-- Whether lists of messages have a call after an attach.
 use Rattle.std.proofs.Common.{◌≡◌, ◌↔◌, ◌⊎◌, inl, inr, ℕ, ◌+◌, ◌-◌, ◌<◌, ◌≤◌, Bool, true, false, IsTrue, List, map, length, take, drop, get_or, slice_get, Some, None, true≢false, refl, sym, ap, subst, ◌∙◌, arith, length-drop}
 use Rattle.std.specs.Prelude.{All, Any, HoldsAt}
 use Rattle.std.specs.Bool.{MatchBool}
@@ -17,7 +17,7 @@ here : {X : Type 0} (xs : List X) (i : ℕ) (x d : X) → i < length xs → get_
 here xs i x d within is = slice_get-get_or xs i d within ∙ ap Some is
 
 module _ (xs : List ClientMessage) (session number : ℕ) (request : Request) where
-  -- what the first attach and the calls behind it decide
+  -- what the first attach and the calls after it decide
   module _ (at : ℕ) (within : at < length xs) (attach : HoldsAt (λ x. x ≡ Attach session) xs at) (none : AllWithin (λ x. x ≡ Attach session → ⊥) xs 0 at) where
     d : ClientMessage
     d = Attach session
@@ -62,7 +62,7 @@ module _ (xs : List ClientMessage) (session number : ℕ) (request : Request) wh
         let told : IsTrue r ↔ Any (λ x. x ≡ Call number request) (drop (at + 1) xs) = subst (λ (ys : List ClientMessage). IsTrue r ↔ Any (λ x. x ≡ Call number request) ys) whole answer in
         (λ e. called (told.0 e), λ c. told.1 (found c))
 
-  -- without an attach there is none behind it
+  -- without an attach there is none after it
   pub unattached : AllWithin (λ x. x ≡ Attach session → ⊥) xs 0 (length xs) → IsTrue false ↔ IsCalledBehind xs session number request
   unattached none = (
     λ e. absurd (true≢false (sym e)),

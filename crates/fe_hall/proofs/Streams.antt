@@ -60,7 +60,7 @@ module _ (before after : ReadSeat) (list : List ClientMessage) where
   all_handled : (messages : List ClientMessage) → AreHandled before after list messages → AreHandled before after list (take (length messages) messages)
   all_handled messages handled = handled_as messages (take (length messages) messages) (sym (take_all (length messages) messages (omega arith))) handled
 
-  -- an end behind all messages
+  -- an end after all messages
   pub ends_behind : (bytes now : List ℕ) (d : Decoding) (end : ReadEnd) → now ≡ bytes → IsAt bytes before d after list
       → ((messages : List ClientMessage) (rest : List ℕ) → IsUnfinished Two rest → EndsAt end messages rest (length messages)) → HandlesStream now before after list end
   ends_behind bytes now d end same at ends =
@@ -86,7 +86,7 @@ module _ (before after : ReadSeat) (list : List ClientMessage) where
     ends = (refl, breaks d reads.rest two bad reads.stands, reads.offset ∙ ap (λ n. min n (2 ^ 64 - 1)) (zero-add (length (flat_map spelling messages))));
   }
 
-  -- a piece was not read for want of memory
+  -- a piece was not read because memory is short
   pub ends_unread : (bytes piece : List ℕ) (d : Decoding) → IsBytes (bytes ++ piece) → CompletesMessage d piece → IsAt bytes before d after list
       → HandlesStream (bytes ++ piece) before after list NoMemory
   ends_unread bytes piece d are_bytes completes at =
@@ -196,7 +196,7 @@ module _ (before old new : ReadSeat) (listed list : List ClientMessage) (bytes p
   pub piece_among : (end : ReadEnd) → ((earlier : List ClientMessage) → AreHandled before old listed earlier → EndsAmong before new list earlier slice end) → HandlesStream (bytes ++ piece) before new list end
   piece_among end among = ends_within before new list (bytes ++ piece) x end at.messages slice (version ∙ at.version) read_on (among at.messages at.handled)
 
--- none were, for want of memory
+-- none were, because memory is short
 pub piece_unread : (before seat : ReadSeat) (list : List ClientMessage) (bytes piece : List ℕ) (d : Decoding) → IsBytes piece → CompletesMessage d piece → IsAt bytes before d seat list
     → HandlesStream (bytes ++ piece) before seat list NoMemory
 piece_unread before seat list bytes piece d fits completes at = ends_unread before seat list bytes piece d (IsBytes-append bytes piece at.are_bytes fits) completes at

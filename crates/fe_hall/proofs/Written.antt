@@ -65,7 +65,7 @@ pub takes_same : (a b : WriteSeat) (kept same : List Receipt) → length kept �
 takes_same a b kept same few still receipts =
     let none = takes_none a kept few in record { conn = still.conn; count = still.mails ∙ none.count; receipts = receipts ∙ none.receipts }
 
--- the seat of a side that took none, behind one that is the same
+-- the seat of a side that took none, after one that is the same
 pub none_since : (a b c : WriteSeat) → b ≡ a → TookNoMail b c → TookNoMail a c
 none_since a b c same none = record { conn = none.conn ∙ ap (λ (s : WriteSeat). s.conn) same; mails = none.mails ∙ ap (λ (s : WriteSeat). s.mails) same }
 
@@ -162,7 +162,7 @@ spells_none A Spent before same fine is = is ∙ sym (append-nil before)
 spells_none A Device before same fine is = absurd fine
 spells_none A NoMemory before same fine is = absurd fine
 
--- behind mails that are spelled others were taken, when the side ends
+-- after mails that are spelled others were taken, when the side ends
 pub spells_on : (A B : Type 0) (end : WriteEnd) (frames after : List ℕ) (mails more : List Mail) → frames ≡ spelled mails → AreSpelled {A = A} frames (Err end) more after
     → AreSpelled {A = B} [] (Err end) (mails ++ more) after
 spells_on A B Gone frames after mails more so_far is = spelled_more frames after mails more so_far is

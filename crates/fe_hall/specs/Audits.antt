@@ -1,4 +1,4 @@
--- What is told of a hall that was closed.
+-- What is reported of a hall that was closed.
 use Rattle.std.specs.Prelude.{List}
 use Rattle.fe_mail.specs.Books.{Books}
 use Rattle.fe_wire.specs.declared.client_message.ClientMessage.{ClientMessage}

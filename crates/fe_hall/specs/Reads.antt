@@ -42,7 +42,7 @@ pub record AreHandled (before after : ReadSeat) (list messages : List ClientMess
   pub taken : after.taken ≡ before.taken + length messages
   pub listed : list ≡ sent_among messages
 
--- what an end says, where the stream is these messages and this rest, and so many of the messages were handled
+-- what an end says, where the stream is these messages and this rest, and this many of the messages were handled
 abbrev pub EndsAt : ReadEnd → List ClientMessage → List ℕ → ℕ → Type 0
 EndsAt Closed messages rest count = (count ≡ length messages) × IsUnfinished Two rest
 EndsAt Device messages rest count = (count ≡ length messages) × IsUnfinished Two rest
@@ -54,8 +54,8 @@ EndsAt Stopped messages rest count = count < length messages
 EndsAt Spent messages rest count = count < length messages
 EndsAt NoMemory messages rest count = (count < length messages) ⊎ (messages ≡ [])
 
--- A side that was told these bytes, the stream of its client: the first so many of the stream's messages were handled, and
--- none behind them.
+-- A side that was told these bytes, the stream of its client: the first n of the stream's messages were handled, and
+-- none after them.
 pub record HandlesStream (bytes : List ℕ) (before after : ReadSeat) (list : List ClientMessage) (end : ReadEnd) : Type 0 where
   pub messages : List ClientMessage
   pub rest : List ℕ
@@ -101,7 +101,7 @@ pub record IsAt (bytes : List ℕ) (before : ReadSeat) (decoder : Decoding) (aft
   pub reads : HasRead decoder bytes messages
   pub handled : AreHandled before after list messages
 
--- The side ended before one of these messages, which came behind the earlier ones.
+-- The side ended before one of these messages, which came after the earlier ones.
 pub record EndsAmong (before after : ReadSeat) (list earlier messages : List ClientMessage) (end : ReadEnd) : Type 0 where
   pub breaks : EndsEarly end
   pub count : ℕ

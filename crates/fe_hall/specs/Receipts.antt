@@ -19,7 +19,7 @@ pub record IsAsTold (r : Receipt) (session number : ℕ) (k : Kept) : Type 0 whe
   pub same_number : number ≡ r.number
   pub same_answer : k.answer ≡ r.answer
 
--- messages with a call of this number and request somewhere behind an attach of the session
+-- messages with a call of this number and request somewhere after an attach of the session
 pub record IsCalledBehind (messages : List ClientMessage) (session number : ℕ) (request : Request) : Type 0 where
   pub attach : ℕ
   pub call : ℕ

@@ -36,7 +36,7 @@ pub record WriteSeat : Type 0 where
   -- whether it made its connection gone
   pub departed : Bool
 
--- the seats of so many connections, and how many calls or mails they booked
+-- the seats of this many connections, and how many calls or mails they booked
 pub record Seats : Type 0 where
   pub connections : ℕ
   pub amount : ℕ
@@ -48,7 +48,7 @@ first_read_seat conn = record { conn = conn; calls = 0; taken = 0; last = None; 
 abbrev pub first_write_seat : ℕ → WriteSeat
 first_write_seat conn = record { conn = conn; mails = 0; more = false; standing = Served; departed = false }
 
--- the seats of one connection, which booked so many, and of one connection more
+-- the seats of one connection, which booked this many, and of one connection more
 abbrev pub one_seat : ℕ → Seats
 one_seat amount = record { connections = 1; amount = amount }
 

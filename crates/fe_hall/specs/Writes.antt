@@ -41,7 +41,7 @@ pub record AreTaken (before after : WriteSeat) (kept : List Receipt) (mails : Li
 abbrev pub IsBatch : List Mail → Type 0
 IsBatch mails = length (spelled (take (length mails - 1) mails)) < 65536
 
--- A client got the mails, but for the last batch, of which it got so many bytes.
+-- A client got the mails, but for the last batch, of which it got this many bytes.
 pub record BreaksOff (before : List ℕ) (mails : List Mail) (after : List ℕ) : Type 0 where
   pub earlier : List Mail
   pub last : List Mail
@@ -58,7 +58,7 @@ pub record MayLackLast (before : List ℕ) (mails : List Mail) (after : List ℕ
   pub few : length last ≤ 1
   pub got : after ≡ before ++ spelled earlier
 
--- What a client had got before these mails were taken for it, and what it has got when its write side ends: behind it come
+-- What a client had got before these mails were taken for it, and what it has got when its write side ends: after it come
 -- the frames of the mails in their order, all of them but where the half or memory failed.
 abbrev pub IsWritten : List ℕ → List Mail → WriteEnd → List ℕ → Type 0
 IsWritten before mails Gone after = after ≡ before ++ spelled mails
@@ -94,7 +94,7 @@ pub record TakesOn (before after : WriteSeat) (kept kept_after : List Receipt) (
   pub count : after.mails ≡ before.mails + length mails
   pub receipts : kept_after ≡ receipts_with kept mails
 
--- why a side ends that has no mail: not for a fault of its half, and not for want of memory
+-- why a side ends that has no mail: not for a fault of its half, and not because memory is short
 abbrev pub IsNoFault : WriteEnd → Type 0
 IsNoFault Gone = Unit {0}
 IsNoFault Stopped = Unit {0}
@@ -102,7 +102,7 @@ IsNoFault Spent = Unit {0}
 IsNoFault Device = ⊥
 IsNoFault NoMemory = ⊥
 
--- the frames of mails that were taken, behind those of before: all of them, unless memory was short
+-- the frames of mails that were taken, after those of before: all of them, unless memory was short
 abbrev pub AreSpelled : {A : Type 0} → List ℕ → Result A WriteEnd → List Mail → List ℕ → Type 0
 AreSpelled before (Ok a) mails frames = frames ≡ before ++ spelled mails
 AreSpelled before (Err Gone) mails frames = frames ≡ before ++ spelled mails

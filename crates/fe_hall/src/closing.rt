@@ -58,7 +58,8 @@ impl Model for Audit {
 
     ghost Value = { Audited };
 
-    ghost view = { λ a. record { books = a.books; sent = map (λ v. v.items) a.sent.items; receipts = a.receipts.items; history = a.history.log } };
+    ghost view = { λ a. record { books = a.books; sent = map (λ v. v.items) a.sent.items; receipts = a.receipts.items;
+            history = a.history.log } };
 
     ghost invariant = { λ a. AddUp a.books × (a.books.spent ≡ false) × IsLegal a.history.log };
 }
@@ -110,9 +111,11 @@ pub fn settle<C: Tally, M: Tally>(
     ensures legal { IfOk result (λ audit. IsLegal audit.history) }
     ensures told { EachTold receipts.items history → IfOk result (λ audit. EachTold audit.receipts audit.history) }
     ensures borne_out { IfOk result (λ audit. All (IsBorneOut state.now audit.sent) audit.receipts) }
-    ensures strange { (place : ℕ) → result ≡ Err (StrangeReceipt place) → IsFirstStrange state.now (map (λ v. v.items) sent.items) receipts.items place }
+    ensures strange { (place : ℕ) → result ≡ Err (StrangeReceipt place)
+        → IsFirstStrange state.now (map (λ v. v.items) sent.items) receipts.items place }
     // Where all seats are here, it is refused just where some receipt is strange.
-    ensures refused { result ≢ Err SeatMissing → IsErr result ↔ Any (IsStrange state.now (map (λ v. v.items) sent.items)) receipts.items }
+    ensures refused { result ≢ Err SeatMissing
+        → IsErr result ↔ Any (IsStrange state.now (map (λ v. v.items) sent.items)) receipts.items }
 {
     let (floor, chronicle) = hall.into_floor();
     let Some(books) = floor.audit(calls, mails) else {
@@ -165,10 +168,13 @@ pub fn close<C: Tally, M: Tally, D: Disk + Drop>(
     ensures add_up { IfOk result (λ closing. AddUp closing.books) }
     ensures unspent { IfOk result (λ closing. closing.books.spent ≡ false) }
     ensures keeper { IfOk result (λ closing. closing.keeper ≡ keeper) }
-    ensures receipts { IfOk result (λ closing. All (IsBorneOut keeper.state (map (λ v. v.items) sent.items)) receipts.items) }
-    ensures strange { (place : ℕ) → result ≡ Err (StrangeReceipt place) → IsFirstStrange keeper.state (map (λ v. v.items) sent.items) receipts.items place }
+    ensures receipts { IfOk result
+        (λ closing. All (IsBorneOut keeper.state (map (λ v. v.items) sent.items)) receipts.items) }
+    ensures strange { (place : ℕ) → result ≡ Err (StrangeReceipt place)
+        → IsFirstStrange keeper.state (map (λ v. v.items) sent.items) receipts.items place }
     // Where all seats are here, it is refused just where some receipt is strange.
-    ensures refused { result ≢ Err SeatMissing → IsErr result ↔ Any (IsStrange keeper.state (map (λ v. v.items) sent.items)) receipts.items }
+    ensures refused { result ≢ Err SeatMissing
+        → IsErr result ↔ Any (IsStrange keeper.state (map (λ v. v.items) sent.items)) receipts.items }
 {
     match settle(
         hall,

@@ -22,15 +22,17 @@ const MOST_USED: u32 = 524288;
 /// Stores what the calls of a hall make, batch by batch, and posts each batch once it is stored. After each batch it goes on with a
 /// checkpoint. It is for one thread, and ends once the hall is stopped and nothing is pending; every other end stops the hall.
 ///
-/// The history has each group behind its append, and before any answer of it.
+/// The history has each group after its append, and before any answer of it.
 pub fn commit_side<C: Tally, M: Tally, D: Disk, R: Wait>(
     rt: &R,
     hall: &Hall<C, M>,
     keeper: &mut Keeper<D>,
     seat: &mut StoreSeat<M>,
 ) -> CommitEnd
-    ensures commits { (all : Commits D.honest D.moment D.left_since keeper.old keeper.new (Some result)) × AreNoted D.moment all.appends (Some result) seat.old seat.new }
-    ensures stands { D.honest keeper.new.store.disk → keeper.new.store.has_failed ≡ false → EachStandsFor D.may_leave keeper.new.store.disk keeper.new.state }
+    ensures commits { (all : Commits D.honest D.moment D.left_since keeper.old keeper.new (Some result))
+        × AreNoted D.moment all.appends (Some result) seat.old seat.new }
+    ensures stands { D.honest keeper.new.store.disk → keeper.new.store.has_failed ≡ false
+        → EachStandsFor D.may_leave keeper.new.store.disk keeper.new.state }
     ensures tells { TellsEnd D.failures keeper.old keeper.new (Some result) }
     ensures honesty { D.honest keeper.new.store.disk ↔ D.honest keeper.old.store.disk }
 {
@@ -47,8 +49,10 @@ fn commit_all<C: Tally, M: Tally, D: Disk, R: Wait>(
     keeper: &mut Keeper<D>,
     seat: &mut StoreSeat<M>,
 ) -> CommitEnd
-    ensures commits { (all : Commits D.honest D.moment D.left_since keeper.old keeper.new (Some result)) × AreNoted D.moment all.appends (Some result) seat.old seat.new }
-    ensures stands { D.honest keeper.new.store.disk → keeper.new.store.has_failed ≡ false → EachStandsFor D.may_leave keeper.new.store.disk keeper.new.state }
+    ensures commits { (all : Commits D.honest D.moment D.left_since keeper.old keeper.new (Some result))
+        × AreNoted D.moment all.appends (Some result) seat.old seat.new }
+    ensures stands { D.honest keeper.new.store.disk → keeper.new.store.has_failed ≡ false
+        → EachStandsFor D.may_leave keeper.new.store.disk keeper.new.state }
     ensures tells { TellsEnd D.failures keeper.old keeper.new (Some result) }
     ensures honesty { D.honest keeper.new.store.disk ↔ D.honest keeper.old.store.disk }
 {
@@ -78,8 +82,10 @@ fn commit<C: Tally, M: Tally, D: Disk, R: Wait>(
     seat: &mut StoreSeat<M>,
     batch: Batch,
 ) -> Option<CommitEnd>
-    ensures commits { (all : Commits D.honest D.moment D.left_since keeper.old keeper.new result) × AreNoted D.moment all.appends result seat.old seat.new }
-    ensures stands { D.honest keeper.new.store.disk → keeper.new.store.has_failed ≡ false → EachStandsFor D.may_leave keeper.new.store.disk keeper.new.state }
+    ensures commits { (all : Commits D.honest D.moment D.left_since keeper.old keeper.new result)
+        × AreNoted D.moment all.appends result seat.old seat.new }
+    ensures stands { D.honest keeper.new.store.disk → keeper.new.store.has_failed ≡ false
+        → EachStandsFor D.may_leave keeper.new.store.disk keeper.new.state }
     ensures tells { TellsEnd D.failures keeper.old keeper.new result }
     ensures works { result ≡ None → keeper.old.store.has_failed ≡ false }
     // What was not stored, or not posted, is not told as stopped.
@@ -118,7 +124,8 @@ fn end_of(fault: Fault) -> CommitEnd
 fn tend<D: Disk>(keeper: &mut Keeper<D>, slices: bool) -> Result<bool, Fault>
     requires works { keeper.old.store.has_failed ≡ false }
     ensures rests { Rests D.honest D.moment D.left_since keeper.old keeper.new }
-    ensures stands { D.honest keeper.new.store.disk → keeper.new.store.has_failed ≡ false → EachStandsFor D.may_leave keeper.new.store.disk keeper.new.state }
+    ensures stands { D.honest keeper.new.store.disk → keeper.new.store.has_failed ≡ false
+        → EachStandsFor D.may_leave keeper.new.store.disk keeper.new.state }
     ensures still { OnOk result (IsStill D.failures keeper.old keeper.new) }
     ensures device { IfErr result (λ fault. (fault ≡ Device) × HasFailed D.failures keeper.old keeper.new) }
 {
@@ -139,7 +146,8 @@ fn tend<D: Disk>(keeper: &mut Keeper<D>, slices: bool) -> Result<bool, Fault>
 fn begin_when_due<D: Disk>(keeper: &mut Keeper<D>) -> Result<bool, Fault>
     requires works { keeper.old.store.has_failed ≡ false }
     ensures rests { Rests D.honest D.moment D.left_since keeper.old keeper.new }
-    ensures stands { D.honest keeper.new.store.disk → keeper.new.store.has_failed ≡ false → EachStandsFor D.may_leave keeper.new.store.disk keeper.new.state }
+    ensures stands { D.honest keeper.new.store.disk → keeper.new.store.has_failed ≡ false
+        → EachStandsFor D.may_leave keeper.new.store.disk keeper.new.state }
     ensures still { OnOk result (IsStill D.failures keeper.old keeper.new) }
     ensures device { IfErr result (λ fault. (fault ≡ Device) × HasFailed D.failures keeper.old keeper.new) }
 {

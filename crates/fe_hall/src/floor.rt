@@ -60,9 +60,11 @@ pub(crate) struct Floor<C: Tally, M: Tally> {
     ghost calls_agree: { calls.total ≡ front.books.calls },
     ghost mails_agree: { mails.total ≡ front.books.taken },
     ghost few: { made ≤ most_connections },
-    ghost call_parts: { (spare_calls.parts + made ≡ C.all) × (spare_calls.amount ≡ 0) × (C.all ≡ most_connections + 1) },
+    ghost call_parts: { (spare_calls.parts + made ≡ C.all) × (spare_calls.amount ≡ 0)
+        × (C.all ≡ most_connections + 1) },
     ghost marked: { mark ≤ mark_of history },
-    ghost mail_parts: { (spare_mails.parts + made ≡ M.all) × (spare_mails.amount ≡ 0) × (M.all ≡ most_connections + 1) },
+    ghost mail_parts: { (spare_mails.parts + made ≡ M.all) × (spare_mails.amount ≡ 0)
+        × (M.all ≡ most_connections + 1) },
 }
 
 /// That a hall is stopped and all that was made in it is durable. Only a cut makes one.
@@ -74,7 +76,7 @@ pub(crate) struct AllDurable {
 /// That a batch was posted. Only a post makes one.
 #[derive(Clone, Copy)]
 pub(crate) struct Posted {
-    /// The place behind its entries.
+    /// The place after its entries.
     durable: u64,
 }
 
@@ -107,8 +109,10 @@ impl<C: Tally, M: Tally> Floor<C, M> {
         mark: u64,
     ) -> Floor<C, M>
         requires first { front.books ≡ first_books }
-        requires calls { (calls.name ≡ C.name) × (calls.parts ≡ C.parts) × (C.all ≡ C.parts) × (C.all ≡ most_connections + 1) }
-        requires mails { (mails.name ≡ M.name) × (mails.parts ≡ M.parts) × (M.all ≡ M.parts) × (M.all ≡ most_connections + 1) }
+        requires calls { (calls.name ≡ C.name) × (calls.parts ≡ C.parts) × (C.all ≡ C.parts)
+            × (C.all ≡ most_connections + 1) }
+        requires mails { (mails.name ≡ M.name) × (mails.parts ≡ M.parts) × (M.all ≡ M.parts)
+            × (M.all ≡ most_connections + 1) }
         requires marked { mark ≤ mark_of history }
         ensures { result.front ≡ front }
     {
@@ -186,13 +190,16 @@ impl<C: Tally, M: Tally> Floor<C, M> {
         message: &ClientMessage,
         seat: &mut CallSeat<C>,
     ) -> Option<Standing>
-        ensures taken { result ≡ Some Standing.Served → (es : List Entry) × Takes self.old.front seat.old.conn message.now es self.new.front }
+        ensures taken { result ≡ Some Standing.Served
+            → (es : List Entry) × Takes self.old.front seat.old.conn message.now es self.new.front }
         ensures other { result ≢ Some Standing.Served → self.new.front ≡ self.old.front }
-        ensures seat { MatchOption result (seat.new ≡ seat.old) (λ s. seat.new ≡ message_answered seat.old message.now s) }
+        ensures seat { MatchOption result (seat.new ≡ seat.old)
+            (λ s. seat.new ≡ message_answered seat.old message.now s) }
         // Each other answer has its reason, and stopped comes first.
         ensures stopped { (result ≡ Some Standing.Stopped) ↔ (self.old.stopped ≡ true) }
         ensures gone { result ≡ Some Standing.Gone → is_connected self.old.front seat.old.conn ≡ false }
-        ensures spent { result ≡ Some Standing.Spent → (takes_more self.old.front.books ≡ false) ⊎ (nat_lt seat.old.taken (2 ^ 64 - 1) ≡ false) }
+        ensures spent { result ≡ Some Standing.Spent
+            → (takes_more self.old.front.books ≡ false) ⊎ (nat_lt seat.old.taken (2 ^ 64 - 1) ≡ false) }
         ensures full { result ≡ None → has_room self.old.front ≡ false }
         ensures still { self.new.stopped ≡ self.old.stopped }
     {
@@ -357,11 +364,12 @@ impl<C: Tally, M: Tally> Floor<C, M> {
         seat.depart(&self.mails);
     }
 
-    /// A read side makes its connection gone, but where the hall is stopped: it is told so, and the write side goes on.
+    /// A read side makes its connection gone, unless the hall is stopped: then the hall says so, and the write side goes on.
     pub(crate) fn depart(&mut self, seat: &mut CallSeat<C>)
         ensures departed { HasDeparted seat.new }
         ensures untaken { TookNoMessage seat.old seat.new }
-        ensures step { self.old.stopped ≡ false → (count : ℕ) × FrontStep self.old.front (event.Gone seat.old.conn count) [] self.new.front }
+        ensures step { self.old.stopped ≡ false
+            → (count : ℕ) × FrontStep self.old.front (event.Gone seat.old.conn count) [] self.new.front }
         ensures stopped { self.old.stopped ≡ true → self.new.front ≡ self.old.front }
     {
         if self.stopped {
@@ -433,7 +441,8 @@ impl<C: Tally, M: Tally> Floor<C, M> {
     pub(crate) fn audit(self, calls: CallSeats<C>, mails: MailSeats<M>) -> Option<Books>
         requires calls { C.all ≡ C.parts }
         requires mails { M.all ≡ M.parts }
-        ensures all { IfSome result (λ books. (books.calls ≡ calls.amount) × (books.taken ≡ mails.amount) × (books ≡ self.front.books)) }
+        ensures all { IfSome result
+            (λ books. (books.calls ≡ calls.amount) × (books.taken ≡ mails.amount) × (books ≡ self.front.books)) }
         ensures add_up { IfSome result (λ books. AddUp books) }
         ensures unspent { IfSome result (λ books. books.spent ≡ false) }
         // No book is kept back where the seats are those of all connections that were made.

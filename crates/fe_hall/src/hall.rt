@@ -56,8 +56,10 @@ impl<C: Tally, M: Tally> Hall<C, M> {
         history: NewHistory,
     ) -> Result<(Hall<C, M>, StoreSeat<M>), (AllocError, Front)>
         requires first { front.books ≡ first_books }
-        requires calls { (calls.name ≡ C.name) × (calls.parts ≡ C.parts) × (C.all ≡ C.parts) × (C.all ≡ most_connections + 1) }
-        requires mails { (mails.name ≡ M.name) × (mails.parts ≡ M.parts) × (M.all ≡ M.parts) × (M.all ≡ most_connections + 1) }
+        requires calls { (calls.name ≡ C.name) × (calls.parts ≡ C.parts) × (C.all ≡ C.parts)
+            × (C.all ≡ most_connections + 1) }
+        requires mails { (mails.name ≡ M.name) × (mails.parts ≡ M.parts) × (M.all ≡ M.parts)
+            × (M.all ≡ most_connections + 1) }
         requires history { history.book ≡ M.book }
         ensures seat { IfOk result (λ hall. hall.1 ≡ act.Began history.place ∷ []) }
         ensures front { IfErr result (λ e. e.1 ≡ front) }
@@ -242,7 +244,8 @@ impl<C: Tally, M: Tally> Hall<C, M> {
         seat: &StoreSeat<M>,
     ) -> Option<Result<Posted, StrangeBatch>>
         requires stored { IsStored batch keeper.now.state }
-        ensures { IfSome result (λ outcome. IfOk outcome (λ posted. posted.durable ≡ batch.first + length batch.entries)) }
+        ensures { IfSome result
+            (λ outcome. IfOk outcome (λ posted. posted.durable ≡ batch.first + length batch.entries)) }
     {
         let mut wakes = [false; BELLS as usize];
         let mut hold = self.lock.enter(rt);
@@ -264,7 +267,8 @@ impl<C: Tally, M: Tally> Hall<C, M> {
     /// Notes the group that a keeper has just stored (`StoreSeat::note`).
     pub(crate) fn note<D: Disk>(&self, keeper: &Keeper<D>, seat: &mut StoreSeat<M>) -> bool
         ensures this { IsPrefix seat.old seat.new }
-        ensures noted { IsTrue result → stores_in seat.new ≡ stores_in seat.old ++ (keeper.now.state.place, D.moment keeper.now.store.disk) ∷ [] }
+        ensures noted { IsTrue result
+            → stores_in seat.new ≡ stores_in seat.old ++ (keeper.now.state.place, D.moment keeper.now.store.disk) ∷ [] }
     {
         seat.note(&self.chronicle, keeper)
     }

@@ -224,7 +224,7 @@ impl<M: Tally> History<M> {
             .load::<Telling, Nothing>(&mut self.seen, &mut offer);
     }
 
-    /// A group is stored, with which a keeper is as it is. Whether so many were stored before it; otherwise nothing was added.
+    /// A group is stored, with which a keeper is as it is. Whether this many were stored before it; otherwise nothing was added.
     pub(crate) fn store<D: Disk>(
         &mut self,
         chronicle: &Chronicle<M>,
@@ -234,7 +234,9 @@ impl<M: Tally> History<M> {
         requires few { stored < 2 ^ 63 }
         ensures this { IsPrefix self.old self.new }
         ensures legal { IsLegal self.new }
-        ensures stored { IsTrue result → (c : ComesAfter self.old (act.Stored keeper.now.state.place (D.moment keeper.now.store.disk)) self.new) × (length (stores_in c.earlier) ≡ stored) }
+        ensures stored { IsTrue result
+            → (c : ComesAfter self.old (act.Stored keeper.now.state.place (D.moment keeper.now.store.disk)) self.new)
+            × (length (stores_in c.earlier) ≡ stored) }
     {
         let mut offer: Offer<Act, u64, Law, Nothing> = self
             .seen

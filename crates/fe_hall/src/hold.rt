@@ -103,7 +103,8 @@ impl<'a, C: Tally, M: Tally> Hold<'a, C, M> {
     pub(crate) fn connect(&mut self, conn: u64) -> Result<(CallSeat<C>, MailSeat<M>), Unconnected>
         requires fresh { self.old.used ≡ false }
         ensures used { self.new.used ≡ true }
-        ensures step { OnOk result (FrontStep (under self.old.floor).front (event.Connect conn) [] (under self.new.floor).front) }
+        ensures step { OnOk result
+            (FrontStep (under self.old.floor).front (event.Connect conn) [] (under self.new.floor).front) }
         ensures err { OnErr result ((under self.new.floor).front ≡ (under self.old.floor).front) }
         ensures calls { IfOk result (λ seats. seats.0 ≡ first_read_seat conn) }
         ensures mails { IfOk result (λ seats. seats.1 ≡ first_write_seat conn) }
@@ -121,9 +122,12 @@ impl<'a, C: Tally, M: Tally> Hold<'a, C, M> {
     ) -> Option<Standing>
         requires fresh { self.old.used ≡ false }
         ensures used { self.new.used ≡ true }
-        ensures taken { result ≡ Some Standing.Served → (es : List Entry) × Takes (under self.old.floor).front seat.old.conn message.now es (under self.new.floor).front }
+        ensures taken { result ≡ Some Standing.Served
+            → (es : List Entry)
+            × Takes (under self.old.floor).front seat.old.conn message.now es (under self.new.floor).front }
         ensures other { result ≢ Some Standing.Served → (under self.new.floor).front ≡ (under self.old.floor).front }
-        ensures seat { MatchOption result (seat.new ≡ seat.old) (λ s. seat.new ≡ message_answered seat.old message.now s) }
+        ensures seat { MatchOption result (seat.new ≡ seat.old)
+            (λ s. seat.new ≡ message_answered seat.old message.now s) }
     {
         self.used = true;
         self.floor.handle(alloc, message, seat)
@@ -133,7 +137,8 @@ impl<'a, C: Tally, M: Tally> Hold<'a, C, M> {
     pub(crate) fn take_mail(&mut self, seat: &mut MailSeat<M>) -> Option<Taking>
         requires fresh { self.old.used ≡ false }
         ensures used { self.new.used ≡ true }
-        ensures takes { TakesMail (under self.old.floor).front (under self.old.floor).stopped seat.old.conn result (under self.new.floor).front }
+        ensures takes { TakesMail (under self.old.floor).front (under self.old.floor).stopped seat.old.conn result
+            (under self.new.floor).front }
         ensures seat { MatchOption result (seat.new ≡ seat.old) (λ taking. seat.new ≡ taking_answered seat.old taking) }
     {
         self.used = true;
@@ -144,7 +149,8 @@ impl<'a, C: Tally, M: Tally> Hold<'a, C, M> {
     pub(crate) fn leave_by_reader(&mut self, seat: &mut CallSeat<C>)
         requires fresh { self.old.used ≡ false }
         ensures used { self.new.used ≡ true }
-        ensures step { (count : ℕ) × FrontStep (under self.old.floor).front (event.Gone seat.old.conn count) [] (under self.new.floor).front }
+        ensures step { (count : ℕ)
+            × FrontStep (under self.old.floor).front (event.Gone seat.old.conn count) [] (under self.new.floor).front }
         ensures seat { seat.new ≡ record seat.old { departed = true } }
     {
         self.used = true;
@@ -155,7 +161,8 @@ impl<'a, C: Tally, M: Tally> Hold<'a, C, M> {
     pub(crate) fn leave_by_writer(&mut self, seat: &mut MailSeat<M>)
         requires fresh { self.old.used ≡ false }
         ensures used { self.new.used ≡ true }
-        ensures step { (count : ℕ) × FrontStep (under self.old.floor).front (event.Gone seat.old.conn count) [] (under self.new.floor).front }
+        ensures step { (count : ℕ)
+            × FrontStep (under self.old.floor).front (event.Gone seat.old.conn count) [] (under self.new.floor).front }
         ensures seat { seat.new ≡ record seat.old { departed = true } }
     {
         self.used = true;
@@ -168,8 +175,11 @@ impl<'a, C: Tally, M: Tally> Hold<'a, C, M> {
         ensures used { self.new.used ≡ true }
         ensures departed { HasDeparted seat.new }
         ensures untaken { TookNoMessage seat.old seat.new }
-        ensures step { (under self.old.floor).stopped ≡ false → (count : ℕ) × FrontStep (under self.old.floor).front (event.Gone seat.old.conn count) [] (under self.new.floor).front }
-        ensures stopped { (under self.old.floor).stopped ≡ true → (under self.new.floor).front ≡ (under self.old.floor).front }
+        ensures step { (under self.old.floor).stopped ≡ false
+            → (count : ℕ)
+            × FrontStep (under self.old.floor).front (event.Gone seat.old.conn count) [] (under self.new.floor).front }
+        ensures stopped { (under self.old.floor).stopped ≡ true
+            → (under self.new.floor).front ≡ (under self.old.floor).front }
     {
         self.used = true;
         self.floor.depart(seat);
@@ -179,7 +189,8 @@ impl<'a, C: Tally, M: Tally> Hold<'a, C, M> {
     pub(crate) fn cut(&mut self) -> Option<Cutting>
         requires fresh { self.old.used ≡ false }
         ensures used { self.new.used ≡ true }
-        ensures cuts { Cuts (under self.old.floor).front (under self.old.floor).stopped result (under self.new.floor).front }
+        ensures cuts { Cuts (under self.old.floor).front (under self.old.floor).stopped result
+            (under self.new.floor).front }
     {
         self.used = true;
         self.floor.cut()
@@ -198,7 +209,8 @@ impl<'a, C: Tally, M: Tally> Hold<'a, C, M> {
         requires stored { IsStored batch keeper.now.state }
         ensures used { self.new.used ≡ true }
         ensures refused { IsErr result ↔ (¬ IsOut (under self.old.floor).front.out batch) }
-        ensures step { OnOk result (FrontStep (under self.old.floor).front (event.Post batch) [] (under self.new.floor).front) }
+        ensures step { OnOk result
+            (FrontStep (under self.old.floor).front (event.Post batch) [] (under self.new.floor).front) }
         ensures durable { IfOk result (λ posted. posted.durable ≡ batch.first + length batch.entries) }
         ensures rings { Rings (under self.old.floor).front (under self.new.floor).front wakes.old wakes.new }
         ensures err { OnErr result ((under self.new.floor).front ≡ (under self.old.floor).front) }
@@ -243,7 +255,7 @@ impl<'a, C: Tally, M: Tally> Hold<'a, C, M> {
         self.floor.is_over(conn)
     }
 
-    /// The place behind all that was made so far.
+    /// The place after all that was made so far.
     pub(crate) fn place(&self) -> u64 {
         self.floor.place()
     }

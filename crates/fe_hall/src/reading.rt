@@ -37,7 +37,8 @@ pub fn read_side<C: Tally, M: Tally, H: ReadHalf, G: Gate, R: Wait>(
     turns: Option<u64>,
 ) -> (CallSeat<C>, Vec<ClientMessage>, ReadEnd)
     // A half that tells its bytes, and has told none: what was handled is the front of its stream.
-    ensures handled { H.tells half.old → H.told half.old ≡ [] → HandlesStream (H.told half.new) seat result.0 result.1.items result.2 }
+    ensures handled { H.tells half.old → H.told half.old ≡ []
+        → HandlesStream (H.told half.new) seat result.0 result.1.items result.2 }
     ensures tells { H.tells half.old → H.tells half.new }
     ensures turns { result.2 ≡ ReadEnd.Turns → IsSome turns }
     // Where the side ends since its connection is gone, the hall is stopped or a book is full, the hall told it so.
@@ -78,7 +79,8 @@ impl<C: Tally> Reading<C> {
         gate: &G,
         turns: Option<u64>,
     ) -> ReadEnd
-        ensures handled { H.tells half.old → H.told half.old ≡ [] → IsAt [] self.old.seat self.old.decoder self.old.seat self.old.listed.items
+        ensures handled { H.tells half.old → H.told half.old ≡ []
+            → IsAt [] self.old.seat self.old.decoder self.old.seat self.old.listed.items
             → HandlesStream (H.told half.new) self.old.seat self.new.seat self.new.listed.items result }
         ensures tells { H.tells half.old → H.tells half.new }
         ensures turns { result ≡ ReadEnd.Turns → IsSome turns }
@@ -110,7 +112,8 @@ impl<C: Tally> Reading<C> {
         gate: &G,
         buffer: &mut [u8],
     ) -> Option<ReadEnd>
-        ensures handled { (before : ReadSeat) → H.tells half.old → IsAt (H.told half.old) before self.old.decoder self.old.seat self.old.listed.items
+        ensures handled { (before : ReadSeat) → H.tells half.old
+            → IsAt (H.told half.old) before self.old.decoder self.old.seat self.old.listed.items
             → MatchOption result (IsAt (H.told half.new) before self.new.decoder self.new.seat self.new.listed.items)
             (HandlesStream (H.told half.new) before self.new.seat self.new.listed.items) }
         ensures tells { H.tells half.old → H.tells half.new }
@@ -132,7 +135,8 @@ impl<C: Tally> Reading<C> {
         gate: &G,
         piece: &[u8],
     ) -> Option<ReadEnd>
-        ensures handled { (before : ReadSeat) (bytes : List ℕ) → IsAt bytes before self.old.decoder self.old.seat self.old.listed.items
+        ensures handled { (before : ReadSeat) (bytes : List ℕ)
+            → IsAt bytes before self.old.decoder self.old.seat self.old.listed.items
             → MatchOption result (IsAt (bytes ++ piece.now) before self.new.decoder self.new.seat self.new.listed.items)
             (HandlesStream (bytes ++ piece.now) before self.new.seat self.new.listed.items) }
         ensures turns { IfSome result (λ end. end ≢ ReadEnd.Turns) }
@@ -158,7 +162,8 @@ impl<C: Tally> Reading<C> {
         gate: &G,
         messages: &[ClientMessage],
     ) -> Option<ReadEnd>
-        ensures handled { (before : ReadSeat) (earlier : List Message) → AreHandled before self.old.seat self.old.listed.items earlier
+        ensures handled { (before : ReadSeat) (earlier : List Message)
+            → AreHandled before self.old.seat self.old.listed.items earlier
             → MatchOption result (AreHandled before self.new.seat self.new.listed.items (earlier ++ messages.now))
             (EndsAmong before self.new.seat self.new.listed.items earlier messages.now) }
         ensures turns { IfSome result (λ end. end ≢ ReadEnd.Turns) }
@@ -183,7 +188,8 @@ impl<C: Tally> Reading<C> {
     ) -> Option<ReadEnd>
         ensures seat { IfNone result (self.new.seat ≡ message_taken self.old.seat message.now) }
         ensures listed { IfNone result (self.new.listed.items ≡ listed_with self.old.listed.items message.now) }
-        ensures untaken { OnSome result (TookNoMessage self.old.seat self.new.seat × (self.new.listed.items ≡ self.old.listed.items)) }
+        ensures untaken { OnSome result (TookNoMessage self.old.seat self.new.seat
+                × (self.new.listed.items ≡ self.old.listed.items)) }
         ensures end { IfSome result EndsEarly }
         ensures told { IfSome result (λ end. IsTold end self.new.seat.standing) }
         ensures decoder { self.new.decoder ≡ self.old.decoder }

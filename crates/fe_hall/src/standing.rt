@@ -5,7 +5,7 @@ pub enum Standing {
     Served,
     /// Its connection is not there.
     Gone,
-    /// The hall is stopped. A write side is told so once its box is empty.
+    /// The hall is stopped. A write side learns of it once its box is empty.
     Stopped,
     /// A book is full.
     Spent,

@@ -50,7 +50,8 @@ impl<M: Tally> StoreSeat<M> {
     /// The group is noted that a keeper has just stored. Whether it was: not where someone else noted one, or 2^62 were.
     pub(crate) fn note<D: Disk>(&mut self, chronicle: &Chronicle<M>, keeper: &Keeper<D>) -> bool
         ensures this { IsPrefix self.old self.new }
-        ensures noted { IsTrue result → stores_in self.new ≡ stores_in self.old ++ (keeper.now.state.place, D.moment keeper.now.store.disk) ∷ [] }
+        ensures noted { IsTrue result
+            → stores_in self.new ≡ stores_in self.old ++ (keeper.now.state.place, D.moment keeper.now.store.disk) ∷ [] }
     {
         if self.stored >= GROUPS {
             return false;

@@ -42,9 +42,10 @@ pub fn write_side<C: Tally, M: Tally, H: WriteHalf, R: Wait>(
     half: &mut H,
 ) -> (MailSeat<M>, Receipts<M>, WriteEnd)
     // The mails that were taken: seat and receipts tell them, a half that tells its bytes got their spelling, and the history has each
-    // answer among them, behind the group of its entry.
+    // answer among them, after the group of its entry.
     ensures wrote { (mails : List Told) × AreTaken seat result.0 result.1.items mails
-        × (H.tells half.old → IsWritten (H.got half.old) mails result.2 (H.got half.new)) × AreTold mails result.1.history }
+        × (H.tells half.old → IsWritten (H.got half.old) mails result.2 (H.got half.new))
+            × AreTold mails result.1.history }
     ensures tells { H.tells half.old → H.tells half.new }
     // Where the side ends since its connection is gone, the hall is stopped or a book is full, the hall told it so.
     ensures told { IsTold result.2 result.0.standing }
@@ -89,8 +90,10 @@ impl<M: Tally> Writing<M> {
         half: &mut H,
     ) -> WriteEnd
         requires { self.old.frames.items ≡ [] }
-        ensures wrote { (mails : List Told) × TakesOn self.old.seat self.new.seat self.old.receipts.items self.new.receipts.items mails
-            × (H.tells half.old → IsWritten (H.got half.old) mails result (H.got half.new)) × AreTold mails self.new.history }
+        ensures wrote { (mails : List Told)
+            × TakesOn self.old.seat self.new.seat self.old.receipts.items self.new.receipts.items mails
+            × (H.tells half.old → IsWritten (H.got half.old) mails result (H.got half.new))
+                × AreTold mails self.new.history }
         ensures tells { H.tells half.old → H.tells half.new }
         ensures told { IsTold result self.new.seat.standing }
     {
@@ -110,8 +113,10 @@ impl<M: Tally> Writing<M> {
         half: &mut H,
     ) -> Option<WriteEnd>
         requires { self.old.frames.items ≡ [] }
-        ensures wrote { (mails : List Told) × TakesOn self.old.seat self.new.seat self.old.receipts.items self.new.receipts.items mails
-            × (H.tells half.old → MatchOption result (H.got half.new ≡ H.got half.old ++ spelled mails) (λ end. IsWritten (H.got half.old) mails end (H.got half.new))) × AreTold mails self.new.history }
+        ensures wrote { (mails : List Told)
+            × TakesOn self.old.seat self.new.seat self.old.receipts.items self.new.receipts.items mails
+            × (H.tells half.old → MatchOption result (H.got half.new ≡ H.got half.old ++ spelled mails)
+                    (λ end. IsWritten (H.got half.old) mails end (H.got half.new))) × AreTold mails self.new.history }
         ensures frames { IfNone result (self.new.frames.items ≡ []) }
         ensures tells { H.tells half.old → H.tells half.new }
         ensures this { IsPrefix self.old.history self.new.history }
@@ -129,7 +134,8 @@ impl<M: Tally> Writing<M> {
     /// short, at most the last mail that was taken is not spelled.
     fn take_mails<C: Tally, R: Wait>(&mut self, rt: &R, hall: &Hall<C, M>) -> Result<(), WriteEnd>
         requires { self.old.frames.items ≡ [] }
-        ensures took { (mails : List Told) × TakesOn self.old.seat self.new.seat self.old.receipts.items self.new.receipts.items mails
+        ensures took { (mails : List Told)
+            × TakesOn self.old.seat self.new.seat self.old.receipts.items self.new.receipts.items mails
             × IsBatch mails × AreSpelled [] result mails self.new.frames.items × AreTold mails self.new.history }
         ensures this { IsPrefix self.old.history self.new.history }
         ensures told { IfErr result (λ end. IsTold end self.new.seat.standing) }
@@ -148,8 +154,10 @@ impl<M: Tally> Writing<M> {
     fn take_mail<C: Tally, R: Wait>(&mut self, rt: &R, hall: &Hall<C, M>) -> Result<bool, WriteEnd>
         // It may wait, so nothing that was taken is left to write, or more mails are in the box.
         requires { (self.old.frames.items ≡ []) ⊎ (self.old.seat.more ≡ true) }
-        ensures took { (mails : List Told) × TakesOn self.old.seat self.new.seat self.old.receipts.items self.new.receipts.items mails
-            × (length mails ≤ 1) × AreSpelled self.old.frames.items result mails self.new.frames.items × AreTold mails self.new.history }
+        ensures took { (mails : List Told)
+            × TakesOn self.old.seat self.new.seat self.old.receipts.items self.new.receipts.items mails
+            × (length mails ≤ 1) × AreSpelled self.old.frames.items result mails self.new.frames.items
+                × AreTold mails self.new.history }
         ensures more { IfOk result (λ more. more ≡ self.new.seat.more) }
         ensures this { IsPrefix self.old.history self.new.history }
         ensures told { IfErr result (λ end. IsTold end self.new.seat.standing) }
@@ -167,7 +175,8 @@ impl<M: Tally> Writing<M> {
 
     /// Makes room for the receipt of the next mail, where one may be kept.
     fn make_room(&mut self) -> Result<(), AllocError>
-        ensures room { OnOk result (vec_len self.new.receipts < 1024 → vec_len self.new.receipts < vec_capacity self.new.receipts) }
+        ensures room { OnOk result (vec_len self.new.receipts < 1024
+                → vec_len self.new.receipts < vec_capacity self.new.receipts) }
         ensures receipts { self.new.receipts.items ≡ self.old.receipts.items }
         ensures seat { self.new.seat ≡ self.old.seat }
         ensures history { self.new.history ≡ self.old.history }
@@ -232,7 +241,8 @@ fn depart<C: Tally, M: Tally, R: Wait>(
 fn write_whole<H: WriteHalf>(half: &mut H, bytes: &[u8]) -> Result<(), LineFault>
     ensures tells { H.tells half.old → H.tells half.new }
     ensures ok { H.tells half.old → OnOk result (H.got half.new ≡ H.got half.old ++ bytes.now) }
-    ensures err { H.tells half.old → OnErr result ((n : ℕ) × (n ≤ length bytes.now) × (H.got half.new ≡ H.got half.old ++ take n bytes.now)) }
+    ensures err { H.tells half.old
+        → OnErr result ((n : ℕ) × (n ≤ length bytes.now) × (H.got half.new ≡ H.got half.old ++ take n bytes.now)) }
 {
     let mut next = 0;
     while next < bytes.len() {

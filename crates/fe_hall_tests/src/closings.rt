@@ -112,8 +112,10 @@ fn close_as<C: Tally, M: Tally, R: Abort + Wait>(
     mails: Blank,
     history: NewHistory,
 ) -> Result<(), Unclosed>
-    requires calls { (calls.name ≡ C.name) × (calls.parts ≡ C.parts) × (C.all ≡ C.parts) × (C.all ≡ most_connections + 1) }
-    requires mails { (mails.name ≡ M.name) × (mails.parts ≡ M.parts) × (M.all ≡ M.parts) × (M.all ≡ most_connections + 1) }
+    requires calls { (calls.name ≡ C.name) × (calls.parts ≡ C.parts) × (C.all ≡ C.parts)
+        × (C.all ≡ most_connections + 1) }
+    requires mails { (mails.name ≡ M.name) × (mails.parts ≡ M.parts) × (M.all ≡ M.parts)
+        × (M.all ≡ most_connections + 1) }
     requires history { history.book ≡ M.book }
 {
     let (hall, seat) = hall_over::<C, M>(alloc, keeper.state(), calls, mails, history)

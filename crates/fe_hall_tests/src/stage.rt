@@ -86,8 +86,10 @@ fn perform_as<
     mails: Blank,
     history: NewHistory,
 ) -> Played<D>
-    requires calls { (calls.name ≡ C.name) × (calls.parts ≡ C.parts) × (C.all ≡ C.parts) × (C.all ≡ most_connections + 1) }
-    requires mails { (mails.name ≡ M.name) × (mails.parts ≡ M.parts) × (M.all ≡ M.parts) × (M.all ≡ most_connections + 1) }
+    requires calls { (calls.name ≡ C.name) × (calls.parts ≡ C.parts) × (C.all ≡ C.parts)
+        × (C.all ≡ most_connections + 1) }
+    requires mails { (mails.name ≡ M.name) × (mails.parts ≡ M.parts) × (M.all ≡ M.parts)
+        × (M.all ≡ most_connections + 1) }
     requires history { history.book ≡ M.book }
 {
     let (hall, seat) = hall_over::<C, M>(alloc, keeper.state(), calls, mails, history)
@@ -138,8 +140,10 @@ pub fn hall_over<C: Tally, M: Tally>(
     mails: Blank,
     history: NewHistory,
 ) -> Result<(Hall<C, M>, StoreSeat<M>), AllocError>
-    requires calls { (calls.name ≡ C.name) × (calls.parts ≡ C.parts) × (C.all ≡ C.parts) × (C.all ≡ most_connections + 1) }
-    requires mails { (mails.name ≡ M.name) × (mails.parts ≡ M.parts) × (M.all ≡ M.parts) × (M.all ≡ most_connections + 1) }
+    requires calls { (calls.name ≡ C.name) × (calls.parts ≡ C.parts) × (C.all ≡ C.parts)
+        × (C.all ≡ most_connections + 1) }
+    requires mails { (mails.name ≡ M.name) × (mails.parts ≡ M.parts) × (M.all ≡ M.parts)
+        × (M.all ≡ most_connections + 1) }
     requires history { history.book ≡ M.book }
 {
     let front = Front::new(alloc, state.copy()?)?;

@@ -52,7 +52,7 @@ fn truth(alloc: Global, is_so: bool) -> Result<Verdict, Trouble> {
     Ok(Verdict::Wrong(String::from_str(alloc, "no")?))
 }
 
-// How often something was stopped or failed, or the first call behind which something was wrong.
+// How often something was stopped or failed, or the first call after which something was wrong.
 fn swept(alloc: Global, told: Result<u64, u64>, wanted: &str) -> Result<Verdict, Trouble> {
     let found = match told {
         Ok(calls) => format!(in alloc; "{calls}")?,
@@ -61,7 +61,7 @@ fn swept(alloc: Global, told: Result<u64, u64>, wanted: &str) -> Result<Verdict,
     Ok(compared_text(found, wanted))
 }
 
-// Whether the text has so many lines and begins and ends with these.
+// Whether the text has this many lines and begins and ends with these.
 fn is_report(text: &[u8], lines: u64, first: &[u8], last: &[u8]) -> bool {
     let found = text.iter().filter(|byte| **byte == b'\n').count();
     found as u64 == lines && text.starts_with(first) && text.ends_with(last)
@@ -122,7 +122,7 @@ impl Bench {
         swept(self.alloc, told?, wanted)
     }
 
-    // `stop FROM TO TORN BYTES`: what is found behind a stop after so many device calls.
+    // `stop FROM TO TORN BYTES`: what is found after a stop after this many device calls.
     fn stop(&self, rest: &str) -> Result<Verdict, Trouble> {
         let (from, rest) = first_number(rest)?;
         let (to, rest) = first_number(rest)?;
@@ -166,7 +166,7 @@ impl Bench {
         }
     }
 
-    // `lie PLACE COUNT CHANGE WANTED`, of each of so many bytes.
+    // `lie PLACE COUNT CHANGE WANTED`, of each of this many bytes.
     fn lie(&self, rest: &str) -> Result<Verdict, Trouble> {
         let (at, rest) = first_number(rest)?;
         let (count, rest) = first_number(rest)?;
@@ -288,7 +288,7 @@ impl Bench {
         compared(self.alloc, found.as_slice(), wanted.as_slice())
     }
 
-    // What a stop leaves of the first bytes of the disk, also behind a further stop.
+    // What a stop leaves of the first bytes of the disk, also after a further stop.
     fn left(&self, rest: &str) -> Result<Verdict, Trouble> {
         let (word, spelled) = first_word(rest);
         let wanted = self.names.bytes_of(spelled)?;

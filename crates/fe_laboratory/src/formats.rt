@@ -40,7 +40,7 @@ impl<'a> Trial<'a> {
         Ok(true)
     }
 
-    // Whether a format that is stopped after so many device calls leaves what it may, and whether it was stopped.
+    // Whether a format that is stopped after this many device calls leaves what it may, and whether it was stopped.
     fn format_stopped(&self, calls: u64) -> Result<(bool, bool), Trouble> {
         let fuse = Guarded::new(self.store.stopped(Torn::Kept)?, Fuse::new(calls));
         let (fuse, is_met) = self.level.formatted(self.alloc, fuse);

@@ -86,7 +86,7 @@ fn batch_of(alloc: Global, first: u64, entries: &[Entry]) -> Result<Batch, Fault
     Ok(batch)
 }
 
-// What may be found where the device failed in a call. Each call behind it is refused, and the replica stays.
+// What may be found where the device failed in a call. Each call after it is refused, and the replica stays.
 fn meet<D: Disk>(
     alloc: Global,
     keeper: &mut Keeper<D>,
@@ -113,7 +113,7 @@ fn has_failed<D: Disk>(alloc: Global, keeper: &mut Keeper<D>, act: &Act) -> bool
         && keeper.checkpoint_finish() == failed
 }
 
-// The image of the state behind the entries.
+// The image of the state after the entries.
 fn image_with(alloc: Global, state: &State, entries: &[Entry]) -> Result<Vec<u8>, Trouble> {
     let mut state = state.copy()?;
     let image = advanced(alloc, &mut state, entries);

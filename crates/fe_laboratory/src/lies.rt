@@ -28,7 +28,7 @@ pub struct Lie<'a> {
     pub other: &'a [u8],
 }
 
-// The image of what a store was opened with, or why it was not, and whether the calls behind that were told what they may be.
+// The image of what a store was opened with, or why it was not, and whether the calls after that were told what they may be.
 type Told = (Result<Vec<u8>, Fault>, bool);
 
 impl<'a> Lie<'a> {

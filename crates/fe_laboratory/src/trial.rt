@@ -84,7 +84,7 @@ impl<'a> Trial<'a> {
         }
     }
 
-    // The same, with a stop at each device call of an opening behind it.
+    // The same, with a stop at each device call of an opening after it.
     fn leaves_behind_stops(
         &self,
         disk: &MemoryDisk,
@@ -107,7 +107,7 @@ impl<'a> Trial<'a> {
         self.leaves(&left, torn, made)
     }
 
-    // Whether the run had so many device calls and the one fault, and all stops leave what is allowed.
+    // Whether the run had this many device calls and the one fault, and all stops leave what is allowed.
     fn is_left(&self, run: &Run, calls: u64, stops: Stops) -> Result<bool, Trouble> {
         if !is_sound(run, calls) {
             return Ok(false);
@@ -160,7 +160,7 @@ impl<'a> Trial<'a> {
         Ok(Err(PLENTY))
     }
 
-    // Stops each kind of stop behind the run, and has the calls stopped again at each device call.
+    // Stops each kind of stop after the run, and has the calls stopped again at each device call.
     fn fuse_again(&self, run: &Run) -> Result<bool, Trouble> {
         for torn in TORN {
             let store = run.disk.stopped(torn)?;
@@ -225,7 +225,7 @@ fn ran(
     }
 }
 
-// Whether the one fault there was is that of the device, which was asked so many calls.
+// Whether the one fault there was is that of the device, which was asked this many calls.
 fn is_sound(run: &Run, calls: u64) -> bool {
     let is_told = match run.made.fault {
         None => run.failures == 0,

@@ -42,7 +42,7 @@ reply_some (server.Settled floor) h = omega arith
 reply_some (server.Goodbye session) h = omega arith
 reply_some (server.Report text) h = omega arith
 
--- the reply whose frame is the first of the bytes, and those behind it
+-- the reply whose frame is the first of the bytes, and those after it
 pub record IsFirst (bytes : List ℕ) (left : List ServerMessage) : Type 0 where
   pub reply : ServerMessage
   pub others : List ServerMessage

@@ -12,7 +12,7 @@ use Rattle.fe_desk.specs.Steps.{find, on_client, with_left, with_decoder, new_cl
 use Rattle.fe_desk.proofs.Outputs.{stored_clients, posted_clients, unmade_clients, takes_clients}
 use Rattle.fe_desk.specs.Quiet.{AreWritten}
 
--- Each client is written what it was written before and perhaps more, no reply waits, and new clients come behind.
+-- Each client is written what it was written before and perhaps more, no reply waits, and new clients come after.
 abbrev pub Extends : List Client → List Client → Type 0
 Extends [] ds = AreWritten ds
 Extends (c ∷ cs) [] = ⊥
@@ -125,7 +125,7 @@ acted s step.CheckBegin t w e = stays s.clients t.clients w (ap (λ (u : Standin
 acted s step.CheckStep t w e = stays s.clients t.clients w (ap (λ (u : Standing). u.clients) e)
 acted s step.CheckFinish t w e = stays s.clients t.clients w (ap (λ (u : Standing). u.clients) e)
 
--- A step writes to each client behind what was written, and owes nothing.
+-- A step writes to each client after what was written, and owes nothing.
 pub record Grows (s t : Standing) : Type 0 where
   pub owes : t.owes ≡ false
   pub extends : Extends s.clients t.clients

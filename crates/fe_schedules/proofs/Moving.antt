@@ -1,4 +1,4 @@
--- Steps of a desk, one behind the other.
+-- Steps of a desk, one after the other.
 use Rattle.std.proofs.Common.{◌≡◌, ℕ, List, [], ◌∷◌, ◌++◌, Option, refl, sym, ap, ◌∙◌, subst}
 use Rattle.fe_disk.specs.Memory.{MemoryState}
 use Rattle.fe_desk.specs.Crash.{DeskState, disk_of}

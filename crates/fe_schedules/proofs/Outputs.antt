@@ -1,4 +1,4 @@
--- What of a desk's output is printed, and what is told behind it.
+-- What of a desk's output is printed, and what is told after it.
 use Rattle.std.proofs.Common.{◌≡◌, ℕ, zero, suc, ◌-◌, ◌<◌, ◌≤◌, List, [], ◌∷◌, ◌++◌, length, map, take, drop, get_or, take_all, refl, sym, ap, ◌∙◌, subst, arith}
 use Rattle.std.proofs.lemmas.List.{length-drop, length-append, take-append-le, take-append-drop, take_at}
 use Rattle.std.proofs.lemmas.List.Concat.{flat_map-append}
@@ -19,13 +19,13 @@ use Rattle.fe_schedules.specs.declared.told.Told.{Told}
 use Rattle.fe_schedules.proofs.Behind.{behind, no_replies}
 use Rattle.fe_schedules.proofs.Growth.{Extends}
 
--- ---- replies behind replies
+-- ---- replies after replies
 
 fits_both : (xs ys : List ServerMessage) → AllByRecursion ReplyFits xs → AllByRecursion ReplyFits ys → AllByRecursion ReplyFits (xs ++ ys)
 fits_both [] ys p q = q
 fits_both (x ∷ xs) ys p q = (p.0, fits_both xs ys p.1 q)
 
--- what is told behind replies are replies with them
+-- what is told after replies are replies with them
 replies_both : (before after : List ℕ) (replies : List ServerMessage) → AreReplies before → IsTold before after replies → AreReplies after
 replies_both before after replies p q = record {
   replies = p.replies ++ replies;
@@ -82,7 +82,7 @@ none_more before [] (suc i) le = refl
 none_more before (q ∷ ports) zero le = absurd (omega (arith, le))
 none_more before (q ∷ ports) (suc i) le = none_more before ports i (omega (arith, le))
 
--- what a port is told behind a front of replies
+-- what a port is told after a front of replies
 pub port_told : (n : ℕ) (w all : List ℕ) → w ≡ all → AreReplies w → AreReplies (take n all)
     → (replies : List ServerMessage) × AllByRecursion ReplyFits replies × (take (length w - n) (drop n w) ≡ flat_map reply_spelling replies) × IsTold (take n all) all replies
 port_told n w all e whole front =
@@ -91,7 +91,7 @@ port_told n w all e whole front =
     let is : all ≡ take n all ++ flat_map reply_spelling b.replies = sym (take-append-drop n all) ∙ ap (λ (t : List ℕ). take n all ++ drop n t) (sym e) ∙ ap (λ (t : List ℕ). take n all ++ t) b.spelled in
     (b.replies, b.fits, rest ∙ b.spelled, record { fits = b.fits; spelled = is })
 
--- where all is told behind what is printed, all of it is replies
+-- where all is told after what is printed, all of it is replies
 pub all_printed : (ns : List ℕ) (outs : List (ℕ × List ℕ)) (told : List Told) → ArePrinted ns (map (λ (o : ℕ × List ℕ). o.1) outs) → AreTold (fronts ns (map (λ (o : ℕ × List ℕ). o.1) outs)) outs told
     → ArePrinted (map (λ (w : List ℕ). length w) (map (λ (o : ℕ × List ℕ). o.1) outs)) (map (λ (o : ℕ × List ℕ). o.1) outs)
 all_printed [] [] told p t = tt
@@ -143,7 +143,7 @@ ports_written ports t s synced is trace =
 pub ports_told : (ports : List Port) (t : Trace) (s : Standing) (synced : ℕ) → ports ≡ t.ports.items → IsTraceOf t s synced → map {B = ℕ × List ℕ} (λ (p : Port). (p.conn, p.written)) ports ≡ outputs s
 ports_told ports t s synced is trace = ap (λ (ps : List Port). map {B = ℕ × List ℕ} (λ (p : Port). (p.conn, p.written)) ps) is ∙ trace.written
 
--- what is told of the ports of a desk's trace is told of the desk
+-- what is reported of the ports of a desk's trace is told of the desk
 pub trace_told : (counts ns : List ℕ) (ports : List Port) (t : Trace) (s : Standing) (synced : ℕ) (told : List Told) → counts ≡ ns → ports ≡ t.ports.items → IsTraceOf t s synced
     → AreTold (fronts counts (map {B = List ℕ} (λ (p : Port). p.written) ports)) (map {B = ℕ × List ℕ} (λ (p : Port). (p.conn, p.written)) ports) told → AreTold (fronts ns (writings s)) (outputs s) told
 trace_told counts ns ports t s synced told same is trace a =

@@ -1,4 +1,4 @@
--- The lines that ran, and what they print, one behind the other.
+-- The lines that ran, and what they print, one after the other.
 use Rattle.std.proofs.Common.{◌≡◌, ◌≢◌, ℕ, ◌+◌, ◌<◌, List, [], ◌∷◌, ◌++◌, Option, Some, None, IfSome, ◌⊎◌, inl, inr, length, take, drop, refl, sym, ap, subst, ◌∙◌, arith, append_assoc, append-nil, string_bytes}
 use Rattle.std.proofs.lemmas.Bool.{lt-ltb}
 use Rattle.std.proofs.lemmas.List.{length-append, take-append-drop}
@@ -79,7 +79,7 @@ pub said_fault : (number : ℕ) (bytes : List ℕ) (l : Line) (f : MachineFault)
 said_fault number bytes l machine.Memory said = (said.0, l, said.1)
 said_fault number bytes l machine.Device said = (said.0, l, said.1)
 
--- the text that is kept, with nothing behind it
+-- the text that is kept, with nothing after it
 alone : (text kept : List ℕ) → text ++ kept ≡ (text ++ kept) ++ []
 alone text kept = sym (append-nil (text ++ kept))
 
@@ -313,7 +313,7 @@ until reader writer unread end o input before after k e = record {
   ends = inl e.ends;
 }
 
--- the reader failed behind lines that ran, whose text is all written
+-- the reader failed after lines that ran, whose text is all written
 pub unread_left : (reader writer : StreamFault → Type 0) (unread : Type 0) (f : StreamFault) → reader f → (o : Option (List ℕ)) (read others : List ℕ) (before now : Option (List ℕ)) (r : Run) → IfSome o (λ bytes. bytes ≡ read ++ others)
     → SoFar read before now r → string_bytes r.text ≡ [] → RunsUntil reader writer unread (of_stream f) o before now
 unread_left reader writer unread f fails o read others before now r k so none = record {

@@ -39,7 +39,7 @@ fronts (n ∷ ns) (w ∷ ws) = take n w ∷ fronts ns ws
 abbrev pub lengths : Standing → List ℕ
 lengths s = map (λ w. length w) (writings s)
 
--- what was told behind a front of what is written to a connection number
+-- what was told after a front of what is written to a connection number
 pub record ToldMore (front : List ℕ) (conn : ℕ) (written : List ℕ) (before after : List Told) : Type 0 where
   pub replies : List ServerMessage
   pub are : IsTold front written replies
@@ -105,7 +105,7 @@ pub record RanLine (r : Run) (l : Line) (s : Run) : Type 0 where
   pub holding : s.is_holding ≡ holds_after l r.is_holding
   pub prints : PrintsMore (printed_after l r.machine.printed.items) s.machine.desk.standing (string_bytes r.text) (string_bytes s.text)
 
--- the run stands there
+-- the run is there
 pub record IsAt (r : Run) (s : Stage) : Type 0 where
   pub standing : s.standing ≡ r.machine.desk.standing
   pub from : IsFrom s.begun r.machine.desk

@@ -62,7 +62,7 @@ holds_after line.Flush was = false
 holds_after line.Stop was = false
 holds_after other was = was
 
--- behind the steps of each line what is pending is cut, stored and posted, unless on hold
+-- after the steps of each line what is pending is cut, stored and posted, unless on hold
 abbrev pub endings : Bool → List Step
 endings true = []
 endings false = step.Cut ∷ step.Append ∷ step.Post ∷ []
@@ -114,7 +114,7 @@ abbrev pub StartsSaid : List (List ℕ) → Type 0
 StartsSaid [] = ⊥
 StartsSaid (bytes ∷ others) = (bytes ≢ []) × (l : Line) × (parsed bytes ≡ Some l)
 
--- What is told of the line that comes next. Its number, counted from 1, where it is outside the syntax. Of a line that says
+-- What is reported of the line that comes next. Its number, counted from 1, where it is outside the syntax. Of a line that says
 -- something, that there was no memory for it or that the disk failed. And `Input` once the lines can't be counted.
 abbrev pub EndsAtLine : ScheduleFault → List (List ℕ) → List (List ℕ) → Type 0
 EndsAtLine (fault.Line number) lines left = (number ≡ length lines + 1) × StartsStray left
@@ -122,7 +122,7 @@ EndsAtLine fault.Memory lines left = StartsSaid left
 EndsAtLine fault.Device lines left = StartsSaid left
 EndsAtLine fault.Input lines left = length lines ≡ 2 ^ 64 - 2
 
--- what is told of memory or of the disk
+-- what is reported of memory or of the disk
 abbrev pub IsOfStore : ScheduleFault → Type 0
 IsOfStore end = (end ≡ fault.Memory) ⊎ (end ≡ fault.Device)
 
@@ -135,7 +135,7 @@ abbrev pub EndsAt : (StreamFault → Type 0) → (StreamFault → Type 0) → Ty
 EndsAt reader writer unread end lines left more =
     EndsWithin writer end lines left more ⊎ ((more ≡ []) × (IsOfStream reader end ⊎ ((lines ≡ []) × IsOfStore end × unread)))
 
--- so many more reads were made
+-- this many more reads were made
 abbrev pub IsReadMore : {R : Type 0} → (R → ℕ → Type 0) → R → R → ℕ → Type 0
 IsReadMore was_read old new more = (count : ℕ) → was_read old count → was_read new (count + more)
 

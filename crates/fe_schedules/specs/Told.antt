@@ -37,7 +37,7 @@ pub record IsSorting (told order : List Told) : Type 0 where
 
 -- ---- what is told
 
--- The frames of these replies were written behind what was written before.
+-- The frames of these replies were written after what was written before.
 pub record IsTold (before after : List ℕ) (replies : List ServerMessage) : Type 0 where
   pub fits : AllByRecursion ReplyFits replies
   pub spelled : after ≡ before ++ flat_map reply_spelling replies

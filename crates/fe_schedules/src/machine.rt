@@ -157,7 +157,7 @@ impl Machine {
         ensures acts { OnOk result (ActsOn self.old Line.Stop self.new) }
         ensures fault { IfErr result (TellsDisk (last_disk self.new)) }
     {
-        // A desk of its own stands there until the store is opened.
+        // A desk of its own is there until the store is opened.
         let disk = MemoryDisk::new(self.alloc, STORE)?;
         let between = match new_desk(self.alloc, disk) {
             Ok(desk) => desk,
@@ -189,7 +189,8 @@ impl Machine {
         ensures desk { self.new.desk ≡ self.old.desk }
         ensures lost { self.new.lost ≡ self.old.lost }
         ensures printed { OnOk result (self.new.printed.items ≡ lengths self.old.desk.standing) }
-        ensures text { OnOk result (PrintsMore self.old.printed.items self.old.desk.standing (string_bytes text.old) (string_bytes text.new)) }
+        ensures text { OnOk result
+            (PrintsMore self.old.printed.items self.old.desk.standing (string_bytes text.old) (string_bytes text.new)) }
     {
         let ports = self.desk.trace().ports.as_slice();
         read_all(self.alloc, ports, self.printed.as_slice(), told)?;

@@ -36,7 +36,8 @@ fn first_frame(bytes: &[u8]) -> Option<(&[u8], &[u8])>
 /// The reply whose frame this is.
 fn reply_in(alloc: Global, frame: &[u8]) -> Result<ServerMessage, AllocError>
     requires { (reply : Reply) × ReplyFits reply × (frame.now ≡ reply_spelling reply) }
-    ensures { (reply : Reply) → ReplyFits reply → frame.now ≡ reply_spelling reply → IfOk result (λ read. read ≡ reply) }
+    ensures { (reply : Reply) → ReplyFits reply → frame.now ≡ reply_spelling reply
+        → IfOk result (λ read. read ≡ reply) }
 {
     match read_reply(alloc, frame)? {
         Some(reply) => Ok(reply),
@@ -52,7 +53,7 @@ fn read_told(
     told: &mut Vec<Told>,
 ) -> Result<(), AllocError>
     requires { AreReplies frames.now }
-    // Frames of replies are read as these, behind what was there.
+    // Frames of replies are read as these, after what was there.
     ensures { (replies : List Reply) → AllByRecursion ReplyFits replies → frames.now ≡ flat_map reply_spelling replies
         → OnOk result (told.new.items ≡ told.old.items ++ map (told_to conn) replies) }
 {
@@ -77,7 +78,8 @@ fn read_port(
 ) -> Result<(), AllocError>
     requires front { printed ≤ length port.now.written }
     requires replies { AreReplies (take printed port.now.written) }
-    ensures { OnOk result (ToldMore (take printed port.now.written) port.now.conn port.now.written told.old.items told.new.items) }
+    ensures { OnOk result
+        (ToldMore (take printed port.now.written) port.now.conn port.now.written told.old.items told.new.items) }
 {
     let written = port.written.as_slice();
     read_told(alloc, port.conn, &written[printed..], told)
@@ -98,7 +100,9 @@ pub(crate) fn read_all(
     told: &mut Vec<Told>,
 ) -> Result<(), AllocError>
     requires { ArePrinted printed.now (map (λ p. p.written) ports.now) }
-    ensures { OnOk result (AreTold (fronts printed.now (map (λ p. p.written) ports.now)) (map (λ p. (p.conn, p.written)) ports.now) told.new.items) }
+    ensures { OnOk result
+        (AreTold (fronts printed.now (map (λ p. p.written) ports.now)) (map
+                (λ p. (p.conn, p.written)) ports.now) told.new.items) }
 {
     told.clear();
     for at in 0..ports.len() {

@@ -96,7 +96,8 @@ impl Run {
         requires { IsRun self.old }
         ensures disk { IfErr result (TellsDiskOrWriter (last_disk self.new.machine) (W.has_failed writer.new)) }
         ensures ended { (read : List ℕ) (before : Option (List ℕ)) → SoFar read before (W.contents writer.old) self.old
-            → MatchResult result (λ _. Whole read before (W.contents writer.new) []) (λ end. Ended (W.has_failed writer.new) end read before (W.contents writer.new) []) }
+            → MatchResult result (λ _. Whole read before (W.contents writer.new) [])
+                (λ end. Ended (W.has_failed writer.new) end read before (W.contents writer.new) []) }
     {
         let ended = self.end_last();
         writer.write_whole(&mut self.text)?;
@@ -125,7 +126,8 @@ impl Run {
         requires { IsRun self.old }
         ensures run { OnOk result (IsRun self.new) }
         ensures disk { IfErr result (TellsDiskOrWriter (last_disk self.new.machine) (W.has_failed writer.new)) }
-        ensures taken { (read : List ℕ) (before : Option (List ℕ)) → SoFar read before (W.contents writer.old) self.old → HasNoFeed bytes.now
+        ensures taken { (read : List ℕ) (before : Option (List ℕ)) → SoFar read before (W.contents writer.old) self.old
+            → HasNoFeed bytes.now
             → MatchResult result (λ _. SoFar (read ++ (bytes.now ++ 10 ∷ [])) before (W.contents writer.new) self.new)
             (λ end. (others : List ℕ) → Ended (W.has_failed writer.new) end ((read ++ (bytes.now ++ 10 ∷ [])) ++ others) before (W.contents writer.new) (string_bytes self.new.text)) }
     {
@@ -158,7 +160,8 @@ impl Run {
         requires { IsRun self.old }
         ensures disk { IfErr result (TellsOfDisk (last_disk self.new.machine)) }
         ensures ended { (read : List ℕ) (before now : Option (List ℕ)) → SoFar read before now self.old
-            → MatchResult result (λ _. Whole read before now (string_bytes self.new.text)) (λ end. Ended (λ _. ⊥) end read before now (string_bytes self.new.text)) }
+            → MatchResult result (λ _. Whole read before now (string_bytes self.new.text))
+                (λ end. Ended (λ _. ⊥) end read before now (string_bytes self.new.text)) }
     {
         let begun = self.begun.as_slice();
         if begun.is_empty() {

@@ -30,7 +30,8 @@ pub fn run_schedule<R: Source, W: Sink>(
     // Every line of the input ran, and what is written is what they print.
     ensures ok { OnOk result.0 (RunsAll (R.remaining reader.old) (W.contents writer.old) (W.contents writer.new)) }
     // At a fault lines at the front of the input ran. What ended them is told, and what they print is written unless the writer failed.
-    ensures fault { IfErr result.0 (λ end. RunsUntil (ReaderFails R.has_failed R.was_read reader.old reader.new) (W.has_failed writer.new)
+    ensures fault { IfErr result.0
+        (λ end. RunsUntil (ReaderFails R.has_failed R.was_read reader.old reader.new) (W.has_failed writer.new)
         (reader.new ≡ reader.old) end (R.remaining reader.old) (W.contents writer.old) (W.contents writer.new)) }
     // The device is told exactly where a call of the disk failed, unless the writer failed as well.
     ensures disk { IfErr result.0 (TellsDiskOrWriter result.1 (W.has_failed writer.new)) }
@@ -61,7 +62,8 @@ fn run_all<R: Source, W: Sink>(
     requires room { 0 < length piece.old }
     ensures ok { OnOk result (RunsAll (R.remaining reader.old) (W.contents writer.old) (W.contents writer.new)) }
     ensures disk { IfErr result (TellsDiskOrWriter (last_disk run.new.machine) (W.has_failed writer.new)) }
-    ensures fault { IfErr result (λ end. RunsUntil (ReaderFails R.has_failed R.was_read reader.old reader.new) (W.has_failed writer.new)
+    ensures fault { IfErr result
+        (λ end. RunsUntil (ReaderFails R.has_failed R.was_read reader.old reader.new) (W.has_failed writer.new)
         (reader.new ≡ reader.old) end (R.remaining reader.old) (W.contents writer.old) (W.contents writer.new)) }
 {
     for turn in 0..READS {

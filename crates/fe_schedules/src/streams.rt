@@ -13,7 +13,7 @@ pub trait Source {
     /// The bytes that reads will give from here on, where they are known.
     ghost remaining: { Self → Option (List ℕ) };
 
-    /// It was read so many times.
+    /// It was read this many times.
     ghost was_read: { Self → ℕ → Type 0 };
 
     /// A read of it failed so.
@@ -53,7 +53,8 @@ pub trait Sink {
     /// Writes the text, and empties it. Where the writer fails, a front of it is written.
     fn write_whole(&mut self, text: &mut String) -> Result<(), StreamFault>
         ensures ok { OnOk result (Appends (contents self.old) (contents self.new) (string_bytes text.old)) }
-        ensures front { (count : ℕ) × Appends (contents self.old) (contents self.new) (take count (string_bytes text.old)) }
+        ensures front { (count : ℕ)
+            × Appends (contents self.old) (contents self.new) (take count (string_bytes text.old)) }
         ensures cleared { string_bytes text.new ≡ [] }
         ensures fails { IfErr result (has_failed self.new) }
         ensures stays { (fault : Fault) → has_failed self.old fault → has_failed self.new fault };

@@ -65,8 +65,10 @@ impl<C: Tally, M: Tally> Opened<C, M> {
         door: UnixStream,
         settings: &Settings,
     ) -> Result<(Opened<C, M>, StoreSeat<M>), AllocError>
-        requires calls { (calls.name ≡ C.name) × (calls.parts ≡ C.parts) × (C.all ≡ C.parts) × (C.all ≡ most_connections + 1) }
-        requires mails { (mails.name ≡ M.name) × (mails.parts ≡ M.parts) × (M.all ≡ M.parts) × (M.all ≡ most_connections + 1) }
+        requires calls { (calls.name ≡ C.name) × (calls.parts ≡ C.parts) × (C.all ≡ C.parts)
+            × (C.all ≡ most_connections + 1) }
+        requires mails { (mails.name ≡ M.name) × (mails.parts ≡ M.parts) × (M.all ≡ M.parts)
+            × (M.all ≡ most_connections + 1) }
         requires history { history.book ≡ M.book }
         ensures begun { IfOk result (λ opened. opened.0.begun.value ≡ state.now) }
         ensures most { IfOk result (λ opened. opened.0.house.most ≡ settings.now.connections) }

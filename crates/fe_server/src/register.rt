@@ -169,7 +169,8 @@ impl<C: Tally, M: Tally> Register<C, M> {
     pub(crate) fn add_mails(&mut self, seat: MailSeat<M>, receipts: Receipts<M>, keeps: bool)
         requires ledger { M.all ≡ M.parts }
         ensures joined { self.new.mails ≡ joined_to self.old.mails seat.mails }
-        ensures receipts { IsTrue keeps → self.new.short ≡ false → self.new.receipts.items ≡ self.old.receipts.items ++ receipts.items }
+        ensures receipts { IsTrue keeps → self.new.short ≡ false
+            → self.new.receipts.items ≡ self.old.receipts.items ++ receipts.items }
         ensures none { keeps ≡ false → self.new.receipts.items ≡ self.old.receipts.items }
         ensures short { IsTrue self.old.short → IsTrue self.new.short }
         ensures calls { self.new.calls ≡ self.old.calls }
@@ -207,10 +208,12 @@ impl<C: Tally, M: Tally> Register<C, M> {
         ensures stores { IfOk result (λ audit. stores_in audit.history ≡ stores_in seat) }
         ensures legal { IfOk result (λ audit. IsLegal audit.history) }
         ensures told { IfOk result (λ audit. EachTold audit.receipts audit.history) }
-        ensures whole { IsOk result → (self.short ≡ false) × ((self.spent ≡ false) × (IsSome self.calls × IsSome self.mails)) }
+        ensures whole { IsOk result
+            → (self.short ≡ false) × ((self.spent ≡ false) × (IsSome self.calls × IsSome self.mails)) }
         ensures add_up { IfOk result (λ audit. AddUp audit.books) }
         ensures unspent { IfOk result (λ audit. audit.books.spent ≡ false) }
-        ensures faults { IfErr result (λ told. ((told ≡ fault.Memory) × IsTrue self.short) ⊎ ((told ≡ fault.Strange) × (self.short ≡ false))) }
+        ensures faults { IfErr result
+            (λ told. ((told ≡ fault.Memory) × IsTrue self.short) ⊎ ((told ≡ fault.Strange) × (self.short ≡ false))) }
     {
         if self.short {
             drop(self);

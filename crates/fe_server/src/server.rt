@@ -84,15 +84,19 @@ pub fn serve_store<D: Disk + Drop + Send, G: Gate + Sync, R: Clock + Threads + W
 ) -> Result<Served<D>, (StopFault, Keeper<D>)>
     // Whatever the end, the keeper comes back: it is the one before with what was stored since; and the answer is that of the
     // committing side's end.
-    ensures committed { (end : Ended) × HasCommitted D.honest D.moment D.left_since D.may_leave D.failures keeper (keeper_in result) end × IsAnswerAt end (fault_in result) }
-    // The books of a server that ended by itself: each call and each mail stands in one column.
+    ensures committed { (end : Ended)
+        × HasCommitted D.honest D.moment D.left_since D.may_leave D.failures keeper (keeper_in result) end
+        × IsAnswerAt end (fault_in result) }
+    // The books of a server that ended by itself: each call and each mail is in one column.
     ensures add_up { IfOk result (λ served. AddUp served.audit.books) }
     ensures unspent { IfOk result (λ served. served.audit.books.spent ≡ false) }
     // What its clients were told is stored.
-    ensures borne_out { IfOk result (λ served. All (IsBorneOut served.keeper.state served.audit.sent) served.audit.receipts) }
+    ensures borne_out { IfOk result
+        (λ served. All (IsBorneOut served.keeper.state served.audit.sent) served.audit.receipts) }
     // Whatever a client was told is in every image that a stop may leave from then on: before an answer was told, a group with its entry
     // was stored, and each image since the end of its append stands for a state with that group.
-    ensures acknowledged { IfOk result (λ served. IsAcknowledged D.honest D.moment D.left_since keeper served.keeper served.audit) }
+    ensures acknowledged { IfOk result
+        (λ served. IsAcknowledged D.honest D.moment D.left_since keeper served.keeper served.audit) }
 {
     let history = NewHistory::new(keeper.state().place());
     serve_as::<Brand, Brand, D, G, R>(
@@ -125,15 +129,21 @@ fn serve_as<
     mails: Blank,
     history: NewHistory,
 ) -> Result<Served<D>, (StopFault, Keeper<D>)>
-    requires calls { (calls.name ≡ C.name) × (calls.parts ≡ C.parts) × (C.all ≡ C.parts) × (C.all ≡ most_connections + 1) }
-    requires mails { (mails.name ≡ M.name) × (mails.parts ≡ M.parts) × (M.all ≡ M.parts) × (M.all ≡ most_connections + 1) }
+    requires calls { (calls.name ≡ C.name) × (calls.parts ≡ C.parts) × (C.all ≡ C.parts)
+        × (C.all ≡ most_connections + 1) }
+    requires mails { (mails.name ≡ M.name) × (mails.parts ≡ M.parts) × (M.all ≡ M.parts)
+        × (M.all ≡ most_connections + 1) }
     requires history { history.book ≡ M.book }
     requires place { history.place ≡ keeper.state.place }
-    ensures committed { (end : Ended) × HasCommitted D.honest D.moment D.left_since D.may_leave D.failures keeper (keeper_in result) end × IsAnswerAt end (fault_in result) }
+    ensures committed { (end : Ended)
+        × HasCommitted D.honest D.moment D.left_since D.may_leave D.failures keeper (keeper_in result) end
+        × IsAnswerAt end (fault_in result) }
     ensures add_up { IfOk result (λ served. AddUp served.audit.books) }
     ensures unspent { IfOk result (λ served. served.audit.books.spent ≡ false) }
-    ensures borne_out { IfOk result (λ served. All (IsBorneOut served.keeper.state served.audit.sent) served.audit.receipts) }
-    ensures acknowledged { IfOk result (λ served. IsAcknowledged D.honest D.moment D.left_since keeper served.keeper served.audit) }
+    ensures borne_out { IfOk result
+        (λ served. All (IsBorneOut served.keeper.state served.audit.sent) served.audit.receipts) }
+    ensures acknowledged { IfOk result
+        (λ served. IsAcknowledged D.honest D.moment D.left_since keeper served.keeper served.audit) }
 {
     let Ok(door) = listener.try_clone() else {
         drop(history);
@@ -188,7 +198,9 @@ impl<D: Disk + Drop, M: Tally> Promise<(Keeper<D>, CommitEnd, Over, StoreSeat<M>
     ghost use Rattle.fe_hall.specs.Commits.{AreNoted};
     ghost use Rattle.fe_server.specs.Serving.{HasCommitted};
 
-    ghost kept_by = { λ p r. (all : HasCommitted D.honest D.moment D.left_since D.may_leave D.failures p.before.value r.0 r.1) × AreNoted D.moment all.commits.appends (Some r.1) (Began p.before.value.state.place ∷ []) r.3 };
+    ghost kept_by = { λ p r.
+        (all : HasCommitted D.honest D.moment D.left_since D.may_leave D.failures p.before.value r.0 r.1)
+        × AreNoted D.moment all.commits.appends (Some r.1) (Began p.before.value.state.place ∷ []) r.3 };
 }
 
 /// Serves the clients of a listener, and stores what they do. The keeper comes back, and why the committing side ended.
@@ -214,7 +226,8 @@ fn run<
     requires most { opened.now.house.most ≡ settings.now.connections }
     requires keeps { opened.now.house.keeps ≡ nat_lt 0 settings.now.accepts }
     requires seat { seat ≡ act.Began keeper.state.place ∷ [] }
-    ensures { (all : HasCommitted D.honest D.moment D.left_since D.may_leave D.failures keeper result.0 result.1) × AreNoted D.moment all.commits.appends (Some result.1) (act.Began keeper.state.place ∷ []) result.3 }
+    ensures { (all : HasCommitted D.honest D.moment D.left_since D.may_leave D.failures keeper result.0 result.1)
+        × AreNoted D.moment all.commits.appends (Some result.1) (act.Began keeper.state.place ∷ []) result.3 }
 {
     let house = opened.house();
     thread::scope(
@@ -254,7 +267,8 @@ fn run_in<
     requires calls { C.all ≡ C.parts }
     requires mails { M.all ≡ M.parts }
     requires seat { seat ≡ act.Began keeper.state.place ∷ [] }
-    ensures { (all : HasCommitted D.honest D.moment D.left_since D.may_leave D.failures keeper result.0 result.1) × AreNoted D.moment all.commits.appends (Some result.1) (act.Began keeper.state.place ∷ []) result.3 }
+    ensures { (all : HasCommitted D.honest D.moment D.left_since D.may_leave D.failures keeper result.0 result.1)
+        × AreNoted D.moment all.commits.appends (Some result.1) (act.Began keeper.state.place ∷ []) result.3 }
 {
     let promise = Committed {
         before: Snapshot::of(&keeper),
@@ -288,7 +302,8 @@ fn commit<C: Tally, M: Tally, D: Disk, R: Clock + Wait>(
     seat: StoreSeat<M>,
 ) -> (Keeper<D>, CommitEnd, Over, StoreSeat<M>)
     requires { seat ≡ act.Began keeper.state.place ∷ [] }
-    ensures { (all : HasCommitted D.honest D.moment D.left_since D.may_leave D.failures keeper result.0 result.1) × AreNoted D.moment all.commits.appends (Some result.1) (act.Began keeper.state.place ∷ []) result.3 }
+    ensures { (all : HasCommitted D.honest D.moment D.left_since D.may_leave D.failures keeper result.0 result.1)
+        × AreNoted D.moment all.commits.appends (Some result.1) (act.Began keeper.state.place ∷ []) result.3 }
 {
     let mut keeper = keeper;
     let mut seat = seat;

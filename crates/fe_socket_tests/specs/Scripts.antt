@@ -12,7 +12,7 @@ code (Event.Received byte) = 130 ∷ byte ∷ []
 code (Event.Written byte) = byte ∷ []
 code Event.Flushed = 131 ∷ []
 
--- a log is the other one, and these events behind it
+-- a log is the other one, and these events after it
 abbrev pub Follows : List ℕ → List Event → List ℕ → Type 0
 Follows before events after = after ≡ before ++ flat_map code events
 

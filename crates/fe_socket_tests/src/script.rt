@@ -5,7 +5,7 @@ use fe_text::StreamFault;
 use std::alloc::{AllocError, Global};
 use std::process::Abort;
 
-// How the log marks what happens. What is written stands there as it is: it has no byte above 127.
+// How the log marks what happens. What is written is there as it is: it has no byte above 127.
 const READ: u8 = 128;
 
 const SENT: u8 = 129;

@@ -15,7 +15,7 @@ const EMPTY: [u8; 24] = [
     0, 0, 0, 0, 0, 0, 0, 0, 0, 0, 0, 0, 0, 0, 0, 1, 0, 0, 0, 0, 0, 0, 0, 0,
 ];
 
-// The journal wants memory, or the disk for its record of the call, which is then a fault of the device.
+// The journal needs memory, or the disk for its record of the call, which is then a fault of the device.
 fn wants_memory(fault: StoreFault, disk: &MemoryDisk) -> bool {
     match fault {
         StoreFault::NoMemory => disk.failures() == 0,

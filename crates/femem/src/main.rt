@@ -127,7 +127,8 @@ fn settings_at<R: Files + AllocGlobal>(rt: &R, path: &str) -> Result<Settings, F
 /// Writes the books, or where the writer fails, a front of their text.
 fn show_books<W: Write>(alloc: Global, books: &Books, writer: &mut W) -> Result<(), StreamFault>
     ensures ok { OnOk result (Appends (W.contents writer.old) (W.contents writer.new) (books_text books.now)) }
-    ensures front { (count : ℕ) × Appends (W.contents writer.old) (W.contents writer.new) (take count (books_text books.now)) }
+    ensures front { (count : ℕ)
+        × Appends (W.contents writer.old) (W.contents writer.new) (take count (books_text books.now)) }
 {
     match books_text(alloc, books) {
         Ok(mut text) => write_out(&mut text, writer),

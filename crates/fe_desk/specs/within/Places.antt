@@ -10,7 +10,7 @@ use Rattle.fe_desk.specs.Steps.{BeginsStream, clients_with}
 abbrev pub client_number_at : List Client → ℕ → Option ℕ
 client_number_at clients i = option_map (λ c. c.conn) (slice_get clients i)
 
--- the first client of a number stands at this place
+-- the first client of a number is at this place
 pub record IsFirstAt (clients : List Client) (conn at : ℕ) : Type 0 where
   pub within : at < length clients
   pub here : client_number_at clients at ≡ Some conn

@@ -80,7 +80,7 @@ fn check_read_only<R: Files<File = File> + Abort>(rt: &R, path: &str) -> Result<
     Ok(())
 }
 
-// A file that was cut under its disk: a read behind the end is a fault, which is counted, and the disk goes on.
+// A file that was cut under its disk: a read after the end is a fault, which is counted, and the disk goes on.
 fn check_cut<R: Files<File = File> + Abort, D: Disk>(
     rt: &R,
     disk: &mut D,
