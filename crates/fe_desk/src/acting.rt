@@ -100,7 +100,7 @@ impl<D: Disk> Parts<D> {
         ensures desk { IsDesk D.honest D.may_leave (desk_of self.new) }
         ensures emptied { OnOk result (standing_of self.new ≡ emptied (standing_of self.old)) }
         ensures later { OnErr result ((emptied (standing_of self.new) ≡ emptied (standing_of self.old))
-                × (self.new.owes ≡ true)) }
+            × (self.new.owes ≡ true)) }
         ensures quiet { OnOk result (HasNoMail (standing_of self.new)) }
         ensures keeper { self.new.keeper ≡ self.old.keeper }
         ensures synced { self.new.trace.synced ≡ self.old.trace.synced }
@@ -120,7 +120,7 @@ impl<D: Disk> Parts<D> {
         ensures desk { IsDesk D.honest D.may_leave (desk_of self.new) }
         ensures emptied { OnOk result (standing_of self.new ≡ emptied (standing_of self.old)) }
         ensures later { OnErr result ((emptied (standing_of self.new) ≡ emptied (standing_of self.old))
-                × (self.new.owes ≡ true)) }
+            × (self.new.owes ≡ true)) }
         ensures quiet { OnOk result (HasNoMail (standing_of self.new)) }
         ensures keeper { self.new.keeper ≡ self.old.keeper }
         ensures synced { self.new.trace.synced ≡ self.old.trace.synced }

@@ -27,7 +27,7 @@ impl<D: Disk> Parts<D> {
         ensures desk { IsDesk D.honest D.may_leave (desk_of self.new) }
         ensures connected { OnOk result
             (MatchBool (is_connected self.old.front conn) (standing_of self.new
-                    ≡ standing_of self.old) (Connects (standing_of self.old) conn (standing_of self.new))) }
+            ≡ standing_of self.old) (Connects (standing_of self.old) conn (standing_of self.new))) }
         ensures err { OnErr result (standing_of self.new ≡ standing_of self.old) }
         ensures unconnected { OnErr result (is_connected self.old.front conn ≡ false) }
         ensures keeper { self.new.keeper ≡ self.old.keeper }

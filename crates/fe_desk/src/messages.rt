@@ -32,10 +32,10 @@ impl<D: Disk> Parts<D> {
         ensures desk { IsDesk D.honest D.may_leave (desk_of self.new) }
         ensures taken { OnOk result
             (TakesBytes (standing_of self.old) (find conn (standing_of self.old).clients) piece.now
-                (standing_of self.new)) }
+            (standing_of self.new)) }
         ensures again { (fed : Bool) → IsErrOf result (fault.NoMemory fed) → (t : Standing)
             → TakesBytes (standing_of self.new) (find conn (standing_of self.new).clients)
-                (if fed then [] else piece.now) t
+            (if fed then [] else piece.now) t
             → TakesBytes (standing_of self.old) (find conn (standing_of self.old).clients) piece.now t }
         ensures fed { (fed : Bool) → IsErrOf result (fault.NoMemory fed)
             → MatchBool fed (ReadsPiece (standing_of self.old) conn piece.now (standing_of self.new))
@@ -83,7 +83,7 @@ impl<D: Disk> Parts<D> {
         ensures desk { IsDesk D.honest D.may_leave (desk_of self.new) }
         ensures taken { OnOk result
             (TakesAll (with_left (standing_of self.old) conn []) conn (left_of (standing_of self.old) conn)
-                (standing_of self.new)) }
+            (standing_of self.new)) }
         ensures again { IsErrOf result keeper.NoMemory → (t : Standing)
             → TakesAll (with_left (standing_of self.new) conn []) conn (left_of (standing_of self.new) conn) t
             → TakesAll (with_left (standing_of self.old) conn []) conn (left_of (standing_of self.old) conn) t }

@@ -59,7 +59,7 @@ impl<D: Disk> Desk<D> {
         ensures formatted { D.honest disk → IfOk result (λ desk. EachStandsFor D.may_leave (disk_of desk) first_state) }
         ensures first { IfOk result
             (λ desk. IsFirstStanding first_state desk.standing × (desk.keeper.state ≡ first_state)
-                × (desk.synced ≡ 0)) }
+            × (desk.synced ≡ 0)) }
         ensures acknowledged { (asked : ℕ → List ℕ) → IfOk result (λ desk. IsAcknowledged first_state asked desk) }
         ensures store { IfOk result (λ desk. desk.keeper.store ≡ first_store (disk_of desk)) }
         ensures sized { IfOk result (λ desk. D.size disk ≡ device_bytes) }

@@ -79,7 +79,7 @@ impl Port {
         requires { (client_of self.old).left ≡ [] }
         ensures reads { OnOk result (Reads self.old.decoder self.new.decoder piece.now (client_of self.new).left) }
         ensures client { OnOk result (client_of self.new
-                ≡ record (client_of self.old) { decoder = self.new.decoder; left = (client_of self.new).left }) }
+            ≡ record (client_of self.old) { decoder = self.new.decoder; left = (client_of self.new).left }) }
         ensures bad { IfOk result (λ bad. bad ≡ self.new.decoder.is_bad) }
         ensures err { OnErr result (client_of self.new ≡ client_of self.old) }
     {
@@ -110,8 +110,10 @@ impl Port {
     /// Writes the reply that waits, if one does.
     fn write_waiting(&mut self) -> Result<(), AllocError>
         ensures written { OnOk result (client_of self.new
-                ≡ record (client_of self.old) { reply = None;
-                    written = self.old.written ++ option_map_or reply_spelling self.old.reply [] }) }
+            ≡ record (client_of self.old) {
+              reply = None;
+              written = self.old.written ++ option_map_or reply_spelling self.old.reply [];
+            }) }
         ensures err { OnErr result (client_of self.new ≡ client_of self.old) }
         ensures waits { OnErr result (self.new.reply ≢ None) }
     {
@@ -127,7 +129,7 @@ impl Port {
     /// Writes a reply, or keeps it where there is no memory.
     fn write(&mut self, reply: Reply) -> Result<(), AllocError>
         ensures written { OnOk result (client_of self.new
-                ≡ record (client_of self.old) { written = self.old.written ++ reply_spelling reply }) }
+            ≡ record (client_of self.old) { written = self.old.written ++ reply_spelling reply }) }
         ensures err { OnErr result (client_of self.new ≡ record (client_of self.old) { reply = Some reply }) }
     {
         if self.written.put(&reply).is_err() {

@@ -37,7 +37,7 @@ pub fn run<D: Disk>(alloc: Global, disk: D, steps: &[Step]) -> Ran<D>
     // And at the end one that holds all groups that were stored.
     ensures stands { D.honest disk → (s : ServerState) → EachStandsFor D.may_leave disk s
         → (image : List ℕ) → D.may_leave result.disk image
-            → LeavesPrefix s (groups_of result.trace) result.trace.synced image }
+        → LeavesPrefix s (groups_of result.trace) result.trace.synced image }
     // The disk is one to open again.
     ensures honesty { D.honest result.disk ↔ D.honest disk }
     ensures size { D.size result.disk ≡ D.size disk }

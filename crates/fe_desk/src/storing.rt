@@ -71,7 +71,7 @@ impl<D: Disk> Parts<D> {
         requires works { self.old.keeper.store.has_failed ≡ false }
         ensures desk { IsDesk D.honest D.may_leave (with_handed (desk_of self.new) result.0) }
         ensures stored { OnOk result.1 (handing (standing_of self.new) result.0
-                ≡ stored (handing (standing_of self.old) (Cut batch))) }
+            ≡ stored (handing (standing_of self.old) (Cut batch))) }
         ensures memory { IsErrOf result.1 NoMemory
             → with_handed (desk_of self.new) result.0 ≡ with_handed (desk_of self.old) (Cut batch) }
         ensures owes { self.new.owes ≡ self.old.owes }

@@ -110,8 +110,8 @@ module _ (f g : FrontState) (conn : ℕ) (es : List Entry) (front : IsFront f) (
   by_message (message.Call number request) (inr told) = call_refused_goes number told.0 told.2.front
   by_message (message.Cancel number) (inl step) = other_goes (event.Cancel conn number) refl (omega arith) step
   by_message (message.Cancel number) (inr told) = refused_goes number told.0 told.2
-  by_message (message.Settle floor) (inl step) = other_goes (event.Settle conn floor) refl (omega arith) step
-  by_message (message.Settle floor) (inr told) = refused_goes floor told.0 told.2
+  by_message (message.Settle shared) (inl step) = other_goes (event.Settle conn shared) refl (omega arith) step
+  by_message (message.Settle shared) (inr told) = refused_goes shared told.0 told.2
   by_message message.Bye (inl step) = other_goes (event.Bye conn) refl (omega arith) step
   by_message message.Bye (inr told) = refused_goes 0 told.0 told.2
   by_message message.Report (inl step) = other_goes (event.Tell conn _) refl (omega arith) step

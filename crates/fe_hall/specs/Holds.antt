@@ -5,8 +5,8 @@ use Rattle.fe_front.specs.Event as event
 use Rattle.fe_front.specs.Front.{FrontState, is_connected}
 use Rattle.fe_front.specs.Step.{FrontStep}
 use Rattle.fe_hall.specs.Seats.{most_counted}
-use Rattle.fe_hall.specs.declared.floor.Cutting.{Cutting}
-use Rattle.fe_hall.specs.declared.floor.Cutting.TheVariants as cutting
+use Rattle.fe_hall.specs.declared.shared.Cutting.{Cutting}
+use Rattle.fe_hall.specs.declared.shared.Cutting.TheVariants as cutting
 use Rattle.fe_hall.specs.declared.taking.Taking.{Taking}
 use Rattle.fe_hall.specs.declared.taking.Taking.TheVariants as taking
 

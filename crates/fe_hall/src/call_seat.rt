@@ -29,8 +29,14 @@ impl<C: Tally> Model for CallSeat<C> {
 
     ghost Value = { ReadSeat };
 
-    ghost view = { λ s. record { conn = s.conn; calls = s.share.amount; taken = s.taken; last = s.last;
-            standing = s.standing; departed = s.departed } };
+    ghost view = { λ s. record {
+      conn = s.conn;
+      calls = s.share.amount;
+      taken = s.taken;
+      last = s.last;
+      standing = s.standing;
+      departed = s.departed;
+    } };
 
     ghost invariant = { λ s. (s.share.parts ≡ 1) × (C.all ≡ most_connections + 1) };
 }

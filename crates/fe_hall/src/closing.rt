@@ -58,8 +58,12 @@ impl Model for Audit {
 
     ghost Value = { Audited };
 
-    ghost view = { λ a. record { books = a.books; sent = map (λ v. v.items) a.sent.items; receipts = a.receipts.items;
-            history = a.history.log } };
+    ghost view = { λ a. record {
+      books = a.books;
+      sent = map (λ v. v.items) a.sent.items;
+      receipts = a.receipts.items;
+      history = a.history.log;
+    } };
 
     ghost invariant = { λ a. AddUp a.books × (a.books.spent ≡ false) × IsLegal a.history.log };
 }
@@ -117,8 +121,8 @@ pub fn settle<C: Tally, M: Tally>(
     ensures refused { result ≢ Err SeatMissing
         → IsErr result ↔ Any (IsStrange state.now (map (λ v. v.items) sent.items)) receipts.items }
 {
-    let (floor, chronicle) = hall.into_floor();
-    let Some(books) = floor.audit(calls, mails) else {
+    let (shared, chronicle) = hall.into_shared();
+    let Some(books) = shared.audit(calls, mails) else {
         drop(sent);
         drop(receipts);
         drop(history);

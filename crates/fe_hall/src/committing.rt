@@ -7,8 +7,8 @@ ghost use Rattle.fe_keeper.specs.declared.fault.Fault.TheVariants.{Device};
 ghost use Rattle.fe_hall.specs.Commits.{AreNoted, Commits, IsStill, HasFailed, TellsEnd, end_of};
 
 use crate::commit_end::CommitEnd;
-use crate::floor::Cutting;
 use crate::hall::Hall;
+use crate::shared::Cutting;
 use crate::store_seat::StoreSeat;
 use crate::tally::Tally;
 use fe_disk::Disk;

@@ -8,12 +8,12 @@ ghost use Rattle.fe_hall.specs.Rules.{told_as};
 ghost use Rattle.fe_hall.specs.declared.act.Act.TheVariants as act;
 
 use crate::call_seat::CallSeat;
-use crate::floor::{Cutting, Floor, Posted, Unconnected};
 use crate::history::{Chronicle, History, NewHistory};
 use crate::hold::Lock;
 use crate::mail_seat::MailSeat;
 use crate::receipt::Receipt;
 use crate::receipts::Receipts;
+use crate::shared::{Cutting, Posted, Shared, Unconnected};
 use crate::standing::Standing;
 use crate::store_seat::StoreSeat;
 use crate::taking::Taking;
@@ -70,7 +70,7 @@ impl<C: Tally, M: Tally> Hall<C, M> {
                 let (chronicle, begun) = history.named::<M>();
                 let (seen, stored) = (begun.again(), begun.again());
                 let hall = Hall {
-                    lock: Lock::new(Floor::new(alloc, front, calls, mails, seen, mark)),
+                    lock: Lock::new(Shared::new(alloc, front, calls, mails, seen, mark)),
                     chronicle,
                     begun,
                     work: Condvar::new(),
@@ -291,7 +291,7 @@ impl<C: Tally, M: Tally> Hall<C, M> {
     }
 
     /// What lies under the lock, and the word of the history, once no thread has the hall.
-    pub(crate) fn into_floor(self) -> (Floor<C, M>, Chronicle<M>) {
+    pub(crate) fn into_shared(self) -> (Shared<C, M>, Chronicle<M>) {
         let Hall {
             lock,
             chronicle,
@@ -299,7 +299,7 @@ impl<C: Tally, M: Tally> Hall<C, M> {
             ..
         } = self;
         drop(begun);
-        (lock.into_floor(), chronicle)
+        (lock.into_shared(), chronicle)
     }
 }
 

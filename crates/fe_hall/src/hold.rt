@@ -15,9 +15,9 @@ ghost use Rattle.fe_hall.specs.Holds.{Cuts, TakesMail};
 ghost use Rattle.fe_hall.specs.Seats.{HasDeparted, ReadSeat, TookNoMessage, WriteSeat, first_read_seat, first_write_seat, message_answered, taking_answered, posts_more};
 
 use crate::call_seat::CallSeat;
-use crate::floor::{Cutting, Floor, Posted, Unconnected};
 use crate::history::History;
 use crate::mail_seat::MailSeat;
+use crate::shared::{Cutting, Posted, Shared, Unconnected};
 use crate::standing::Standing;
 use crate::store_seat::StoreSeat;
 use crate::taking::Taking;
@@ -36,21 +36,21 @@ const LOOKS: u64 = 100;
 /// The lock of a hall. What lies under it is reached through its holds alone.
 #[derive(Drop)]
 pub(crate) struct Lock<C: Tally, M: Tally> {
-    floor: Mutex<Floor<C, M>>,
+    shared: Mutex<Shared<C, M>>,
 }
 
 /// A hold of the lock.
 #[derive(Drop)]
 pub(crate) struct Hold<'a, C: Tally, M: Tally> {
-    floor: MutexGuard<'a, Floor<C, M>>,
+    shared: MutexGuard<'a, Shared<C, M>>,
     /// Its event was made.
     used: bool,
 }
 
 impl<C: Tally, M: Tally> Lock<C, M> {
-    pub(crate) fn new(floor: Floor<C, M>) -> Lock<C, M> {
+    pub(crate) fn new(shared: Shared<C, M>) -> Lock<C, M> {
         Lock {
-            floor: Mutex::new(floor),
+            shared: Mutex::new(shared),
         }
     }
 
@@ -59,25 +59,25 @@ impl<C: Tally, M: Tally> Lock<C, M> {
         ensures { result.used ≡ false }
     {
         Hold {
-            floor: self.guard(rt),
+            shared: self.guard(rt),
             used: false,
         }
     }
 
     /// The standard library's `lock` sleeps at once where another thread sleeps already, so this tries for a while first.
-    fn guard<R: Wait>(&self, rt: &R) -> MutexGuard<'_, Floor<C, M>> {
+    fn guard<R: Wait>(&self, rt: &R) -> MutexGuard<'_, Shared<C, M>> {
         for _k in 0..LOOKS {
-            if let Some(floor) = self.floor.try_lock() {
-                return floor;
+            if let Some(shared) = self.shared.try_lock() {
+                return shared;
             }
         }
-        self.floor.lock(rt)
+        self.shared.lock(rt)
     }
 
     /// What lies under the lock, once no thread has it.
-    pub(crate) fn into_floor(self) -> Floor<C, M> {
-        let Lock { floor } = self;
-        floor.into_inner()
+    pub(crate) fn into_shared(self) -> Shared<C, M> {
+        let Lock { shared } = self;
+        shared.into_inner()
     }
 }
 
@@ -86,34 +86,34 @@ impl<'a, C: Tally, M: Tally> Hold<'a, C, M> {
     pub(crate) fn wait<R: Wait>(self, rt: &R, bell: &Condvar) -> Hold<'a, C, M>
         ensures { result.used ≡ false }
     {
-        let Hold { floor, used: _ } = self;
+        let Hold { shared, used: _ } = self;
         Hold {
-            floor: bell.wait(rt, floor),
+            shared: bell.wait(rt, shared),
             used: false,
         }
     }
 
     /// Lets the lock go.
     pub(crate) fn end(self) {
-        let Hold { floor, used: _ } = self;
-        MutexGuard::unlock(floor);
+        let Hold { shared, used: _ } = self;
+        MutexGuard::unlock(shared);
     }
 
-    /// The event that a connection comes (`Floor::connect`).
+    /// The event that a connection comes (`Shared::connect`).
     pub(crate) fn connect(&mut self, conn: u64) -> Result<(CallSeat<C>, MailSeat<M>), Unconnected>
         requires fresh { self.old.used ≡ false }
         ensures used { self.new.used ≡ true }
         ensures step { OnOk result
-            (FrontStep (under self.old.floor).front (event.Connect conn) [] (under self.new.floor).front) }
-        ensures err { OnErr result ((under self.new.floor).front ≡ (under self.old.floor).front) }
+            (FrontStep (under self.old.shared).front (event.Connect conn) [] (under self.new.shared).front) }
+        ensures err { OnErr result ((under self.new.shared).front ≡ (under self.old.shared).front) }
         ensures calls { IfOk result (λ seats. seats.0 ≡ first_read_seat conn) }
         ensures mails { IfOk result (λ seats. seats.1 ≡ first_write_seat conn) }
     {
         self.used = true;
-        self.floor.connect(conn)
+        self.shared.connect(conn)
     }
 
-    /// The event of a message, where there is room for it (`Floor::handle`).
+    /// The event of a message, where there is room for it (`Shared::handle`).
     pub(crate) fn handle(
         &mut self,
         alloc: Global,
@@ -124,79 +124,79 @@ impl<'a, C: Tally, M: Tally> Hold<'a, C, M> {
         ensures used { self.new.used ≡ true }
         ensures taken { result ≡ Some Standing.Served
             → (es : List Entry)
-            × Takes (under self.old.floor).front seat.old.conn message.now es (under self.new.floor).front }
-        ensures other { result ≢ Some Standing.Served → (under self.new.floor).front ≡ (under self.old.floor).front }
+            × Takes (under self.old.shared).front seat.old.conn message.now es (under self.new.shared).front }
+        ensures other { result ≢ Some Standing.Served → (under self.new.shared).front ≡ (under self.old.shared).front }
         ensures seat { MatchOption result (seat.new ≡ seat.old)
             (λ s. seat.new ≡ message_answered seat.old message.now s) }
     {
         self.used = true;
-        self.floor.handle(alloc, message, seat)
+        self.shared.handle(alloc, message, seat)
     }
 
-    /// The event that a mail is taken, or why none comes (`Floor::take_mail`).
+    /// The event that a mail is taken, or why none comes (`Shared::take_mail`).
     pub(crate) fn take_mail(&mut self, seat: &mut MailSeat<M>) -> Option<Taking>
         requires fresh { self.old.used ≡ false }
         ensures used { self.new.used ≡ true }
-        ensures takes { TakesMail (under self.old.floor).front (under self.old.floor).stopped seat.old.conn result
-            (under self.new.floor).front }
+        ensures takes { TakesMail (under self.old.shared).front (under self.old.shared).stopped seat.old.conn result
+            (under self.new.shared).front }
         ensures seat { MatchOption result (seat.new ≡ seat.old) (λ taking. seat.new ≡ taking_answered seat.old taking) }
     {
         self.used = true;
-        self.floor.take_mail(seat)
+        self.shared.take_mail(seat)
     }
 
-    /// The event that a read side makes its connection gone (`Floor::leave_by_reader`).
+    /// The event that a read side makes its connection gone (`Shared::leave_by_reader`).
     pub(crate) fn leave_by_reader(&mut self, seat: &mut CallSeat<C>)
         requires fresh { self.old.used ≡ false }
         ensures used { self.new.used ≡ true }
         ensures step { (count : ℕ)
-            × FrontStep (under self.old.floor).front (event.Gone seat.old.conn count) [] (under self.new.floor).front }
+            × FrontStep (under self.old.shared).front (event.Gone seat.old.conn count) [] (under self.new.shared).front }
         ensures seat { seat.new ≡ record seat.old { departed = true } }
     {
         self.used = true;
-        self.floor.leave_by_reader(seat);
+        self.shared.leave_by_reader(seat);
     }
 
-    /// The event that a write side does so (`Floor::leave_by_writer`).
+    /// The event that a write side does so (`Shared::leave_by_writer`).
     pub(crate) fn leave_by_writer(&mut self, seat: &mut MailSeat<M>)
         requires fresh { self.old.used ≡ false }
         ensures used { self.new.used ≡ true }
         ensures step { (count : ℕ)
-            × FrontStep (under self.old.floor).front (event.Gone seat.old.conn count) [] (under self.new.floor).front }
+            × FrontStep (under self.old.shared).front (event.Gone seat.old.conn count) [] (under self.new.shared).front }
         ensures seat { seat.new ≡ record seat.old { departed = true } }
     {
         self.used = true;
-        self.floor.leave_by_writer(seat);
+        self.shared.leave_by_writer(seat);
     }
 
-    /// The event that a read side makes its connection gone, but where the hall is stopped (`Floor::depart`).
+    /// The event that a read side makes its connection gone, but where the hall is stopped (`Shared::depart`).
     pub(crate) fn depart(&mut self, seat: &mut CallSeat<C>)
         requires fresh { self.old.used ≡ false }
         ensures used { self.new.used ≡ true }
         ensures departed { HasDeparted seat.new }
         ensures untaken { TookNoMessage seat.old seat.new }
-        ensures step { (under self.old.floor).stopped ≡ false
+        ensures step { (under self.old.shared).stopped ≡ false
             → (count : ℕ)
-            × FrontStep (under self.old.floor).front (event.Gone seat.old.conn count) [] (under self.new.floor).front }
-        ensures stopped { (under self.old.floor).stopped ≡ true
-            → (under self.new.floor).front ≡ (under self.old.floor).front }
+            × FrontStep (under self.old.shared).front (event.Gone seat.old.conn count) [] (under self.new.shared).front }
+        ensures stopped { (under self.old.shared).stopped ≡ true
+            → (under self.new.shared).front ≡ (under self.old.shared).front }
     {
         self.used = true;
-        self.floor.depart(seat);
+        self.shared.depart(seat);
     }
 
-    /// The event that the pending entries are handed out (`Floor::cut`).
+    /// The event that the pending entries are handed out (`Shared::cut`).
     pub(crate) fn cut(&mut self) -> Option<Cutting>
         requires fresh { self.old.used ≡ false }
         ensures used { self.new.used ≡ true }
-        ensures cuts { Cuts (under self.old.floor).front (under self.old.floor).stopped result
-            (under self.new.floor).front }
+        ensures cuts { Cuts (under self.old.shared).front (under self.old.shared).stopped result
+            (under self.new.shared).front }
     {
         self.used = true;
-        self.floor.cut()
+        self.shared.cut()
     }
 
-    /// The event that a batch is posted (`Floor::post`).
+    /// The event that a batch is posted (`Shared::post`).
     pub(crate) fn post<D: Disk>(
         &mut self,
         batch: Batch,
@@ -205,88 +205,88 @@ impl<'a, C: Tally, M: Tally> Hold<'a, C, M> {
         wakes: &mut [bool; BELLS as usize],
     ) -> Result<Posted, StrangeBatch>
         requires fresh { self.old.used ≡ false }
-        requires more { IsTrue (posts_more (under self.old.floor).front.books batch) }
+        requires more { IsTrue (posts_more (under self.old.shared).front.books batch) }
         requires stored { IsStored batch keeper.now.state }
         ensures used { self.new.used ≡ true }
-        ensures refused { IsErr result ↔ (¬ IsOut (under self.old.floor).front.out batch) }
+        ensures refused { IsErr result ↔ (¬ IsOut (under self.old.shared).front.out batch) }
         ensures step { OnOk result
-            (FrontStep (under self.old.floor).front (event.Post batch) [] (under self.new.floor).front) }
+            (FrontStep (under self.old.shared).front (event.Post batch) [] (under self.new.shared).front) }
         ensures durable { IfOk result (λ posted. posted.durable ≡ batch.first + length batch.entries) }
-        ensures rings { Rings (under self.old.floor).front (under self.new.floor).front wakes.old wakes.new }
-        ensures err { OnErr result ((under self.new.floor).front ≡ (under self.old.floor).front) }
+        ensures rings { Rings (under self.old.shared).front (under self.new.shared).front wakes.old wakes.new }
+        ensures err { OnErr result ((under self.new.shared).front ≡ (under self.old.shared).front) }
     {
         self.used = true;
-        self.floor.post(batch, keeper, seat, wakes)
+        self.shared.post(batch, keeper, seat, wakes)
     }
 
     /// The hall is stopped. It is no event of the front, but its hold makes none.
     pub(crate) fn stop(&mut self)
         requires fresh { self.old.used ≡ false }
         ensures used { self.new.used ≡ true }
-        ensures stopped { (under self.new.floor).stopped ≡ true }
-        ensures front { (under self.new.floor).front ≡ (under self.old.floor).front }
+        ensures stopped { (under self.new.shared).stopped ≡ true }
+        ensures front { (under self.new.shared).front ≡ (under self.old.shared).front }
     {
         self.used = true;
-        self.floor.stop();
+        self.shared.stop();
     }
 
     /// Notes that the read side of a connection waits for its box, or no more: no events of the front.
     pub(crate) fn watch(&mut self, conn: u64) -> bool
         ensures same { self.new.used ≡ self.old.used }
-        ensures front { (under self.new.floor).front ≡ (under self.old.floor).front }
+        ensures front { (under self.new.shared).front ≡ (under self.old.shared).front }
     {
-        self.floor.watch(conn)
+        self.shared.watch(conn)
     }
 
     pub(crate) fn unwatch(&mut self, conn: u64) -> bool
         ensures same { self.new.used ≡ self.old.used }
-        ensures front { (under self.new.floor).front ≡ (under self.old.floor).front }
+        ensures front { (under self.new.shared).front ≡ (under self.old.shared).front }
     {
-        self.floor.unwatch(conn)
+        self.shared.unwatch(conn)
     }
 
     /// Whether it is noted that the read side of a connection waits for its box.
     pub(crate) fn is_watched(&self, conn: u64) -> bool {
-        self.floor.is_watched(conn)
+        self.shared.is_watched(conn)
     }
 
-    /// Whether a connection is told nothing any more (`Floor::is_over`).
+    /// Whether a connection is told nothing any more (`Shared::is_over`).
     pub(crate) fn is_over(&self, conn: u64) -> bool {
-        self.floor.is_over(conn)
+        self.shared.is_over(conn)
     }
 
     /// The place after all that was made so far.
     pub(crate) fn place(&self) -> u64 {
-        self.floor.place()
+        self.shared.place()
     }
 
-    /// Whether nothing is left to take for a connection of what was made before this place (`Floor::is_drained`).
+    /// Whether nothing is left to take for a connection of what was made before this place (`Shared::is_drained`).
     pub(crate) fn is_drained(&self, conn: u64, place: u64) -> bool {
-        self.floor.is_drained(conn, place)
+        self.shared.is_drained(conn, place)
     }
 
-    /// What was stored, as far as it is posted (`Floor::mark`).
+    /// What was stored, as far as it is posted (`Shared::mark`).
     pub(crate) fn mark(&self, history: &mut History<M>) -> u64
         ensures this { IsPrefix history.old history.new }
         ensures mark { result ≤ mark_of history.new }
     {
-        self.floor.mark(history)
+        self.shared.mark(history)
     }
 
     /// How many mails were made, also those that met a full box.
     pub(crate) fn mails_made(&self) -> u64 {
-        self.floor.mails_made()
+        self.shared.mails_made()
     }
 
     /// Whether the mails of a batch stay within the books of a hall.
     pub(crate) fn posts_more(&self, batch: &Batch) -> bool
-        ensures { result ≡ posts_more (under self.now.floor).front.books batch.now }
+        ensures { result ≡ posts_more (under self.now.shared).front.books batch.now }
     {
-        self.floor.posts_more(batch)
+        self.shared.posts_more(batch)
     }
 
-    /// Marks the bells of the read sides that wait for their boxes (`Floor::mark_watched`).
+    /// Marks the bells of the read sides that wait for their boxes (`Shared::mark_watched`).
     pub(crate) fn mark_watched(&self, wakes: &mut [bool; BELLS as usize]) {
-        self.floor.mark_watched(wakes);
+        self.shared.mark_watched(wakes);
     }
 }

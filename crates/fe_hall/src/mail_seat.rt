@@ -26,8 +26,13 @@ impl<M: Tally> Model for MailSeat<M> {
 
     ghost Value = { WriteSeat };
 
-    ghost view = { λ s. record { conn = s.conn; mails = s.share.amount; more = s.more; standing = s.standing;
-            departed = s.departed } };
+    ghost view = { λ s. record {
+      conn = s.conn;
+      mails = s.share.amount;
+      more = s.more;
+      standing = s.standing;
+      departed = s.departed;
+    } };
 
     ghost invariant = { λ s. (s.share.parts ≡ 1) × (M.all ≡ most_connections + 1) };
 }

@@ -189,7 +189,7 @@ impl<C: Tally> Reading<C> {
         ensures seat { IfNone result (self.new.seat ≡ message_taken self.old.seat message.now) }
         ensures listed { IfNone result (self.new.listed.items ≡ listed_with self.old.listed.items message.now) }
         ensures untaken { OnSome result (TookNoMessage self.old.seat self.new.seat
-                × (self.new.listed.items ≡ self.old.listed.items)) }
+            × (self.new.listed.items ≡ self.old.listed.items)) }
         ensures end { IfSome result EndsEarly }
         ensures told { IfSome result (λ end. IsTold end self.new.seat.standing) }
         ensures decoder { self.new.decoder ≡ self.old.decoder }

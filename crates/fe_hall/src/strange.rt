@@ -55,9 +55,9 @@ fn is_strange(state: &State, sent: &[Vec<ClientMessage>], receipt: &Receipt) -> 
 /// Whether a state keeps something else than what a receipt says, at the receipt's place.
 fn keeps_other(state: &State, receipt: &Receipt) -> bool
     ensures other { OnTrue result ((session : ℕ) × (number : ℕ) × (k : Kept) × Keeps state.now session number k
-            × (k.place ≡ receipt.now.place) × (IsAsTold receipt.now session number k → ⊥)) }
+        × (k.place ≡ receipt.now.place) × (IsAsTold receipt.now session number k → ⊥)) }
     ensures none { OnFalse result ((session : ℕ) (number : ℕ) (k : Kept) → Keeps state.now session number k
-            → k.place ≡ receipt.now.place → IsAsTold receipt.now session number k) }
+        → k.place ≡ receipt.now.place → IsAsTold receipt.now session number k) }
 {
     for k in 0..state.session_count() {
         let (session, held) = state.session_entry(k).unwrap();
@@ -71,9 +71,9 @@ fn keeps_other(state: &State, receipt: &Receipt) -> bool
 /// Whether a session keeps something else than what a receipt says, at the receipt's place.
 fn holds_other(session: u64, held: &Session, receipt: &Receipt) -> bool
     ensures other { OnTrue result ((number : ℕ) × (k : Kept) × (get held.now.kept number ≡ Some k)
-            × (k.place ≡ receipt.now.place) × (IsAsTold receipt.now session number k → ⊥)) }
+        × (k.place ≡ receipt.now.place) × (IsAsTold receipt.now session number k → ⊥)) }
     ensures none { OnFalse result ((number : ℕ) (k : Kept) → get held.now.kept number ≡ Some k
-            → k.place ≡ receipt.now.place → IsAsTold receipt.now session number k) }
+        → k.place ≡ receipt.now.place → IsAsTold receipt.now session number k) }
 {
     for (number, kept) in held.answers() {
         if kept.place == receipt.place && !is_as_told(receipt, session, number, kept) {
@@ -93,9 +93,9 @@ fn is_as_told(receipt: &Receipt, session: u64, number: u64, kept: &Kept) -> bool
 /// Whether lists that hold all that was sent have no such call.
 fn is_missed(sent: &[Vec<ClientMessage>], receipt: &Receipt, request: &Request) -> bool
     ensures missed { OnTrue result (AreWhole (map (λ v. v.items) sent.now)
-            × (WasSent (map (λ v. v.items) sent.now) receipt.now.session receipt.now.number request.now → ⊥)) }
+        × (WasSent (map (λ v. v.items) sent.now) receipt.now.session receipt.now.number request.now → ⊥)) }
     ensures sent { OnFalse result (AreWhole (map (λ v. v.items) sent.now)
-            → WasSent (map (λ v. v.items) sent.now) receipt.now.session receipt.now.number request.now) }
+        → WasSent (map (λ v. v.items) sent.now) receipt.now.session receipt.now.number request.now) }
 {
     sent.iter()
         .all(|messages| messages.as_slice().len() < MESSAGES)

@@ -45,7 +45,7 @@ pub fn write_side<C: Tally, M: Tally, H: WriteHalf, R: Wait>(
     // answer among them, after the group of its entry.
     ensures wrote { (mails : List Told) × AreTaken seat result.0 result.1.items mails
         × (H.tells half.old → IsWritten (H.got half.old) mails result.2 (H.got half.new))
-            × AreTold mails result.1.history }
+        × AreTold mails result.1.history }
     ensures tells { H.tells half.old → H.tells half.new }
     // Where the side ends since its connection is gone, the hall is stopped or a book is full, the hall told it so.
     ensures told { IsTold result.2 result.0.standing }
@@ -93,7 +93,7 @@ impl<M: Tally> Writing<M> {
         ensures wrote { (mails : List Told)
             × TakesOn self.old.seat self.new.seat self.old.receipts.items self.new.receipts.items mails
             × (H.tells half.old → IsWritten (H.got half.old) mails result (H.got half.new))
-                × AreTold mails self.new.history }
+            × AreTold mails self.new.history }
         ensures tells { H.tells half.old → H.tells half.new }
         ensures told { IsTold result self.new.seat.standing }
     {
@@ -116,7 +116,7 @@ impl<M: Tally> Writing<M> {
         ensures wrote { (mails : List Told)
             × TakesOn self.old.seat self.new.seat self.old.receipts.items self.new.receipts.items mails
             × (H.tells half.old → MatchOption result (H.got half.new ≡ H.got half.old ++ spelled mails)
-                    (λ end. IsWritten (H.got half.old) mails end (H.got half.new))) × AreTold mails self.new.history }
+            (λ end. IsWritten (H.got half.old) mails end (H.got half.new))) × AreTold mails self.new.history }
         ensures frames { IfNone result (self.new.frames.items ≡ []) }
         ensures tells { H.tells half.old → H.tells half.new }
         ensures this { IsPrefix self.old.history self.new.history }
@@ -157,7 +157,7 @@ impl<M: Tally> Writing<M> {
         ensures took { (mails : List Told)
             × TakesOn self.old.seat self.new.seat self.old.receipts.items self.new.receipts.items mails
             × (length mails ≤ 1) × AreSpelled self.old.frames.items result mails self.new.frames.items
-                × AreTold mails self.new.history }
+            × AreTold mails self.new.history }
         ensures more { IfOk result (λ more. more ≡ self.new.seat.more) }
         ensures this { IsPrefix self.old.history self.new.history }
         ensures told { IfErr result (λ end. IsTold end self.new.seat.standing) }
@@ -176,7 +176,7 @@ impl<M: Tally> Writing<M> {
     /// Makes room for the receipt of the next mail, where one may be kept.
     fn make_room(&mut self) -> Result<(), AllocError>
         ensures room { OnOk result (vec_len self.new.receipts < 1024
-                → vec_len self.new.receipts < vec_capacity self.new.receipts) }
+            → vec_len self.new.receipts < vec_capacity self.new.receipts) }
         ensures receipts { self.new.receipts.items ≡ self.old.receipts.items }
         ensures seat { self.new.seat ≡ self.old.seat }
         ensures history { self.new.history ≡ self.old.history }

@@ -102,7 +102,7 @@ pub(crate) fn read_all(
     requires { ArePrinted printed.now (map (λ p. p.written) ports.now) }
     ensures { OnOk result
         (AreTold (fronts printed.now (map (λ p. p.written) ports.now)) (map
-                (λ p. (p.conn, p.written)) ports.now) told.new.items) }
+        (λ p. (p.conn, p.written)) ports.now) told.new.items) }
 {
     told.clear();
     for at in 0..ports.len() {

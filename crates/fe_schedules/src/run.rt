@@ -97,7 +97,7 @@ impl Run {
         ensures disk { IfErr result (TellsDiskOrWriter (last_disk self.new.machine) (W.has_failed writer.new)) }
         ensures ended { (read : List ℕ) (before : Option (List ℕ)) → SoFar read before (W.contents writer.old) self.old
             → MatchResult result (λ _. Whole read before (W.contents writer.new) [])
-                (λ end. Ended (W.has_failed writer.new) end read before (W.contents writer.new) []) }
+            (λ end. Ended (W.has_failed writer.new) end read before (W.contents writer.new) []) }
     {
         let ended = self.end_last();
         writer.write_whole(&mut self.text)?;
@@ -161,7 +161,7 @@ impl Run {
         ensures disk { IfErr result (TellsOfDisk (last_disk self.new.machine)) }
         ensures ended { (read : List ℕ) (before now : Option (List ℕ)) → SoFar read before now self.old
             → MatchResult result (λ _. Whole read before now (string_bytes self.new.text))
-                (λ end. Ended (λ _. ⊥) end read before now (string_bytes self.new.text)) }
+            (λ end. Ended (λ _. ⊥) end read before now (string_bytes self.new.text)) }
     {
         let begun = self.begun.as_slice();
         if begun.is_empty() {

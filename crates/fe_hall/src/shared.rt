@@ -42,7 +42,7 @@ const MOST: u64 = 9223372036854767616;
 
 /// The front and its ledgers, which agree with its books.
 #[derive(Drop)]
-pub(crate) struct Floor<C: Tally, M: Tally> {
+pub(crate) struct Shared<C: Tally, M: Tally> {
     front: Front,
     calls: Book<C>,
     mails: Book<M>,
@@ -98,7 +98,7 @@ pub enum Unconnected {
     Spent,
 }
 
-impl<C: Tally, M: Tally> Floor<C, M> {
+impl<C: Tally, M: Tally> Shared<C, M> {
     /// A front that is as it began, with no connection made.
     pub(crate) fn new(
         alloc: Global,
@@ -107,7 +107,7 @@ impl<C: Tally, M: Tally> Floor<C, M> {
         mails: Blank,
         history: History<M>,
         mark: u64,
-    ) -> Floor<C, M>
+    ) -> Shared<C, M>
         requires first { front.books ≡ first_books }
         requires calls { (calls.name ≡ C.name) × (calls.parts ≡ C.parts) × (C.all ≡ C.parts)
             × (C.all ≡ most_connections + 1) }
@@ -118,7 +118,7 @@ impl<C: Tally, M: Tally> Floor<C, M> {
     {
         let (called, spare_calls) = calls.open::<C>();
         let (taken, spare_mails) = mails.open::<M>();
-        Floor {
+        Shared {
             front,
             calls: called,
             mails: taken,
@@ -454,7 +454,7 @@ impl<C: Tally, M: Tally> Floor<C, M> {
             drop(mails);
             return None;
         }
-        let Floor {
+        let Shared {
             front,
             calls: mut called,
             mails: mut taken,

@@ -1,6 +1,6 @@
 use Rattle.std.proofs.Common.{arith}
 use Rattle.fe_hall.proofs.Risings.{takes_goes}
-use Rattle.fe_hall.proofs.floor.Floor.take_message.Goals as goal
+use Rattle.fe_hall.proofs.shared.Shared.take_message.Goals as goal
 
 pub invariant_of-self : goal.invariant_of-self
 invariant_of-self g c =

@@ -1,6 +1,6 @@
 use Rattle.std.proofs.Common.{arith}
 use Rattle.fe_hall.proofs.Acts.{mark_rises}
-use Rattle.fe_hall.proofs.floor.Floor.mark.Goals as goal
+use Rattle.fe_hall.proofs.shared.Shared.mark.Goals as goal
 
 pub returns-clause-mark : goal.returns-clause-mark
 returns-clause-mark g c =

@@ -1,6 +1,6 @@
 use Rattle.std.proofs.Common.{sym, ◌∙◌, arith}
 use Rattle.fe_hall.proofs.Risings.{taken_goes}
-use Rattle.fe_hall.proofs.floor.Floor.take_mail.Goals as goal
+use Rattle.fe_hall.proofs.shared.Shared.take_mail.Goals as goal
 
 pub invariant_of-self : goal.invariant_of-self
 invariant_of-self g c =

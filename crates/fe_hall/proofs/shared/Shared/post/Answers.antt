@@ -2,7 +2,7 @@ use Rattle.std.proofs.Common.{◌≡◌, ap, arith}
 use Rattle.fe_hall.specs.Acts.{mark_of}
 use Rattle.fe_hall.proofs.Acts.{mark_rises}
 use Rattle.fe_hall.proofs.Risings.{posted_goes, posted_steps}
-use Rattle.fe_hall.proofs.floor.Floor.post.Goals as goal
+use Rattle.fe_hall.proofs.shared.Shared.post.Goals as goal
 
 pub invariant_of-self : goal.invariant_of-self
 invariant_of-self g c =
