@@ -1,4 +1,4 @@
-"""The cases of fe_laboratory: its script, with bytes made from docs/formats.md (store.py, model.py, wire.py).
+"""The cases of test_laboratory: its script, with bytes made from docs/formats.md (store.py, model.py, wire.py).
 
 `python3 -m check.cases`, in scripts/, writes the crate's files `stdin` and `stdout`. The check compares them with the crate's.
 """
@@ -11,7 +11,7 @@ from .harness import same
 from .model import Array, Session, State
 from .store import ANSWER_CODES, GATE, IMAGE, JOURNAL, ONE, SIZE, SLOT, TWO, Damaged, Unformatted, device_of, image_of, read_store, record_of
 
-FOLDER = Path(__file__).parents[2] / "crates/fe_laboratory"
+FOLDER = Path(__file__).parents[2] / "crates/test_laboratory"
 TORN = ("kept", "lost", "01", "37")
 LENGTHS = (1, 9, 1000, 65535, 65536)
 lines = []
@@ -789,7 +789,7 @@ def spelled():
 
 
 def laboratory(place):
-    """the script of fe_laboratory and its expected output are the model's"""
+    """the script of test_laboratory and its expected output are the model's"""
     for name, text in zip(("stdin", "stdout"), spelled()):
         same((FOLDER / name).read_text() == text, True)
 

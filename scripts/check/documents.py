@@ -68,8 +68,9 @@ def crates(_place):
     there = sorted(os.path.basename(os.path.dirname(it)) for it in glob.glob(os.path.join(TOP, "crates", "*", "src")))
     missing = []
     for page in ("README.md", "ARCHITECTURE.md", "docs/proved.md"):
-        named = set(re.findall(r"\bfe_[a-z_]+\b|\bfemem\b", text_of(page)))
-        tests = {it for it in there if it.endswith("_tests") or it == "fe_laboratory"} if page != "README.md" else set()
+        named = set(re.findall(r"\b(?:fe|test)_[a-z_]+\b|\bfemem\b", text_of(page)))
+        named = {it for it in named if it.startswith("fe") or it in there}
+        tests = {it for it in there if it.startswith("test_")} if page != "README.md" else set()
         missing += [f"{page} lacks {it}" for it in there if it not in named and it not in tests]
         missing += [f"{page} names {it}, which is no crate" for it in sorted(named) if it not in there]
     return told(missing, len(there), 30, "crates")

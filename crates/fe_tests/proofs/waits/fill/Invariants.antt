@@ -1,9 +1,0 @@
-use Rattle.std.proofs.Common.{◌≡◌, Some}
-use Rattle.std.specs.FinMap as map
-use Rattle.fe_tests.proofs.waits.fill.Given as goal
-
-abbrev pub invariant-loop-slot : goal.invariant-loop-slot
-invariant-loop-slot g l = map.get l.waits.arrays 1 ≡ Some 8
-
-abbrev pub invariant-loop-number : goal.invariant-loop-number
-invariant-loop-number g l = map.get l.waits.arrays 1 ≡ Some 8
