@@ -75,17 +75,17 @@ pub returns-in_err-checkpoint_begin-in-CheckBegin-clause-fault : goal.returns-in
 returns-in_err-checkpoint_begin-in-CheckBegin-clause-fault g c =
     let old = c.args.self.now in
     let new = c.checkpoint_begin.new.self in
-    let fault : Fault = c.in_err-checkpoint_begin.field-0.0 in
+    let fault : Fault = c.in_err-checkpoint_begin-in-CheckBegin.field-0.0 in
     told c.from_residual.result fault (TellsCall g.D.Disk.failures (desk_of old) (desk_of (record old { keeper = new }))) c.from_residual.ensures.1
-    (fails_tells g.D.Disk.failures (desk_of old) new (ForDeviceAndMemory (IsTrue (can_begin old.keeper.store))) fault c.requires.works (λ place x. x) c.in_err-checkpoint_begin.ensures.ends)
+    (fails_tells g.D.Disk.failures (desk_of old) new (ForDeviceAndMemory (IsTrue (can_begin old.keeper.store))) fault c.requires.works (λ place x. x) c.in_err-checkpoint_begin-in-CheckBegin.ensures.ends)
 
 pub returns-in_err-checkpoint_begin-in-CheckBegin-clause-lacks : goal.returns-in_err-checkpoint_begin-in-CheckBegin-clause-lacks
 returns-in_err-checkpoint_begin-in-CheckBegin-clause-lacks g c = λ is.
     let old = c.args.self.now in
     let new = c.checkpoint_begin.new.self in
-    let fault : Fault = c.in_err-checkpoint_begin.field-0.0 in
+    let fault : Fault = c.in_err-checkpoint_begin-in-CheckBegin.field-0.0 in
     let short : fault ≡ NoMemory = fault_told c.from_residual.result fault NoMemory c.from_residual.ensures.1 is in
-    let memory = short_told g.D.Disk.failures (ForDeviceAndMemory (IsTrue (can_begin old.keeper.store))) fault old.keeper new short c.in_err-checkpoint_begin.ensures.ends in
+    let memory = short_told g.D.Disk.failures (ForDeviceAndMemory (IsTrue (can_begin old.keeper.store))) fault old.keeper new short c.in_err-checkpoint_begin-in-CheckBegin.ensures.ends in
     let same : new ≡ old.keeper = memory.1.same in
     search rules
 
@@ -93,34 +93,34 @@ pub returns-in_err-checkpoint_step-in-CheckStep-clause-fault : goal.returns-in_e
 returns-in_err-checkpoint_step-in-CheckStep-clause-fault g c =
     let old = c.args.self.now in
     let new = c.checkpoint_step.new.self in
-    let fault : Fault = c.in_err-checkpoint_step.field-0.0 in
-    told c.from_residual-in_err-checkpoint_step.result fault (TellsCall g.D.Disk.failures (desk_of old) (desk_of (record old { keeper = new }))) c.from_residual-in_err-checkpoint_step.ensures.1
-    (fails_tells g.D.Disk.failures (desk_of old) new (ForDevice (IsTrue (has_slices old.keeper.store.checkpoint))) fault c.requires.works (λ place x. x) c.in_err-checkpoint_step.ensures.ends)
+    let fault : Fault = c.in_err-checkpoint_step-in-CheckStep.field-0.0 in
+    told c.from_residual-in_err-checkpoint_step-in-CheckStep.result fault (TellsCall g.D.Disk.failures (desk_of old) (desk_of (record old { keeper = new }))) c.from_residual-in_err-checkpoint_step-in-CheckStep.ensures.1
+    (fails_tells g.D.Disk.failures (desk_of old) new (ForDevice (IsTrue (has_slices old.keeper.store.checkpoint))) fault c.requires.works (λ place x. x) c.in_err-checkpoint_step-in-CheckStep.ensures.ends)
 
 pub returns-in_err-checkpoint_step-in-CheckStep-clause-lacks : goal.returns-in_err-checkpoint_step-in-CheckStep-clause-lacks
 returns-in_err-checkpoint_step-in-CheckStep-clause-lacks g c = λ is.
     let old = c.args.self.now in
     let new = c.checkpoint_step.new.self in
-    let fault : Fault = c.in_err-checkpoint_step.field-0.0 in
-    let short : fault ≡ NoMemory = fault_told c.from_residual-in_err-checkpoint_step.result fault NoMemory c.from_residual-in_err-checkpoint_step.ensures.1 is in
-    let memory = short_told g.D.Disk.failures (ForDevice (IsTrue (has_slices old.keeper.store.checkpoint))) fault old.keeper new short c.in_err-checkpoint_step.ensures.ends in
+    let fault : Fault = c.in_err-checkpoint_step-in-CheckStep.field-0.0 in
+    let short : fault ≡ NoMemory = fault_told c.from_residual-in_err-checkpoint_step-in-CheckStep.result fault NoMemory c.from_residual-in_err-checkpoint_step-in-CheckStep.ensures.1 is in
+    let memory = short_told g.D.Disk.failures (ForDevice (IsTrue (has_slices old.keeper.store.checkpoint))) fault old.keeper new short c.in_err-checkpoint_step-in-CheckStep.ensures.ends in
     absurd memory.0
 
 pub returns-in_err-checkpoint_finish-in-CheckFinish-clause-fault : goal.returns-in_err-checkpoint_finish-in-CheckFinish-clause-fault
 returns-in_err-checkpoint_finish-in-CheckFinish-clause-fault g c =
     let old = c.args.self.now in
     let new = c.checkpoint_finish.new.self in
-    let fault : Fault = c.in_err-checkpoint_finish.field-0.0 in
-    told c.from_residual-in_err-checkpoint_finish.result fault (TellsCall g.D.Disk.failures (desk_of old) (desk_of (record old { keeper = new }))) c.from_residual-in_err-checkpoint_finish.ensures.1
-    (fails_tells g.D.Disk.failures (desk_of old) new (ForDevice (IsTrue (is_some old.keeper.store.checkpoint))) fault c.requires.works (λ place x. x) c.in_err-checkpoint_finish.ensures.ends)
+    let fault : Fault = c.in_err-checkpoint_finish-in-CheckFinish.field-0.0 in
+    told c.from_residual-in_err-checkpoint_finish-in-CheckFinish.result fault (TellsCall g.D.Disk.failures (desk_of old) (desk_of (record old { keeper = new }))) c.from_residual-in_err-checkpoint_finish-in-CheckFinish.ensures.1
+    (fails_tells g.D.Disk.failures (desk_of old) new (ForDevice (IsTrue (is_some old.keeper.store.checkpoint))) fault c.requires.works (λ place x. x) c.in_err-checkpoint_finish-in-CheckFinish.ensures.ends)
 
 pub returns-in_err-checkpoint_finish-in-CheckFinish-clause-lacks : goal.returns-in_err-checkpoint_finish-in-CheckFinish-clause-lacks
 returns-in_err-checkpoint_finish-in-CheckFinish-clause-lacks g c = λ is.
     let old = c.args.self.now in
     let new = c.checkpoint_finish.new.self in
-    let fault : Fault = c.in_err-checkpoint_finish.field-0.0 in
-    let short : fault ≡ NoMemory = fault_told c.from_residual-in_err-checkpoint_finish.result fault NoMemory c.from_residual-in_err-checkpoint_finish.ensures.1 is in
-    let memory = short_told g.D.Disk.failures (ForDevice (IsTrue (is_some old.keeper.store.checkpoint))) fault old.keeper new short c.in_err-checkpoint_finish.ensures.ends in
+    let fault : Fault = c.in_err-checkpoint_finish-in-CheckFinish.field-0.0 in
+    let short : fault ≡ NoMemory = fault_told c.from_residual-in_err-checkpoint_finish-in-CheckFinish.result fault NoMemory c.from_residual-in_err-checkpoint_finish-in-CheckFinish.ensures.1 is in
+    let memory = short_told g.D.Disk.failures (ForDevice (IsTrue (is_some old.keeper.store.checkpoint))) fault old.keeper new short c.in_err-checkpoint_finish-in-CheckFinish.ensures.ends in
     absurd memory.0
 
 pub returns-in_default : goal.returns-in_default
