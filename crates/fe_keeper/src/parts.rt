@@ -1,7 +1,7 @@
 ghost use Rattle.std.specs.Prelude.{◌≡◌, ◌↔◌, ◌≤◌, length, IsTrue, IfOk, IfErr, OnOk, OnErr};
 ghost use Rattle.fe_state.specs.State.{IsWithinLimits, after_all};
 ghost use Rattle.fe_state.specs.UndoLog.{empty_log};
-ghost use Rattle.fe_state.specs.declared.batch.TheConstants.{BATCH_ENTRIES};
+ghost use Rattle.fe_state.specs.declared.bounds.TheConstants.{BATCH_ENTRIES};
 ghost use Rattle.fe_replica.specs.Taking.{Continues};
 ghost use Rattle.fe_codec.specs.Image.{image_spelling};
 ghost use Rattle.fe_format.specs.declared.format.Format.TheVariants.{Two};

@@ -4,7 +4,7 @@ ghost use Rattle.fe_disk.specs.Disk.{MakesAtMost};
 ghost use Rattle.fe_state.specs.Format.{entry_fits_format_1};
 ghost use Rattle.fe_state.specs.History.{AreLegal};
 ghost use Rattle.fe_state.specs.State.{ServerState, after_all};
-ghost use Rattle.fe_state.specs.declared.batch.TheConstants.{BATCH_ENTRIES};
+ghost use Rattle.fe_state.specs.declared.bounds.TheConstants.{BATCH_ENTRIES};
 ghost use Rattle.fe_codec.specs.Record.{CanPut, FitsGroup, group_spelling};
 ghost use Rattle.fe_format.specs.declared.format.Format.TheVariants.{Two};
 ghost use Rattle.fe_journal.specs.Groups.{room_at};

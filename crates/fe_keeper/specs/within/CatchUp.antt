@@ -2,7 +2,7 @@
 use Rattle.std.specs.Prelude.{◌≡◌, ℕ, ◌+◌, ◌*◌, ◌≤◌, List, ◌++◌, length, Option, Some, None, vec_len, vec_capacity}
 use Rattle.fe_state.specs.declared.entry.Entry.{Entry}
 use Rattle.std.specs.List.{AllByRecursion}
-use Rattle.fe_state.specs.declared.batch.TheConstants.{BATCH_ENTRIES}
+use Rattle.fe_state.specs.declared.bounds.TheConstants.{BATCH_ENTRIES}
 use Rattle.fe_codec.specs.Record.{CanPut, group_spelling, FitsGroup}
 use Rattle.fe_format.specs.declared.format.Format.{Format}
 use Rattle.fe_format.specs.declared.format.Format.TheVariants.{Two}

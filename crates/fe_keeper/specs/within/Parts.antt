@@ -1,7 +1,7 @@
 -- The parts of a keeper, at rest and with a batch that is taken and not yet stored.
 use Rattle.std.specs.Prelude.{◌≡◌, ◌≤◌, ℕ, List, length, false, IfSome, Option}
 use Rattle.fe_state.specs.State.{ServerState, after_all, IsWithinLimits}
-use Rattle.fe_state.specs.declared.batch.TheConstants.{BATCH_ENTRIES}
+use Rattle.fe_state.specs.declared.bounds.TheConstants.{BATCH_ENTRIES}
 use Rattle.fe_state.specs.History.{AreLegal}
 use Rattle.fe_state.specs.UndoLog.{UndoLog, empty_log, rewound, IsLogOf}
 use Rattle.fe_state.specs.declared.entry.Entry.{Entry}

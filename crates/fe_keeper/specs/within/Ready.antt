@@ -1,7 +1,7 @@
 -- What the calls of a store begin with.
 use Rattle.std.specs.Prelude.{◌≡◌, ◌+◌, ◌^◌, ◌<◌, ◌≤◌, false, IsTrue, IsSome, IfSome, is_some, List, length, Option, vec_len}
 use Rattle.std.specs.List.{AllByRecursion}
-use Rattle.fe_state.specs.declared.batch.TheConstants.{BATCH_ENTRIES}
+use Rattle.fe_state.specs.declared.bounds.TheConstants.{BATCH_ENTRIES}
 use Rattle.fe_state.specs.declared.entry.Entry.{Entry}
 use Rattle.fe_codec.specs.Record.{CanPut}
 use Rattle.fe_format.specs.declared.format.Format.TheVariants.{Two}

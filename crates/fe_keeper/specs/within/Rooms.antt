@@ -1,7 +1,7 @@
 -- What a keeper makes room for when it is made.
 use Rattle.std.specs.Prelude.{◌≡◌, ◌≤◌, vec_capacity}
 use Rattle.fe_state.specs.UndoLog.{empty_log}
-use Rattle.fe_state.specs.declared.batch.TheConstants.{BATCH_ENTRIES}
+use Rattle.fe_state.specs.declared.bounds.TheConstants.{BATCH_ENTRIES}
 use Rattle.fe_keeper.specs.declared.assembling.Rooms.{Rooms}
 
 -- the bytes of the longest batch's group, and its entries in an empty log
