@@ -18,3 +18,10 @@ returns-in-Ok-close-clause-acknowledged g c =
     let e = c.in-Ok-close.ensures in
     ended_well g.D.Disk.honest g.D.Disk.moment g.D.Disk.left_since g.D.Disk.may_leave g.D.Disk.failures c.args.keeper c.run-keeper.result.0 c.run-keeper.result.1 c.in-Ok-close.audit c.run-keeper.result.3
     (sym c.fault_of_end.ensures ∙ c.in_default-fault_of_end.is) c.run-keeper.ensures.0 c.run-keeper.ensures.1 e.this e.stores e.legal e.told
+
+pub returns-in-Err-clause-committed : goal.returns-in-Err-clause-committed
+returns-in-Err-clause-committed g c = (
+  c.run-keeper.result.1,
+  c.run-keeper.ensures.0,
+  unclosed_answers _ c.in-Err.fault (sym c.fault_of_end.ensures ∙ c.in_default-fault_of_end.is) c.in-Err.ensures.faults,
+)
