@@ -1,0 +1,6 @@
+use Rattle.std.proofs.Common.{◌∙◌}
+use Rattle.fe_store.proofs.beside.keep.Goals as goal
+
+-- a read that failed leaves the disk's size
+pub returns-in_err-read_at-clause-size : goal.returns-in_err-read_at-clause-size
+returns-in_err-read_at-clause-size g c = c.read_at.ensures.device.same_size ∙ c.requires.size
