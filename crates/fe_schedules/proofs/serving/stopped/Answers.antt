@@ -12,7 +12,7 @@ pub returns-in-Ok-open-clause-ready : goal.returns-in-Ok-open-clause-ready
 returns-in-Ok-open-clause-ready c =
     let d = c.in-Ok-open.ensures in
     let honest = c.in-Ok.ensures.honest in
-    ready_first c.in-Ok-open.again c.in-Ok-open.again.keeper.state (d.honesty.1 honest) d.works (d.still ∙ c.in-Ok.ensures.failures) d.first.0 refl d.first.1 (d.stands honest)
+    ready_first c.in-Ok-open.again c.in-Ok-open.again.keeper.state (d.honesty.1 honest) d.works (d.still ∙ c.in-Ok.ensures.fresh.failures) d.first.0 refl d.first.1 (d.stands honest)
 
 pub returns-in-Ok-open-clause-synced : goal.returns-in-Ok-open-clause-synced
 returns-in-Ok-open-clause-synced c =
@@ -50,4 +50,4 @@ returns-in-Err-clause-fault c =
     let may : LeavesNow (disk_of c.args.desk) c.in-Ok.left.image = subst (λ (m : MemoryState). LeavesNow m c.in-Ok.left.image) c.into_disk-disk.ensures.disk c.in-Ok.ensures.allowed in
     let stands = c.requires.stands c.in-Ok.left.image may in
     let e = c.in-Err.ensures in
-    open_tells c.in-Ok.left c.in-Err.left c.in-Err.fault c.of_desk.result c.in-Ok.ensures.failures c.of_desk.ensures (e.refused c.in-Ok.ensures.honest c.args.desk.keeper.state stands) e.device
+    open_tells c.in-Ok.left c.in-Err.left c.in-Err.fault c.of_desk.result c.in-Ok.ensures.fresh.failures c.of_desk.ensures (e.refused c.in-Ok.ensures.honest c.args.desk.keeper.state stands) e.device
