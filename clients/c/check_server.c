@@ -52,7 +52,7 @@ static void pipelines(void) {
   ERROR(femem_create(client, "pipelines", 2, true, &array), FEMEM_OK);
   for (int round = 0; round < 40; round++) {
     while (femem_send_int_fetch_add(client, array, 0, 1, NULL) == FEMEM_OK) {}
-    CHECK(femem_out(client) == 32);
+    CHECK(femem_out(client) + femem_ready(client) == 32);
     while (femem_out(client) + femem_ready(client) > 0) {
       ERROR(femem_next(client, &answer, 60000), FEMEM_OK);
       CHECK(answer.error == FEMEM_OK && answer.value == due);
