@@ -48,7 +48,7 @@ class Strangers(unittest.TestCase):
         self.assertIsNone(core.failure)
         self.assertEqual(world.model.waiting, {})
 
-    def test_a_session_that_another_client_ended_and_began_anew_is_not_told(self):
+    def test_a_session_that_another_client_ended_and_began_again_goes_unnoticed(self):
         """The request is carried out twice, and no client can detect it. README.md says so."""
         world = World(1)
         word = run(world, world.core(8), requests.create("counter", 1, True))
