@@ -1,4 +1,4 @@
--- Where a node is in a list, and lists in which none is there twice.
+-- Membership of a node in a list, and lists without duplicates.
 use Rattle.std.proofs.Common.{◌≡◌, ◌≢◌, ℕ, zero, suc, ◌<◌, ◌≤◌, ◌⊎◌, List, [], ◌∷◌, ◌++◌, length, get_or, true, false, eqb, Option, Some, refl, sym, ap, inl, inr, arith, subst, true≢false}
 use Rattle.std.specs.Prelude.{Contains, AllPairs}
 use Rattle.std.specs.List.{last_or, list_any, IsDistinct, AllByRecursion}
@@ -10,7 +10,7 @@ use Rattle.std.proofs.lemmas.Bool.Decides.{Decides-eqb}
 use Rattle.fe_pool.specs.Pool.{first_or, without}
 use Rattle.fe_pool.specs.within.Runs.{IsAmong, AllDifferent}
 
--- a node is in a list or is not
+-- a node is in a list or it is not
 pub among_cases : (n : ℕ) (xs : List ℕ) → IsAmong n xs ⊎ (IsAmong n xs → ⊥)
 among_cases n [] = inr (λ i. i)
 among_cases n (x ∷ xs) =
@@ -40,7 +40,7 @@ among-append_cases n (x ∷ xs) ys (inr i) =
       | inr right ↦ inr right
     ]
 
--- a list with the node in it has a part before it and a part after it
+-- a list that contains the node splits into the part before it and the part after it
 pub among-split : (n : ℕ) (xs : List ℕ) → IsAmong n xs → (before : List ℕ) × (after : List ℕ) × (xs ≡ before ++ n ∷ after)
 among-split n [] i = absurd i
 among-split n (x ∷ xs) (inl same) = ([], xs, ap (λ y. y ∷ xs) (sym same))
@@ -61,7 +61,7 @@ among-Contains n xs (k, within, same) = by_index xs k within same
     by_index (x ∷ xs) zero within same = inl (sym same)
     by_index (x ∷ xs) (suc k) within same = inr (by_index xs k (omega arith) same)
 
--- the last of a list is in it
+-- the last node of a list is in it
 pub last-among : (x : ℕ) (xs : List ℕ) (l : ℕ) → last_or (Some x) xs ≡ Some l → IsAmong l (x ∷ xs)
 last-among x [] l e = inl (sym (cc))
 last-among x (y ∷ ys) l e = inr (last-among y ys l e)
@@ -78,7 +78,7 @@ pub first_or-append : (o : Option ℕ) (xs ys : List ℕ) → first_or o (xs ++ 
 first_or-append o [] ys = refl
 first_or-append o (x ∷ xs) ys = refl
 
--- the parts round a node of a list without equal nodes do not have it
+-- in a list without duplicates, the parts before and after a node do not contain it
 pub different-middle : (n : ℕ) (xs ys : List ℕ) → AllDifferent (xs ++ n ∷ ys) → (IsAmong n xs → ⊥) × (IsAmong n ys → ⊥)
 different-middle n [] ys d = (λ i. i, d.0)
 different-middle n (x ∷ xs) ys d =
@@ -90,7 +90,7 @@ different-middle n (x ∷ xs) ys d =
       rest.1,
     )
 
--- no node of the first part is one of the second
+-- no node is in both parts
 pub different-parts : (n : ℕ) (xs ys : List ℕ) → AllDifferent (xs ++ ys) → IsAmong n xs → IsAmong n ys → ⊥
 different-parts n [] ys d i j = i
 different-parts n (x ∷ xs) ys d (inl same) j = d.0 (among-append_right x xs ys (subst (λ m. IsAmong m ys) same j))
@@ -104,7 +104,7 @@ pub different-right : (xs ys : List ℕ) → AllDifferent (xs ++ ys) → AllDiff
 different-right [] ys d = d
 different-right (x ∷ xs) ys d = different-right xs ys d.1
 
--- std's word for the same
+-- the same as std defines it
 pub distinct : (xs : List ℕ) → AllDifferent xs → IsDistinct eqb xs
 unfolding IsDistinct
 distinct [] d = tt
@@ -118,7 +118,7 @@ distinct (x ∷ xs) d = IsDistinct-cons eqb x xs (others xs d.0) (distinct xs d.
 pub all_pairs : (xs : List ℕ) → AllDifferent xs → AllPairs (λ a b. a ≢ b) xs
 all_pairs xs d = AllPairs-from_IsDistinct Decides-eqb xs (distinct xs d)
 
--- this many different numbers below a bound are at most as many as it
+-- different numbers below a bound: there are at most as many as the bound
 pub length-le_bound : (xs : List ℕ) (bound : ℕ) → AllDifferent xs → ((n : ℕ) → IsAmong n xs → n < bound) → length xs ≤ bound
 length-le_bound xs bound d below = length-le_from_distinct_below xs bound (distinct xs d) (λ q e. below q (found q xs e))
   where
@@ -130,12 +130,12 @@ length-le_bound xs bound d below = length-le_from_distinct_below xs bound (disti
           | inr other ↦ inr (found q ys (rw (ne_eqb q y other) at e))
         ]
 
--- a list without a node that it has not is itself
+-- removing a node that is not in the list changes nothing
 pub without-off : (xs : List ℕ) (n : ℕ) → (IsAmong n xs → ⊥) → without xs n ≡ xs
 without-off [] n off = refl
 without-off (x ∷ xs) n off = rw (ne_eqb x n (λ same. off (inl (sym same)))) (ap (λ ys. x ∷ ys) (without-off xs n (λ i. off (inr i))))
 
--- a list without a node is its parts round that node
+-- removing a node leaves the parts before and after it
 pub without-middle : (xs ys : List ℕ) (n : ℕ) → AllDifferent (xs ++ n ∷ ys) → without (xs ++ n ∷ ys) n ≡ xs ++ ys
 without-middle [] ys n d = rw (eq-eqb n n refl) (without-off ys n d.0)
 without-middle (x ∷ xs) ys n d =

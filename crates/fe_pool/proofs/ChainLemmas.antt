@@ -58,7 +58,7 @@ module _ {T : Type 0} (c c' : Columns T) (first : Option ℕ) (pool : IsPool c f
   pub is-items : c'.items ≡ c.items
   is-items = ap (λ d. d.items) change.is ∙ items-with_links c family change.links
 
--- a node that has neighbours still has some once it or another gets new ones
+-- a node that has neighbours still has some after a write of neighbours
 pub linked-set : (links : List Link) (n m : ℕ) (v : Neighbours) → IsSome (link_at links m) → IsSome (link_at (set links n (Some v)) m)
 linked-set links n m v some =
     elim (cases_eq m n) as (λ _. IsSome (link_at (set links n (Some v)) m)) [
@@ -86,14 +86,14 @@ module _ {T : Type 0} (c : Columns T) (first : Option ℕ) (pool : IsPool c firs
         linked = ap is_some found.1;
       }
 
-  -- and it stays so where neighbours stay
+  -- and it still has, if nodes keep having neighbours
   pub linked-stays : (c' : Columns T) (links : List Link) (n : ℕ) → c' ≡ with_links c family links → IsLinked c family n → IsSome (link_at links n) → IsLinked c' family n
   linked-stays c' links n e linked some = record {
     taken = subst (λ items. IsSome (get_or items n None)) (sym (ap (λ d. d.items) e ∙ items-with_links c family links)) linked.taken;
     linked = subst (λ ls. IsSome (link_at ls n)) (sym (ap (λ d. links_of d family) e ∙ links_of-with_links c family links)) some;
   }
 
-  -- a node is put at the end
+  -- a node is appended
   module _ (n : ℕ) (taken : IsSome (get_or c.items n None)) (off : IsOff (contents c) family n) where
     pushed_relinks : Relinks (links_of c family) (pushed (links_of c family) (list_of (contents c) family chain) n) (list_of (contents c) family chain) (list_of (contents c) family chain ++ n ∷ []) n
     pushed_relinks =
@@ -125,7 +125,7 @@ module _ {T : Type 0} (c : Columns T) (first : Option ℕ) (pool : IsPool c firs
         let fits = pool.fits in
         omega arith
 
-  -- a node is taken out
+  -- a node is removed
   module _ (n : ℕ) (xs ys : List ℕ) (split : list_of (contents c) family chain ≡ xs ++ n ∷ ys) where
     split-whole : IsWhole (links_of c family) (xs ++ n ∷ ys)
     split-whole = subst (IsWhole (links_of c family)) split chain-whole
@@ -145,7 +145,7 @@ module _ {T : Type 0} (c : Columns T) (first : Option ℕ) (pool : IsPool c firs
       relinks = subst (λ old. Relinks (links_of c family) (unlinked (links_of c family) (last_or None xs) (first_or None ys) n) old (xs ++ ys) n) (sym split) (unlink-relinks (links_of c family) xs ys n split-whole);
     }
 
-    -- the nodes before and after have neighbours throughout
+    -- the nodes before and after have neighbours at each step
     pub unlink-previous : (previous : Option ℕ) → previous ≡ last_or None xs → (x : ℕ) → previous ≡ Some x → IsLinked c family x
     unlink-previous previous p x e = split-member x (among-append_left x xs (n ∷ ys) (last_among xs x (sym p ∙ e)))
 
@@ -171,6 +171,6 @@ module _ {T : Type 0} (c : Columns T) (first : Option ℕ) (pool : IsPool c firs
         counted : length (xs ++ n ∷ ys) ≡ length (xs ++ ys) + 1
         counted = let long = length-append xs (n ∷ ys) in let short = length-append xs ys in omega arith
 
--- the columns' items stay where one family's neighbours change
+-- a change of one family's neighbours keeps the items
 pub items-step : {T : Type 0} (c c' : Columns T) (family : Family) (links : List Link) → c' ≡ with_links c family links → c'.items ≡ c.items
 items-step c c' family links e = ap (λ d. d.items) e ∙ items-with_links c family links

@@ -1,4 +1,4 @@
--- The two changes of a list: a node put at its end, and a node taken out of it.
+-- The two changes of a list: a node appended, and a node removed.
 use Rattle.std.proofs.Common.{◌≡◌, ◌≢◌, ℕ, ◌<◌, List, [], ◌∷◌, ◌++◌, length, set, Option, Some, None, refl, sym, ◌∙◌, inl, inr, subst, length-set}
 use Rattle.std.specs.List.{last_or}
 use Rattle.std.proofs.lemmas.List.{get_or-set_same, get_or-set_other}
@@ -18,7 +18,7 @@ pub length-with_previous : (links : List Link) (at previous : Option ℕ) → le
 length-with_previous links None previous = refl
 length-with_previous links (Some a) previous = length-set links a _
 
--- the first of a list is in it, and so is the last
+-- the first node of a list is in it, and so is the last
 pub first_among : (xs : List ℕ) (m : ℕ) → first_or None xs ≡ Some m → IsAmong m xs
 first_among [] m e = cc
 first_among (x ∷ xs) m e = inl (cc)
@@ -27,7 +27,7 @@ pub last_among : (xs : List ℕ) (m : ℕ) → last_or None xs ≡ Some m → Is
 last_among [] m e = cc
 last_among (x ∷ xs) m e = last-among x xs m e
 
--- the neighbours once the node is at the end of the list
+-- the neighbours with the node at the end of the list
 abbrev pub pushed : List Link → List ℕ → ℕ → List Link
 pushed links xs n = with_next (set links n (Some (record { previous = last_or None xs; next = None }))) (last_or None xs) (Some n)
 
@@ -63,7 +63,7 @@ module _ (links : List Link) (xs : List ℕ) (n : ℕ) (below : n < length links
     gone = λ off. absurd (off (among-append_right n xs (n ∷ []) (inl refl)));
   }
 
--- the neighbours once the node between the two is taken out
+-- the neighbours without the node between the two
 abbrev pub unlinked : List Link → Option ℕ → Option ℕ → ℕ → List Link
 unlinked links previous next n = set (with_previous (with_next links previous next) next previous) n None
 

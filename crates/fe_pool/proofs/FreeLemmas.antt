@@ -1,4 +1,4 @@
--- How a pool's invariant is made, and kept where nodes are taken and given back.
+-- How a pool's invariant is established, and kept when nodes are taken and given back.
 use Rattle.std.proofs.Common.{◌≡◌, ◌≢◌, ℕ, zero, suc, ◌-◌, ◌^◌, ◌<◌, ◌≤◌, List, [], ◌∷◌, ◌++◌, length, get_or, set, replicate, Option, Some, None, IsSome, is_some, refl, sym, ap, ◌∙◌, inl, inr, arith, subst, length-set, length-append, true≢false}
 use Rattle.std.proofs.lemmas.Bool.{cases_eq}
 use Rattle.std.proofs.lemmas.List.{get_or-set_same, get_or-set_other, get_or_append_left, get_or_at, length-replicate, ext_get_or}
@@ -7,7 +7,7 @@ use Rattle.fe_pool.specs.within.Runs.{IsAmong, AllDifferent, AllListed, lists, I
 use Rattle.fe_pool.proofs.ListLemmas.{length-lists, lists-none}
 use Rattle.fe_pool.proofs.PoolLemmas.{pool-first}
 
--- a write of a follower at a node that is not on the free chain keeps it
+-- writing the follower of a node that is not on the free list keeps the list
 pub free_run-set : (followers : List (Option ℕ)) (first : Option ℕ) (xs : List ℕ) (n : ℕ) (to : Option ℕ) → (IsAmong n xs → ⊥) → IsFreeRun followers first xs → IsFreeRun (set followers n to) first xs
 free_run-set followers first [] n to off r = r
 free_run-set followers first (x ∷ xs) n to off r = (
@@ -115,7 +115,7 @@ module _ {T : Type 0} (c : Columns T) (first : Option ℕ) (pool : IsPool c firs
             | inr other ↦ pool.loose m (sym (get_or-set_other c.items n m None None other) ∙ free)
           ]
 
--- the nodes below a number, the highest first
+-- the nodes below a number, in descending order
 descending : ℕ → List ℕ
 descending zero = []
 descending (suc n) = n ∷ descending n
@@ -169,7 +169,7 @@ none_listed n m v found = none_some (sym (replicate-at n m None) ∙ found)
     none_some : {P : Type 0} → None ≡ Some v → P
     none_some e = cc
 
--- this many free nodes are a pool
+-- this many free nodes form a pool
 pub pool-made : {T : Type 0} (c : Columns T) (n : ℕ) (first : Option ℕ) → n < 2 ^ 32 → c.items ≡ replicate n None → c.followers ≡ before_each n → c.of_word ≡ replicate n None → c.of_session ≡ replicate n None → first ≡ place_before n → IsPool c first
 pool-made c n first fits items followers of_word of_session e =
     let sized : length c.items ≡ n = ap length items ∙ length-replicate n None in
@@ -191,7 +191,7 @@ pool-made c n first fits items followers of_word of_session e =
       sessions = subst AllListed (sym of_session) (none_listed n);
     }
 
--- without neighbours each list is empty
+-- without neighbours every list is empty
 pub lists-replicate : (n : ℕ) → lists (replicate n None) ≡ replicate n []
 lists-replicate n =
     ext_get_or [] (lists (replicate n None)) (replicate n []) (length-lists (replicate n None) ∙ length-replicate n None ∙ sym (length-replicate n []))

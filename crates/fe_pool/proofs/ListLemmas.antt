@@ -1,4 +1,4 @@
--- The lists that the neighbours make, and what a change of one list does to the others.
+-- The lists that the neighbours form, and what a change of one list does to the others.
 use Rattle.std.proofs.Common.{◌≡◌, ◌≢◌, ℕ, zero, suc, ◌+◌, ◌<◌, List, [], ◌∷◌, length, get_or, replicate, Option, Some, None, refl, sym, ap, ◌∙◌, inl, inr, arith, subst}
 use Rattle.std.specs.List.{range_with_len}
 use Rattle.std.proofs.lemmas.Bool.{cases_lt}
@@ -37,7 +37,7 @@ lists-none n k =
     none_at (suc n) zero = refl
     none_at (suc n) (suc k) = none_at n k
 
--- a whole list is the one at its first node
+-- a complete list is the one at its first node
 lists-begun : (links : List Link) (x : ℕ) (xs : List ℕ) → IsWhole links (x ∷ xs) → get_or (lists links) x [] ≡ x ∷ xs
 lists-begun links x xs r =
     lists-at links x (linked-below links x _ r.0)
@@ -48,7 +48,7 @@ pub list_from-whole : (links : List Link) (xs : List ℕ) → IsWhole links xs �
 list_from-whole links [] r = refl
 list_from-whole links (x ∷ xs) r = lists-begun links x xs r
 
--- each list is whole, and is at its first node
+-- each list is complete, and is at its first node
 pub record IsListAt (links : List Link) (place : ℕ) : Type 0 where
   pub whole : IsWhole links (get_or (lists links) place [])
   pub begins : (node : ℕ) → first_or None (get_or (lists links) place []) ≡ Some node → node ≡ place
@@ -106,8 +106,8 @@ linked_is_on links listed n v found = let list = listed n v found in at_first li
 pub on_is_linked : (links : List Link) → AllListed links → (n first : ℕ) → IsAmong n (get_or (lists links) first []) → (v : Neighbours) × (link_at links n ≡ Some v)
 on_is_linked links listed n first i = run-linked links None _ None n (list_at links listed first).whole i
 
--- from `links` to `links'` the list `old` becomes `new`, where the one of them may have `node` and the
--- other not, and the neighbours of all other nodes stay
+-- from `links` to `links'` the list `old` becomes `new`; one of the two may contain `node` while the other does not,
+-- and all other nodes keep their neighbours
 pub record Relinks (links links' : List Link) (old new : List ℕ) (node : ℕ) : Type 0 where
   pub sized : length links' ≡ length links
   pub before : IsWhole links old
@@ -119,14 +119,14 @@ pub record Relinks (links links' : List Link) (old new : List ℕ) (node : ℕ) 
   pub gone : (IsAmong node new → ⊥) → link_at links' node ≡ None
 
 module _ (links links' : List Link) (old new : List ℕ) (node : ℕ) (re : Relinks links links' old new node) where
-  -- a whole list that has no node of the changed one stays
+  -- a complete list that shares no node with the changed one stays the same
   pub relinks-whole : (xs : List ℕ) → IsWhole links xs → ((m : ℕ) → IsAmong m xs → IsAmong m old → ⊥) → IsWhole links' xs
   relinks-whole xs r off =
       run-agree links links' None xs None
       (λ m i. re.kept m (off m i) (λ same. let i' = subst (λ k. IsAmong k xs) same i in off node i' (re.only xs r i')))
       r
 
-  -- each node with neighbours still is on a whole list
+  -- each node with neighbours is still on a complete list
   pub relinks-listed : AllListed links → AllListed links'
   relinks-listed listed m v found =
       elim (among_cases m new) as (λ _. (nodes : List ℕ) × IsWhole links' nodes × IsAmong m nodes) [
@@ -141,7 +141,7 @@ module _ (links links' : List Link) (old new : List ℕ) (node : ℕ) (re : Reli
       none_some : {P : Type 0} {n : Neighbours} → None ≡ Some n → P
       none_some e = cc
 
-  -- a list that begins elsewhere stays
+  -- a list that begins elsewhere stays the same
   pub relinks-list : AllListed links → (xs : List ℕ) → IsWhole links xs → (first_or None xs ≡ first_or None old → first_or None xs ≡ None) → list_from (lists links') (first_or None xs) ≡ xs
   relinks-list listed xs r apart = list_from-whole links' xs (relinks-whole xs r (λ m i j. no_first m xs i (apart (whole-share links old xs m re.before r j i))))
     where
@@ -149,7 +149,7 @@ module _ (links links' : List Link) (old new : List ℕ) (node : ℕ) (re : Reli
       no_first m [] i e = i
       no_first m (x ∷ xs) i e = cc
 
-  -- each other node has neighbours exactly where it had
+  -- each other node has neighbours exactly if it had some before
   pub relinks-linked : AllListed links → (m : ℕ) → m ≢ node → (v : Neighbours) → link_at links m ≡ Some v → (w : Neighbours) × (link_at links' m ≡ Some w)
   relinks-linked listed m other v found =
       elim (among_cases m old) as (λ _. (w : Neighbours) × (link_at links' m ≡ Some w)) [
@@ -164,7 +164,7 @@ module _ (links links' : List Link) (old new : List ℕ) (node : ℕ) (re : Reli
         | inr off ↦ (w, sym (re.kept m off other) ∙ found)
       ]
 
-  -- each other node is on a list exactly where it was
+  -- each other node is on a list exactly if it was before
   pub relinks-on : AllListed links → (m : ℕ) → m ≢ node → ((first : ℕ) × IsAmong m (get_or (lists links) first [])) → (first : ℕ) × IsAmong m (get_or (lists links') first [])
   relinks-on listed m other on =
       let was = on_is_linked links listed m on.0 on.1 in

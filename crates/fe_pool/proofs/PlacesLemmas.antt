@@ -1,4 +1,4 @@
--- What a write of one node does to the columns.
+-- What writing one node does to the columns.
 use Rattle.std.proofs.Common.{◌≡◌, ℕ, ◌<◌, List, length, map, set, get_or, Option, Some, None, IsSome, sym, ◌∙◌, ap, arith, subst, true≢false, inl, inr}
 use Rattle.std.proofs.lemmas.List.{map-set, get_or-map, length-map, get_or_past}
 use Rattle.std.proofs.lemmas.Bool.{cases_lt}
@@ -15,16 +15,16 @@ use Rattle.fe_pool.specs.within.Places.{item_of, follower_of, word_link_of, sess
 pub column : {A B : Type 0} (f : A → B) (xs : List A) (n : ℕ) (x : A) (e : B) → n < length xs → x ≡ get_or xs n x → get_or (map f xs) n e ≡ f x
 column f xs n x e within read = get_or-map f xs n x e within ∙ ap f (sym read)
 
--- a column that the write does not change
+-- a column that the write leaves unchanged
 pub column-set_same : {A B : Type 0} (f : A → B) (xs : List A) (n : ℕ) (x y : A) → x ≡ get_or xs n x → f y ≡ f x → map f (set xs n y) ≡ map f xs
 column-set_same f xs n x y read same = map-set_same f xs n y x (same ∙ ap f read)
 
 module _ {T : Type 0} where
-  -- columns are equal where each is
+  -- columns are equal if each column is
   pub same_columns : (items items' : List (Option T)) (followers followers' : List (Option ℕ)) (of_word of_word' of_session of_session' : List Link) → items ≡ items' → followers ≡ followers' → of_word ≡ of_word' → of_session ≡ of_session' → ◌≡◌ {A = Columns T} (record { items = items; followers = followers; of_word = of_word; of_session = of_session }) (record { items = items'; followers = followers'; of_word = of_word'; of_session = of_session' })
   same_columns items items' followers followers' of_word of_word' of_session of_session' a b c d = cc
 
-  -- a node with an item is there
+  -- a node with an item exists
   pub within_items : (ps : List (Place T)) (n : ℕ) → IsSome (get_or (map item_of ps) n None) → n < length ps
   within_items ps n some =
       elim (cases_lt n (length ps)) as (λ _. n < length ps) [
@@ -41,7 +41,7 @@ module _ {T : Type 0} where
       (column-set_same word_link_of ps n x _ read (ap word_link_of (sym free)))
       (column-set_same session_link_of ps n x _ read (ap session_link_of (sym free)))
 
-  -- a node on no list is made a free one
+  -- a node on no list becomes free
   pub vacated : (ps : List (Place T)) (n : ℕ) (x : Place T) (entry : Entry T) (follower : Option ℕ) → n < length ps → x ≡ get_or ps n x → x ≡ Taken entry → get_or (map word_link_of ps) n None ≡ None → get_or (map session_link_of ps) n None ≡ None → columns_of (set ps n (Free follower)) ≡ record (columns_of ps) { items = set (map item_of ps) n None; followers = set (map follower_of ps) n follower }
   vacated ps n x entry follower within read taken of_word of_session =
       same_columns _ _ _ _ _ _ _ _

@@ -1,4 +1,4 @@
--- What is true of each pool, and how the changes of a node keep it.
+-- The invariant of every pool, and how changes of a node keep it.
 use Rattle.std.proofs.Common.{◌≡◌, ℕ, ◌<◌, ◌⊎◌, List, [], ◌∷◌, length, get_or, Option, Some, None, IsSome, is_some, refl, sym, ap, ◌∙◌, inl, inr, subst, true≢false}
 use Rattle.std.proofs.lemmas.Bool.{cases_lt}
 use Rattle.std.proofs.lemmas.List.{get_or_past}
@@ -15,7 +15,7 @@ use Rattle.fe_pool.proofs.ListLemmas.{IsListAt, list_at, length-lists, linked_is
 none_some : {X P : Type 0} {x : X} → None ≡ Some x → P
 none_some e = cc
 
--- an item is there or is not
+-- there is an item or there is none
 pub item_cases : {T : Type 0} (o : Option T) → (o ≡ None) ⊎ IsSome o
 item_cases None = inl refl
 item_cases (Some x) = inr refl
@@ -27,7 +27,7 @@ link_cases (Some v) = inr (v, refl)
 pub not_some : {T : Type 0} {o : Option T} → IsSome o → o ≡ None → ⊥
 not_some some none = true≢false (sym some ∙ ap is_some none)
 
--- a node is on one of the lists exactly where it is among them
+-- a node is on one of the lists exactly if it is in one of them
 pub on_among : (ls : List (List ℕ)) (n : ℕ) → IsOnOne ls n → (first : ℕ) × IsAmong n (get_or ls first [])
 on_among ls n (first, contained) = by_first first (among-Contains n _ contained)
   where
@@ -38,7 +38,7 @@ on_among ls n (first, contained) = by_first first (among-Contains n _ contained)
 pub among_on : (ls : List (List ℕ)) (n : ℕ) → ((first : ℕ) × IsAmong n (get_or ls first [])) → IsOnOne ls n
 among_on ls n on = (Some on.0, Contains-among n _ on.1)
 
--- the lists that the neighbours make are sound
+-- the lists that the neighbours form are sound
 module _ {T : Type 0} (items : List (Option T)) (links : List Link) (sized : length links ≡ length items) (loose : (n : ℕ) → get_or items n None ≡ None → link_at links n ≡ None) (listed : AllListed links) where
   at : (place : ℕ) → IsListAt links place
   at = list_at links listed
@@ -71,7 +71,7 @@ module _ {T : Type 0} (items : List (Option T)) (links : List Link) (sized : len
     ];
   }
 
--- the lists of a family are those that its neighbours make
+-- the lists of a family are those that its neighbours form
 pub lists_of-contents : {T : Type 0} (c : Columns T) (family : Family) → lists_of (contents c) family ≡ lists (links_of c family)
 lists_of-contents c OfWord = refl
 lists_of-contents c OfSession = refl
@@ -95,7 +95,7 @@ module _ {T : Type 0} (c : Columns T) (first : Option ℕ) (pool : IsPool c firs
     families = λ family. subst (AreSound c.items) (sym (lists_of-contents c family)) (lists-sound c.items (links_of c family) (pool-sized family) (pool-loose family) (pool-listed family));
   }
 
-  -- a node on a list has neighbours, and one off all lists has none
+  -- a node on a list has neighbours, and one on no list has none
   pub pool-on : (family : Family) (n : ℕ) → IsOn (contents c) family n → (v : Neighbours) × (link_at (links_of c family) n ≡ Some v)
   pool-on family n on =
       let among = on_among (lists (links_of c family)) n (subst (λ ls. IsOnOne ls n) (lists_of-contents c family) on) in
@@ -115,7 +115,7 @@ module _ {T : Type 0} (c : Columns T) (first : Option ℕ) (pool : IsPool c firs
   pub pool-free_off : (family : Family) (n : ℕ) → get_or c.items n None ≡ None → IsOff (contents c) family n
   pool-free_off family n free on = let found = pool-on family n on in none_some (sym (pool-loose family n free) ∙ found.1)
 
-  -- the first free node is free, and with none no node is
+  -- the first free node is free, and if there is none no node is free
   pub pool-first : (n : ℕ) → first ≡ Some n → (n < length c.items) × (get_or c.items n None ≡ None)
   pool-first n e = by_free pool.free pool.free_linked (λ m i. pool.free_empty m i)
     where
@@ -133,7 +133,7 @@ module _ {T : Type 0} (c : Columns T) (first : Option ℕ) (pool : IsPool c firs
       by_free [] linked i = i
       by_free (x ∷ xs) linked i = none_some (sym e ∙ linked.0)
 
--- a node with an item is one of the pool
+-- a node with an item is in the pool
 pub some-below : {T : Type 0} (items : List (Option T)) (n : ℕ) → IsSome (get_or items n None) → n < length items
 some-below items n some =
     elim (cases_lt n (length items)) as (λ _. n < length items) [
@@ -142,7 +142,7 @@ some-below items n some =
     ]
 
 module _ {T : Type 0} (c : Columns T) (first : Option ℕ) (pool : IsPool c first) (family : Family) (n : ℕ) where
-  -- a node on a list is one of the pool, and has neighbours
+  -- a node on a list is in the pool, and has neighbours
   pub on-below : IsOn (contents c) family n → n < length c.items
   on-below on =
       let found = pool-on c first pool family n on in

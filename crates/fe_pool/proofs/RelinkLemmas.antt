@@ -1,4 +1,4 @@
--- What a change of one list does to a pool, in the words of its contracts.
+-- What a change of one list does to a pool, in the terms of its contracts.
 use Rattle.std.proofs.Common.{◌≡◌, ◌≢◌, ℕ, List, length, get_or, Option, Some, None, IsSome, is_some, refl, sym, ap, ◌∙◌, inl, inr, subst, true≢false}
 use Rattle.std.specs.List.{last_or}
 use Rattle.fe_pool.specs.declared.chain.Chain.{Chain}
@@ -96,7 +96,7 @@ module _ {T : Type 0} (p p' : Contents T) (family : Family) (links links' : List
         counted = n ∙ ap length (sym list);
       }
 
-  -- each other chain has the list that it had
+  -- each other chain keeps its list
   pub changed-others : (chain : Chain) → chain.first ≡ first_or None old → KeepsOtherChains p p' family chain
   changed-others chain f other apart is =
       let list = ap (λ ls. list_from ls other.first) e in
@@ -111,7 +111,7 @@ module _ {T : Type 0} (p p' : Contents T) (family : Family) (links links' : List
         kept,
       )
 
-  -- each other node stands where it stood
+  -- each other node is on a list exactly if it was before
   pub changed-nodes : KeepsOtherNodes p p' family node
   changed-nodes m other = (
     λ on.
@@ -122,7 +122,7 @@ module _ {T : Type 0} (p p' : Contents T) (family : Family) (links links' : List
         subst (λ ls. IsOnOne ls m) (sym e) (among_on (lists links) m stood),
   )
 
-  -- a node that has left the list is on none
+  -- a node that has left the list is on no list
   pub changed-off : (IsAmong node new → ⊥) → IsOff p' family node
   changed-off off on =
       let found = on_is_linked links' (relinks-listed links links' old new node re listed) node _ (on_among (lists links') node (subst (λ ls. IsOnOne ls node) e' on)).1 in

@@ -1,4 +1,4 @@
--- What `push_back` and `unlink` leave, clause by clause.
+-- The clauses of `push_back` and `unlink`, one by one.
 use Rattle.std.proofs.Common.{◌≡◌, ℕ, ◌+◌, ◌-◌, ◌⊎◌, List, [], ◌∷◌, ◌++◌, length, get_or, set, Bool, true, false, not, Option, Some, None, IsSome, is_some, sym, ap, ◌∙◌, inl, inr, arith, subst, true≢false, length-append}
 use Rattle.std.specs.Prelude.{Contains}
 use Rattle.std.specs.List.{last_or}
@@ -12,11 +12,11 @@ use Rattle.fe_pool.proofs.AmongLemmas.{among-split, among-Contains, last-some, l
 use Rattle.fe_pool.proofs.PoolLemmas.{pool-sound}
 use Rattle.fe_pool.proofs.ChainLemmas.{IsChanged, is-pool, is-list, is-chain, is-others, is-nodes, is-off, is-family, is-items, items-step, push-changed, split-link, unlink-changed, unlink-previous, unlink-next, unlink-taken, unlink-without, unlink-gone, unlink-count}
 
--- a value is the one or the other, by a test
+-- a value chosen by a test is one of the two
 abbrev pub IsChoice : Bool → Option ℕ → Option ℕ → Option ℕ → Type 0
 IsChoice test one other value = ((test ≡ true) × (value ≡ one)) ⊎ ((test ≡ false) × (value ≡ other))
 
--- a test for nothing tells the choice where there is nothing, and where there is something
+-- the choice by `is_none`, for `None` and for `Some`
 chosen_none : (o : Option ℕ) (test : Bool) (one other value : Option ℕ) → o ≡ None → is_some o ≡ not test → IsChoice test one other value → value ≡ one
 chosen_none o test one other value none tested (inl here) = here.1
 chosen_none o test one other value none tested (inr there) = absurd (true≢false (sym (tested ∙ ap not there.0) ∙ ap is_some none))
@@ -25,12 +25,12 @@ chosen_some : (o : Option ℕ) (test : Bool) (one other value : Option ℕ) (x :
 chosen_some o test one other value x some tested (inl here) = absurd (true≢false (sym (ap is_some some) ∙ tested ∙ ap not here.0))
 chosen_some o test one other value x some tested (inr there) = there.1
 
--- the first node once one is put at the end
+-- the first node after one is appended
 push-first : (xs : List ℕ) (n : ℕ) (first first' : Option ℕ) (test : Bool) → first ≡ first_or None xs → is_some first ≡ not test → IsChoice test (Some n) first first' → first' ≡ first_or None (xs ++ n ∷ [])
 push-first [] n first first' test f tested choice = chosen_none first test (Some n) first first' f tested choice
 push-first (x ∷ xs) n first first' test f tested choice = chosen_some first test (Some n) first first' x f tested choice ∙ f
 
--- the ends once a node is taken out
+-- the ends after a node is removed
 unlink-first : (xs ys : List ℕ) (n : ℕ) (previous next first first' : Option ℕ) (test : Bool) → previous ≡ last_or None xs → next ≡ first_or None ys → first ≡ first_or None (xs ++ n ∷ ys) → is_some previous ≡ not test → IsChoice test next first first' → first' ≡ first_or None (xs ++ ys)
 unlink-first [] ys n previous next first first' test p q f tested choice = chosen_none previous test next first first' p tested choice ∙ q
 unlink-first (x ∷ xs) ys n previous next first first' test p q f tested choice =
@@ -44,7 +44,7 @@ unlink-last xs (y ∷ ys) n previous next last last' test p q l tested choice =
     ∙ last_or-append None xs (n ∷ y ∷ ys)
     ∙ sym (last_or-append None xs (y ∷ ys))
 
--- the list of the chain is `new`, and all else is as it was but for `n`
+-- the list of the chain becomes `new`, and everything else except `n` stays the same
 pub record IsReturned {T : Type 0} (p p' : Contents T) (family : Family) (old after : Chain) (new : List ℕ) (n : ℕ) : Type 0 where
   pub list : list_of p' family after ≡ new
   pub chain : IsChain p' family after

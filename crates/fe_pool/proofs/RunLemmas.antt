@@ -1,4 +1,4 @@
--- What follows where neighbours agree with a list.
+-- What follows if the neighbours agree with a list.
 use Rattle.std.proofs.Common.{◌≡◌, ◌≢◌, ℕ, zero, suc, ◌<◌, ◌≤◌, List, [], ◌∷◌, ◌++◌, length, get_or, Option, Some, None, refl, sym, ap, ◌∙◌, inl, inr, arith, subst}
 use Rattle.std.specs.List.{last_or}
 use Rattle.std.proofs.lemmas.Bool.{cases_lt}
@@ -9,7 +9,7 @@ use Rattle.fe_pool.specs.Columns.{Link, link_at}
 use Rattle.fe_pool.specs.within.Runs.{IsAmong, AllDifferent, IsRun, IsWhole, previous_of, next_of, run_from, with_next, with_previous}
 use Rattle.fe_pool.proofs.AmongLemmas.{first_or-append, last-among, last-some, length-le_bound}
 
--- a node with neighbours is one of the vector
+-- a node with neighbours is in the vector
 pub linked-below : (links : List Link) (n : ℕ) (v : Neighbours) → link_at links n ≡ Some v → n < length links
 linked-below links n v found =
     elim (cases_lt n (length links)) as (λ _. n < length links) [
@@ -46,14 +46,14 @@ run-linked links p [] q n r i = absurd i
 run-linked links p (x ∷ xs) q n r (inl same) = (record { previous = p; next = first_or q xs }, ap (link_at links) same ∙ r.0)
 run-linked links p (x ∷ xs) q n r (inr i) = run-linked links (Some x) xs q n r.1 i
 
--- after the first node each has one before it, on the list
+-- each node after the first has one before it, on the list
 pub run-back : (links : List Link) (p : Option ℕ) (x : ℕ) (xs : List ℕ) (q : Option ℕ) (n : ℕ) → IsRun links p (x ∷ xs) q → IsAmong n xs → (m : ℕ) × IsAmong m (x ∷ xs) × (previous_of (link_at links n) ≡ Some m)
 run-back links p x [] q n r i = absurd i
 run-back links p x (y ∷ ys) q n r (inl same) = (x, inl refl, ap (λ m. previous_of (link_at links m)) same ∙ ap previous_of r.1.0)
 run-back links p x (y ∷ ys) q n r (inr i) =
     let rest = run-back links (Some x) y ys q n r.1 i in (rest.0, inr rest.1, rest.2)
 
--- no node is there twice on a list that no node of it comes before
+-- a list has no duplicates if none of its nodes comes before it
 pub run-different : (links : List Link) (p : Option ℕ) (xs : List ℕ) (q : Option ℕ) → IsRun links p xs q → ((m : ℕ) → p ≡ Some m → IsAmong m xs → ⊥) → AllDifferent xs
 run-different links p [] q r before = tt
 run-different links p (x ∷ xs) q r before = (off, run-different links (Some x) xs q r.1 after)
@@ -70,7 +70,7 @@ whole-different links xs r = run-different links None xs None r clash
     clash : (m : ℕ) → None ≡ Some m → IsAmong m xs → ⊥
     clash m e i = cc
 
--- a node of a whole list with one before it has that one on the list
+-- the node before a node of a complete list is on the list too
 pub whole-previous : (links : List Link) (ys : List ℕ) (n m : ℕ) → IsWhole links ys → IsAmong n ys → previous_of (link_at links n) ≡ Some m → IsAmong m ys
 whole-previous links [] n m r i e = absurd i
 whole-previous links (y ∷ ys) n m r (inl same) e = absurd (clash (sym (ap (λ k. previous_of (link_at links k)) same ∙ ap previous_of r.0) ∙ e))
@@ -85,7 +85,7 @@ whole-previous links (y ∷ ys) n m r (inr i) e =
     some_same : {a b : ℕ} → Some a ≡ Some b → a ≡ b
     some_same e = cc
 
--- a node of a whole list with none before it is its first
+-- a node of a complete list with none before it is its first
 pub whole-first : (links : List Link) (ys : List ℕ) (n : ℕ) → IsWhole links ys → IsAmong n ys → previous_of (link_at links n) ≡ None → first_or None ys ≡ Some n
 whole-first links [] n r i e = absurd i
 whole-first links (y ∷ ys) n r (inl same) e = ap Some (sym same)
@@ -94,20 +94,20 @@ whole-first links (y ∷ ys) n r (inr i) e = let back = run-back links None y ys
     clash : {m : ℕ} → None ≡ Some m → ⊥
     clash e = cc
 
--- a whole list that has a node after another has the other too
+-- a complete list that contains a later node contains the earlier one too
 pub whole-reaches : (links : List Link) (w : ℕ) (zs : List ℕ) (q : Option ℕ) (n : ℕ) (ys : List ℕ) → IsRun links (Some w) zs q → IsAmong n zs → IsWhole links ys → IsAmong n ys → IsAmong w ys
 whole-reaches links w [] q n ys r i whole j = absurd i
 whole-reaches links w (z ∷ zs) q n ys r (inl same) whole j = whole-previous links ys n w whole j (ap (λ k. previous_of (link_at links k)) same ∙ ap previous_of r.0)
 whole-reaches links w (z ∷ zs) q n ys r (inr i) whole j =
     whole-previous links ys z w whole (whole-reaches links z zs q n ys r.1 i whole j) (ap previous_of r.0)
 
--- whole lists with a common node begin alike
+-- complete lists that share a node begin with the same node
 pub whole-share : (links : List Link) (xs ys : List ℕ) (n : ℕ) → IsWhole links xs → IsWhole links ys → IsAmong n xs → IsAmong n ys → first_or None ys ≡ first_or None xs
 whole-share links [] ys n r s i j = absurd i
 whole-share links (x ∷ xs) ys n r s (inl same) j = whole-first links ys x s (subst (λ k. IsAmong k ys) same j) (ap previous_of r.0)
 whole-share links (x ∷ xs) ys n r s (inr i) j = whole-first links ys x s (whole-reaches links x xs None n ys r.1 i s j) (ap previous_of r.0)
 
--- whole lists that begin alike are equal
+-- complete lists that begin with the same node are equal
 pub run-same : (links : List Link) (p p' : Option ℕ) (xs ys : List ℕ) → IsRun links p xs None → IsRun links p' ys None → first_or None xs ≡ first_or None ys → xs ≡ ys
 run-same links p p' [] [] r s e = refl
 run-same links p p' [] (y ∷ ys) r s e = cc
@@ -120,13 +120,13 @@ run-same links p p' (x ∷ xs) (y ∷ ys) r s e =
 pub whole-same : (links : List Link) (xs ys : List ℕ) (n : ℕ) → IsWhole links xs → IsWhole links ys → IsAmong n xs → IsAmong n ys → ys ≡ xs
 whole-same links xs ys n r s i j = run-same links None None ys xs s r (whole-share links xs ys n r s i j)
 
--- a whole list is no longer than the vector
+-- a complete list is no longer than the vector
 pub whole-length : (links : List Link) (xs : List ℕ) → IsWhole links xs → length xs ≤ length links
 whole-length links xs r =
     length-le_bound xs (length links) (whole-different links xs r) (λ n i.
     let found = run-linked links None xs None n r i in linked-below links n found.0 found.1)
 
--- the nodes that follow one another from the first are the list
+-- following the nodes from the first gives the list
 pub run_from-run : (links : List Link) (p : Option ℕ) (xs : List ℕ) (steps : ℕ) → IsRun links p xs None → length xs ≤ steps → run_from links steps (first_or None xs) ≡ xs
 run_from-run links p [] zero r fits = refl
 run_from-run links p [] (suc steps) r fits = refl
@@ -134,7 +134,7 @@ run_from-run links p (x ∷ xs) zero r fits = absurd (omega arith)
 run_from-run links p (x ∷ xs) (suc steps) r fits =
     ap (λ ys. x ∷ ys) (ap (run_from links steps) (ap next_of r.0) ∙ run_from-run links (Some x) xs steps r.1 (omega arith))
 
--- the last node of a list is given another one after it
+-- the last node of a list gets a successor
 pub run-with_next_at : (links : List Link) (p : Option ℕ) (x : ℕ) (xs : List ℕ) (q : Option ℕ) (l : ℕ) (next : Option ℕ) → last_or (Some x) xs ≡ Some l → AllDifferent (x ∷ xs) → IsRun links p (x ∷ xs) q → IsRun (with_next links (Some l) next) p (x ∷ xs) next
 run-with_next_at links p x [] q l next e d r =
     let same : x ≡ l = cc in
@@ -150,7 +150,7 @@ run-with_next links (x ∷ xs) q next d r =
     let last = last-some x xs in
     subst (λ o. IsRun (with_next links o next) None (x ∷ xs) next) (sym last.1) (run-with_next_at links None x xs q last.0 next last.1 d r)
 
--- the first node of a list is given another one before it
+-- the first node of a list gets a predecessor
 pub run-with_previous : (links : List Link) (p : Option ℕ) (xs : List ℕ) (previous : Option ℕ) → AllDifferent xs → IsRun links p xs None → IsRun (with_previous links (first_or None xs) previous) previous xs None
 run-with_previous links p [] previous d r = tt
 run-with_previous links p (x ∷ xs) previous d r = (

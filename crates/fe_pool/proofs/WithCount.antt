@@ -7,7 +7,7 @@ use Rattle.fe_pool.specs.declared.places.Place.TheVariants.{Free}
 use Rattle.fe_pool.specs.Columns.{Columns, before_each, place_before}
 use Rattle.fe_pool.specs.within.Places.{item_of, follower_of, word_link_of, session_link_of, columns_of}
 
--- this many free nodes are in the columns, and `before` is the last of them
+-- the columns hold this many free nodes, and `before` is the last of them
 pub record IsMade {T : Type 0} (c : Columns T) (count : ℕ) (before : Option ℕ) : Type 0 where
   pub items : c.items ≡ replicate count None
   pub of_word : c.of_word ≡ replicate count None

@@ -1,17 +1,16 @@
--- What a pool's vector holds, a column for each thing that a node has. No public clause cites this
--- module.
+-- The contents of a pool's vector, one column for each field of a node. No public clause cites this module.
 use Rattle.std.specs.Prelude.{◌≡◌, ℕ, zero, suc, List, [], ◌∷◌, ◌++◌, Option, Some, None, IsSome, refl, slice_index_or}
 use Rattle.std.specs.Coded.{Coded, code_by, coded×, coded_ℕ, coded_list, coded_option}
 use Rattle.fe_pool.specs.declared.family.Family.{Family}
 use Rattle.fe_pool.specs.declared.family.Family.TheVariants.{OfWord, OfSession}
 use Rattle.fe_pool.specs.declared.neighbours.Neighbours.{Neighbours}
 
--- the neighbours of a node on its list, or nothing where it is on none
+-- the neighbours of a node on its list, or None if it is on no list
 abbrev pub Link : Type 0
 Link = Option Neighbours
 
--- by node: the item of a taken one, the free node that follows a free one, and the neighbours on its
--- list of each family
+-- for each node: its item if it is taken, the next free node if it is free, and its neighbours on its list of each
+-- family
 pub record Columns (T : Type 0) : Type 0 where
   pub items : List (Option T)
   pub followers : List (Option ℕ)
@@ -28,7 +27,7 @@ link_code =
     (λ p. record { previous = p.0; next = p.1 })
     (λ _. refl))
 
--- columns are stored as the tuple of them
+-- the columns are stored as the tuple of their fields
 abbrev pub columns_code : {T : Type 0} → Coded T → Coded (Columns T)
 columns_code {T} code =
     code_by
@@ -60,17 +59,17 @@ module _ {T : Type 0} where
     pub of_word : link_at c.of_word node ≡ None
     pub of_session : link_at c.of_session node ≡ None
 
-  -- the node is taken, and on a list of the family
+  -- the node is taken and on a list of the family
   pub record IsLinked (c : Columns T) (family : Family) (node : ℕ) : Type 0 where
     pub taken : IsSome (slice_index_or c.items node None)
     pub linked : IsSome (link_at (links_of c family) node)
 
--- the node one below, if there is one
+-- the next lower node, if there is one
 abbrev pub place_before : ℕ → Option ℕ
 place_before zero = None
 place_before (suc place) = Some place
 
--- for each of the first nodes, the node one below
+-- for each of the first nodes, the next lower node
 abbrev pub before_each : ℕ → List (Option ℕ)
 before_each zero = []
 before_each (suc place) = before_each place ++ place_before place ∷ []

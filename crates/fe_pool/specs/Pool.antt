@@ -1,4 +1,4 @@
--- What a contract sees of a pool: the item of each taken node, and the lists of each family.
+-- A pool as contracts see it: the item of each taken node, and the lists of each family.
 use Rattle.std.specs.Prelude.{◌≡◌, ◌≢◌, ◌==◌, ◌↔◌, ℕ, ◌<◌, ◌^◌, List, [], ◌∷◌, ◌++◌, length, filter, not, Option, Some, None, IsSome, refl, slice_index_or, AllPairs, Contains}
 use Rattle.std.specs.List.{last_or}
 use Rattle.std.specs.Coded.{Coded, code_by, coded×, coded_ℕ, coded_list, coded_option}
@@ -6,8 +6,7 @@ use Rattle.fe_pool.specs.declared.chain.Chain.{Chain}
 use Rattle.fe_pool.specs.declared.family.Family.{Family}
 use Rattle.fe_pool.specs.declared.family.Family.TheVariants.{OfWord, OfSession}
 
--- by node: its item, where it is taken, and for each family the list that begins with it, empty
--- where none does
+-- for each node: its item if it is taken, and for each family the list that begins with it, empty if none does
 pub record Contents (T : Type 0) : Type 0 where
   pub items : List (Option T)
   pub of_word : List (List ℕ)
@@ -30,7 +29,7 @@ abbrev pub first_or : Option ℕ → List ℕ → Option ℕ
 first_or other [] = other
 first_or other (node ∷ _) = Some node
 
--- the list that begins with the node `first`, and without one the empty list
+-- the list that begins with the node `first`; without a node, the empty list
 abbrev pub list_from : List (List ℕ) → Option ℕ → List ℕ
 list_from lists None = []
 list_from lists (Some first) = slice_index_or lists first []
@@ -39,8 +38,8 @@ list_from lists (Some first) = slice_index_or lists first []
 abbrev pub IsOnOne : List (List ℕ) → ℕ → Type 0
 IsOnOne lists node = (first : Option ℕ) × Contains (list_from lists first) node
 
--- the lists of a family: each node has a place for one, a list is kept at its first node and has no
--- node twice, no two have a node in common, and a node on a list has an item
+-- the lists of a family are sound: there is one entry for each node, a list is kept at its first node and has no node
+-- twice, no two lists share a node, and each node on a list has an item
 pub record AreSound {T : Type 0} (items : List (Option T)) (lists : List (List ℕ)) : Type 0 where
   pub sized : length lists ≡ length items
   pub begins : (place node : ℕ) → first_or None (list_from lists (Some place)) ≡ Some node → node ≡ place
@@ -48,7 +47,7 @@ pub record AreSound {T : Type 0} (items : List (Option T)) (lists : List (List �
   pub apart : (one other : Option ℕ) (node : ℕ) → Contains (list_from lists one) node → Contains (list_from lists other) node → one ≡ other
   pub taken : (node : ℕ) → IsOnOne lists node → IsSome (slice_index_or items node None)
 
--- the list without a node
+-- the list with a node removed
 abbrev pub without : List ℕ → ℕ → List ℕ
 without nodes node = filter (λ other. not (other == node)) nodes
 
@@ -61,11 +60,11 @@ module _ {T : Type 0} where
   abbrev pub item_at : Contents T → ℕ → Option T
   item_at p node = slice_index_or p.items node None
 
-  -- the node is a taken one of the pool
+  -- the node is in the pool and taken
   abbrev pub IsTaken : Contents T → ℕ → Type 0
   IsTaken p node = IsSome (item_at p node)
 
-  -- the node is a free one of the pool
+  -- the node is in the pool and free
   abbrev pub IsFree : Contents T → ℕ → Type 0
   IsFree p node = (node < length p.items) × (item_at p node ≡ None)
 
@@ -78,7 +77,7 @@ module _ {T : Type 0} where
   abbrev pub list_of : Contents T → Family → Chain → List ℕ
   list_of p family chain = list_from (lists_of p family) chain.first
 
-  -- the chain has the ends and the length of its list
+  -- the chain has the first node, the last node and the length of its list
   pub record IsChain (p : Contents T) (family : Family) (chain : Chain) : Type 0 where
     pub first : chain.first ≡ first_or None (list_of p family chain)
     pub last : chain.last ≡ last_or None (list_of p family chain)
@@ -92,23 +91,23 @@ module _ {T : Type 0} where
   abbrev pub IsOff : Contents T → Family → ℕ → Type 0
   IsOff p family node = ¬ (IsOn p family node)
 
-  -- each chain that is apart from this one is still a chain of the family, with the list that it had
+  -- each chain that is apart from this one is still a chain of the family, with the same list
   abbrev pub KeepsOtherChains : Contents T → Contents T → Family → Chain → Type 0
   KeepsOtherChains old new family chain = (other : Chain) → IsApart other chain → IsChain old family other → IsChain new family other × (list_of new family other ≡ list_of old family other)
 
-  -- each other node is on a list of the family exactly if it was
+  -- each other node is on a list of the family exactly if it was before
   abbrev pub KeepsOtherNodes : Contents T → Contents T → Family → ℕ → Type 0
   KeepsOtherNodes old new family node = (other : ℕ) → other ≢ node → IsOn old family other ↔ IsOn new family other
 
-  -- the lists of the other family are the same
+  -- the lists of the other family are unchanged
   abbrev pub KeepsOtherFamily : Contents T → Contents T → Family → Type 0
   KeepsOtherFamily old new family = (other : Family) → other ≢ family → lists_of new other ≡ lists_of old other
 
-  -- what `next` gives at a node: its successor on each list that it is on
+  -- what `next` returns for a node: its successor on each list it is on
   abbrev pub IsNext : Contents T → Family → ℕ → Option ℕ → Type 0
   IsNext p family node next = (first : Option ℕ) (before after : List ℕ) → list_from (lists_of p family) first ≡ before ++ node ∷ after → next ≡ first_or None after
 
-  -- what is true of each pool: its nodes can be counted, and the lists of each family are sound
+  -- the invariant of every pool: it has fewer than 2^32 nodes, and the lists of each family are sound
   pub record IsSound (p : Contents T) : Type 0 where
     pub fits : length p.items < 2 ^ 32
     pub families : (family : Family) → AreSound p.items (lists_of p family)

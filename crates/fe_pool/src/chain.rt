@@ -1,16 +1,16 @@
 use crate::node::Node;
 
-/// The ends and the length of one list of a pool. The holder hands it in where the list changes.
+/// The ends and the length of one list of a pool. Its owner passes it to the calls that change the list.
 #[derive(Clone, Copy, PartialEq, Eq)]
 pub struct Chain {
     pub first: Option<Node>,
     pub last: Option<Node>,
-    /// How many nodes there are on the list.
+    /// The number of nodes on the list.
     pub length: u32,
 }
 
 impl Chain {
-    /// The list without nodes.
+    /// A list with no nodes.
     pub const EMPTY: Chain = Chain {
         first: None,
         last: None,

@@ -1,4 +1,4 @@
-//! Nodes in one vector, each on at most one list of each of two families, linked by index.
+//! Nodes in one vector, linked by index. A node is on at most one list of each of two families.
 #![tactic(auto)]
 
 mod chain;

@@ -1,6 +1,6 @@
 use std::marker::Model;
 
-/// A node of a pool, named by its place there, from 0 on.
+/// A node of a pool: its index, from 0 to the number of nodes less one.
 #[derive(Clone, Copy, PartialEq, Eq)]
 pub struct Node {
     place: u32,

@@ -10,14 +10,14 @@ use std::alloc::{AllocError, Global};
 use std::marker::Model;
 use std::mem;
 
-// One node: free, with the free node that follows it, or taken.
+// One node: free, with the next free node after it, or taken.
 #[derive(Drop)]
 enum Place<T> {
     Free(Option<Node>),
     Taken(Entry<T>),
 }
 
-// What a taken node holds: its item, and its neighbours on its list of each family.
+// The contents of a taken node: its item, and its neighbours on its list of each family.
 #[derive(Drop)]
 struct Entry<T> {
     item: T,
@@ -38,7 +38,7 @@ impl<T> Entry<T> {
     }
 }
 
-/// The one vector of a pool, read and written a node at a time.
+/// The one vector of a pool, read and written one node at a time.
 #[derive(Drop)]
 pub(crate) struct Places<T> {
     places: Vec<Place<T>>,
@@ -57,7 +57,7 @@ impl<T> Model for Places<T> {
 }
 
 impl<T: Drop> Places<T> {
-    // This many free nodes, each followed by the one before it.
+    // This many free nodes, each followed by the next lower one. Fails only if memory runs out.
     pub(crate) fn with_count(alloc: Global, count: u32) -> Result<Places<T>, AllocError>
         ensures items { IfOk result (λ p. p.items ≡ replicate count None) }
         ensures of_word { IfOk result (λ p. p.of_word ≡ replicate count None) }
@@ -102,7 +102,7 @@ impl<T: Drop> Places<T> {
         }
     }
 
-    // Takes the item out of a node that is on no list, and makes it a free one.
+    // Removes the item of a node that is on no list, and makes the node free, followed by `follower`.
     pub(crate) fn vacate(&mut self, node: Node, follower: Option<Node>) -> T
         requires taken { IsSome (slice_index_or self.old.items node None) }
         requires loose { IsLoose self.old node }
@@ -129,7 +129,7 @@ impl<T: Drop> Places<T> {
         }
     }
 
-    // The neighbours of a node on its list of a family, or `None` where it is on none.
+    // The neighbours of a node on its list of a family, or `None` if it is on no list.
     pub(crate) fn neighbours(&self, family: Family, node: Node) -> Option<Neighbours>
         requires { node < length self.now.items }
         ensures { result ≡ link_at (links_of self.now family) node }
@@ -162,7 +162,7 @@ impl<T: Drop> Places<T> {
         }
     }
 
-    // Makes `previous` the one before the node `at`, where there is such a node.
+    // Makes `previous` the predecessor of the node `at`, if there is such a node.
     pub(crate) fn set_previous(&mut self, family: Family, at: Option<Node>, previous: Option<Node>)
         requires { ForSome at (IsLinked self.old family) }
         ensures { self.new ≡ with_links self.old family (with_previous (links_of self.old family) at previous) }

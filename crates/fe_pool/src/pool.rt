@@ -9,9 +9,9 @@ use crate::places::Places;
 use std::alloc::{AllocError, Global};
 use std::marker::Model;
 
-/// Nodes that hold a `T` each while they are taken, and are on at most one list of each family.
+/// A fixed number of nodes. A taken node holds a `T` and is on at most one list of each family.
 ///
-/// All memory is taken by `with_nodes`, and each call after it takes a bounded time.
+/// `with_nodes` allocates all memory. Every later call takes a bounded time.
 #[derive(Drop)]
 pub struct Pool<T> {
     places: Places<T>,
@@ -33,7 +33,7 @@ impl<T> Model for Pool<T> {
 }
 
 impl<T: Drop> Pool<T> {
-    /// A pool of this many nodes, all free.
+    /// A pool of this many nodes, all free. Fails only if memory runs out.
     pub fn with_nodes(alloc: Global, nodes: u32) -> Result<Pool<T>, AllocError>
         ensures items { IfOk result (λ p. p.items ≡ replicate nodes None) }
         ensures of_word { IfOk result (λ p. p.of_word ≡ replicate nodes []) }
@@ -49,7 +49,7 @@ impl<T: Drop> Pool<T> {
         Ok(Pool { places, first_free })
     }
 
-    /// How many nodes there are, free and taken.
+    /// The number of nodes, free and taken.
     pub fn capacity(&self) -> u32
         ensures nodes { result ≡ length self.now.items }
         ensures sound { IsSound self.now }
@@ -57,7 +57,8 @@ impl<T: Drop> Pool<T> {
         self.places.count()
     }
 
-    /// Puts the item into a free node, which is on no list, or drops it if no node is free.
+    /// Puts the item into a free node and returns the node, which is on no list. If no node is free, drops the item
+    /// and returns `None`.
     pub fn take(&mut self, item: T) -> Option<Node>
         ensures full { IsNone result ↔ ((node : ℕ) → ¬ (IsFree self.old node)) }
         ensures was_free { IfSome result (IsFree self.old) }
@@ -72,7 +73,7 @@ impl<T: Drop> Pool<T> {
         Some(node)
     }
 
-    /// Takes the item out of a node that is on no list; the node is free from then on.
+    /// Removes the item of a node that is on no list, and makes the node free.
     pub fn give_back(&mut self, node: Node) -> T
         requires taken { IsTaken self.old node }
         requires off { (family : _) → IsOff self.old family node }
@@ -101,7 +102,7 @@ impl<T: Drop> Pool<T> {
         self.places.neighbours(family, node).unwrap().next
     }
 
-    /// Puts a taken node that is on no list of the family at the end of the chain's list.
+    /// Appends a taken node that is on no list of the family to the chain's list.
     pub fn push_back(&mut self, family: Family, chain: &mut Chain, node: Node)
         requires chain { IsChain self.old family chain.old }
         requires taken { IsTaken self.old node }
@@ -135,7 +136,7 @@ impl<T: Drop> Pool<T> {
         };
     }
 
-    /// Takes a node out of the chain's list, wherever the node is on it.
+    /// Removes a node from the chain's list, wherever it is on the list.
     pub fn unlink(&mut self, family: Family, chain: &mut Chain, node: Node)
         requires chain { IsChain self.old family chain.old }
         requires on { Contains (list_of self.old family chain.old) node }

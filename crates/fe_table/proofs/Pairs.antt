@@ -1,4 +1,5 @@
--- The keys of a table beside its values, as one list of entries: what a search finds, and what an edit of both makes of it.
+-- The keys and the values of a table as one list of entries: what a search finds, and the list after a change of
+-- both.
 use Rattle.std.proofs.Common.{◌≡◌, ℕ, zero, suc, ◌<◌, ◌≤◌, List, [], ◌∷◌, length, get_or, set, slice_get, Some, None, refl, sym, ap, subst, ◌∙◌, arith, T}
 use Rattle.std.proofs.lemmas.List.{get_or_default}
 use Rattle.std.proofs.lemmas.Slice.Zip.{get_or-zip}
@@ -31,7 +32,7 @@ module _ {X : Type 0} where
   pairs-set (q ∷ ks) (w ∷ vs) zero d v same lt = refl
   pairs-set (q ∷ ks) (w ∷ vs) (suc i) d v same lt = ap (λ l. (q, w) ∷ l) (pairs-set ks vs i d v (omega (arith, same)) (omega (arith, lt)))
 
-  -- the entry at a place has the key and the value that stand there
+  -- the entry at a place consists of the key and the value at that place
   pub pair_at : (ks : List ℕ) (vs : List X) (i : ℕ) (d : ℕ × X) → length vs ≡ length ks → i < length ks → get_or (zip ks vs) i d ≡ (get_or ks i d.0, get_or vs i d.1)
   pair_at ks vs i d same lt = get_or-zip ks vs i d lt (omega (arith, same))
 
@@ -51,7 +52,7 @@ module _ {X : Type 0} where
         get_seen (zip ks vs) m h seen k ∙ find_at (zip ks vs) k i (k, v) h (at_seen (zip ks vs) m h seen k i a)
         ∙ ap Some (ap (λ e. e.1) (pair_at ks vs i (k, v) paired (key_below k i a)) ∙ sym read)
 
-    -- a key that is at a place is at it
+    -- the key read at a place is at that place
     pub key_stands : (i k : ℕ) → i < length ks → k ≡ get_or ks i k → IsAt (entries m) k i
     key_stands i k lt read =
         let size = length-pairs ks vs paired in
@@ -73,7 +74,7 @@ module _ {X : Type 0} where
         let size = length-pairs ks vs paired in
         ap (λ l. slice_get l i) (entries_seen (zip ks vs) m h seen) ∙ slice_get-past (zip ks vs) i (omega (arith, size, paired, past))
 
-    -- what the edits make of it
+    -- the lists after each change
     pub pairs_more : (k i : ℕ) (v : X) → IsGapFor (entries m) k i → zip (insert ks i k) (insert vs i v) ≡ entries (map_insert m k v)
     pairs_more k i v g = pairs-inserted ks vs i k v paired (gap_below k i g) ∙ entries_inserted (zip ks vs) m h seen k i v g
 
@@ -92,6 +93,6 @@ module _ {X : Type 0} where
         let a = at_itself (zip ks vs) m h seen i (k, v) (omega (arith, size, lt)) whole in
         pairs-set ks vs i 0 w paired lt ∙ entries_written (zip ks vs) m h seen k i (k, v) w whole a
 
-    -- another value at a place is one of its key
+    -- a new value at a place is a new value for its key
     pub put_at_key : (i : ℕ) (e : ℕ × X) (w : X) → slice_get (entries m) i ≡ Some e → put_at m i w ≡ map_insert m e.0 w
     put_at_key i e w there = ap (λ o. option_map_or (λ e. map_insert m e.0 w) o m) there

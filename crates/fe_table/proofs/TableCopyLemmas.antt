@@ -1,4 +1,4 @@
--- A map that is made again from its entries, one after the other in the order of their keys.
+-- A map built again from its entries, one by one in the order of their keys.
 use Rattle.std.proofs.Common.{◌≡◌, ℕ, zero, suc, ◌+◌, ◌<◌, ◌≤◌, true, cond, List, [], ◌∷◌, ◌++◌, length, take, slice_get, Option, Some, None, IsSome, is_some, true≢false, T, refl, sym, ap, subst, ◌∙◌, arith, add-one}
 use Rattle.std.proofs.lemmas.Cmp.{ranked}
 use Rattle.std.specs.Borrow.{Bor}
@@ -14,7 +14,7 @@ use Rattle.fe_table.proofs.TableLemmas.{first, second, less, above}
 not_there : {A X : Type 0} (e : X) → None ≡ Some e → A
 not_there e h = absurd (true≢false (ap is_some (sym h)))
 
--- the first n of a list, and the next one
+-- the first n entries of a list, and the next one
 pub take-push : {X : Type 0} (es : List X) (i : ℕ) (e : X) → slice_get es i ≡ Some e → take (suc i) es ≡ take i es ++ e ∷ []
 take-push [] i e h = not_there e h
 take-push (x ∷ es) zero e h = cc
@@ -43,7 +43,7 @@ module _ {X : Type 0} where
       subst (λ p. k < p.0) same (ranked k x.0 Less (sym (less _ (first _ _ b))))
   below_slice_get k (x ∷ es) (suc i) e b h = below_slice_get k es i e (second _ _ b) h
 
-  -- no key before the place of an entry is its key
+  -- no entry before this place has its key
   pub find-take : (es : List (ℕ × X)) (i : ℕ) (e : ℕ × X) → T (is_sorted nat_cmp es) → slice_get es i ≡ Some e → find nat_cmp e.0 (take i es) ≡ None
   find-take [] i e s h = not_there e h
   find-take (x ∷ es) zero e s h = refl
@@ -61,7 +61,7 @@ module _ {X : Type 0} where
         ∙ same_map nat_cmp_total nat_cmp-IsAntisymmetric _ _ (λ q. get-from_entries nat_cmp_total (entries m) q ∙ sym (get-entries m q))
 
     module _ (i : ℕ) where
-      -- below the length there is an entry at the place
+      -- there is an entry at every place below the length
       pub shown_there : (r : Option (ℕ × Bor X)) → option_map shown_entry r ≡ slice_get (entries m) i → i < len m → IsSome r
       shown_there r shows lt = sym (is_some-shown r) ∙ ap is_some shows ∙ is_some-slice_get (entries m) i (subst (λ n. i < n) (len-entries m) lt)
 
@@ -72,6 +72,6 @@ module _ {X : Type 0} where
         pub made-next : insert (made i) e.0 e.1 ≡ made (i + 1)
         made-next = sym (ap (λ n. from_entries (take n (entries m))) (add-one i) ∙ ap from_entries (take-push (entries m) i e here) ∙ from_entries_push nat_cmp_total nat_cmp-IsAntisymmetric (take i (entries m)) e.0 e.1 (find-take (entries m) i e (entries_sorted m) here))
 
-  -- a new key is one more
+  -- a new key increases the length by one
   pub len-insert_absent : (m : FinMap nat_cmp X) (k : ℕ) (v : X) → get m k ≡ None → len (insert m k v) ≡ len m + 1
   len-insert_absent m k v none = len-insert nat_cmp_total m k v ∙ ap (λ x. cond (is_some x) (len m) (len m + 1)) none

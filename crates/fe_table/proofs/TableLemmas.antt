@@ -1,5 +1,5 @@
--- A list of entries whose keys rise, against the finite map that it stands for: where a key is found in the list,
--- and what a change of the list makes of the map.
+-- A list of entries in ascending order of their keys, and the finite map it represents: where the list has a key, and
+-- what a change of the list does to the map.
 use Rattle.std.proofs.Common.{◌≡◌, ℕ, zero, suc, ◌<◌, ◌≤◌, Bool, true, false, cond, not, ◌&&◌, List, [], ◌∷◌, length, get_or, set, slice_get, Some, None, Result, Ok, Err, IfOk, IfErr, IsOk, IsErr, IsSome, is_some, true≢false, eqb-true, T, refl, sym, ap, subst, ◌∙◌, arith, add-one}
 use Rattle.std.proofs.lemmas.Cmp.{ranked}
 use Rattle.std.proofs.lemmas.List.Sorted.{searchable_from_sorted}
@@ -45,7 +45,7 @@ turned false x y = refl
 same_key : (q k : ℕ) → eq_by_cmp nat_cmp q k ≡ true → q ≡ k
 same_key q k e = eqb-true q k (sym (unsigned_tied q k) ∙ e)
 
--- the keys but one
+-- all keys except one
 abbrev pub but : ℕ → ℕ → Bool
 but k q = not (eq_by_cmp nat_cmp k q)
 
@@ -55,7 +55,7 @@ module _ {X : Type 0} where
   length-pairs (k ∷ ks) [] same = absurd (omega (arith, same))
   length-pairs (k ∷ ks) (v ∷ vs) same = ap suc (length-pairs ks vs (omega (arith, same)))
 
-  -- ---- rising keys, by place
+  -- ---- ascending keys, by place
 
   below_at : (x : ℕ) (es : List (ℕ × X)) (i : ℕ) (d : ℕ × X) → T (below_all nat_cmp x es) → i < length es → x < (get_or es i d).0
   below_at x [] i d h lt = absurd (omega arith)
@@ -67,7 +67,7 @@ module _ {X : Type 0} where
   rises_at (e ∷ es) zero d h lt = below_at e.0 es 0 d (first _ _ h) (omega arith)
   rises_at (e ∷ es) (suc i) d h lt = rises_at es i d (second _ _ h) (omega arith)
 
-  -- the keys as they are in the entries
+  -- the keys, as they appear in the entries
   key_at : (ks : List ℕ) (vs : List X) → length vs ≡ length ks → (i : ℕ) (d : ℕ × X) → i < length ks → (get_or (zip ks vs) i d).0 ≡ get_or ks i d.0
   key_at ks vs paired i d lt = ap (λ e. e.0) (get_or-zip ks vs i d lt (omega (arith, paired)))
 
@@ -75,7 +75,7 @@ module _ {X : Type 0} where
     long : length (zip ks vs) ≡ length ks
     long = length-pairs ks vs paired
 
-    -- a value, where there is one
+    -- a value, if there is one
     keys_rise : (i d : ℕ) → suc i < length ks → get_or ks i d < get_or ks (suc i) d
     keys_rise i d lt = by vs refl
       where
@@ -87,11 +87,11 @@ module _ {X : Type 0} where
             let high = key_at ks vs paired (suc i) (d, w) lt in
             omega (arith, rise, low, high)
 
-    -- what a binary search asks of the keys
+    -- what a binary search requires of the keys
     comparisons_rise : (k : ℕ) → IsNonDecreasingBy (λ x. ordering_index (nat_cmp x k)) ks
     comparisons_rise k = searchable_from_sorted nat_cmp_total (λ x. x) ks k (λ i d low high. rw (add-one) (ap is_lt (above _ _ (keys_rise i d (omega arith)))))
 
-    -- it ends at the key, or at the gap for it
+    -- the search ends at the key, or at the gap for it
     pub searched : (k : ℕ) (r : Result ℕ ℕ) → IsSearchInRange r (length ks) → IsBinarySearchResult (λ x. nat_cmp x k) ks r → record { found : IfOk r (IsAt (zip ks vs) k); absent : IfErr r (IsGapFor (zip ks vs) k) }
     searched k (Ok i) in_range equal = record {
       found = record {
@@ -127,7 +127,7 @@ module _ {X : Type 0} where
     greater_after = λ j d le lt. g.greater_after (suc j) d (omega arith) (omega arith);
   }
 
-  -- the key that stands further on is above the first
+  -- a key further on is greater than the first
   head_below : (e : ℕ × X) (es : List (ℕ × X)) (k i : ℕ) → T (is_sorted nat_cmp (e ∷ es)) → IsAt (e ∷ es) k (suc i) → e.0 < k
   head_below e es k i h a = subst (λ q. e.0 < q) (a.has_key e) (below_at e.0 es i e (first _ _ h) (omega (arith, a.in_range)))
 
@@ -151,7 +151,7 @@ module _ {X : Type 0} where
   find_gap (e ∷ es) k zero g = find_above (e ∷ es) k g
   find_gap (e ∷ es) k (suc i) g = ap (λ o. cond (is_eq o) (Some e.1) (find nat_cmp k es)) (above k e.0 (g.smaller_before 0 e (omega arith))) ∙ find_gap es k i (gap_tail e es k i g)
 
-  -- ---- what a change at the place that was found makes of the list
+  -- ---- the list after a change at the place that was found
 
   pub insert-put : (es : List (ℕ × X)) (k i : ℕ) (v : X) → IsGapFor es k i → insert es i (k, v) ≡ put nat_cmp k v es
   insert-put [] k zero v g = refl
@@ -190,7 +190,7 @@ module _ {X : Type 0} where
 
   -- ---- the list as a map
 
-  -- a list that is the entries of a map stands for that map, and its keys rise
+  -- the entries of a map represent that map, and their keys ascend
   pub from_sorted-entries : (es : List (ℕ × X)) (m : FinMap nat_cmp X) → es ≡ entries m → from_sorted es ≡ m
   from_sorted-entries es m is = same_entries_map (from_sorted es) m (entries-from_sorted nat_cmp es (subst (λ l. T (is_sorted nat_cmp l)) (sym is) (entries_sorted m)) ∙ is)
 
@@ -208,7 +208,7 @@ module _ {X : Type 0} where
       ap (λ l. get (from_sorted {R = nat_cmp} l) q) is ∙ get_where_key (but k) es q h ∙ turned (eq_by_cmp nat_cmp k q) _ _ ∙ ap (λ n. cond (eq_by_cmp nat_cmp k q) None (get n q)) seen
       ∙ ap (λ b. cond b None (get m q)) ((eq_by_cmp_equiv nat_cmp_total).symm k q) ∙ sym (get-remove nat_cmp_total m k q))
 
-  -- what a table's value says of the list, and the other way round
+  -- what a table's value says about the list, and vice versa
   module _ (es : List (ℕ × X)) (m : FinMap nat_cmp X) (h : T (is_sorted nat_cmp es)) (seen : from_sorted es ≡ m) where
     pub entries_seen : entries m ≡ es
     entries_seen = ap entries (sym seen) ∙ entries-from_sorted nat_cmp es h
@@ -238,7 +238,7 @@ module _ {X : Type 0} where
       pub get_absent : IsGapFor (entries m) k i → get m k ≡ None
       get_absent g = get_seen k ∙ find_gap es k i (gap_seen g)
 
-      -- what the list becomes
+      -- the list after each change
       pub entries_written : (e : ℕ × X) (v : X) → e ≡ get_or es i e → IsAt (entries m) k i → set es i (e.0, v) ≡ entries (map_insert m k v)
       entries_written e v read a = ap (λ q. set es i (q, v)) (ap (λ e. e.0) read ∙ (at_seen a).has_key e) ∙ set-put es k i v h (at_seen a) ∙ ap (put nat_cmp k v) (sym entries_seen) ∙ sym (entries-insert nat_cmp_total m k v)
 
@@ -248,7 +248,7 @@ module _ {X : Type 0} where
       pub entries_removed : IsAt (entries m) k i → remove es i ≡ where_key nat_cmp (but k) es
       entries_removed a = remove-where_key es k i h (at_seen a)
 
-    -- an entry at its place, and the map that a new value of it makes
+    -- the entry at a place, and the map with a new value there
     module _ (i : ℕ) (e : ℕ × X) (within : i < length es) (read : e ≡ get_or es i e) where
       pub at_itself : IsAt (entries m) e.0 i
       at_itself = subst (λ l. IsAt l e.0 i) (sym entries_seen) (record { in_range = within; has_key = λ d. ap (λ e. e.0) (get_or_default es i d e within ∙ sym read) })
@@ -259,7 +259,7 @@ module _ {X : Type 0} where
       pub put_itself : (x : X) → put_at m i x ≡ map_insert m e.0 x
       put_itself x = ap (λ o. option_map_or (λ e. map_insert m e.0 x) o m) entry_itself
 
-    -- a search for a key that is there finds it, and one for a key that is not there its gap
+    -- a search for a present key finds it, and a search for an absent key finds its gap
     pub search_finds : (k : ℕ) (r : Result ℕ ℕ) → IfErr r (IsGapFor (entries m) k) → IsSome (get m k) → IsOk r
     search_finds k (Ok i) gap there = refl
     search_finds k (Err i) gap there = absurd (true≢false (sym there ∙ ap is_some (get_absent k i gap)))
@@ -268,15 +268,15 @@ module _ {X : Type 0} where
     search_misses k (Ok i) at none = absurd (not_missed es k i h (at_seen k i at) (sym (get_seen k) ∙ none))
     search_misses k (Err i) at none = refl
 
-  -- the empty list stands for the empty map
+  -- the empty list represents the empty map
   pub from_sorted-nil : from_sorted {K = ℕ} {X = X} {R = nat_cmp} [] ≡ empty
   from_sorted-nil = same_map nat_cmp_total nat_cmp-IsAntisymmetric _ _ (λ q. get-from_sorted nat_cmp [] q tt ∙ sym (get-empty nat_cmp q))
 
-  -- and the other way round
+  -- and the empty map has no entries
   pub entries-empty : entries {K = ℕ} {X = X} {R = nat_cmp} empty ≡ []
   entries-empty = sym (ap entries from_sorted-nil) ∙ entries-from_sorted nat_cmp [] tt
 
-  -- to remove a key that is not there changes nothing
+  -- removing an absent key changes nothing
   pub remove_absent : (m : FinMap nat_cmp X) (k : ℕ) → get m k ≡ None → m ≡ map_remove m k
   remove_absent m k none = same_map nat_cmp_total nat_cmp-IsAntisymmetric _ _ (λ q. same q (eq_by_cmp nat_cmp q k) refl ∙ sym (get-remove nat_cmp_total m k q))
     where

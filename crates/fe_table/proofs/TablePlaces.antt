@@ -1,4 +1,4 @@
--- A key that is at a place: its value, and what a new value there makes of the map.
+-- A key at a place: its value, and the map with a new value there.
 use Rattle.std.proofs.Common.{◌≡◌, ℕ, zero, suc, List, [], ◌∷◌, get_or, set, map, slice_get, Option, Some, None, IsSome, is_some, true≢false, refl, sym, ap, ◌∙◌}
 use Rattle.std.proofs.lemmas.Option.{unwrap_or-slice_get}
 use Rattle.std.specs.FinMap.{FinMap, get, insert, keys, entries, entries_sorted}
@@ -30,7 +30,7 @@ module _ {X : Type 0} (m : FinMap nat_cmp X) (k i : ℕ) (at : IsAt (entries m) 
   there : (o : Option (ℕ × X)) → slice_get (entries m) i ≡ o → IsSome o
   there o is = sym (ap is_some is) ∙ is_some-slice_get (entries m) i at.in_range
 
-  -- a new value at the place is the key's, and leaves the order
+  -- a new value at the place is a new value for the key, and keeps the order
   pub put_here : (x : X) → (put_at m i x ≡ insert m k x) × (keys (put_at m i x) ≡ keys m)
   put_here x = by (slice_get (entries m) i) refl
     where

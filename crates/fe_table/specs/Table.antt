@@ -1,4 +1,4 @@
--- A table: a finite map that is kept as the list of its entries in the order of their keys.
+-- A table: a finite map, stored as the list of its entries in ascending order of their keys.
 use Rattle.std.specs.Prelude.{◌≡◌, ℕ, ◌<◌, ◌≤◌, List, length, slice_get, slice_index_or, T}
 use Rattle.std.specs.List.{zip}
 use Rattle.std.specs.Ordering.{nat_cmp}
@@ -6,23 +6,23 @@ use Rattle.std.specs.FinMap.{FinMap, is_sorted, insert, entries}
 use Rattle.std.specs.Option.{option_map_or}
 use Rattle.std.specs.Borrow.{Bor}
 
--- an entry, where the value is seen through a reference
+-- an entry whose value is seen through a reference
 abbrev pub shown_entry : {X : Type 0} → ℕ × Bor X → ℕ × X
 shown_entry e = (e.0, e.1.now)
 
--- the map, with another value for the key at a place of the ascending order
+-- the map with another value for the key at a place of the ascending order
 abbrev pub put_at : {X : Type 0} → FinMap nat_cmp X → ℕ → X → FinMap nat_cmp X
 put_at m place x = option_map_or (λ e. insert m e.0 x) (slice_get (entries m) place) m
 
--- what is always true of the keys and the values of a table with this room, whose memory holds this many of each
+-- the invariant of a table with this room, whose vectors have these capacities
 pub record IsTable {X : Type 0} (room : ℕ) (keys : List ℕ) (values : List X) (key_capacity value_capacity : ℕ) : Type 0 where
-  -- the keys rise, so no two are equal
+  -- the keys ascend, so no two are equal
   pub ascending : T (is_sorted nat_cmp (zip keys values))
   -- each key has a value
   pub paired : length values ≡ length keys
-  -- there are no more keys than the room
+  -- there are at most `room` keys
   pub few : length keys ≤ room
-  -- and the memory of the whole room is there
+  -- and the memory for `room` keys and values is reserved
   pub keys_reserved : room ≤ key_capacity
   pub values_reserved : room ≤ value_capacity
 
@@ -31,7 +31,7 @@ pub record IsAt {X : Type 0} (entries : List (ℕ × X)) (key place : ℕ) : Typ
   pub in_range : place < length entries
   pub has_key : (e : ℕ × X) → (slice_index_or entries place e).0 ≡ key
 
--- the key would go to this place: smaller keys stand before it, and greater keys from it on
+-- the key belongs at this place: the keys before it are smaller, and those from it on are greater
 pub record IsGapFor {X : Type 0} (entries : List (ℕ × X)) (key place : ℕ) : Type 0 where
   pub in_range : place ≤ length entries
   pub smaller_before : (i : ℕ) (e : ℕ × X) → i < place → (slice_index_or entries i e).0 < key

@@ -4,7 +4,7 @@ use std::alloc::{AllocError, Global};
 
 /// A value that can be copied into memory of its own.
 pub trait Copied: Sized {
-    /// The same value again. The one error is that memory is short.
+    /// A copy of the value. Fails only if memory runs out.
     fn copied(&self, alloc: Global) -> Result<Self, AllocError>
         ensures { IfOk result (λ copy. copy ≡ self.now) };
 }

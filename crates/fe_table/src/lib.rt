@@ -1,4 +1,4 @@
-//! Maps from numbers to values, in ascending order of the numbers, whose room is made beforehand.
+//! Maps from numbers to values, in ascending order of the numbers, that allocate their memory in advance.
 #![tactic(auto)]
 
 mod copied;

@@ -9,14 +9,14 @@ use crate::copied::Copied;
 use std::alloc::{AllocError, Global};
 use std::marker::Model;
 
-/// A map from numbers to values, in ascending order of the numbers, with room for `ROOM` of them.
+/// A map from numbers to values, in ascending order of the numbers, with room for `ROOM` entries.
 ///
-/// `new` makes the room; of the other calls only `copied` takes memory. A look-up tries the hint first.
+/// `new` allocates the memory; of the other methods only `copied` allocates. A lookup tries the hint first.
 #[derive(Drop)]
 pub struct Table<V, const ROOM: usize> {
     keys: Vec<u64>,
     values: Vec<V>,
-    /// The place that a search looks at first. Any number is good.
+    /// The place a search looks at first. Any number is allowed.
     hint: usize,
 }
 
@@ -38,7 +38,7 @@ impl<V, const ROOM: usize> Model for Table<V, ROOM> {
 }
 
 impl<V, const ROOM: usize> Table<V, ROOM> {
-    /// An empty table, with its room. The one error is that memory is short.
+    /// An empty table with its memory. Fails only if memory runs out.
     pub fn new(alloc: Global) -> Result<Self, AllocError>
         ensures empty { IfOk result (λ table. table ≡ map.empty) }
     {
@@ -51,7 +51,7 @@ impl<V, const ROOM: usize> Table<V, ROOM> {
         })
     }
 
-    /// How many keys there are.
+    /// The number of keys.
     pub fn len(&self) -> usize
         ensures len { result ≡ map.len self.now }
         ensures fits { result ≤ ROOM }
@@ -69,7 +69,7 @@ impl<V, const ROOM: usize> Table<V, ROOM> {
         }
     }
 
-    /// The key at a place of the ascending order, counted from zero, with its value.
+    /// The key at a place of the ascending order, counted from zero, and its value.
     pub fn at(&self, place: usize) -> Option<(u64, &V)>
         ensures entry { option_map shown_entry result ≡ slice_get (map.entries self.now) place }
     {
@@ -77,7 +77,7 @@ impl<V, const ROOM: usize> Table<V, ROOM> {
         Some((self.keys[place], value))
     }
 
-    /// The value at a key that is there, to write.
+    /// The value at a present key, for writing.
     pub fn get_mut(&mut self, key: u64) -> &mut V
         requires present { IsSome (map.get self.old key) }
         ensures* writes_back { sem 𝓛 (lends_value V.row ROOM.row self.entry key result) }
@@ -87,7 +87,7 @@ impl<V, const ROOM: usize> Table<V, ROOM> {
         self.at_mut(place)
     }
 
-    /// The value at a place of the ascending order that is taken, to write.
+    /// The value at an occupied place of the ascending order, counted from zero, for writing.
     pub fn at_mut(&mut self, place: usize) -> &mut V
         requires taken { place < map.len self.old }
         ensures* writes_back { sem 𝓛 (lends_place V.row ROOM.row self.entry place result) }
@@ -96,7 +96,7 @@ impl<V, const ROOM: usize> Table<V, ROOM> {
         &mut self.values[place]
     }
 
-    /// Takes a key out, and gives the value that it had.
+    /// Removes a key and returns its value, or `None` if the key is absent.
     pub fn remove(&mut self, key: u64) -> Option<V>
         ensures value { result ≡ map.get self.old key }
         ensures removed { self.new ≡ map.remove self.old key }
@@ -110,8 +110,8 @@ impl<V, const ROOM: usize> Table<V, ROOM> {
         }
     }
 
-    /// Looks for a key at a guessed place first, and gives the place where it is; the guess, where it is not there. Any
-    /// guess is good. The look-ups of the key that follow take one comparison each, while it stays at that place.
+    /// Looks for a key, first at a guessed place, and returns its place, or the guess if the key is absent. Any guess
+    /// is allowed. Later lookups of the key take one comparison each while the key stays at that place.
     pub fn aim(&mut self, key: u64, guess: usize) -> usize
         ensures { self.new ≡ self.old }
     {
@@ -122,7 +122,7 @@ impl<V, const ROOM: usize> Table<V, ROOM> {
         self.hint
     }
 
-    // Where the key is, or where it would go.
+    // The place of the key, or the place where it belongs.
     fn search(&self, key: u64) -> Result<usize, usize>
         ensures found { IfOk result (IsAt (map.entries self.now) key) }
         ensures absent { IfErr result (IsGapFor (map.entries self.now) key) }
@@ -135,7 +135,7 @@ impl<V, const ROOM: usize> Table<V, ROOM> {
 }
 
 impl<V: Drop, const ROOM: usize> Table<V, ROOM> {
-    /// Puts a value at a new key.
+    /// Adds a new key with its value.
     pub fn insert(&mut self, key: u64, value: V)
         requires absent { map.get self.old key ≡ None }
         requires room { map.len self.old < ROOM }

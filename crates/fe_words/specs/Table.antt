@@ -30,7 +30,7 @@ row Purge tag old = Some (word 0 Empty, Done)
 row (IntFetchAdd operand) Full old = Some (word ((old + operand) % 2 ^ 64) Full, Value old)
 row (IntFetchAdd operand) Empty old = None
 
--- the operation table: the word after the operation and its answer, None where it waits
+-- the operation table: the word after the operation and its answer, or None if the operation waits
 abbrev pub table : Op → Word → Option (Word × Reply)
 table op w = row op w.tag w.value
 
@@ -45,13 +45,13 @@ need_of (WriteXf operand) = need.Any
 need_of Purge = need.Any
 need_of (IntFetchAdd operand) = need.Full
 
--- a word with this tag is what the operation needs
+-- a word with this tag meets the need
 abbrev pub Meets : Tag → Need → Type 0
 Meets tag need.Any = Unit {0}
 Meets tag need.Full = tag ≡ Full
 Meets tag need.Empty = tag ≡ Empty
 
--- the table is undefined exactly where the need is not met
+-- the table has no row exactly when the need is not met
 abbrev pub IsUndefinedWhereUnmet : Type 0
 IsUndefinedWhereUnmet = (op : Op) (w : Word) → IsNone (table op w) ↔ (¬ Meets w.tag (need_of op))
 

@@ -1,4 +1,4 @@
-//! Tagged words, and the table of the operations on them.
+//! Tagged words, and the table of operations on them.
 #![tactic(auto)]
 
 mod op;

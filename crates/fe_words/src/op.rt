@@ -3,8 +3,8 @@ ghost use Rattle.fe_words.specs.Table.{table, need_of, name_of, IsUndefinedWhere
 
 use crate::word::{Need, Reply, Tag, Word};
 
-/// An operation on a tagged word. The operand of a write is the value written, that of
-/// `IntFetchAdd` the number added.
+/// An operation on a tagged word. The operand of a write is the value it stores; the operand of `IntFetchAdd` is the
+/// number it adds, modulo 2^64.
 #[derive(Clone, Copy, PartialEq, Eq)]
 pub enum Op {
     ReadFe,
@@ -18,7 +18,7 @@ pub enum Op {
 }
 
 impl Op {
-    /// The tag that the operation waits for.
+    /// The tag the word must have; the operation waits until it does.
     pub fn need(self) -> Need
         ensures { result ≡ need_of self }
     {
@@ -34,7 +34,7 @@ impl Op {
         }
     }
 
-    /// The word that the operation leaves and its answer, or `None` where it waits.
+    /// The word after the operation and its answer, or `None` if the operation waits.
     pub fn rule(self, word: Word) -> Option<(Word, Reply)>
         ensures { result ≡ table self word }
     {
@@ -90,7 +90,7 @@ fn empty(value: u64) -> Word
     }
 }
 
-/// An operation waits exactly where its word has not the tag that it needs.
+/// An operation waits exactly when its word does not have the tag it needs.
 pub fn waits_where_unmet()
     ensures { IsUndefinedWhereUnmet }
 {}

@@ -5,7 +5,7 @@ pub enum Tag {
     Empty,
 }
 
-/// A word of 64 bits with its tag. An empty word keeps its value.
+/// A 64-bit value and its tag. An empty word has a value too.
 #[derive(Clone, Copy, PartialEq, Eq)]
 pub struct Word {
     pub value: u64,
@@ -20,7 +20,7 @@ pub enum Need {
     Any,
 }
 
-/// What an operation that completes answers.
+/// The answer of an operation that has completed.
 #[derive(Clone, Copy, PartialEq, Eq)]
 pub enum Reply {
     /// The value before the operation.

@@ -1,4 +1,4 @@
--- How a node in the vector shows in the columns. No public clause cites this module.
+-- How a node in the vector appears in the columns. No public clause cites this module.
 use Rattle.std.specs.Prelude.{ℕ, List, map, Option, Some, None}
 use Rattle.fe_pool.specs.Columns.{Link, Columns}
 use Rattle.fe_pool.specs.declared.family.Family.{Family}
@@ -13,7 +13,7 @@ module _ {T : Type 0} where
   item_of (Free _) = None
   item_of (Taken entry) = Some entry.item
 
-  -- the free node that follows a free one
+  -- the next free node after a free one
   abbrev pub follower_of : Place T → Option ℕ
   follower_of (Free follower) = follower
   follower_of (Taken _) = None
@@ -27,12 +27,12 @@ module _ {T : Type 0} where
   session_link_of (Free _) = None
   session_link_of (Taken entry) = entry.of_session
 
-  -- what a taken node holds, with other neighbours in one family
+  -- the contents of a taken node, with other neighbours in one family
   abbrev pub with_link : Entry T → Family → Link → Entry T
   with_link entry OfWord to = record entry { of_word = to }
   with_link entry OfSession to = record entry { of_session = to }
 
-  -- the columns that the vector shows
+  -- the columns of the vector
   abbrev pub columns_of : List (Place T) → Columns T
   columns_of places = record {
     items = map item_of places;

@@ -1,4 +1,4 @@
--- What a table ends as, once a `&mut` to one of its values has ended.
+-- What a table is once a `&mut` to one of its values has ended.
 use Rattle.std.specs.Prelude.{ℕ}
 use Rattle.std.specs.Borrow.{Fml, RattleType, MutBor, Lends}
 use Rattle.std.specs.FinMap.{FinMap, insert}
@@ -7,10 +7,10 @@ use Rattle.std.specs.Ordering.{nat_cmp}
 use Rattle.fe_table.specs.contracts.table.Table.{the_row}
 
 module _ (V ROOM : RattleType) (table : MutBor (FinMap nat_cmp V.Denot)) where
-  -- the key has the last value written through r, and each other key what it had
+  -- the key has the last value written through r, and every other key keeps its value
   abbrev pub lends_value : ℕ → MutBor V.Denot → Fml
   lends_value key r = Lends (the_row V ROOM) V table r (insert table.now key)
 
-  -- the same of the key at a place
+  -- the same for the key at a place
   abbrev pub lends_place : ℕ → MutBor V.Denot → Fml
   lends_place place r = Lends (the_row V ROOM) V table r (put_at table.now place)

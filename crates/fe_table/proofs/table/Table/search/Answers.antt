@@ -11,7 +11,7 @@ returns g c =
     let position = rw c.deref.ensures.value at c.binary_search.ensures.position in
     rw (entries_seen _ _ kept.ascending c.self.view_is) (searched _ _ kept.paired kept.ascending c.args.key _ bound position)
 
--- the key that is at the hint is the one that is looked for
+-- the key at the hint is the one that is looked for
 pub returns-then-index-key-clause-found : goal.returns-then-index-key-clause-found
 returns-then-index-key-clause-found g c =
     let kept = c.self.invariant in
