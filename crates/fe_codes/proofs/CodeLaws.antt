@@ -1,4 +1,4 @@
--- What has a code is read from it again, and what is read from a code has it.
+-- Reading a code gives back what it encodes, and what is read from a code has that code.
 use Rattle.std.proofs.Common.{◌≡◌, ℕ, cond, eqb, Option, Some, sym, refl, ap, subst, ◌∙◌}
 use Rattle.std.specs.Prelude.{IfSome}
 use Rattle.std.proofs.lemmas.Bool.{eqb-true, cond_both}
@@ -12,7 +12,7 @@ use Rattle.fe_codes.specs.Codes.{tag_code, op_code, operand_of, answer_code, ans
 use Rattle.fe_codes.specs.Reading.{tag_of, op_of, answer_of}
 use Rattle.fe_codes.specs.Laws.{IsCodeOf, AreCodesOf, AreNumbersOf, TagsAreTheirCodes, OpsAreTheirCodes, AnswersAreTheirCodes}
 
--- what holds of the value that a reader gave
+-- what holds of the value that a reader returned
 pub some_at : {A : Type 0} (P : A → Type 0) (o : Option A) (x : A) → o ≡ Some x → IfSome o P → P x
 some_at P o x e h = subst (λ (t : Option _). IfSome t P) e h
 

@@ -1,4 +1,4 @@
--- What may be missing, one after another. A `do` block over options is made of this sign.
+-- Steps that may give no value, one after another. A `do` block over options uses this operator.
 use Rattle.std.specs.Prelude.{Option, option_and_then}
 
 infixl 10 ◌>>=◌

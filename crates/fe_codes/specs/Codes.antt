@@ -11,7 +11,7 @@ abbrev pub tag_code : Tag → ℕ
 tag_code Empty = 0
 tag_code Full = 1
 
--- the code of the request for an access
+-- the code of the request for an access, in frames and records
 abbrev pub op_code : Op → ℕ
 op_code ReadFe = 16
 op_code ReadFf = 17
@@ -22,7 +22,7 @@ op_code (WriteXf operand) = 21
 op_code Purge = 22
 op_code (IntFetchAdd operand) = 23
 
--- the operand of an operation, zero where it has none
+-- the operand of an operation, zero if it has none
 abbrev pub operand_of : Op → ℕ
 operand_of ReadFe = 0
 operand_of ReadFf = 0
@@ -46,7 +46,7 @@ answer_code BadName = 9
 answer_code BadLength = 10
 answer_code NotNow = 11
 
--- the value or the id that an answer carries, zero where it has none
+-- the value or the id that an answer carries, zero if it carries none
 abbrev pub answer_number : Answer → ℕ
 answer_number (Value value) = value
 answer_number Done = 0
@@ -60,7 +60,7 @@ answer_number BadName = 0
 answer_number BadLength = 0
 answer_number NotNow = 0
 
--- the length of the array that an answer names, zero where it names none
+-- the length of the array that an answer names, zero if it names none
 abbrev pub answer_length : Answer → ℕ
 answer_length (Value value) = 0
 answer_length Done = 0

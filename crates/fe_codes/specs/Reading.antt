@@ -1,4 +1,4 @@
--- What codes are read as: the tag, the operation or the answer that has them, or nothing where none has.
+-- What a code is read as: the tag, the operation or the answer that has it, or None if there is none.
 use Rattle.std.specs.Prelude.{ℕ, Option, Some, None, ◌==◌, if◌then◌else◌}
 use Rattle.fe_words.specs.declared.word.Tag.{Tag}
 use Rattle.fe_words.specs.declared.word.Tag.TheVariants.{Full, Empty}
@@ -10,7 +10,7 @@ use Rattle.fe_state.specs.declared.answer.Answer.TheVariants as answers
 unfoldable pub tag_of : ℕ → Option Tag
 tag_of code = if code == 0 then Some Empty else if code == 1 then Some Full else None
 
--- an operation that has no operand
+-- an operation with no operand: the operand must be 0
 abbrev pub alone : Op → ℕ → Option Op
 alone op operand = if operand == 0 then Some op else None
 
@@ -26,7 +26,7 @@ op_of code operand =
     else if code == 23 then Some (IntFetchAdd operand)
     else None
 
--- an answer that carries nothing
+-- an answer that carries nothing: both numbers must be 0
 abbrev pub bare : Answer → ℕ → ℕ → Option Answer
 bare answer number size = if number == 0 then (if size == 0 then Some answer else None) else None
 

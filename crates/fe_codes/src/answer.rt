@@ -6,6 +6,7 @@ ghost use Rattle.fe_codes.specs.Reading.{answer_of};
 
 use fe_state::Answer;
 
+/// The code of an answer, 1 to 11.
 pub fn answer_code(answer: Answer) -> u8
     ensures { result ≡ answer_code answer }
 {
@@ -24,7 +25,7 @@ pub fn answer_code(answer: Answer) -> u8
     }
 }
 
-/// The value or the id, 0 where the answer has none.
+/// The value or the id that the answer carries, 0 if it carries none.
 pub fn answer_number(answer: Answer) -> u64
     ensures { result ≡ answer_number answer }
 {
@@ -35,7 +36,7 @@ pub fn answer_number(answer: Answer) -> u64
     }
 }
 
-/// The length of the array, 0 where the answer names none.
+/// The length of the array that the answer names, in words, 0 if it names none.
 pub fn answer_length(answer: Answer) -> u32
     ensures { result ≡ answer_length answer }
 {
@@ -45,8 +46,7 @@ pub fn answer_length(answer: Answer) -> u32
     }
 }
 
-/// The answer of a code, a number and a length, or `None` where none has all three. An answer has 0
-/// for what it does not carry.
+/// The answer with this code, number and length, or `None` if there is none. What an answer does not carry must be 0.
 #[tactic(auto, unfolding(crate::specs::Reading::answer_of))]
 pub fn answer_of(code: u8, number: u64, length: u32) -> Option<Answer>
     ensures { result ≡ answer_of code number length }

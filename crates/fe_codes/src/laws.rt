@@ -2,17 +2,17 @@
 
 ghost use Rattle.fe_codes.specs.Laws.{TagsAreTheirCodes, OpsAreTheirCodes, AnswersAreTheirCodes};
 
-/// A code is read as a tag exactly where it is the code of that tag.
+/// A code is read as a tag exactly if it is the tag's code.
 pub fn tags_are_their_codes()
     ensures { TagsAreTheirCodes }
 {}
 
-/// A code and an operand are read as an operation exactly where they are its own.
+/// A code and an operand are read as an operation exactly if they are its code and operand.
 pub fn ops_are_their_codes()
     ensures { OpsAreTheirCodes }
 {}
 
-/// A code, a number and a length are read as an answer exactly where they are its own.
+/// A code, a number and a length are read as an answer exactly if they are those of the answer.
 pub fn answers_are_their_codes()
     ensures { AnswersAreTheirCodes }
 {}

@@ -1,4 +1,4 @@
-//! The codes of tags, operations and answers, which records and frames share.
+//! The codes of tags, operations and answers, used in records and frames (`docs/formats.md`, "Codes").
 #![tactic(auto)]
 
 mod answer;

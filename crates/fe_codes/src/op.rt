@@ -6,6 +6,7 @@ ghost use Rattle.fe_codes.specs.Reading.{op_of};
 
 use fe_words::Op;
 
+/// The code of an operation, 16 to 23.
 pub fn op_code(op: Op) -> u8
     ensures { result ≡ op_code op }
 {
@@ -21,7 +22,7 @@ pub fn op_code(op: Op) -> u8
     }
 }
 
-/// The operand, 0 where the operation has none.
+/// The operand, 0 if the operation has none.
 pub fn operand_of(op: Op) -> u64
     ensures { result ≡ operand_of op }
 {
@@ -37,8 +38,8 @@ pub fn operand_of(op: Op) -> u64
     }
 }
 
-/// The operation of a code and an operand, or `None` where none has both. An operation that has no
-/// operand has 0.
+/// The operation with this code and operand, or `None` if there is none. The operand of an operation without one must
+/// be 0.
 #[tactic(auto, unfolding(crate::specs::Reading::op_of))]
 pub fn op_of(code: u8, operand: u64) -> Option<Op>
     ensures { result ≡ op_of code operand }

@@ -6,6 +6,7 @@ ghost use Rattle.fe_codes.specs.Reading.{tag_of};
 
 use fe_words::Tag;
 
+/// The code of a tag, 0 or 1.
 pub fn tag_code(tag: Tag) -> u8
     ensures { result ≡ tag_code tag }
 {
@@ -15,7 +16,7 @@ pub fn tag_code(tag: Tag) -> u8
     }
 }
 
-/// The tag of a code, or `None` where no tag has it.
+/// The tag with this code, or `None` if no tag has it.
 #[tactic(auto, unfolding(crate::specs::Reading::tag_of))]
 pub fn tag_of(code: u8) -> Option<Tag>
     ensures { result ≡ tag_of code }

@@ -1,4 +1,4 @@
--- A request that joins: the steps of `add`, one after the other.
+-- A request is added: the steps of `add`, one after the other.
 use Rattle.std.proofs.Common.{◌≡◌, ◌≢◌, ℕ, ◌<◌, ◌≤◌, ◌+◌, ◌⊎◌, inl, inr, List, [], ◌∷◌, ◌++◌, length, set, slice_get, Option, Some, None, IsSome, is_some, refl, sym, ap, subst, ◌∙◌, arith}
 use Rattle.std.specs.Prelude.{IsNone}
 use Rattle.std.specs.Ordering.{nat_cmp}
@@ -21,19 +21,19 @@ use Rattle.fe_waits.proofs.WordLemmas.{slice_get-set, slice_get-set_other, slice
 pub slot_cases : (q k : ℕ) → (q ≡ k) ⊎ (q ≢ k)
 slot_cases q k = cases_eq q k
 
--- the families are two
+-- there are two families
 pub session-not_word : OfSession ≢ OfWord
 session-not_word e = cc
 
 pub word-not_session : OfWord ≢ OfSession
 word-not_session e = cc
 
--- off a family, in another pool with the same lists
+-- a node off a family is off it in another pool with the same lists
 pub off-moved : (old new : Contents Row) (family : Family) (node : ℕ) → lists_of new family ≡ lists_of old family → IsOff old family node → IsOff new family node
 off-moved old new family node same off on = off (subst (λ ls. IsOnOne ls node) same on)
 
 module _ (pool : Contents Row) (sessions : List Chain) (words : FinMap nat_cmp (List Chain)) (waiting : ℕ) (kept : IsKept pool sessions words waiting) where
-  -- a slot with room: there is a chain for it, and all together are below 2,048
+  -- a slot with room: it has a chain, and there are fewer than 2,048 requests in all
   pub slot-chain : (slot : ℕ) → slot < 64 → (chain : Chain) × (slice_get sessions slot ≡ Some chain)
   slot-chain slot below = slice_get-some sessions slot (omega (arith, kept.slots))
 
@@ -71,7 +71,7 @@ module _ (pool : Contents Row) (sessions : List Chain) (words : FinMap nat_cmp (
     is-new node r e same = none_some (sym new ∙ ap (get (members_of pool.items)) (sym same) ∙ members-row pool.items kept.different node r e)
 
     module _ (node : ℕ) (free : IsFree pool node) where
-      -- the nodes once it is taken
+      -- the nodes after `take`
       abbrev pub nodes : List (Option Row)
       nodes = set pool.items node (Some row)
 
@@ -112,7 +112,7 @@ module _ (pool : Contents Row) (sessions : List Chain) (words : FinMap nat_cmp (
         sessions_taken : AreListed pool.items taken OfSession session_of (λ slot. slice_get sessions slot)
         sessions_taken = listed-moved OfSession session_of pool.items pool taken (λ slot. slice_get sessions slot) (same-lists OfSession) kept.by_session
 
-        -- what the push on the word's list asks
+        -- what the push to the word's list requires
         pub word-chain_taken : (word : Chain) → chain_at words (word_of row) ≡ Some word → IsChain taken OfWord word
         word-chain_taken word at_word = words_taken.chains (word_of row) word at_word
 
@@ -135,7 +135,7 @@ module _ (pool : Contents Row) (sessions : List Chain) (words : FinMap nat_cmp (
           sessions_linked : AreListed pool.items linked OfSession session_of (λ slot. slice_get sessions slot)
           sessions_linked = listed-moved OfSession session_of pool.items taken linked (λ slot. slice_get sessions slot) (word_family OfSession session-not_word) sessions_taken
 
-          -- what the push on the session's list asks
+          -- what the push to the session's list requires
           pub session-chain_linked : (session : Chain) → slice_get sessions row.slot ≡ Some session → IsChain linked OfSession session
           session-chain_linked session at_session = sessions_linked.chains row.slot session at_session
 

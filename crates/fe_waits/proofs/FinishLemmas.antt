@@ -1,4 +1,4 @@
--- A request that leaves: the steps of `finish`, one after the other.
+-- A request is removed: the steps of `finish`, one after the other.
 use Rattle.std.proofs.Common.{◌≡◌, ℕ, ◌<◌, ◌≤◌, ◌+◌, ◌-◌, inl, inr, List, length, set, slice_get, Option, Some, None, IsSome, is_some, refl, sym, ap, subst, ◌∙◌, arith}
 use Rattle.std.specs.Prelude.{Contains}
 use Rattle.std.specs.Ordering.{nat_cmp}
@@ -20,14 +20,14 @@ use Rattle.fe_waits.proofs.MemberLemmas.{none_some, some_same, key_cases, member
 use Rattle.fe_waits.proofs.WordLemmas.{slice_get-set, slice_get-set_other, slice_get-below, chain_at-with_here, chain_at-with_other}
 
 module _ (pool : Contents Row) (sessions : List Chain) (words : FinMap nat_cmp (List Chain)) (waiting : ℕ) (kept : IsKept pool sessions words waiting) (node : ℕ) (row : Row) (is_row : row_in pool.items node ≡ Some row) where
-  -- its word and its session are there
+  -- its word and its session exist
   pub word-there : IsSome (chain_at words (row.array, row.index))
   word-there = ap is_some (kept.by_word.listed node row is_row).1
 
   pub session-there : row.slot < length sessions
   session-there = slice_get-below sessions row.slot (ap is_some (kept.by_session.listed node row is_row).1)
 
-  -- the nodes once it is free
+  -- the nodes after its node is free
   abbrev pub nodes : List (Option Row)
   nodes = set pool.items node None
 
@@ -45,7 +45,7 @@ module _ (pool : Contents Row) (sessions : List Chain) (words : FinMap nat_cmp (
           ]
 
   module _ (word : Chain) (at_word : chain_at words (word_of row) ≡ Some word) where
-    -- what the first `unlink` asks
+    -- what the first `unlink` requires
     pub word-chain_kept : IsChain pool OfWord word
     word-chain_kept = kept.by_word.chains (word_of row) word at_word
 
@@ -65,7 +65,7 @@ module _ (pool : Contents Row) (sessions : List Chain) (words : FinMap nat_cmp (
       sessions_linked = listed-moved OfSession session_of pool.items pool linked (λ slot. slice_get sessions slot) (word_family OfSession session-not_word) kept.by_session
 
       module _ (session : Chain) (at_session : slice_get sessions row.slot ≡ Some session) where
-        -- what the second `unlink` asks
+        -- what the second `unlink` requires
         pub session-chain_linked : IsChain linked OfSession session
         session-chain_linked = sessions_linked.chains row.slot session at_session
 
@@ -84,11 +84,11 @@ module _ (pool : Contents Row) (sessions : List Chain) (words : FinMap nat_cmp (
           words_left : AreListed nodes left OfWord word_of (λ w. chain_at (with_chain words row.array row.index word') w)
           words_left = listed-moved OfWord word_of nodes linked left (λ w. chain_at (with_chain words row.array row.index word') w) (session_family OfWord word-not_session) words_linked
 
-          -- there is one to count down
+          -- the count is not zero
           pub some-waits : 1 ≤ waiting
           some-waits = let sum = sum-set sessions row.slot session session' at_session in omega (arith, kept.total)
 
-          -- what `give_back` asks, and what it gives
+          -- what `give_back` requires, and what it returns
           pub row-left : row_in left.items node ≡ Some row
           row-left = ap (λ l. row_in l node) (session_items ∙ word_items) ∙ is_row
 

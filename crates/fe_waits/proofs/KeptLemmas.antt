@@ -1,4 +1,4 @@
--- What follows from what is always true of the waiting lists.
+-- What follows from the invariant of the waiting lists.
 use Rattle.std.proofs.Common.{◌≡◌, ◌≢◌, ℕ, zero, suc, ◌<◌, ◌≤◌, ◌+◌, ◌*◌, ◌⊎◌, inl, inr, List, [], ◌∷◌, length, replicate, set, slice_get, Option, Some, None, is_some, true≢false, refl, sym, ap, subst, ◌∙◌, arith, mul-suc}
 use Rattle.std.specs.Prelude.{Contains, sum_by, IfSome, IfNone, IsNone, ◌↔◌}
 use Rattle.std.proofs.lemmas.Bool.{cases_lt, cases_eq}
@@ -39,7 +39,7 @@ empty_list [] e = refl
 empty_list (x ∷ xs) e = none_some (sym e)
 
 module _ (pool : Contents Row) (sessions : List Chain) (words : FinMap nat_cmp (List Chain)) (waiting : ℕ) (kept : IsKept pool sessions words waiting) where
-  -- nothing is on a list that has no first node
+  -- a list without a first node is empty
   none_on : (family : _) (chain : Chain) (node : ℕ) → chain.first ≡ None → first_or None (list_of pool family chain) ≡ chain.first → Contains (list_of pool family chain) node → ⊥
   none_on family chain node none is on = among-Contains node [] (subst (λ l. Contains l node) (empty_list _ (is ∙ none)) on)
 
@@ -130,10 +130,10 @@ module _ (pool : Contents Row) (sessions : List Chain) (words : FinMap nat_cmp (
     nodes = λ node row e. members-row pool.items kept.different node row e;
   }
 
--- ---- where arrays come and go
+-- ---- when arrays are added and dropped
 
 module _ (pool : Contents Row) (sessions : List Chain) (words : FinMap nat_cmp (List Chain)) (waiting : ℕ) (kept : IsKept pool sessions words waiting) where
-  -- the same, over other arrays that have the words of all requests
+  -- the same with other arrays that have the words of all requests
   with-words : (words' : FinMap nat_cmp (List Chain)) → AreListed pool.items pool OfWord word_of (λ w. chain_at words' w) → len words' ≤ 64 → IsKept pool sessions words' waiting
   with-words words' by_word few = record {
     sized = kept.sized;

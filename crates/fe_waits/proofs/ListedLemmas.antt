@@ -1,4 +1,4 @@
--- The chains of one family, where a node joins a list or leaves it.
+-- The chains of one family when a node joins a list or leaves it.
 use Rattle.std.proofs.Common.{◌≡◌, ◌≢◌, ℕ, zero, suc, ◌<◌, ◌⊎◌, inl, inr, List, [], ◌∷◌, ◌++◌, length, set, Option, Some, None, refl, sym, ap, subst, ◌∙◌, arith}
 use Rattle.std.specs.Prelude.{Contains}
 use Rattle.std.specs.List.{last_or}
@@ -93,7 +93,7 @@ module _ {Place : Type 0} (family : Family) (place_of : Row → Place) where
       same_list : (other : Place) (c : Chain) → other ≢ place → chain_of other ≡ Some c → list_of new family c ≡ list_of old family c
       same_list other c differ was = (kept c (apart other place c chain differ was here) (all.chains other c was)).1
 
-      -- a node of the place goes to the end of its list
+      -- a node of the place is appended to its list
       pub listed-pushed : (node : ℕ) (row : Row) → node < length nodes → row_in nodes node ≡ None → place_of row ≡ place → list_of new family chain' ≡ list_of old family chain ++ node ∷ [] → AreListed (set nodes node (Some row)) new family place_of chain_of'
       listed-pushed node row below free belongs list = record { chains = chains_kept; listed = on; belongs = off }
         where
@@ -168,7 +168,7 @@ module _ {Place : Type 0} (family : Family) (place_of : Row → Place) where
                     (was.0, row-set_other nodes node None n n_differs ∙ was.1, was.2)
               ]
 
-  -- a chain of each place of the same nodes: new places are empty, and a place that goes has no node
+  -- the chains with other places and the same nodes: new places are empty, and a removed place has no node
   pub listed-replaced : (nodes : List (Option Row)) (pool : Contents Row) (chain_of chain_of' : Place → Option Chain) → AreListed nodes pool family place_of chain_of → ((place : Place) (chain : Chain) → chain_of' place ≡ Some chain → (chain_of place ≡ Some chain) ⊎ (chain ≡ empty_chain)) → ((node : ℕ) (row : Row) → row_in nodes node ≡ Some row → chain_of' (place_of row) ≡ chain_of (place_of row)) → AreListed nodes pool family place_of chain_of'
   listed-replaced nodes pool chain_of chain_of' all from keeps = record {
     chains = λ place chain e. elim (from place chain e) as (λ _. IsChain pool family chain) [

@@ -1,4 +1,4 @@
--- The requests of the nodes as a finite map, where a node changes.
+-- The requests of the nodes as a finite map, when a node changes.
 use Rattle.std.proofs.Common.{◌≡◌, ◌≢◌, ℕ, zero, suc, ◌<◌, ◌⊎◌, inl, inr, ◌+◌, ◌-◌, true, false, cond, not, List, [], ◌∷◌, length, set, replicate, Option, Some, None, is_some, refl, sym, ap, subst, ◌∙◌, arith}
 use Rattle.std.specs.Prelude.{◌==◌}
 use Rattle.std.specs.Ordering.{eq_by_cmp, is_eq}
@@ -48,14 +48,14 @@ module _ {X : Type 0} (m : FinMap pair_cmp X) (k : ℕ × ℕ) where
   pub get-remove_other : (q : ℕ × ℕ) → q ≢ k → get (remove m k) q ≡ get m q
   get-remove_other q n = get-remove pair_cmp_total m k q ∙ ap (λ b. cond b None (get m q)) (miss q k n)
 
-  -- to remove a key that is not there changes nothing
+  -- removing an absent key changes nothing
   pub remove_absent : get m k ≡ None → remove m k ≡ m
   remove_absent none = same_map pair_cmp_total pair_cmp-IsAntisymmetric _ _ (λ q. elim (key_cases q k) as (λ _. get (remove m k) q ≡ get m q) [
     | inl same ↦ ap (get (remove m k)) same ∙ get-remove_here ∙ sym none ∙ ap (get m) (sym same)
     | inr other ↦ get-remove_other q other
   ])
 
-  -- to insert a new key and remove it changes nothing
+  -- inserting a new key and removing it changes nothing
   pub remove-insert : (v : X) → get m k ≡ None → remove (insert m k v) k ≡ m
   remove-insert v none = same_map pair_cmp_total pair_cmp-IsAntisymmetric _ _ (λ q. elim (key_cases q k) as (λ _. get (remove (insert m k v) k) q ≡ get m q) [
     | inl same ↦ ap (get (remove (insert m k v) k)) same ∙ get-remove_at (insert m k v) ∙ sym none ∙ ap (get m) (sym same)
@@ -68,7 +68,7 @@ module _ {X : Type 0} (m : FinMap pair_cmp X) (k : ℕ × ℕ) where
       get-removed_other : (n : FinMap pair_cmp X) (q : ℕ × ℕ) → q ≢ k → get (remove n k) q ≡ get n q
       get-removed_other n q other = get-remove pair_cmp_total n k q ∙ ap (λ b. cond b None (get n q)) (miss q k other)
 
-  -- two changes at different keys, in either order
+  -- two changes at different keys commute
   module _ (j : ℕ × ℕ) (apart : j ≢ k) where
     pub insert-insert : (v w : X) → insert (insert m k v) j w ≡ insert (insert m j w) k v
     insert-insert v w = same_map pair_cmp_total pair_cmp-IsAntisymmetric _ _ (λ q.
@@ -133,7 +133,7 @@ members-row (Some first ∷ nodes) d (suc node) row e =
     apart : suc node ≡ 0 → ⊥
     apart e = omega arith
 
--- a free node that is taken by a new request
+-- a free node takes a new request
 pub members-taken : (nodes : List (Option Row)) (node : ℕ) (row : Row) → node < length nodes → row_in nodes node ≡ None → IsNew nodes (key_of row) → members_of (set nodes node (Some row)) ≡ insert (members_of nodes) (key_of row) (waiter_of row)
 members-taken [] node row below free new = absurd (omega arith)
 members-taken (o ∷ nodes) zero row below free new = ap (λ o. insert (members_of (o ∷ nodes)) (key_of row) (waiter_of row)) (sym free)
@@ -142,7 +142,7 @@ members-taken (Some first ∷ nodes) (suc node) row below free new =
     ap (λ m. insert m (key_of first) (waiter_of first)) (members-taken nodes node row (omega arith) free (λ n r e. new (suc n) r e))
     ∙ insert-insert (members_of nodes) (key_of row) (key_of first) (new 0 first refl) (waiter_of row) (waiter_of first)
 
--- a node that is freed
+-- a node becomes free
 pub members-freed : (nodes : List (Option Row)) → AreDifferent nodes → (node : ℕ) (row : Row) → row_in nodes node ≡ Some row → members_of (set nodes node None) ≡ remove (members_of nodes) (key_of row)
 members-freed [] d node row e = none_some e
 members-freed (o ∷ nodes) d zero row e =
@@ -185,7 +185,7 @@ module _ (members : FinMap pair_cmp Waiter) (slot : ℕ) where
       by_answer q same None e = e ∙ sym (get-empty pair_cmp q)
       by_answer q same (Some waiter) e = absurd (none q.1 waiter (ap (λ s. get members (s, q.1)) (sym same) ∙ e))
 
-  -- without the requests of a slot that has none
+  -- removing the requests of a slot that has none changes nothing
   pub without-none : of_slot members slot ≡ empty → without_slot members slot ≡ members
   without-none none = same_map pair_cmp_total pair_cmp-IsAntisymmetric _ _ (λ q. get-without_slot q ∙ elim (cases_eq q.0 slot) as (λ _. cond (not (q.0 == slot)) (get members q) None ≡ get members q) [
     | inl same ↦
@@ -240,7 +240,7 @@ module _ (m : FinMap pair_cmp Waiter) (k : ℕ × ℕ) where
   get-of_slot_own : get (of_slot m k.0) k ≡ get m k
   get-of_slot_own = get-of_slot m k.0 k ∙ ap (λ b. cond b (get m k) None) (eq-eqb k.0 k.0 refl)
 
-  -- how many a slot has, once a request is there or gone
+  -- the number of a slot's requests after one is added or removed
   pub count-insert : (v : Waiter) → get m k ≡ None → count_of (insert m k v) k.0 ≡ count_of m k.0 + 1
   count-insert v none = ap len (of_slot-insert v) ∙ len-insert_new (of_slot m k.0) k v (get-of_slot_own ∙ none)
 
@@ -253,7 +253,7 @@ module _ (m : FinMap pair_cmp Waiter) (k : ℕ × ℕ) where
   pub count-remove_other : (slot : ℕ) → slot ≢ k.0 → count_of (remove m k) slot ≡ count_of m slot
   count-remove_other slot n = ap len (of_slot-remove_other slot n)
 
-  -- the other slots keep what they had
+  -- the other slots keep their requests
   pub without-remove : without_slot (remove m k) k.0 ≡ without_slot m k.0
   without-remove = same_map pair_cmp_total pair_cmp-IsAntisymmetric _ _ (λ q.
       get-without_slot (remove m k) k.0 q ∙ by_slot q (cases_eq q.0 k.0) ∙ sym (get-without_slot m k.0 q))
@@ -262,7 +262,7 @@ module _ (m : FinMap pair_cmp Waiter) (k : ℕ × ℕ) where
       by_slot q (inl same) = rw (eq-eqb q.0 k.0 same) refl
       by_slot q (inr other) = ap (λ o. cond (not (q.0 == k.0)) o None) (get-remove_other m k q (λ e. other (ap (λ p. p.0) e)))
 
--- a node is free, or each stands for a member
+-- a node is free, or it represents a member
 pub free-or-full : (nodes : List (Option Row)) → AreDifferent nodes → ((node : ℕ) × (node < length nodes) × (row_in nodes node ≡ None)) ⊎ (len (members_of nodes) ≡ length nodes)
 free-or-full [] d = inr (len-empty pair_cmp Waiter)
 free-or-full (None ∷ nodes) d = inl (0, omega arith, refl)
@@ -284,7 +284,7 @@ len-positive m k v some =
       | inr more ↦ omega arith
     ]
 
--- a slot loses one
+-- a slot loses one request
 pub count-falls : (m : FinMap pair_cmp Waiter) (k : ℕ × ℕ) (v : Waiter) → get m k ≡ Some v → count_of (remove m k) k.0 < count_of m k.0
 count-falls m k v some =
     let positive = len-positive (of_slot m k.0) k v (get-of_slot m k.0 k ∙ ap (λ b. cond b (get m k) None) (eq-eqb k.0 k.0 refl) ∙ some) in

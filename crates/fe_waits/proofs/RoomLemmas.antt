@@ -1,4 +1,4 @@
--- Room in a slot, for a caller whose numbers lie in a window of 32.
+-- Room in a slot, for a caller whose numbers are in a window of 32.
 use Rattle.std.proofs.Common.{◌≡◌, ◌≢◌, ℕ, zero, suc, ◌<◌, ◌≤◌, ◌+◌, ◌-◌, inl, inr, Bool, true, false, cond, Option, Some, None, is_some, refl, sym, ap, ◌∙◌, arith}
 use Rattle.std.specs.FinMap.{FinMap, empty, get, insert, remove, len, len-empty, len-remove, same_map, get-empty}
 use Rattle.std.proofs.lemmas.Bool.{cases_eq, ne_eqb, eq-eqb}
@@ -7,7 +7,7 @@ use Rattle.fe_waits.specs.Pair.{pair_cmp, pair_cmp_total, pair_cmp-IsAntisymmetr
 use Rattle.fe_waits.specs.Waiting.{Waiter, of_slot, count_of}
 use Rattle.fe_waits.proofs.MemberLemmas.{none_some, key_cases, get-of_slot, get-insert_other, get-remove_here, get-remove_other, len-insert_new}
 
--- each key is of the slot, and its number one of this many from the floor on
+-- each key is of the slot, and its number is one of this many from the floor on
 abbrev pub AreWithin : FinMap pair_cmp Waiter → ℕ → ℕ → ℕ → Type 0
 AreWithin m slot floor many = (key : ℕ × ℕ) (waiter : Waiter) → get m key ≡ Some waiter → (key.0 ≡ slot) × (floor ≤ key.1) × (key.1 < floor + many)
 
@@ -49,7 +49,7 @@ within-bound (suc many) m slot floor within =
               | inr other ↦ omega arith
             ]
 
--- where the numbers of a slot and one more lie in a window of 32, the slot has room for that one
+-- if the numbers of a slot and one more are in a window of 32, the slot has room for that one
 pub room-in-window : (members : FinMap pair_cmp Waiter) (slot floor number : ℕ) → ((n : ℕ) (waiter : Waiter) → get members (slot, n) ≡ Some waiter → (floor ≤ n) × (n < floor + 32)) → get members (slot, number) ≡ None → floor ≤ number → number < floor + 32 → count_of members slot < 32
 room-in-window members slot floor number within new least most =
     let more = len-insert_new (of_slot members slot) (slot, number) waits (own-none) in

@@ -1,4 +1,4 @@
--- The walk along a session's list, up to the request of a number.
+-- The walk along a session's list to the request with a number.
 use Rattle.std.proofs.Common.{◌≡◌, ◌≢◌, ℕ, ◌≤◌, ◌+◌, inl, inr, List, [], ◌∷◌, ◌++◌, length, slice_get, Option, Some, None, refl, sym, ap, subst, ◌∙◌, arith, append_assoc, append-nil, length-append}
 use Rattle.std.specs.Prelude.{Contains}
 use Rattle.std.specs.Option.{option_map}
@@ -14,7 +14,7 @@ use Rattle.fe_waits.specs.Waiting.{Waiter, key_of, waiter_of, row_at}
 use Rattle.fe_waits.specs.within.Inner.{members_of, row_in, IsKept}
 use Rattle.fe_waits.proofs.MemberLemmas.{none_some, some_same, members-node, members-row}
 
--- this many nodes of the slot's list are seen, none of them of the number, and this is the next
+-- this many nodes of the slot's list have been visited, none with the number, and this is the next
 pub record IsSearched (pool : Contents Row) (sessions : List Chain) (slot number : ℕ) (at : Option ℕ) (steps end : ℕ) : Type 0 where
   pub chain : Chain
   pub is_chain : slice_get sessions slot ≡ Some chain
@@ -48,7 +48,7 @@ module _ (pool : Contents Row) (sessions : List Chain) (words : FinMap nat_cmp (
     missed = λ node row i. absurd i;
   }
 
-  -- the number is not there, where the list is at its end
+  -- at the end of the list the number is absent
   absent : (at : Option ℕ) (steps end : ℕ) (walk : IsSearched pool sessions slot number at steps end) → walk.rest ≡ [] → get (members_of pool.items) (slot, number) ≡ None
   absent at steps end walk done = by_answer (get (members_of pool.items) (slot, number)) refl
     where
@@ -74,7 +74,7 @@ module _ (pool : Contents Row) (sessions : List Chain) (words : FinMap nat_cmp (
       by_rest [] e = refl
       by_rest (x ∷ rest) e = absurd (omega (arith, walk.whole, walk.counted))
 
-  -- the node at hand
+  -- the current node
   module _ (at : Option ℕ) (steps end : ℕ) (walk : IsSearched pool sessions slot number at steps end) (node : ℕ) (here : at ≡ Some node) where
     after : (after : List ℕ) × (walk.rest ≡ node ∷ after)
     after = first-of walk.rest node (sym walk.next ∙ here)
@@ -91,7 +91,7 @@ module _ (pool : Contents Row) (sessions : List Chain) (words : FinMap nat_cmp (
     pub searched-row : (row : Row) × (row_in pool.items node ≡ Some row) × (row.slot ≡ slot)
     searched-row = kept.by_session.belongs slot walk.chain node walk.is_chain searched-contains
 
-    -- it is the one
+    -- it has the number
     pub searched-found : (row : Row) → row_in pool.items node ≡ Some row → row.number ≡ number → row_in pool.items node ≡ row_at (members_of pool.items) slot number
     searched-found row is same =
         let found = searched-row in
@@ -102,7 +102,7 @@ module _ (pool : Contents Row) (sessions : List Chain) (words : FinMap nat_cmp (
         own : (row : Row) → get (members_of pool.items) (key_of row) ≡ Some (waiter_of row) → row_at (members_of pool.items) row.slot row.number ≡ Some row
         own row e = ap (option_map (λ (w : Waiter). record { slot = row.slot; number = row.number; array = w.array; index = w.index; op = w.op })) e
 
-    -- it is another
+    -- it has another number
     pub searched-next : (row : Row) (next : Option ℕ) → row_in pool.items node ≡ Some row → row.number ≢ number → IsNext pool OfSession node next → IsSearched pool sessions slot number next (steps + 1) end
     searched-next row next is other goes = record {
       chain = walk.chain;

@@ -1,4 +1,4 @@
--- The walk along a session's list that tells all its requests.
+-- The walk along a session's list that collects all its requests.
 use Rattle.std.proofs.Common.{◌≡◌, ◌⊎◌, ℕ, ◌<◌, ◌≤◌, ◌+◌, inl, inr, List, [], ◌∷◌, ◌++◌, length, slice_get, slice_index_or, zero, suc, Option, Some, None, IsSome, is_some, refl, sym, ap, subst, ◌∙◌, arith, append_assoc, append-nil, length-append}
 use Rattle.std.specs.Prelude.{Contains, AllPairs, ◌↔◌, ◌≢◌}
 use Rattle.std.proofs.Common.{get_or}
@@ -20,11 +20,11 @@ use Rattle.fe_waits.specs.within.Inner.{members_of, row_in, IsKept}
 use Rattle.fe_waits.proofs.MemberLemmas.{none_some, some_same, members-node, members-row}
 use Rattle.fe_waits.proofs.SearchLemmas.{first-of, none-left}
 
--- what is reported of a request, under its number
+-- the entry of a request, by its number
 abbrev pub told_row : Row → ℕ × (ℕ × ℕ × Op)
 told_row row = (row.number, (row.array, row.index, row.op))
 
--- the node that stands for what is told, one of those that are seen
+-- a visited node that represents the entry
 pub record Told (pool : Contents Row) (slot : ℕ) (before : List ℕ) (x : ℕ × (ℕ × ℕ × Op)) : Type 0 where
   pub node : ℕ
   pub row : Row
@@ -33,7 +33,8 @@ pub record Told (pool : Contents Row) (slot : ℕ) (before : List ℕ) (x : ℕ 
   pub tells : told_row row ≡ x
   pub among : IsAmong node before
 
--- this many nodes of the slot's list are seen, just what they stand for is told, and this is the next
+-- this many nodes of the slot's list have been visited, the entries are exactly those of the visited nodes, and this
+-- is the next node
 pub record IsTelling (pool : Contents Row) (sessions : List Chain) (slot : ℕ) (at : Option ℕ) (steps end : ℕ) (told : List (ℕ × (ℕ × ℕ × Op))) : Type 0 where
   pub chain : Chain
   pub is_chain : slice_get sessions slot ≡ Some chain
@@ -63,7 +64,7 @@ alone y x same = (0, omega arith, same)
 element : {X : Type 0} (xs : List X) (k : ℕ) (d : X) → k < length xs → Contains xs (get_or xs k d)
 element xs k d below = (k, below, grind (arith, common_steps))
 
--- no node is there twice where all differ
+-- a list of different nodes has no node twice
 twice : (node : ℕ) (before after : List ℕ) → AllPairs (λ a b. a ≢ b) (before ++ node ∷ after) → IsAmong node before → ⊥
 twice node before after different among =
     let at = Contains-among node before among in
@@ -90,7 +91,7 @@ module _ (pool : Contents Row) (sessions : List Chain) (words : FinMap nat_cmp (
   }
 
   module _ (at : Option ℕ) (steps end : ℕ) (told : List (ℕ × (ℕ × ℕ × Op))) (walk : IsTelling pool sessions slot at steps end told) where
-    -- where some are left, there is a node
+    -- if some are left, there is a next node
     pub telling-more : steps < end → IsSome at
     telling-more less = by_rest walk.rest walk.next (ap length walk.split ∙ length-append walk.before walk.rest)
       where
@@ -105,7 +106,7 @@ module _ (pool : Contents Row) (sessions : List Chain) (words : FinMap nat_cmp (
         by_rest [] e = refl
         by_rest (x ∷ rest) e = absurd (omega (arith, walk.whole, walk.counted))
 
-    -- all are told at the end
+    -- at the end all are collected
     pub telling-all : end ≤ steps → AreTold (members_of pool.items) slot told
     telling-all past = λ number what. (told_waits number what, λ e. waits_told number what (get (members_of pool.items) (slot, number)) refl e)
       where
@@ -130,7 +131,7 @@ module _ (pool : Contents Row) (sessions : List Chain) (words : FinMap nat_cmp (
             let told_is : told_row row ≡ (number, what) = λ i. ((found.3 i).1, (ap told_of found.4 ∙ what_is) i) in
             subst (Contains told) told_is (walk.seen found.0 row (subst (IsAmong found.0) (done past) among) found.2)
 
-    -- the node at hand
+    -- the current node
     module _ (node : ℕ) (here : at ≡ Some node) where
       after : (after : List ℕ) × (walk.rest ≡ node ∷ after)
       after = first-of walk.rest node (sym walk.next ∙ here)
@@ -147,7 +148,7 @@ module _ (pool : Contents Row) (sessions : List Chain) (words : FinMap nat_cmp (
       pub telling-row : (row : Row) × (row_in pool.items node ≡ Some row) × (row.slot ≡ slot)
       telling-row = kept.by_session.belongs slot walk.chain node walk.is_chain contains
 
-      -- its number is not told yet, since no node is there twice on the list
+      -- its number is not collected yet, since no node is on the list twice
       new_number : AllPairs (λ a b. a ≢ b) (list_of pool OfSession walk.chain) → (row : Row) → row_in pool.items node ≡ Some row → (x : ℕ × (ℕ × ℕ × Op)) → Contains told x → x.0 ≢ row.number
       new_number different row is x c same =
           let found = walk.sound x c in
@@ -159,7 +160,7 @@ module _ (pool : Contents Row) (sessions : List Chain) (words : FinMap nat_cmp (
           let nodes : found.node ≡ node = kept.different found.node node found.row row found.is is key in
           twice node walk.before after.0 (subst (AllPairs (λ a b. a ≢ b)) split different) (subst (λ n. IsAmong n walk.before) nodes found.among)
 
-      -- it is told
+      -- it is collected
       pub telling-next : AllPairs (λ a b. a ≢ b) (list_of pool OfSession walk.chain) → (row : Row) (next : Option ℕ) → row_in pool.items node ≡ Some row → IsNext pool OfSession node next → IsTelling pool sessions slot next (steps + 1) end (told ++ told_row row ∷ [])
       telling-next different row next is goes = record {
         chain = walk.chain;

@@ -1,4 +1,4 @@
--- The chain of a word, and the lengths of arrays, where the arrays change.
+-- The chain of a word, and the lengths of arrays, when the arrays change.
 use Rattle.std.proofs.Common.{◌≡◌, ◌≢◌, ℕ, zero, suc, ◌<◌, inl, inr, Bool, true, false, cond, List, [], ◌∷◌, length, map, replicate, set, slice_get, Option, Some, None, IsSome, is_some, true≢false, refl, sym, ap, subst, ◌∙◌, arith, T, ◌&&◌, ◌+◌, ◌-◌, ◌≤◌}
 use Rattle.std.specs.Prelude.{unwrap_or}
 use Rattle.std.specs.Option.{option_and_then, option_map}
@@ -70,7 +70,7 @@ pub with_chain-is : (words : FinMap nat_cmp (List Chain)) (a i : ℕ) (chain : C
 with_chain-is words a i chain chains e = ap (λ o. insert words a (set (unwrap_or o []) i chain)) e
 
 module _ (words : FinMap nat_cmp (List Chain)) where
-  -- where a word has a chain, its array is there
+  -- if a word has a chain, its array exists
   pub chain-there : (a i : ℕ) → IsSome (chain_at words (a, i)) → (chains : List Chain) × (get words a ≡ Some chains) × (i < length chains)
   chain-there a i some = by_array (get words a) refl some
     where
@@ -81,7 +81,7 @@ module _ (words : FinMap nat_cmp (List Chain)) where
   pub chain_of : (a i : ℕ) (chains : List Chain) → get words a ≡ Some chains → chain_at words (a, i) ≡ slice_get chains i
   chain_of a i chains e = ap (option_and_then (λ chains. slice_get chains i)) e
 
-  -- the chain is written, and the others stay
+  -- the chain is written, and the others stay the same
   module _ (a i : ℕ) (chain : Chain) (there : IsSome (chain_at words (a, i))) where
     pub chain_at-with_here : chain_at (with_chain words a i chain) (a, i) ≡ Some chain
     chain_at-with_here =
@@ -127,11 +127,11 @@ lengths_sorted words = subst T (sym (is_sorted-lengths (entries words))) (entrie
 pub get-lengths : (words : FinMap nat_cmp (List Chain)) (q : ℕ) → get (lengths words) q ≡ option_map length (get words q)
 get-lengths words q = get-from_sorted nat_cmp _ q (lengths_sorted words) ∙ find-lengths q (entries words) ∙ ap (option_map length) (sym (get-entries words q))
 
--- there are as many
+-- both maps have the same number of keys
 pub len-lengths : (words : FinMap nat_cmp (List Chain)) → len (lengths words) ≡ len words
 len-lengths words = len-entries (lengths words) ∙ ap length (entries-from_sorted nat_cmp _ (lengths_sorted words)) ∙ length-map (entries words) (λ e. (e.0, length e.1)) ∙ sym (len-entries words)
 
--- a word of the arrays has a chain, and the other way round
+-- a word of the arrays has a chain, and vice versa
 pub word-chain : (words : FinMap nat_cmp (List Chain)) (a i : ℕ) → IsWord (lengths words) a i → IsSome (chain_at words (a, i))
 word-chain words a i word = by_array (get words a) refl
   where
@@ -150,7 +150,7 @@ word-chain words a i word = by_array (get words a) refl
 pub chain-word : (words : FinMap nat_cmp (List Chain)) (a i : ℕ) → IsSome (chain_at words (a, i)) → IsWord (lengths words) a i
 chain-word words a i some = let there = chain-there words a i some in (length there.0, get-lengths words a ∙ ap (option_map length) there.1, there.2)
 
--- another chain leaves the lengths
+-- another chain keeps the lengths
 pub lengths-with : (words : FinMap nat_cmp (List Chain)) (a i : ℕ) (chain : Chain) → IsSome (chain_at words (a, i)) → lengths (with_chain words a i chain) ≡ lengths words
 lengths-with words a i chain some =
     let there = chain-there words a i some in
@@ -179,14 +179,14 @@ lengths-remove words k = same_map nat_cmp_total nat_cmp-IsAntisymmetric _ _ (λ 
     get-lengths (remove words k) q ∙ ap (option_map length) (get-remove nat_cmp_total words k q) ∙ option_map-cond (eq_by_cmp nat_cmp q k) _ _
     ∙ ap (cond (eq_by_cmp nat_cmp q k) None) (sym (get-lengths words q)) ∙ sym (get-remove nat_cmp_total (lengths words) k q))
 
--- what a word that is there tells of its array
+-- what an existing word says of its array
 pub chain-array : (words : FinMap nat_cmp (List Chain)) (a i : ℕ) → IsSome (chain_at words (a, i)) → IsSome (get words a)
 chain-array words a i some = let old = chain-there words a i some in ap is_some old.1
 
 pub chain-below : (words : FinMap nat_cmp (List Chain)) (a i : ℕ) (chains : List Chain) → IsSome (chain_at words (a, i)) → get words a ≡ Some chains → i < length chains
 chain-below words a i chains some e = slice_get-below chains i (ap is_some (sym (chain_of words a i chains e)) ∙ some)
 
--- how many arrays there are, once one is added or gone
+-- the number of arrays after one is added or dropped
 pub len-added : (words : FinMap nat_cmp (List Chain)) (k : ℕ) (v : List Chain) → get words k ≡ None → len (insert words k v) ≡ len words + 1
 len-added words k v none = len-insert nat_cmp_total words k v ∙ ap (λ o. cond (is_some o) (len words) (len words + 1)) none
 

@@ -1,4 +1,4 @@
--- The order of pairs of numbers: by the first, and then by the second. A finite map can have such keys.
+-- The order of pairs of numbers: by the first number, then by the second. Pairs can so be keys of a finite map.
 use Rattle.std.specs.Prelude.{◌≡◌, ℕ}
 use Rattle.std.specs.Ordering.{nat_cmp, ordering_then}
 use Rattle.std.specs.declared.cmp.Ordering.{Ordering}

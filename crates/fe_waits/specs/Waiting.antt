@@ -1,4 +1,4 @@
--- What a contract sees of the waiting lists: the requests that wait, by slot and number.
+-- The waiting lists as contracts see them: the waiting requests, by slot and number.
 use Rattle.std.specs.Prelude.{AllPairs, ◌≡◌, ◌≢◌, ◌↔◌, ◌==◌, ℕ, ◌<◌, ◌≤◌, Contains, List, not, Option, Some, None, refl, slice_index_or}
 use Rattle.std.specs.Option.{option_map}
 use Rattle.std.specs.Ordering.{nat_cmp}
@@ -10,7 +10,7 @@ use Rattle.fe_waits.specs.declared.row.Row.{Row}
 use Rattle.fe_waits.specs.contracts.row.Row.{the_row as row_row}
 use Rattle.fe_waits.specs.Pair.{pair_cmp}
 
--- for what a request waits: its word, and the operation on it
+-- what a request waits for: its word, and the operation on it
 pub record Waiter : Type 0 where
   pub array : ℕ
   pub index : ℕ
@@ -26,14 +26,14 @@ waiter_code =
     (λ t. record { array = t.0; index = t.1.0; op = t.1.1 })
     (λ _. refl)
 
--- the length of each added array; the requests that wait, by slot and number; and by node the
--- request for which it stands
+-- the length of each added array; the waiting requests, by slot and number; and for each node the request that it
+-- represents
 pub record Waiting : Type 0 where
   pub arrays : FinMap nat_cmp ℕ
   pub members : FinMap pair_cmp Waiter
   pub nodes : List (Option Row)
 
--- what waits is stored as the tuple of its fields
+-- the record is stored as the tuple of its fields
 abbrev pub waiting_code : Coded Waiting
 waiting_code =
     code_by
@@ -57,18 +57,18 @@ waiter_of row = record { array = row.array; index = row.index; op = row.op }
 abbrev pub row_of : Waiting → ℕ → Option Row
 row_of w node = slice_index_or w.nodes node None
 
--- the request of a slot and a number, if it waits
+-- the request with this slot and number, if it waits
 abbrev pub row_at : FinMap pair_cmp Waiter → ℕ → ℕ → Option Row
 row_at members slot number =
     option_map
     (λ waiter. record { slot = slot; number = number; array = waiter.array; index = waiter.index; op = waiter.op })
     (get members (slot, number))
 
--- what a list says of a waiter: the array and the index of its word, and its operation
+-- what `told` lists of a waiter: the array and the index of its word, and its operation
 abbrev pub told_of : Waiter → ℕ × ℕ × Op
 told_of waiter = (waiter.array, waiter.index, waiter.op)
 
--- a list has the requests of a slot, by number: each that waits, and no others
+-- the list has all waiting requests of a slot, by number, and no others
 abbrev pub AreTold : FinMap pair_cmp Waiter → ℕ → List (ℕ × (ℕ × ℕ × Op)) → Type 0
 AreTold members slot told =
     (number : ℕ) (what : ℕ × ℕ × Op) → Contains told (number, what) ↔ (option_map told_of (get members (slot, number)) ≡ Some what)
@@ -77,15 +77,15 @@ AreTold members slot told =
 abbrev pub AreToldOnce : List (ℕ × (ℕ × ℕ × Op)) → Type 0
 AreToldOnce told = AllPairs (λ a b. a.0 ≢ b.0) told
 
--- the array is added, and the index is one of its
+-- the array is added, and the index is below its length
 abbrev pub IsWord : FinMap nat_cmp ℕ → ℕ → ℕ → Type 0
 IsWord arrays array index = (length : ℕ) × (get arrays array ≡ Some length) × (index < length)
 
--- the waiter is on the word
+-- the waiter waits on the word
 abbrev pub IsOn : Waiter → ℕ → ℕ → Type 0
 IsOn waiter array index = (waiter.array ≡ array) × (waiter.index ≡ index)
 
--- the node represents a request on the word
+-- the node represents a request that waits on the word
 abbrev pub IsNodeOn : Waiting → ℕ → ℕ → ℕ → Type 0
 IsNodeOn w array index node = (row : Row) × (row_of w node ≡ Some row) × IsOn (waiter_of row) array index
 
@@ -97,7 +97,7 @@ NoneOnWord members array index = (key : ℕ × ℕ) (waiter : Waiter) → get me
 abbrev pub NoneOnArray : FinMap pair_cmp Waiter → ℕ → Type 0
 NoneOnArray members array = (key : ℕ × ℕ) (waiter : Waiter) → get members key ≡ Some waiter → waiter.array ≢ array
 
--- the requests of a slot, and how many they are
+-- the requests of a slot, and their number
 abbrev pub of_slot : FinMap pair_cmp Waiter → ℕ → FinMap pair_cmp Waiter
 of_slot members slot = retain_keys members (λ key. key.0 == slot)
 
@@ -108,8 +108,8 @@ count_of members slot = len (of_slot members slot)
 abbrev pub without_slot : FinMap pair_cmp Waiter → ℕ → FinMap pair_cmp Waiter
 without_slot members slot = retain_keys members (λ key. not (key.0 == slot))
 
--- what is always true: slots are below 64, each request is on a word of an added array, no slot has
--- more than 32, there are at most 2,048 and at most 64 arrays, and a node represents a request that waits
+-- the invariant: slots are below 64, each request is on a word of an added array, a slot has at most 32 requests,
+-- there are at most 2,048 requests and at most 64 arrays, and a node represents a waiting request
 pub record IsWithinLimits (w : Waiting) : Type 0 where
   pub slots : (key : ℕ × ℕ) (waiter : Waiter) → get w.members key ≡ Some waiter → key.0 < 64
   pub words : (key : ℕ × ℕ) (waiter : Waiter) → get w.members key ≡ Some waiter → IsWord w.arrays waiter.array waiter.index

@@ -5,7 +5,7 @@ use fe_pool::Chain;
 use std::alloc::{AllocError, Global};
 use std::marker::Model;
 
-/// Chains of a pool, one at each place. Their number never changes.
+/// A fixed number of chains of a pool, one at each place.
 #[derive(Drop)]
 pub(crate) struct Chains {
     chains: Vec<Chain>,
@@ -21,7 +21,7 @@ impl Model for Chains {
 }
 
 impl Chains {
-    // This many empty chains.
+    // This many empty chains. Fails only if memory runs out.
     pub(crate) fn new(alloc: Global, count: usize) -> Result<Chains, AllocError>
         ensures { IfOk result (λ chains. chains ≡ replicate count empty_chain) }
     {

@@ -1,4 +1,4 @@
-//! The requests that wait, each on the list of its word and on the list of its session.
+//! The waiting requests, each on the list of its word and on the list of its session.
 #![tactic(auto)]
 
 mod chains;

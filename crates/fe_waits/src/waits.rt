@@ -11,15 +11,15 @@ use fe_words::Op;
 use std::alloc::{AllocError, Global};
 use std::marker::Model;
 
-/// How many sessions there may be.
+/// The maximum number of sessions.
 const SLOTS: usize = 64;
 
-/// How many requests may wait: 32 for each session.
+/// The maximum number of waiting requests: 32 for each session.
 const NODES: u32 = 2048;
 
-/// The requests that wait.
+/// The waiting requests of at most 64 sessions, on the words of at most 64 arrays.
 ///
-/// Only `new` and `add_array` take memory. A node is good until the next change.
+/// Only `new`, `add_array` and `told` allocate memory. A node is valid until the next change.
 #[derive(Drop)]
 pub struct Waits {
     pool: Pool<Row>,
@@ -44,8 +44,7 @@ impl Model for Waits {
 }
 
 impl Waits {
-    /// No arrays, and nothing waits. It takes the memory of all requests; the one error is that
-    /// there is too little.
+    /// No arrays and no waiting requests. Allocates the memory for 2,048 requests; fails only if memory runs out.
     pub fn new(alloc: Global) -> Result<Waits, AllocError>
         ensures arrays { IfOk result (λ waits. waits.arrays ≡ map.empty) }
         ensures members { IfOk result (λ waits. waits.members ≡ map.empty) }
@@ -62,7 +61,7 @@ impl Waits {
         })
     }
 
-    /// How many requests wait, 0 to 2,048.
+    /// The number of waiting requests, 0 to 2,048.
     pub fn len(&self) -> u32
         ensures len { result ≡ map.len self.now.members }
         ensures limits { IsWithinLimits self.now }
@@ -70,7 +69,7 @@ impl Waits {
         self.count
     }
 
-    /// How many requests of a slot wait. There is room for one more below 32.
+    /// The number of waiting requests of a slot, 0 to 32.
     pub fn count_of(&self, slot: u8) -> u32
         requires slot { slot < 64 }
         ensures { result ≡ count_of self.now.members slot }
@@ -78,8 +77,7 @@ impl Waits {
         self.sessions.at(slot as usize).length
     }
 
-    /// Adds an array of this many words, on which nothing waits. The one error is that memory is
-    /// short.
+    /// Adds an array with this many words, on which nothing waits. Fails only if memory runs out.
     pub fn add_array(&mut self, array: u64, length: u32) -> Result<(), AllocError>
         requires new { map.get self.old.arrays array ≡ None }
         requires room { map.len self.old.arrays < 64 }
@@ -101,7 +99,8 @@ impl Waits {
         self.words.remove(array);
     }
 
-    /// The request of a new slot and number waits from now on, after the others on its word.
+    /// Adds a waiting request with a new slot and number. It goes to the end of its word's list, but no clause
+    /// promises the order in which `first_on` finds the requests of a word.
     pub fn add(&mut self, slot: u8, number: u64, array: u64, index: u32, op: Op)
         requires slot { slot < 64 }
         requires new { map.get self.old.members (slot, number) ≡ None }
@@ -128,7 +127,7 @@ impl Waits {
         self.count += 1;
     }
 
-    /// A node of a request that waits on the word, if one does.
+    /// A node of a request that waits on the word, or `None` if none does.
     pub fn first_on(&self, array: u64, index: u32) -> Option<Node>
         requires word { IsWord self.now.arrays array index }
         ensures on_word { IfSome result (IsNodeOn self.now array index) }
@@ -146,7 +145,7 @@ impl Waits {
         *self.pool.get(node)
     }
 
-    /// Takes out the request that the node represents.
+    /// Removes the request that the node represents.
     pub fn finish(&mut self, node: Node) -> Row
         requires { IsSome (row_of self.old node) }
         ensures row { row_of self.old node ≡ Some result }
@@ -165,7 +164,7 @@ impl Waits {
         self.pool.give_back(node)
     }
 
-    /// The request of a slot and a number, if it waits.
+    /// The request with this slot and number, if it waits.
     pub fn find(&self, slot: u8, number: u64) -> Option<Row>
         requires slot { slot < 64 }
         ensures row { result ≡ row_at self.now.members slot number }
@@ -174,8 +173,8 @@ impl Waits {
         Some(self.row(node))
     }
 
-    /// The requests of a slot, at most 32, in no order that is promised: the number of each, the array and the index of
-    /// its word, and its operation. It walks along the list of the slot once. The one error is that memory is short.
+    /// The waiting requests of a slot, at most 32, in no particular order: the number of each, the array and the
+    /// index of its word, and its operation. Walks along the list of the slot once. Fails only if memory runs out.
     pub fn told(&self, alloc: Global, slot: u8) -> Result<Vec<(u64, (u64, u32, Op))>, AllocError>
         requires slot { slot < 64 }
         ensures told { IfOk result (λ told. AreTold self.now.members slot told.items) }
@@ -194,7 +193,7 @@ impl Waits {
         Ok(told)
     }
 
-    /// Takes out the request of a slot and a number, if it waits.
+    /// Removes the request with this slot and number, if it waits.
     pub fn cancel(&mut self, slot: u8, number: u64) -> Option<Row>
         requires slot { slot < 64 }
         ensures row { result ≡ row_at self.old.members slot number }
@@ -205,7 +204,7 @@ impl Waits {
         Some(self.finish(node))
     }
 
-    /// Takes out all requests of a slot, and counts them.
+    /// Removes all requests of a slot, and returns how many there were.
     pub fn drop_session(&mut self, slot: u8) -> u32
         requires slot { slot < 64 }
         ensures count { result ≡ count_of self.old.members slot }
@@ -219,7 +218,7 @@ impl Waits {
         count
     }
 
-    // A node of a request of the slot, if it has any.
+    // A node of a request of the slot, or `None` if none waits.
     fn first_of(&self, slot: u8) -> Option<Node>
         requires slot { slot < 64 }
         ensures of_slot { IfSome result (IsNodeOfSlot self.now slot) }
@@ -228,7 +227,7 @@ impl Waits {
         self.sessions.at(slot as usize).first
     }
 
-    // The node of a request of the slot, if it waits.
+    // The node of the request with this slot and number, if it waits.
     fn node_of(&self, slot: u8, number: u64) -> Option<Node>
         requires slot { slot < 64 }
         ensures found { IfSome result

@@ -8,10 +8,10 @@ use fe_table::Table;
 use std::alloc::{AllocError, Global};
 use std::marker::Model;
 
-/// How many arrays there may be.
+/// The maximum number of arrays.
 pub(crate) const ARRAYS: usize = 64;
 
-/// The chain of each word of the added arrays. An array is found by halving at most 64 ids.
+/// The chain of each word of the added arrays. An array is found by binary search among at most 64 ids.
 #[derive(Drop)]
 pub(crate) struct Words {
     arrays: Table<Chains, ARRAYS>,
@@ -33,7 +33,7 @@ impl Model for Words {
 }
 
 impl Words {
-    // No arrays, with room for 64.
+    // No arrays, with room for 64. Fails only if memory runs out.
     pub(crate) fn new(alloc: Global) -> Result<Words, AllocError>
         ensures empty { IfOk result (λ words. words ≡ map.empty) }
     {
@@ -41,7 +41,7 @@ impl Words {
         Ok(Words { arrays })
     }
 
-    // The chain of a word that is there.
+    // The chain of an existing word.
     pub(crate) fn chain(&self, array: u64, index: u32) -> Chain
         requires word { IsSome (chain_at self.now (array, index)) }
         ensures { chain_at self.now (array, index) ≡ Some result }
@@ -50,7 +50,7 @@ impl Words {
         chains.at(index as usize)
     }
 
-    // Puts another chain in the place of that of a word that is there.
+    // Replaces the chain of an existing word.
     pub(crate) fn set_chain(&mut self, array: u64, index: u32, chain: Chain)
         requires word { IsSome (chain_at self.old (array, index)) }
         ensures { self.new ≡ with_chain self.old array index chain }
@@ -67,7 +67,7 @@ impl Words {
         self.arrays.insert(array, chains);
     }
 
-    // Takes an array out, with its chains.
+    // Removes an array and its chains.
     pub(crate) fn remove(&mut self, array: u64)
         ensures { self.new ≡ map.remove self.old array }
     {

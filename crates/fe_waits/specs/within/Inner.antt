@@ -1,4 +1,4 @@
--- How the waiting requests are kept in the pool and on the chains. No public clause cites this module.
+-- How the pool and the chains hold the waiting requests. No public clause cites this module.
 use Rattle.std.specs.Prelude.{◌≡◌, ℕ, ◌≤◌, List, [], ◌∷◌, length, sum_by, Option, Some, None, slice_index_or, slice_get, Contains}
 use Rattle.std.specs.Ordering.{nat_cmp}
 use Rattle.std.specs.FinMap.{FinMap, insert, empty, len}
@@ -25,14 +25,14 @@ row_in nodes node = slice_index_or nodes node None
 abbrev pub AreDifferent : List (Option Row) → Type 0
 AreDifferent nodes = (node other : ℕ) (row else : Row) → row_in nodes node ≡ Some row → row_in nodes other ≡ Some else → key_of row ≡ key_of else → node ≡ other
 
--- the chains of a family, one at each place: each is a chain of the pool, and on the list of a place
--- are just the nodes whose request belongs there
+-- the chains of a family, one at each place: each is a chain of the pool, and the list of a place has exactly the
+-- nodes whose request belongs there
 pub record AreListed {Place : Type 0} (nodes : List (Option Row)) (pool : Contents Row) (family : Family) (place_of : Row → Place) (chain_of : Place → Option Chain) : Type 0 where
   pub chains : (place : Place) (chain : Chain) → chain_of place ≡ Some chain → IsChain pool family chain
   pub listed : (node : ℕ) (row : Row) → row_in nodes node ≡ Some row → (chain : Chain) × (chain_of (place_of row) ≡ Some chain) × Contains (list_of pool family chain) node
   pub belongs : (place : Place) (chain : Chain) (node : ℕ) → chain_of place ≡ Some chain → Contains (list_of pool family chain) node → (row : Row) × (row_in nodes node ≡ Some row) × (place_of row ≡ place)
 
--- the chain without nodes
+-- the chain with no nodes
 abbrev pub empty_chain : Chain
 empty_chain = record { first = None; last = None; length = 0 }
 
@@ -47,13 +47,13 @@ IsNodeOfSlot w slot node = (row : Row) × (row_of w node ≡ Some row) × (sessi
 abbrev pub word_of : Row → ℕ × ℕ
 word_of row = (row.array, row.index)
 
--- how many requests a session's list has, by its chain
+-- the number of requests on a session's list, by its chain
 abbrev pub length_of : Chain → ℕ
 length_of chain = chain.length
 
--- what is always true of the pool, the sessions' chains, the words' chains and the count: the
--- requests differ, each is once on its session's list and once on its word's, a session's list is as
--- long as the requests of its slot are many, at most 32, and the count is that of all
+-- the invariant of the pool, the sessions' chains, the words' chains and the count: no two requests have the same
+-- key, each request is on its session's list and on its word's list, once on each, a session's list has at most 32
+-- nodes and as many as the slot has requests, and the count is the number of all requests
 pub record IsKept (pool : Contents Row) (sessions : List Chain) (words : FinMap nat_cmp (List Chain)) (waiting : ℕ) : Type 0 where
   pub sized : length pool.items ≡ 2048
   pub slots : length sessions ≡ 64
@@ -66,6 +66,6 @@ pub record IsKept (pool : Contents Row) (sessions : List Chain) (words : FinMap 
   pub total : waiting ≡ sum_by length_of sessions
   pub arrays : len words ≤ 64
 
--- what a contract sees of them
+-- the waiting lists as contracts see them
 abbrev pub waiting_of : Contents Row → FinMap nat_cmp (List Chain) → Waiting
 waiting_of pool words = record { arrays = lengths words; members = members_of pool.items; nodes = pool.items }

@@ -5,11 +5,11 @@ use Rattle.std.specs.Ordering.{nat_cmp}
 use Rattle.std.specs.FinMap.{FinMap, get, insert, entries, from_sorted}
 use Rattle.fe_pool.specs.declared.chain.Chain.{Chain}
 
--- the chain of a word, if the word is there
+-- the chain of a word, if the word exists
 abbrev pub chain_at : FinMap nat_cmp (List Chain) → ℕ × ℕ → Option Chain
 chain_at words word = option_and_then (λ chains. slice_get chains word.1) (get words word.0)
 
--- the words with another chain for one of them
+-- the chains with another one for this word
 abbrev pub with_chain : FinMap nat_cmp (List Chain) → ℕ → ℕ → Chain → FinMap nat_cmp (List Chain)
 with_chain words array index chain = insert words array (slice_set (unwrap_or (get words array) []) index chain)
 
