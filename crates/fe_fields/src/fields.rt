@@ -4,7 +4,7 @@ ghost use Rattle.std.specs.Int.{w32, w64, to_be_bytes};
 use byteorder::{BigEndian, ByteOrder};
 use std::marker::Model;
 
-/// Fields that are written one after another, with room for `ROOM` bytes. It takes no memory.
+/// A buffer for at most `ROOM` bytes, to which fields are appended. It allocates nothing.
 #[derive(Drop)]
 pub struct Fields<const ROOM: usize> {
     cells: [u8; ROOM],
@@ -22,7 +22,7 @@ impl<const ROOM: usize> Model for Fields<ROOM> {
 }
 
 impl<const ROOM: usize> Fields<ROOM> {
-    /// No field yet.
+    /// A buffer with no fields.
     pub fn new() -> Self
         ensures { result ≡ [] }
     {
@@ -32,13 +32,14 @@ impl<const ROOM: usize> Fields<ROOM> {
         }
     }
 
-    /// The bytes that were put.
+    /// The bytes appended so far.
     pub fn bytes(&self) -> &[u8]
         ensures { result.now ≡ self.now }
     {
         &self.cells[..self.len]
     }
 
+    /// Appends bytes. There must be room for them.
     pub fn put(&mut self, bytes: &[u8])
         requires { length self.old + length bytes.now ≤ ROOM }
         ensures bytes { self.new ≡ self.old ++ bytes.now }
@@ -50,6 +51,7 @@ impl<const ROOM: usize> Fields<ROOM> {
         self.len = end;
     }
 
+    /// Appends a byte. There must be room for it.
     pub fn put_u8(&mut self, value: u8)
         requires { length self.old + 1 ≤ ROOM }
         ensures bytes { self.new ≡ self.old ++ value ∷ [] }
@@ -58,6 +60,7 @@ impl<const ROOM: usize> Fields<ROOM> {
         self.put(&[value]);
     }
 
+    /// Appends a number as four bytes, big-endian. There must be room for them.
     pub fn put_u32(&mut self, value: u32)
         requires { length self.old + 4 ≤ ROOM }
         ensures bytes { self.new ≡ self.old ++ to_be_bytes w32 value }
@@ -66,6 +69,7 @@ impl<const ROOM: usize> Fields<ROOM> {
         self.put(&u32_bytes(value));
     }
 
+    /// Appends a number as eight bytes, big-endian. There must be room for them.
     pub fn put_u64(&mut self, value: u64)
         requires { length self.old + 8 ≤ ROOM }
         ensures bytes { self.new ≡ self.old ++ to_be_bytes w64 value }
@@ -75,7 +79,7 @@ impl<const ROOM: usize> Fields<ROOM> {
     }
 }
 
-/// A number in four bytes.
+/// A number as four bytes, big-endian.
 pub fn u32_bytes(value: u32) -> [u8; 4]
     ensures { result ≡ to_be_bytes w32 value }
 {
@@ -84,7 +88,7 @@ pub fn u32_bytes(value: u32) -> [u8; 4]
     bytes
 }
 
-/// A number in eight bytes.
+/// A number as eight bytes, big-endian.
 pub fn u64_bytes(value: u64) -> [u8; 8]
     ensures { result ≡ to_be_bytes w64 value }
 {

@@ -1,4 +1,4 @@
-//! Fields of fixed width in bytes, big-endian: written one after another, and read.
+//! Writing and reading big-endian fields of fixed width.
 #![tactic(auto)]
 
 mod fields;

@@ -1,4 +1,4 @@
--- Connections of which one is known, or known not to be there.
+-- Connections when one of them is known to be connected, or not to be.
 use Rattle.std.proofs.Common.{◌≡◌, ℕ, Option, Some, None, List, [], ◌∷◌, drop, slice_get, inl, inr, refl, sym, ap, ◌∙◌}
 use Rattle.std.specs.Cmp.{nat_cmp_total}
 use Rattle.std.specs.Option.{IfNone, option_map_or}
@@ -9,7 +9,7 @@ use Rattle.fe_mail.specs.Connections.{mails_on, with_session, with_mails}
 use Rattle.fe_mail.specs.declared.connection.Connection.{Connection}
 use Rattle.fe_mail.specs.declared.mail.Mail.{Mail}
 
--- to put in what is there changes nothing
+-- writing what is there already changes nothing
 pub insert_same : {X : Type 0} (m : FinMap nat_cmp X) (k : ℕ) (x : X) → get m k ≡ Some x → insert m k x ≡ m
 insert_same m k x is = same_map nat_cmp_total nat_cmp-IsAntisymmetric _ _ (λ q. elim (same_or_other q k) [
   | inl e ↦ rw (e, get_inserted) (sym is)
@@ -26,7 +26,7 @@ module _ (m : FinMap nat_cmp Connection) (conn : ℕ) (c : Connection) (is : get
   pub mails_on-at : mails_on m conn ≡ c.mails
   mails_on-at = ap (λ o. option_map_or (λ (c : Connection). c.mails) o []) is
 
-  -- a box with the mails that it has is as it was
+  -- a box with its own mails is unchanged
   pub insert_kept : (mails : List Mail) → mails ≡ c.mails → insert m conn (record { session = c.session; mails = mails }) ≡ m
   insert_kept mails same = ap (λ mails. insert m conn (record { session = c.session; mails = mails })) same ∙ insert_same m conn c is
 
@@ -37,7 +37,7 @@ module _ (m : FinMap nat_cmp Connection) (conn : ℕ) (none : get m conn ≡ Non
   pub mails_on-none : mails_on m conn ≡ []
   mails_on-none = ap (λ o. option_map_or (λ (c : Connection). c.mails) o []) none
 
--- a box that gets the mails that it has changes nothing
+-- giving a box the mails it has changes nothing
 pub with_mails-same : (m : FinMap nat_cmp Connection) (conn : ℕ) → with_mails m conn (mails_on m conn) ≡ m
 with_mails-same m conn = by (get m conn) refl
   where
@@ -45,7 +45,7 @@ with_mails-same m conn = by (get m conn) refl
     by None is = with_mails-none m conn is _
     by (Some c) is = with_mails-at m conn c is _ ∙ insert_kept m conn c is _ (mails_on-at m conn c is)
 
--- where there is no first, nothing is dropped
+-- a list without a first mail loses nothing by dropping it
 pub drop_no_first : {X : Type 0} (xs : List X) → slice_get xs 0 ≡ None → drop 1 xs ≡ xs
 drop_no_first [] e = refl
 drop_no_first (x ∷ xs) e = absurd cc

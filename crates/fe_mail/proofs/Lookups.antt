@@ -1,4 +1,4 @@
--- What the connections have after one of them has another box or another session.
+-- The connections after one of them gets another box or another session.
 use Rattle.std.proofs.Common.{◌≡◌, ◌≢◌, ℕ, List, [], Option, Some, None, IsSome, is_some, true≢false, inl, inr, refl, sym, ap, ◌∙◌}
 use Rattle.std.specs.Prelude.{option_and_then}
 use Rattle.std.specs.Option.{option_map, option_map_or}
@@ -9,7 +9,7 @@ use Rattle.fe_mail.specs.Connections.{session_on, mails_on, with_session, with_m
 use Rattle.fe_mail.specs.declared.connection.Connection.{Connection}
 use Rattle.fe_mail.specs.declared.mail.Mail.{Mail}
 
--- one connection changed, if it is there
+-- one connection is changed, if it is connected
 module _ (f : Connection → Connection) (m : FinMap nat_cmp Connection) (conn : ℕ) where
   abbrev changed : FinMap nat_cmp Connection
   changed = option_map_or (λ c. insert m conn (f c)) (get m conn) m
@@ -28,7 +28,7 @@ module _ (f : Connection → Connection) (m : FinMap nat_cmp Connection) (conn :
       by None = refl
       by (Some c) = get_beside m conn (f c) q ne
 
-  -- what the change leaves of each connection, it leaves of all
+  -- what the change preserves for each connection, it preserves for all
   kept : {A : Type 0} (g : Option Connection → A) → ((o : Option Connection) → g (option_map f o) ≡ g o) → (q : ℕ) → g (get changed q) ≡ g (get m q)
   kept g same q = elim (same_or_other q conn) [
     | inl e ↦ ap (λ q. g (get changed q)) e ∙ ap g get-changed ∙ same (get m conn) ∙ ap (λ q. g (get m q)) (sym e)
@@ -41,7 +41,7 @@ same_there f (Some c) = refl
 
 module _ (m : FinMap nat_cmp Connection) (conn : ℕ) where
   module _ (mails : List Mail) where
-    -- other mails leave who is connected, each session, and each other box
+    -- other mails preserve the set of connections, each session, and each other box
     pub is_some-with_mails : (q : ℕ) → is_some (get (with_mails m conn mails) q) ≡ is_some (get m q)
     is_some-with_mails = kept (λ c. record { session = c.session; mails = mails }) m conn is_some (same_there _)
 
@@ -63,7 +63,7 @@ module _ (m : FinMap nat_cmp Connection) (conn : ℕ) where
     mails_on-with_mails-beside q ne = ap (λ o. option_map_or (λ (c : Connection). c.mails) o []) (get-changed-beside (λ c. record { session = c.session; mails = mails }) m conn q ne)
 
   module _ (session : Option ℕ) where
-    -- another session leaves who is connected, each box, and each other session
+    -- another session preserves the set of connections, each box, and each other session
     pub is_some-with_session : (q : ℕ) → is_some (get (with_session m conn session) q) ≡ is_some (get m q)
     is_some-with_session = kept (λ c. record { session = session; mails = c.mails }) m conn is_some (same_there _)
 

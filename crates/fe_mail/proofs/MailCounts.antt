@@ -1,4 +1,4 @@
--- How many mails are in all boxes, after each change of the connections.
+-- The number of mails in all boxes, after each change of the connections.
 use Rattle.std.proofs.Common.{◌≡◌, ℕ, ◌+◌, List, [], ◌∷◌, ◌++◌, length, drop, slice_get, Option, Some, None, IsSome, is_some, true≢false, refl, sym, ap, ◌∙◌, arith, length-append}
 use Rattle.std.specs.Option.{option_map_or}
 use Rattle.std.specs.Ordering.{nat_cmp}
@@ -21,11 +21,11 @@ length_rest [] first = absurd (true≢false (sym first))
 length_rest (x ∷ xs) first = omega arith
 
 module _ (m : FinMap nat_cmp Connection) (conn : ℕ) where
-  -- a connection comes with an empty box
+  -- a connection is added with an empty box
   pub mails_in-connect : get m conn ≡ None → mails_in (insert m conn first_connection) ≡ mails_in m
   mails_in-connect none = omega (arith, total_added count m conn first_connection none)
 
-  -- a session that comes or goes leaves the boxes
+  -- another session changes no box
   pub mails_in-with_session : (session : Option ℕ) → mails_in (with_session m conn session) ≡ mails_in m
   mails_in-with_session session = by (get m conn) refl
     where
@@ -41,11 +41,11 @@ module _ (m : FinMap nat_cmp Connection) (conn : ℕ) where
       by None is = absurd (true≢false (sym there ∙ ap is_some is))
       by (Some c) is = rw (with_mails-at m conn c is, mails_on-at m conn c is) (total_replaced count m conn (record { session = c.session; mails = mails }) c is)
 
-  -- one more mail is in a box
+  -- a mail is added to a box
   pub mails_in-put : (mail : Mail) → IsSome (get m conn) → mails_in (with_mails m conn (mails_on m conn ++ mail ∷ [])) ≡ mails_in m + 1
   mails_in-put mail there = omega (arith, mails_in-with_mails (mails_on m conn ++ mail ∷ []) there, length-append (mails_on m conn) (mail ∷ []))
 
-  -- the first mail of a box is taken
+  -- the first mail of a box is removed
   pub mails_in-take : IsSome (slice_get (mails_on m conn) 0) → mails_in (with_mails m conn (drop 1 (mails_on m conn))) + 1 ≡ mails_in m
   mails_in-take first = omega (arith, mails_in-with_mails (drop 1 (mails_on m conn)) there, length_rest (mails_on m conn) first)
     where
@@ -56,7 +56,7 @@ module _ (m : FinMap nat_cmp Connection) (conn : ℕ) where
       there : IsSome (get m conn)
       there = by (get m conn) refl
 
-  -- a connection goes, and its box with it
+  -- a connection is removed with its box
   pub mails_in-remove : mails_in (remove m conn) + length (mails_on m conn) ≡ mails_in m
   mails_in-remove = by (get m conn) refl
     where

@@ -1,9 +1,9 @@
--- The books: how many calls and mails there were, and what became of each.
+-- The books: how many calls and mails there were, and how each ended.
 use Rattle.std.specs.Prelude.{◌≡◌, ℕ, ◌+◌, ◌-◌, ◌^◌, ◌≤◌, Bool, true, false, refl, min, nat_lt, if◌then◌else◌}
 use Rattle.std.specs.Coded.{Coded, code_by, coded×, coded_ℕ, coded_bool}
 
--- Of the calls, those completed, waiting, withdrawn, repeated and refused; of the mails, those taken, dropped and
--- left. Books that are spent stay as they are.
+-- The calls and how many completed, wait, were withdrawn, repeated and refused; the mails and how many were taken,
+-- dropped and are left. Spent books never change.
 pub record Books : Type 0 where
   pub calls : ℕ
   pub completed : ℕ
@@ -22,74 +22,74 @@ abbrev pub books_code : Coded Books
 books_code =
     code_by (ℕ × (ℕ × (ℕ × (ℕ × (ℕ × (ℕ × (ℕ × (ℕ × (ℕ × (ℕ × Bool)))))))))) (coded× coded_ℕ (coded× coded_ℕ (coded× coded_ℕ (coded× coded_ℕ (coded× coded_ℕ (coded× coded_ℕ (coded× coded_ℕ (coded× coded_ℕ (coded× coded_ℕ (coded× coded_ℕ coded_bool)))))))))) (λ b. (b.calls, (b.completed, (b.waiting, (b.withdrawn, (b.repeated, (b.refused, (b.mails, (b.taken, (b.dropped, (b.left, b.spent))))))))))) (λ p. record { calls = p.0; completed = p.1.0; waiting = p.1.1.0; withdrawn = p.1.1.1.0; repeated = p.1.1.1.1.0; refused = p.1.1.1.1.1.0; mails = p.1.1.1.1.1.1.0; taken = p.1.1.1.1.1.1.1.0; dropped = p.1.1.1.1.1.1.1.1.0; left = p.1.1.1.1.1.1.1.1.1.0; spent = p.1.1.1.1.1.1.1.1.1.1 }) (λ _. refl)
 
--- what is always true of books, spent or not: each call is in one column, and so is each mail
+-- the invariant of books, spent or not: each call is in exactly one column, and so is each mail
 pub record AddUp (b : Books) : Type 0 where
   pub calls : b.calls ≡ b.completed + b.waiting + b.withdrawn + b.repeated + b.refused
   pub mails : b.mails ≡ b.taken + b.dropped + b.left
   pub few_calls : b.calls ≤ 2 ^ 63 - 1
   pub few_mails : b.mails ≤ 2 ^ 63 - 1
 
--- books that balance where this many calls wait and this many mails are in boxes
+-- the books balance: this many calls wait, and this many mails are in boxes
 pub record Balances (b : Books) (waiting left : ℕ) : Type 0 where
   pub columns : AddUp b
   pub waiting_is : b.spent ≡ false → b.waiting ≡ waiting
   pub left_is : b.spent ≡ false → b.left ≡ left
 
--- books that have seen no call and no mail
+-- books with no calls and no mails
 abbrev pub first_books : Books
 first_books =
     record { calls = 0; completed = 0; waiting = 0; withdrawn = 0; repeated = 0; refused = 0; mails = 0; taken = 0; dropped = 0; left = 0; spent = false }
 
--- books after a call or a mail, where `count` is how many of its kind there were: they are as counted where there is
--- room for one more, and spent where there is not; spent books stay as they are
+-- the books after a call or a mail: `counted` if `count`, the number of its kind so far, is below 2^63 - 1, and spent
+-- otherwise; spent books never change
 abbrev pub counting : Books → ℕ → Books → Books
 counting b count counted =
     if b.spent then b else if nat_lt count (2 ^ 63 - 1) then counted else record b { spent = true }
 
--- books after calls or mails went from one column to another; spent books stay as they are
+-- the books after calls or mails moved from one column to another; spent books never change
 abbrev pub moving : Books → Books → Books
 moving b moved = if b.spent then b else moved
 
--- one more call, which completed
+-- a call that completed is counted
 abbrev pub call_completed : Books → Books
 call_completed b = counting b b.calls (record b { calls = b.calls + 1; completed = b.completed + 1 })
 
--- one more call, which waits
+-- a call that waits is counted
 abbrev pub call_waits : Books → Books
 call_waits b = counting b b.calls (record b { calls = b.calls + 1; waiting = b.waiting + 1 })
 
--- one more call, which was made before
+-- a call that was made before is counted
 abbrev pub call_repeated : Books → Books
 call_repeated b = counting b b.calls (record b { calls = b.calls + 1; repeated = b.repeated + 1 })
 
--- one more call, which was refused
+-- a call that was refused is counted
 abbrev pub call_refused : Books → Books
 call_refused b = counting b b.calls (record b { calls = b.calls + 1; refused = b.refused + 1 })
 
--- a call that waited completed, if one waits
+-- a waiting call, if there is one, moves to the completed ones
 abbrev pub waiter_completed : Books → Books
 waiter_completed b =
     let k = min 1 b.waiting in moving b (record b { waiting = b.waiting - k; completed = b.completed + k })
 
--- this many calls that waited were withdrawn, and no more than wait
+-- this many waiting calls, or all if there are fewer, move to the withdrawn ones
 abbrev pub waiters_withdrawn : ℕ → Books → Books
 waiters_withdrawn n b =
     let k = min n b.waiting in moving b (record b { waiting = b.waiting - k; withdrawn = b.withdrawn + k })
 
--- one more mail, which is in a box
+-- a mail that is in a box is counted
 abbrev pub mail_boxed : Books → Books
 mail_boxed b = counting b b.mails (record b { mails = b.mails + 1; left = b.left + 1 })
 
--- one more mail, which met a full box
+-- a mail that was dropped because its box was full is counted
 abbrev pub mail_refused_by_box : Books → Books
 mail_refused_by_box b = counting b b.mails (record b { mails = b.mails + 1; dropped = b.dropped + 1 })
 
--- a mail was taken out of its box, if one is left
+-- a mail that is in a box, if there is one, moves to the taken ones
 abbrev pub mail_taken : Books → Books
 mail_taken b =
     let k = min 1 b.left in moving b (record b { left = b.left - k; taken = b.taken + k })
 
--- a box with this many mails was dropped, and no more than are left
+-- this many mails that are in boxes, or all if there are fewer, move to the dropped ones
 abbrev pub box_dropped : ℕ → Books → Books
 box_dropped n b =
     let k = min n b.left in moving b (record b { left = b.left - k; dropped = b.dropped + k })

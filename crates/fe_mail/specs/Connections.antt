@@ -1,4 +1,4 @@
--- The connections with their sessions and boxes, and how many mails are in all boxes.
+-- The connections with their sessions and boxes, and the number of mails in all boxes.
 use Rattle.std.specs.Prelude.{ℕ, List, [], length, Option, None, option_and_then}
 use Rattle.std.specs.Option.{option_map_or}
 use Rattle.std.specs.Ordering.{nat_cmp}
@@ -7,28 +7,28 @@ use Rattle.fe_state.specs.Total.{total}
 use Rattle.fe_mail.specs.declared.connection.Connection.{Connection}
 use Rattle.fe_mail.specs.declared.mail.Mail.{Mail}
 
--- a connection as it comes: it has no session, and an empty box
+-- a new connection: no session, and an empty box
 abbrev pub first_connection : Connection
 first_connection = record { session = None; mails = [] }
 
--- the session that a connection has; none where it is not there
+-- the session of a connection; None if it has none or is not connected
 abbrev pub session_on : FinMap nat_cmp Connection → ℕ → Option ℕ
 session_on m conn = option_and_then (λ c. c.session) (get m conn)
 
--- the mails in a connection's box, the oldest first; none where it is not there
+-- the mails in a connection's box, oldest first; none if it is not connected
 abbrev pub mails_on : FinMap nat_cmp Connection → ℕ → List Mail
 mails_on m conn = option_map_or (λ c. c.mails) (get m conn) []
 
--- the connections, where one that is there has this session or none
+-- the connections after this one, if it is connected, gets the session, or none
 abbrev pub with_session : FinMap nat_cmp Connection → ℕ → Option ℕ → FinMap nat_cmp Connection
 with_session m conn session =
     option_map_or (λ c. insert m conn (record { session = session; mails = c.mails })) (get m conn) m
 
--- the connections, where one that is there has these mails in its box
+-- the connections after this one's box, if it is connected, has these mails
 abbrev pub with_mails : FinMap nat_cmp Connection → ℕ → List Mail → FinMap nat_cmp Connection
 with_mails m conn mails =
     option_map_or (λ c. insert m conn (record { session = c.session; mails = mails })) (get m conn) m
 
--- how many mails are in all boxes together
+-- the number of mails in all boxes together
 abbrev pub mails_in : FinMap nat_cmp Connection → ℕ
 mails_in m = total (λ c. length c.mails) m

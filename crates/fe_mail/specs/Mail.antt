@@ -1,18 +1,18 @@
--- The session that an entry is of, and the mail of an entry.
+-- The session an entry belongs to, and the mail for an entry.
 use Rattle.std.specs.Prelude.{ℕ}
 use Rattle.fe_state.specs.declared.entry.Entry.{Entry}
 use Rattle.fe_state.specs.declared.entry.Entry.TheVariants.{Attached, Closed, Settled, Finished}
 use Rattle.fe_mail.specs.declared.mail.Mail.{Mail}
 use Rattle.fe_mail.specs.declared.mail.Mail.TheVariants as mail
 
--- the session that an entry is of
+-- the session that the entry belongs to
 abbrev pub session_of : Entry → ℕ
 session_of (Attached session floor) = session
 session_of (Closed session) = session
 session_of (Settled session floor) = session
 session_of (Finished session number request answer) = session
 
--- the mail of an entry that is at a place
+-- the mail for an entry at a place
 abbrev pub mail_of : Entry → ℕ → Mail
 mail_of (Attached session floor) place = mail.Welcome session floor
 mail_of (Closed session) place = mail.Goodbye session

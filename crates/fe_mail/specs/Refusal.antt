@@ -1,4 +1,4 @@
--- What a refusal is called in frames and in print.
+-- The codes and the names of refusals.
 use Rattle.std.specs.Prelude.{ℕ, List, codes}
 use Rattle.fe_mail.specs.declared.refusal.Refusal.{Refusal}
 use Rattle.fe_mail.specs.declared.refusal.Refusal.TheVariants.{NotAttached, SessionLimit, BelowFloor, BeyondWindow, NumberUsed, StillWaiting, Closing, NoMemory, Spent, NotWaiting}
@@ -16,7 +16,7 @@ code_of NoMemory = 8
 code_of Spent = 9
 code_of NotWaiting = 10
 
--- the name in print
+-- the name in the output of a schedule
 abbrev pub name_of : Refusal → List ℕ
 name_of NotAttached = codes "not-attached"
 name_of SessionLimit = codes "session-limit"

@@ -3,12 +3,12 @@ ghost use Rattle.fe_mail.specs.Books.{first_books, Balances, call_completed, cal
 
 use std::marker::Model;
 
-/// The greatest number of calls, and of mails, that books count.
+/// The maximum number of calls, and of mails, that the books count.
 const MOST: u64 = 9223372036854775807;
 
-/// What became of the calls and of the mails. Each call is counted in `calls` and in one of the five columns after it,
-/// each mail in `mails` and in one of the three after that. A call or a mail past 2^63 - 1 is not counted, but makes the
-/// books `spent`, and from then on they do not change.
+/// How the calls and the mails ended. Each call is counted in `calls` and in one of the five columns after it, each
+/// mail in `mails` and in one of the three columns after that. A call or a mail past 2^63 - 1 is not counted; it
+/// makes the books `spent`, and spent books never change.
 #[derive(Clone, Copy, PartialEq, Eq)]
 pub struct Books {
     pub calls: u64,
@@ -52,7 +52,7 @@ impl Model for Books {
 }
 
 impl Books {
-    /// Books that have seen no call and no mail.
+    /// Books with no calls and no mails.
     pub fn new() -> Books
         ensures books { result ≡ first_books }
         ensures balance { Balances result 0 0 }
@@ -72,7 +72,7 @@ impl Books {
         }
     }
 
-    /// One more call, which completed.
+    /// Counts a call that completed.
     pub fn call_completed(&mut self)
         ensures books { self.new ≡ call_completed self.old }
         ensures balance { (waiting left : ℕ) → Balances self.old waiting left → Balances self.new waiting left }
@@ -83,7 +83,7 @@ impl Books {
         }
     }
 
-    /// One more call, which waits.
+    /// Counts a call that waits.
     pub fn call_waits(&mut self)
         ensures books { self.new ≡ call_waits self.old }
         ensures balance { (waiting left : ℕ) → Balances self.old waiting left → Balances self.new (waiting + 1) left }
@@ -94,7 +94,7 @@ impl Books {
         }
     }
 
-    /// One more call, which was made before.
+    /// Counts a call that was made before.
     pub fn call_repeated(&mut self)
         ensures books { self.new ≡ call_repeated self.old }
         ensures balance { (waiting left : ℕ) → Balances self.old waiting left → Balances self.new waiting left }
@@ -105,7 +105,7 @@ impl Books {
         }
     }
 
-    /// One more call, which was refused.
+    /// Counts a call that was refused.
     pub fn call_refused(&mut self)
         ensures books { self.new ≡ call_refused self.old }
         ensures balance { (waiting left : ℕ) → Balances self.old waiting left → Balances self.new waiting left }
@@ -116,7 +116,7 @@ impl Books {
         }
     }
 
-    /// A call that waited completed, if one waits.
+    /// Moves a waiting call, if there is one, to the completed ones.
     pub fn waiter_completed(&mut self)
         ensures books { self.new ≡ waiter_completed self.old }
         ensures balance { (waiting left : ℕ) → Balances self.old (waiting + 1) left → Balances self.new waiting left }
@@ -128,7 +128,7 @@ impl Books {
         }
     }
 
-    /// This many calls that waited were withdrawn, and no more than wait.
+    /// Moves this many waiting calls, or all if there are fewer, to the withdrawn ones.
     pub fn waiters_withdrawn(&mut self, n: u32)
         ensures books { self.new ≡ waiters_withdrawn n self.old }
         ensures balance { (waiting left : ℕ) → Balances self.old (waiting + n) left → Balances self.new waiting left }
@@ -140,7 +140,7 @@ impl Books {
         }
     }
 
-    /// One more mail, which is in a box.
+    /// Counts a mail that is in a box.
     pub fn mail_boxed(&mut self)
         ensures books { self.new ≡ mail_boxed self.old }
         ensures balance { (waiting left : ℕ) → Balances self.old waiting left → Balances self.new waiting (left + 1) }
@@ -151,7 +151,7 @@ impl Books {
         }
     }
 
-    /// One more mail, which met a full box.
+    /// Counts a mail that was dropped because its box was full.
     pub fn mail_refused_by_box(&mut self)
         ensures books { self.new ≡ mail_refused_by_box self.old }
         ensures balance { (waiting left : ℕ) → Balances self.old waiting left → Balances self.new waiting left }
@@ -162,7 +162,7 @@ impl Books {
         }
     }
 
-    /// A mail was taken out of its box, if one is left.
+    /// Moves a mail that is in a box, if there is one, to the taken ones.
     pub fn mail_taken(&mut self)
         ensures books { self.new ≡ mail_taken self.old }
         ensures balance { (waiting left : ℕ) → Balances self.old waiting (left + 1) → Balances self.new waiting left }
@@ -174,7 +174,7 @@ impl Books {
         }
     }
 
-    /// A box with this many mails was dropped, and no more than are left.
+    /// Moves this many mails that are in boxes, or all if there are fewer, to the dropped ones.
     pub fn box_dropped(&mut self, n: u32)
         ensures books { self.new ≡ box_dropped n self.old }
         ensures balance { (waiting left : ℕ) → Balances self.old waiting (left + n) → Balances self.new waiting left }
@@ -187,7 +187,7 @@ impl Books {
     }
 }
 
-// Whether one more can be counted. Books whose count is at its end become spent.
+// Whether one more can be counted. If the count is at its maximum, the books become spent.
 fn can_count(count: u64, spent: &mut bool) -> bool
     ensures counts { result ≡ (not spent.old && nat_lt count 9223372036854775807) }
     ensures spent { spent.new ≡ (spent.old || not (nat_lt count 9223372036854775807)) }

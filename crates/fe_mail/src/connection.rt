@@ -1,6 +1,6 @@
 use crate::mailbox::Mailbox;
 
-/// What is kept of a connection: the session that it has, and its box.
+/// A connection's session and box.
 #[derive(Drop)]
 pub(crate) struct Connection {
     pub session: Option<u64>,

@@ -9,9 +9,9 @@ use indexmap::IndexMap;
 use std::alloc::{AllocError, Global};
 use std::marker::Model;
 
-/// The connections by number: the session that each has, and the box in which its mails wait.
+/// The connections by number: the session of each, and the box in which its mails wait.
 ///
-/// A connection is found by its hash. `connect` makes the room for 128 mails; nothing else takes memory.
+/// Connections are in a hash map. `connect` allocates room for 128 mails; nothing else allocates.
 #[derive(Drop)]
 pub struct Connections {
     connections: IndexMap<u64, Connection>,
@@ -33,7 +33,7 @@ impl Model for Connections {
 }
 
 impl Connections {
-    /// No connection.
+    /// No connections.
     pub fn new(alloc: Global) -> Connections
         ensures { result ≡ map.empty }
     {
@@ -43,7 +43,7 @@ impl Connections {
         }
     }
 
-    /// Adds a connection with no session and an empty box. The one error is that memory is short.
+    /// Adds a connection with no session and an empty box. Fails only if memory runs out.
     pub fn connect(&mut self, conn: u64) -> Result<(), AllocError>
         requires unconnected { map.get self.old conn ≡ None }
         ensures connected { OnOk result (self.new ≡ map.insert self.old conn first_connection) }
@@ -58,14 +58,14 @@ impl Connections {
         Ok(())
     }
 
-    /// Whether the connection is there.
+    /// Whether the connection is connected.
     pub fn is_connected(&self, conn: u64) -> bool
         ensures { result ≡ is_some (map.get self.now conn) }
     {
         self.connections.contains_key(&conn)
     }
 
-    /// The session that a connection has. `None` also where it is not connected.
+    /// The session of a connection, or `None` if it has none or is not connected.
     pub fn session_of(&self, conn: u64) -> Option<u64>
         ensures { result ≡ session_on self.now conn }
     {
@@ -94,7 +94,7 @@ impl Connections {
         connection.session = session;
     }
 
-    /// Puts a mail last into a connection's box. A box with 128 mails gives it back.
+    /// Appends a mail to a connection's box. If the box has 128 mails, returns the mail as the error.
     pub fn put(&mut self, conn: u64, mail: Mail) -> Result<(), Mail>
         requires connected { IsSome (map.get self.old conn) }
         ensures room { IsOk result ↔ (length (mails_on self.old conn) < 128) }
@@ -107,7 +107,7 @@ impl Connections {
         connection.mails.put(mail)
     }
 
-    /// Takes the first mail out of a connection's box. `None` where there is none, or the connection is not there.
+    /// Removes the oldest mail of a connection's box, or returns `None` if there is none or it is not connected.
     pub fn take(&mut self, conn: u64) -> Option<Mail>
         ensures mail { result ≡ slice_get (mails_on self.old conn) 0 }
         ensures taken { self.new ≡ with_mails self.old conn (drop 1 (mails_on self.old conn)) }
@@ -119,7 +119,8 @@ impl Connections {
         }
     }
 
-    /// Takes a connection away with its box, and counts the mails that it had, 128 at most. 0 where it is not there.
+    /// Removes a connection and its box, and returns the number of mails in the box, 0 to 128. Returns 0 if it is not
+    /// connected.
     pub fn remove(&mut self, conn: u64) -> u32
         ensures mails { result ≡ length (mails_on self.old conn) }
         ensures few { result ≤ 128 }

@@ -8,23 +8,23 @@ use fe_state::{Answer, Entry};
 /// A message to a connection.
 #[derive(Drop)]
 pub enum Mail {
-    /// The connection has the session, with this floor.
+    /// The connection has the session, whose floor is this.
     Welcome {
         session: u64,
         floor: u64,
     },
-    /// The session's request of that number completed. The place is that of its entry.
+    /// The session's request with this number completed; its entry has this place.
     Answer {
         session: u64,
         number: u64,
         answer: Answer,
         place: u64,
     },
-    /// The request of that number waits no more.
+    /// The request with this number no longer waits.
     Withdrawn {
         number: u64,
     },
-    /// The session's floor rose.
+    /// The session's floor is now this.
     Settled {
         floor: u64,
     },
@@ -32,17 +32,17 @@ pub enum Mail {
     Goodbye {
         session: u64,
     },
-    /// What was asked under that number was refused.
+    /// The message with this number was refused.
     Refused {
         number: u64,
         refusal: Refusal,
     },
-    /// The text of a report that was asked for.
+    /// The text of a report that the connection asked for.
     Report(ReportText),
 }
 
 impl Mail {
-    /// The mail of the entry at that place.
+    /// The mail for the entry at this place.
     pub fn of(entry: &Entry, place: u64) -> Mail
         ensures { result ≡ mail_of entry.now place }
     {
@@ -65,7 +65,7 @@ impl Mail {
     }
 }
 
-/// The session that an entry is of.
+/// The session that the entry belongs to.
 pub fn session_of(entry: &Entry) -> u64
     ensures { result ≡ session_of entry.now }
 {

@@ -5,10 +5,10 @@ use std::alloc::{AllocError, Global};
 use std::collections::VecDeque;
 use std::marker::Model;
 
-/// The most unread mails of one box.
+/// The maximum number of unread mails in a box.
 pub const MAILS: usize = 128;
 
-/// The mails of a connection that it has not taken yet, at most 128, with room for as many.
+/// The mails that a connection has not taken yet, at most 128.
 #[derive(Drop)]
 pub(crate) struct Mailbox {
     mails: VecDeque<Mail>,
@@ -27,7 +27,7 @@ impl Model for Mailbox {
 }
 
 impl Mailbox {
-    /// An empty box. It makes the room for 128 mails.
+    /// An empty box with room for 128 mails. Fails only if memory runs out.
     pub fn new(alloc: Global) -> Result<Mailbox, AllocError>
         ensures { IfOk result (λ mailbox. mailbox ≡ []) }
     {
@@ -36,7 +36,7 @@ impl Mailbox {
         })
     }
 
-    /// How many mails the box has.
+    /// The number of mails in the box, 0 to 128.
     pub fn len(&self) -> u32
         ensures len { result ≡ length self.now }
         ensures few { result ≤ 128 }
@@ -44,7 +44,7 @@ impl Mailbox {
         self.mails.len() as u32
     }
 
-    /// Puts a mail last. A full box gives it back.
+    /// Appends a mail. If the box is full, returns the mail as the error.
     pub fn put(&mut self, mail: Mail) -> Result<(), Mail>
         ensures room { IsOk result ↔ (length self.old < 128) }
         ensures put { OnOk result (self.new ≡ self.old ++ mail ∷ []) }
@@ -60,7 +60,7 @@ impl Mailbox {
         }
     }
 
-    /// The first mail, which leaves the box.
+    /// Removes the oldest mail, or returns `None` if there is none.
     pub fn take(&mut self) -> Option<Mail>
         ensures first { result ≡ slice_get self.old 0 }
         ensures rest { self.new ≡ drop 1 self.old }

@@ -1,32 +1,33 @@
 ghost use Rattle.std.specs.Prelude.{◌≡◌, ◌≤◌};
 ghost use Rattle.fe_mail.specs.Refusal.{code_of, name_of};
 
-/// Why an event was refused. A refused event changes nothing.
+/// Why an event was refused. A refused event changes nothing (`docs/formats.md`, "Replies").
 #[derive(Clone, Copy, PartialEq, Eq)]
 pub enum Refusal {
-    /// The connection has no session. For an attach: it is not connected.
+    /// The connection has no session. For an attach, the connection is not connected.
     NotAttached,
-    /// As many sessions are there as there may be.
+    /// 64 sessions are kept already.
     SessionLimit,
-    /// The number is less than any that the session may still use.
+    /// The number, or the floor asked, is below the session's floor.
     BelowFloor,
-    /// The number is greater than any that the session may use yet.
+    /// The number is 32 or more above the session's floor, or the floor asked is more than 32 above it or above 2^63
+    /// - 32.
     BeyondWindow,
-    /// The number was used for another request.
+    /// Another request has used the number.
     NumberUsed,
-    /// A request waits under a number below the floor that was asked.
+    /// A request with a number below the floor asked is waiting.
     StillWaiting,
-    /// The session is closing.
+    /// The session is being closed.
     Closing,
     NoMemory,
-    /// The history has no place left for what one event may add.
+    /// The history has fewer places left than one event may need.
     Spent,
-    /// No request waits under the number.
+    /// No request with the number is waiting.
     NotWaiting,
 }
 
 impl Refusal {
-    /// The code of the refusal in frames.
+    /// The code of the refusal in frames, 1 to 10.
     pub fn code(self) -> u8
         ensures code { result ≡ code_of self }
         ensures least { 1 ≤ result }
@@ -46,7 +47,7 @@ impl Refusal {
         }
     }
 
-    /// The name of the refusal in what a schedule prints.
+    /// The name of the refusal in the output of a schedule.
     pub fn name(self) -> &'static str
         ensures { result.now ≡ name_of self }
     {

@@ -2,7 +2,7 @@ ghost use Rattle.std.specs.Prelude.{◌≡◌, ◌≤◌, string_bytes, string_l
 
 use std::marker::Model;
 
-/// How many bytes a report has at most.
+/// The maximum length of a report, in bytes.
 pub const REPORT_BYTES: usize = 262144;
 
 /// The text of a report: 1 to 262,144 bytes.
@@ -22,7 +22,7 @@ impl Model for ReportText {
 }
 
 impl ReportText {
-    /// Keeps a text.
+    /// A report with this text.
     pub fn new(text: String) -> ReportText
         requires some { 1 ≤ string_len text }
         requires few { string_len text ≤ 262144 }
@@ -31,6 +31,7 @@ impl ReportText {
         ReportText { text }
     }
 
+    /// The text.
     pub fn as_str(&self) -> &str
         ensures text { result.now ≡ self.now }
         ensures some { 1 ≤ length result.now }
@@ -39,7 +40,7 @@ impl ReportText {
         self.text.as_str()
     }
 
-    /// Gives the text back.
+    /// The text, without a copy.
     pub fn into_string(self) -> String
         ensures text { string_bytes result ≡ self }
         ensures some { 1 ≤ string_len result }
