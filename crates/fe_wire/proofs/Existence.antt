@@ -1,4 +1,4 @@
--- Each stream of bytes has a reading.
+-- Every stream of bytes has a reading.
 use Rattle.std.proofs.Common.{◌≡◌, ◌≢◌, ℕ, zero, suc, ◌+◌, ◌≤◌, ◌⊎◌, List, [], ◌∷◌, ◌++◌, length, drop, Option, Some, None, refl, sym, ap, ◌∙◌, append_assoc, arith, inl, inr}
 use Rattle.std.specs.List.{flat_map}
 use Rattle.std.proofs.lemmas.Bool.{cases_lt, cases_eq}
@@ -15,7 +15,7 @@ use Rattle.fe_wire.specs.Laws.{HasReading, EachHasReading}
 use Rattle.fe_codes.proofs.Splits.{IsBytes-drop}
 use Rattle.fe_wire.proofs.FrameLaws.{body_field, reads_frame, reads_none}
 
--- a message is whole at the front
+-- there is a whole message at the front
 record HasFront (v : Version) (bytes : List ℕ) : Type 0 where
   message : ClientMessage
   fits : FitsIn v message
@@ -80,7 +80,7 @@ begun v bytes rest f same r = record {
   };
 }
 
--- the stream is its rest alone
+-- the whole stream is its rest
 ended : (v : Version) (bytes : List ℕ) → IsUnfinished v bytes ⊎ IsBad v bytes → HasReading v bytes
 ended v bytes end = record { messages = []; rest = bytes; is_stream = record { parts = refl; each = tt; end = end } }
 

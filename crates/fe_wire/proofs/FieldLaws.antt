@@ -1,4 +1,4 @@
--- A field that is read is the field that was written, and what was written is read again.
+-- What is read is the field that was written, and what was written is read again.
 use Rattle.std.proofs.Common.{◌≡◌, ℕ, zero, suc, ◌+◌, ◌-◌, ◌^◌, ◌<◌, ◌≤◌, Bool, true, false, cond, ltb, leb, eqb, ◌&&◌, List, [], ◌∷◌, ◌++◌, length, take, drop, replicate, Option, Some, None, refl, sym, ap, subst, ◌∙◌, arith, inl, inr}
 use Rattle.std.specs.Int.{Width, w32, w64, byte_len, from_be_bytes, to_be_bytes}
 use Rattle.std.proofs.lemmas.Bool.{cases_lt, ltb-false, lt-ltb, le-ltb, leb-true, le-leb, eqb-true, and_parts}
@@ -12,7 +12,7 @@ use Rattle.fe_codes.proofs.BindingLaws.{bind_some, bind_at}
 use Rattle.fe_codes.proofs.Splits.{IsBytes-drop, IsBytes-take, Splits}
 use Rattle.fe_wire.specs.Reading.{next_number, next_byte, next_bytes, are_zero, least_name, name_of, next_name, number_of, two_numbers_of, ended}
 
--- a test that did not fail
+-- a test that succeeded
 pub guard_some : {A : Type 0} (b : Bool) (x y : A) → cond b None (Some x) ≡ Some y → (b ≡ false) × (x ≡ y)
 guard_some true x y e = absurd cc
 guard_some false x y e = (refl, cc)
@@ -97,7 +97,7 @@ zeros_again : (n : ℕ) → are_zero (replicate n 0) ≡ true
 zeros_again zero = refl
 zeros_again (suc n) = zeros_again n
 
--- which field a name has is told by its length
+-- the length of a name decides its field
 is_long_by : (long : Bool) (name : List ℕ) → least_name long ≤ length name → length name ≤ name_room long → is_long name ≡ long
 is_long_by true name low high = lt-ltb 16 (length name) (omega arith)
 is_long_by false name low high = le-ltb 16 (length name) high

@@ -1,4 +1,4 @@
--- The frame at the front of some bytes: what it spells, and that no other message is spelled there.
+-- The frame at the front of bytes: the message it spells, and that it spells no other.
 use Rattle.std.proofs.Common.{◌≡◌, ℕ, suc, ◌+◌, ◌-◌, ◌^◌, ◌<◌, ◌≤◌, List, ◌∷◌, ◌++◌, length, get_or, take, drop, Option, Some, None, refl, sym, ap, ◌∙◌, arith, inl, inr, lit≤}
 use Rattle.std.specs.Prelude.{IfSome}
 use Rattle.std.specs.Int.{w32, to_be_bytes, from_be_bytes}
@@ -16,7 +16,7 @@ use Rattle.fe_wire.proofs.FieldLaws.{wide32}
 use Rattle.fe_codes.proofs.CodeLaws.{row, some_at}
 use Rattle.fe_wire.proofs.MessageLaws.{IsRead, message_takes, message_again, has_kind}
 
--- what follows the kind, as long as the frame says
+-- the bytes after the kind, as many as the length field says
 abbrev pub body_field : List ℕ → List ℕ
 body_field bytes = take (4 + length_field bytes - 5) (drop 5 bytes)
 
@@ -38,14 +38,14 @@ front_is bytes fits whole low =
     sym (wide32.back (take 4 bytes) (length-take-le 4 bytes (omega arith)) (IsBytes-take 4 bytes fits)) ∙ ap (to_be_bytes w32) (sym long) in
     sym (take-append-drop 4 (take (4 + n) bytes)) ∙ ap (λ (r : List ℕ). r ++ drop 4 (take (4 + n) bytes)) (take-take 4 (4 + n) bytes (omega arith) ∙ first) ∙ ap (λ (r : List ℕ). to_be_bytes w32 (length (body_field bytes) + 1) ++ r) behind
 
--- a body that was read makes the frame whole
+-- a body that spells a message makes the frame whole
 pub reads_frame : (v : Version) (bytes : List ℕ) (m : ClientMessage) → IsBytes bytes → IsWhole bytes → 1 ≤ length_field bytes → length_of_kind v (kind_field bytes) ≡ Some (length_field bytes) → message_of (kind_field bytes) (body_field bytes) ≡ Some m → FitsIn v m × (front_frame bytes ≡ spelling m)
 reads_frame v bytes m fits whole low kind e =
     let t = message_takes (kind_field bytes) (body_field bytes) m (IsBytes-take (4 + length_field bytes - 5) (drop 5 bytes) (IsBytes-drop 5 bytes fits)) e in
     let known : length_of_kind v (kind_field (spelling m)) ≡ Some (length_field bytes) = ap (λ (t : List ℕ). length_of_kind v (kind_field t)) t.1 ∙ kind in
     ((t.0, has_kind v m (length_field bytes) known), front_is bytes fits whole low ∙ sym t.1)
 
--- a body that was not read makes the frame bad
+-- a body that spells none makes the frame bad
 pub reads_none : (v : Version) (bytes : List ℕ) → IsBytes bytes → IsWhole bytes → 1 ≤ length_field bytes → message_of (kind_field bytes) (body_field bytes) ≡ None → HasBadBody v bytes
 reads_none v bytes fits whole low e = (
   whole,
@@ -57,7 +57,7 @@ reads_none v bytes fits whole low e = (
       none-some m (sym e ∙ ap (λ (k : ℕ). message_of k (body_field bytes)) kinds ∙ ap (message_of r.kind) bodies ∙ r.read),
 )
 
--- ---- a frame, and what comes after
+-- ---- a frame, and the bytes after it
 
 frame_front : (kind : ℕ) (body behind : List ℕ) → length body + 1 < 2 ^ 32 → front_frame (frame kind body ++ behind) ≡ frame kind body
 frame_front kind body behind short =
@@ -65,7 +65,7 @@ frame_front kind body behind short =
     let long : length (frame kind body) ≡ 4 + length_field (frame kind body ++ behind) = omega (arith, n) in
     ap (λ (k : ℕ). take k (frame kind body ++ behind)) (sym long) ∙ take_at (frame kind body) behind (length (frame kind body)) refl
 
--- what frames spell is one where one of them begins the other
+-- two frames spell the same message if one is a prefix of the other
 pub one_frame : {M : Type 0} (read : ℕ → List ℕ → Option M) (j k : ℕ) (b c x y : List ℕ) (m n : M)
     → length b + 1 < 2 ^ 32 → length c + 1 < 2 ^ 32 → read j b ≡ Some m → read k c ≡ Some n
     → frame j b ++ x ≡ frame k c ++ y → (m ≡ n) × (x ≡ y)
@@ -76,7 +76,7 @@ one_frame read j k b c x y m n b_short c_short is_m is_n same =
     let one : Some m ≡ Some n = sym is_m ∙ ap (λ (kind : ℕ). read kind b) kinds ∙ ap (read k) bodies ∙ is_n in
     (same_Some m n one, append_cancel_left (frame j b) x y (same ∙ ap (λ (t : List ℕ). t ++ y) (sym frames)))
 
--- ---- a message's frame, and what comes after
+-- ---- a message's frame, and the bytes after it
 
 pub record IsFront (m : ClientMessage) (bytes : List ℕ) : Type 0 where
   pub read : IsRead m
@@ -99,7 +99,7 @@ spelled_front m behind fits =
       whole = omega (arith, n, ap length r.spelled, length-append (spelling m) behind);
     }
 
--- no message's frame begins another's
+-- no message's frame is a prefix of another's
 pub one_front : (a b : ClientMessage) (x y : List ℕ) → Fits a → Fits b → spelling a ++ x ≡ spelling b ++ y → (a ≡ b) × (x ≡ y)
 one_front a b x y a_fits b_fits same =
     let f = message_again a a_fits in
@@ -107,7 +107,7 @@ one_front a b x y a_fits b_fits same =
     let frames : frame f.kind f.body ++ x ≡ frame g.kind g.body ++ y = ap (λ (t : List ℕ). t ++ x) (sym f.spelled) ∙ same ∙ ap (λ (t : List ℕ). t ++ y) g.spelled in
     one_frame message_of f.kind g.kind f.body g.body x y a b (omega (arith, f.high)) (omega (arith, g.high)) f.read g.read frames
 
--- a kind's frames are no longer than the greatest length
+-- the frames of a kind are at most as long as the longest
 first_row : (limit kind : ℕ) → 31 ≤ limit → IfSome (first_lengths kind) (λ n. n ≤ limit)
 first_row limit kind le =
     let P : ℕ → Type 0 = λ n. n ≤ limit in
@@ -121,7 +121,7 @@ length_row Two kind =
     let P : ℕ → Type 0 = λ n. n ≤ 47 in
     row P kind 11 _ _ (λ e. lit≤ tt) (row P kind 12 _ _ (λ e. lit≤ tt) (row P kind 13 _ _ (λ e. lit≤ tt) (first_row 47 kind (lit≤ tt))))
 
--- what begins with a message's frame is neither bad nor unfinished
+-- bytes that begin with a message's frame are neither bad nor unfinished
 pub front_not_bad : (v : Version) (m : ClientMessage) (behind : List ℕ) → FitsIn v m → IsBad v (spelling m ++ behind) → ⊥
 front_not_bad v m behind fits bad =
     let f = spelled_front m behind fits.0 in
@@ -135,7 +135,7 @@ front_not_bad v m behind fits bad =
 pub front_not_unfinished : (v : Version) (m : ClientMessage) (behind : List ℕ) → Fits m → IsUnfinished v (spelling m ++ behind) → ⊥
 front_not_unfinished v m behind fits h = h.0 (spelled_front m behind fits).whole
 
--- ---- bytes that come after
+-- ---- more bytes
 
 pub length_field-append : (r more : List ℕ) → 4 ≤ length r → length_field (r ++ more) ≡ length_field r
 length_field-append r more le = ap (from_be_bytes w32) (take-append-le 4 r more le)

@@ -1,4 +1,4 @@
--- The two laws of bodies: what is read is spelled so, and what is spelled so is read.
+-- The two laws of bodies: what is read has this spelling, and each spelling is read.
 use Rattle.std.proofs.Common.{◌≡◌, ℕ, ◌+◌, ◌^◌, ◌<◌, ◌≤◌, Bool, true, false, List, [], ◌∷◌, ◌++◌, length, Option, Some, None, refl, sym, ap, subst, ◌∙◌, append_assoc, arith, lit≤, inl, inr}
 use Rattle.std.specs.Prelude.{IfSome}
 use Rattle.std.specs.Int.{w32, w64, to_be_bytes}
@@ -230,7 +230,7 @@ message_row kind body fits =
 pub message_takes : (kind : ℕ) (body : List ℕ) (m : ClientMessage) → IsBytes body → message_of kind body ≡ Some m → IsMessageOf kind body m
 message_takes kind body m fits e = some_at (IsMessageOf kind body) (message_of kind body) m e (message_row kind body fits)
 
--- what fits is read again, in a frame of the length that its kind has in each version that has the message
+-- a message that fits is read again, from a frame whose length is its kind's in each version that has the message
 pub record IsRead (m : ClientMessage) : Type 0 where
   pub kind : ℕ
   pub body : List ℕ
@@ -246,7 +246,7 @@ short_kind name f n none e =
       | inr short ↦ short
     ]
 
--- a frame of a kind that a version has is of a message that it has
+-- a frame of a version's kind spells a message of the version
 pub has_kind : (v : Version) (m : ClientMessage) (n : ℕ) → length_of_kind v (kind_field (spelling m)) ≡ Some n → IsIn v m
 has_kind Two m n e = tt
 has_kind One (Attach session) n e = tt
@@ -270,7 +270,7 @@ length-create_body number name size tag short =
 length-find_body : (number : ℕ) (name : List ℕ) → length name ≤ 32 → length (find_body number name) ≡ name_room (is_long name) + 9
 length-find_body number name short = omega (arith, length-cells_of name short)
 
--- the frames as they are written, field after field
+-- the frames as they are written, field by field
 pub create_built : (number : ℕ) (name : List ℕ) (size : ℕ) (tag : Tag) → length name ≤ 32
     → (to_be_bytes w32 (name_room (is_long name) + 15) ++ create_kind (is_long name) ∷ []) ++ to_be_bytes w64 number ++ name_field name ++ to_be_bytes w32 size ++ tag_code tag ∷ [] ≡ spelling (Call number (Create name size tag))
 create_built number name size tag short =
@@ -312,7 +312,7 @@ access_long One number array index op false known = refl
 access_long Two number array index op true known = refl
 access_long Two number array index op false known = refl
 
--- ---- what fits is read again
+-- ---- a message that fits is read again
 
 create_read : (long : Bool) (body : List ℕ) → message_of (create_kind long) body ≡ create_of long body
 unfolding message_of

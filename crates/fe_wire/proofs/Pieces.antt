@@ -1,4 +1,4 @@
--- What the loop over a piece keeps: the part that is read, and where that leads.
+-- The invariant of the loop over a piece: what has been read, and the state after it.
 use Rattle.std.proofs.Common.{◌≡◌, ℕ, ◌+◌, ◌-◌, ◌^◌, min, Bool, true, false, List, [], ◌∷◌, ◌++◌, length, take, drop, refl, sym, ap, subst, ◌∙◌, append_assoc, arith}
 use Rattle.std.specs.Prelude.{Result, Ok, Err, OnErr}
 use Rattle.std.specs.List.{flat_map, AllByRecursion}
@@ -11,11 +11,11 @@ use Rattle.fe_wire.specs.Spelling.{spelling, FitsIn}
 use Rattle.fe_wire.specs.Stream.{Decoding, HasReadFrom, IsUnfinished, IsBad, CompletesMessage}
 use Rattle.fe_wire.proofs.StreamLaws.{begins_within, reads_past, standing, reads_on, reads_bad, reads_message}
 
--- two that keep the same are one
+-- two that keep the same are equal
 same_decoding : (d : Decoding) (version : Version) (offset : ℕ) (held : List ℕ) (is_bad : Bool) → d.version ≡ version → d.offset ≡ offset → d.held ≡ held → d.is_bad ≡ is_bad → standing version offset held is_bad ≡ d
 same_decoding d version offset held is_bad p q r s = λ i. record { version = (sym p) i; offset = (sym q) i; held = (sym r) i; is_bad = (sym s) i }
 
--- the three ways on, wherever the frame was read: it goes on, it turns out bad, or it is whole
+-- the three outcomes, wherever the frame was read: it is unfinished, it turns out bad, or it is whole
 pub goes_unfinished : (old new : Place) (more held : List ℕ) → old.is_bad ≡ false → new.version ≡ old.version → new.offset ≡ old.offset → held_of new ≡ held → new.is_bad ≡ false → held ≡ held_of old ++ more → IsUnfinished old.version held → GoesOn old new more []
 goes_unfinished old new more held good version offset held_is good_new parts unfinished = record {
   version = version;
@@ -68,12 +68,12 @@ goes_on start place new piece rest next messages more items n h sound step left 
   };
 }
 
--- what holds anyway holds where there is an error
+-- what always holds also holds after an error
 pub on_err : {A E P : Type 0} (r : Result A E) → P → OnErr r P
 on_err (Ok x) p = tt
 on_err (Err e) p = p
 
--- a message after what is read is one more than there was before the piece
+-- a message after what was read is one more than before the piece
 pub completes : (start place new : Place) (piece rest : List ℕ) (messages : List ClientMessage) (m : ClientMessage) (n : ℕ) → IsReadTo start place piece rest messages → GoesOn place new (take n rest) (m ∷ []) → CompletesMessage (decoding start) piece
 completes start place new piece rest messages m n h step =
     λ from before earlier all end old stream.

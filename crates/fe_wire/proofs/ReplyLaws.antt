@@ -1,4 +1,4 @@
--- The laws of replies: what is read is spelled so, what is spelled so is read, and replies are read in one way.
+-- The laws of replies: what is read has this spelling, each spelling is read, and replies are read in only one way.
 use Rattle.std.proofs.Common.{◌≡◌, ◌≢◌, ℕ, ◌+◌, ◌^◌, ◌<◌, Bool, true, false, cond, ltb, leb, eqb, ◌&&◌, List, [], ◌∷◌, ◌++◌, length, Option, Some, None, refl, sym, ap, subst, ◌∙◌, arith, lit<}
 use Rattle.std.specs.Prelude.{IfSome}
 use Rattle.std.proofs.lemmas.List.{length-append}
@@ -130,7 +130,7 @@ made_again make n lt = bind_at (number_of (to_be_bytes w64 n)) (λ k. Some (make
 welcome_again : (session floor : ℕ) → session < 2 ^ 64 → floor < 2 ^ 64 → made_of_two (λ n k. Welcome n k) (two_numbers session floor) ≡ Some (Welcome session floor)
 welcome_again session floor s_fits f_fits = bind_at (two_numbers_of (two_numbers session floor)) (λ p. Some (Welcome p.0 p.1)) (session, floor) (two_numbers_of_again session floor s_fits f_fits)
 
--- ---- any kind but a report's
+-- ---- any kind except a report's
 
 if_each : (P : ServerMessage → Type 0) (o : Option ServerMessage) → ((x : ServerMessage) → o ≡ Some x → P x) → IfSome o P
 if_each P (Some x) h = h x refl
@@ -156,7 +156,7 @@ reply_takes kind body m fits e = some_at (IsReplyOf kind body) (reply_of_kind ki
 
 -- ---- any kind
 
--- what a frame of this kind with this body spells, a report too
+-- what a frame with this kind and body spells, including a report
 abbrev pub any_reply_of : ℕ → List ℕ → Option ServerMessage
 any_reply_of kind body = cond (eqb kind 71) (report_of body) (reply_of_kind kind body)
 
@@ -185,11 +185,11 @@ by_test false false x none = refl
 pub report_again : (text : List ℕ) → ReplyFits (Report text) → report_of text ≡ Some (Report text)
 report_again text fits = rw (lt-ltb 0 (length text) fits.0, le-leb (length text) 262144 fits.1, is_utf8-from_IsUtf8 text fits.2) refl
 
--- bytes that are no text are no report
+-- bytes that are not a text are not a report
 pub no_report : (bytes : List ℕ) → ¬ (IsUtf8 bytes) → report_of bytes ≡ None
 no_report bytes none = by_test (ltb 0 (length bytes) && leb (length bytes) 262144) (is_utf8 bytes) (Report bytes) (λ e. none (IsUtf8-from_is_utf8 bytes e))
 
--- what fits is read again
+-- a reply that fits is read again
 record IsReadReply (m : ServerMessage) : Type 0 where
   kind : ℕ
   body : List ℕ
@@ -234,7 +234,7 @@ parts_again kind body short =
     bind_at (next_number w32 (frame kind body)) lengthed (length body + 1, rest) (number_again w32 (2 ^ 32) wide32 (length body + 1) rest short)
     ∙ ap (λ (b : Bool). cond b (Some (kind, body)) None) long
 
--- the reply that the bytes spell, all of them
+-- the reply that exactly these bytes spell
 abbrev pub any_kind : ℕ × List ℕ → Option ServerMessage
 any_kind parts = any_reply_of parts.0 parts.1
 
@@ -261,7 +261,7 @@ report_at bytes kind body fits e is fitting =
 
 -- ---- replies one after another
 
--- no reply's frame begins another's
+-- no reply's frame is a prefix of another's
 pub one_reply : (a b : ServerMessage) (x y : List ℕ) → ReplyFits a → ReplyFits b → reply_spelling a ++ x ≡ reply_spelling b ++ y → (a ≡ b) × (x ≡ y)
 one_reply a b x y a_fits b_fits same =
     let f = reply_again a a_fits in
@@ -269,7 +269,7 @@ one_reply a b x y a_fits b_fits same =
     let frames : frame f.kind f.body ++ x ≡ frame g.kind g.body ++ y = ap (λ (t : List ℕ). t ++ x) (sym f.spelled) ∙ same ∙ ap (λ (t : List ℕ). t ++ y) g.spelled in
     one_frame any_reply_of f.kind g.kind f.body g.body x y a b f.short g.short f.read g.read frames
 
--- a reply has bytes
+-- a reply's frame is not empty
 not_empty : (m : ServerMessage) (behind : List ℕ) → ReplyFits m → reply_spelling m ++ behind ≡ [] → ⊥
 not_empty m behind fits e =
     let r = reply_again m fits in

@@ -1,4 +1,4 @@
--- One reading of each stream, and how a decoder goes on in it.
+-- A stream has at most one reading, and how a decoder continues in it.
 use Rattle.std.proofs.Common.{◌≡◌, ℕ, ◌+◌, ◌-◌, ◌^◌, ◌<◌, ◌≤◌, min, Bool, true, false, ◌⊎◌, List, [], ◌∷◌, ◌++◌, length, refl, sym, ap, subst, ◌∙◌, append_assoc, arith, inl, inr, lit≤}
 use Rattle.std.specs.List.{flat_map, AllByRecursion}
 use Rattle.std.proofs.lemmas.Bool.{cases_lt, lt-ltb, le-ltb}
@@ -13,7 +13,7 @@ use Rattle.fe_wire.specs.Laws.{HasOneReading, HasOneOutcome}
 use Rattle.fe_wire.specs.Place.{wanted_of}
 use Rattle.fe_wire.proofs.FrameLaws.{one_front, front_not_bad, front_not_unfinished, bad_more, length_field-append}
 
--- what begins with a message's frame is no rest
+-- bytes that begin with a message's frame are not a rest
 not_rest : (v : Version) (m : ClientMessage) (ms : List ClientMessage) (rest stream : List ℕ) → FitsIn v m → stream ≡ flat_map spelling (m ∷ ms) ++ rest → IsUnfinished v stream ⊎ IsBad v stream → ⊥
 not_rest v m ms rest stream fits same end =
     let text : stream ≡ spelling m ++ (flat_map spelling ms ++ rest) = same ∙ ap (λ (t : List ℕ). t ++ rest) (flat_map-cons spelling m ms) ∙ append_assoc (spelling m) (flat_map spelling ms) rest in
@@ -34,7 +34,7 @@ same_parts v stream (m ∷ ms) (n ∷ ns) x y p fits_a end_x q fits_b end_y =
 pub one_reading : HasOneReading
 one_reading v stream a b x y p q = same_parts v stream a b x y p.parts p.each p.end q.parts q.each q.end
 
--- Messages that a stream begins with are no more than it has.
+-- A stream has at least the messages that it begins with.
 pub begins_within : (v : Version) (stream : List ℕ) (a b : List ClientMessage) (x y : List ℕ) → stream ≡ flat_map spelling a ++ x → AllByRecursion (FitsIn v) a → IsUnfinished v x ⊎ IsBad v x → stream ≡ flat_map spelling b ++ y → AllByRecursion (FitsIn v) b → length b ≤ length a
 begins_within v stream a [] x y p fits_a end_x q fits_b = omega arith
 begins_within v stream [] (n ∷ ns) x y p fits_a end_x q fits_b = absurd (not_rest v n ns y x fits_b.0 (sym p ∙ q) end_x)
@@ -60,7 +60,7 @@ one_outcome start stream a b x y version p q =
     let offsets : x.offset ≡ y.offset = p.offset ∙ ap (λ (ms : List ClientMessage). min (start + length (flat_map spelling ms)) (2 ^ 64 - 1)) one.0 ∙ sym q.offset in
     (one.0, λ i. record { version = version i; offset = offsets i; held = stand.1 i; is_bad = stand.0 i })
 
--- ---- going on
+-- ---- continuing
 
 -- the same stream, with these bytes after its rest
 behind : (before parts rest more : List ℕ) → before ≡ parts ++ rest → before ++ more ≡ parts ++ (rest ++ more)
@@ -80,7 +80,7 @@ reads_past start d before more earlier bad h =
       stands = subst Q (sym bad) (still, stands.1);
     }
 
--- the rest at which a decoder stands that has met no bad frame
+-- the rest that a decoder stores if it has met no bad frame
 held_is : (start : ℕ) (d : Decoding) (before : List ℕ) (earlier : List ClientMessage) → d.is_bad ≡ false → (h : HasReadFrom start d before earlier) → d.held ≡ h.rest
 held_is start d before earlier good h =
     let P : Bool → Type 0 = λ b. StandsAt d.version b d.held h.rest in
@@ -89,7 +89,7 @@ held_is start d before earlier good h =
 abbrev pub standing : Version → ℕ → List ℕ → Bool → Decoding
 standing version offset held is_bad = record { version = version; offset = offset; held = held; is_bad = is_bad }
 
--- what a decoder that has met no bad frame keeps, with more bytes of the same frame
+-- the state of a decoder that has met no bad frame, after more bytes of the same frame
 pub reads_on : (start : ℕ) (d : Decoding) (before more held : List ℕ) (earlier : List ClientMessage) → d.is_bad ≡ false → held ≡ d.held ++ more → IsUnfinished d.version held → HasReadFrom start d before earlier → HasReadFrom start (standing d.version d.offset held false) (before ++ more) (earlier ++ [])
 reads_on start d before more held earlier good held_is_more unfinished h =
     let rest_is : held ≡ h.rest ++ more = held_is_more ∙ ap (λ (t : List ℕ). t ++ more) (held_is start d before earlier good h) in
@@ -132,13 +132,13 @@ reads_message start d before more held earlier m offset good offset_is held_is_m
       stands = (nothing_unfinished d.version, refl);
     }
 
--- ---- how much is held
+-- ---- how many bytes are stored
 
 longest_le : (v : Version) → longest v ≤ 47
 longest_le One = lit≤ tt
 longest_le Two = lit≤ tt
 
--- a frame whose length is there
+-- a frame whose length field is there
 unfinished_long : (v : Version) (held : List ℕ) → IsUnfinished v held → 4 ≤ length held → (length held < 4 + length_field held) × (length_field held ≤ longest v)
 unfinished_long v held h le = (
   elim (cases_lt (length held) (4 + length_field held)) [ inl lt ↦ lt | inr whole ↦ absurd (h.0 whole) ],
@@ -159,7 +159,7 @@ unfinished_within v held h =
       | inr le ↦ let p = unfinished_long v held h le in omega (arith, p.0, p.1, longest_le v)
     ]
 
--- bytes up to what is wanted hold nothing of the next frame
+-- bytes up to the wanted number include none of the next frame
 pub wanted_frame : (held more : List ℕ) → length held + length more ≤ wanted_of held → length (held ++ more) ≤ 4 + length_field (held ++ more)
 wanted_frame held more le =
     let long = length-append held more in
@@ -169,6 +169,6 @@ wanted_frame held more le =
           omega (arith, w, long, length_field-append held more ge)
     ]
 
--- the whole frame is all that is held
+-- a whole frame is all that is stored
 pub whole_is_held : (held : List ℕ) → IsWhole held → length held ≤ 4 + length_field held → front_frame held ≡ held
 whole_is_held held whole le = take_all (4 + length_field held) held le

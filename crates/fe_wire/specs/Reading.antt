@@ -1,4 +1,4 @@
--- What the readers of fields and bodies give: the value, or nothing where the bytes spell none.
+-- What the readers of fields and bodies return: the value, or None if the bytes spell none.
 use Rattle.std.specs.Prelude.{◌≡◌, ℕ, List, [], ◌∷◌, length, take, drop, Bool, true, false, ◌&&◌, Option, Some, None, nat_lt, nat_le, ◌==◌, if◌then◌else◌}
 use Rattle.std.specs.List.{list_all}
 use Rattle.std.specs.Str.{is_utf8}
@@ -17,11 +17,11 @@ pub use Rattle.fe_fields.specs.Fields.{Gives, next_number, next_byte, next_bytes
 abbrev pub are_zero : List ℕ → Bool
 are_zero bytes = list_all (λ b. b == 0) bytes
 
--- the least length of a name in the field of long or of short ones
+-- the least length of a name in its field, by whether it is the field of long names
 abbrev pub least_name : Bool → ℕ
 least_name long = if long then 17 else 0
 
--- the name of this length in the cells of its field, which are zero after it
+-- the name of this length in its field, whose other bytes must be zero
 unfoldable pub name_of : Bool → ℕ → List ℕ → Option (List ℕ)
 name_of long n cells = if nat_le (least_name long) n && nat_le n (length cells) && are_zero (drop n cells) then Some (take n cells) else None
 
@@ -32,18 +32,18 @@ next_name long bytes = do
   name ← name_of long count.0 cells.0
   Some (name, cells.1)
 
--- the value, where no bytes are left
+-- the value, or None if bytes are left
 abbrev pub ended : {A : Type 0} → List ℕ → A → Option A
 ended [] x = Some x
 ended (b ∷ rest) x = None
 
--- the number that is the whole body
+-- the number in a body of eight bytes
 abbrev pub number_of : List ℕ → Option ℕ
 number_of body = do
   number ← next_number w64 body
   ended number.1 number.0
 
--- the two numbers that are the whole body
+-- the two numbers in a body of 16 bytes
 abbrev pub two_numbers_of : List ℕ → Option (ℕ × ℕ)
 two_numbers_of body = do
   first ← next_number w64 body
@@ -75,7 +75,7 @@ access_of no_wait body = do
   op ← op_of code.0 operand.0
   ended operand.1 (Call number.0 (Access array.0 index.0 op no_wait))
 
--- a value made of the number that is the whole body, or of two
+-- a value made from a body of one number, or of two
 abbrev pub made_of : {M : Type 0} → (ℕ → M) → List ℕ → Option M
 made_of make body = do
   number ← number_of body
@@ -96,7 +96,7 @@ plain_of kind body =
     else if kind == 9 then ended body Report
     else None
 
--- the message that a frame of this kind with this body spells, in whichever version
+-- the message that a frame with this kind and body spells in either version
 unfoldable pub message_of : ℕ → List ℕ → Option ClientMessage
 message_of kind body =
     if kind == 2 then create_of false body
@@ -122,7 +122,7 @@ refused_of body = do
   code ← next_byte number.1
   if nat_lt code.0 1 then None else if nat_lt 10 code.0 then None else ended code.1 (server.Refused number.0 code.0)
 
--- the reply that a frame of this kind with this body spells, where it is no report
+-- the reply that a frame with this kind and body spells, unless it is a report
 unfoldable pub reply_of_kind : ℕ → List ℕ → Option ServerMessage
 reply_of_kind kind body =
     if kind == 65 then made_of_two (λ session floor. server.Welcome session floor) body
@@ -133,11 +133,11 @@ reply_of_kind kind body =
     else if kind == 70 then refused_of body
     else None
 
--- the report of this text
+-- the report with this text, if it is 1 to 262,144 bytes of UTF-8
 abbrev pub report_of : List ℕ → Option ServerMessage
 report_of text = if nat_lt 0 (length text) && nat_le (length text) 262144 && is_utf8 text then Some (server.Report text) else None
 
--- the kind and the body of the frame that is the bytes, all of them
+-- the kind and the body, if the bytes are exactly one frame
 unfoldable pub parts_of : List ℕ → Option (ℕ × List ℕ)
 parts_of bytes = do
   size ← next_number w32 bytes

@@ -1,4 +1,4 @@
--- The one spelling of each message as bytes, which messages have one, and which a version has.
+-- The one spelling of each message as bytes, which messages have one, and which messages a version has.
 use Rattle.std.specs.Prelude.{◌≡◌, ℕ, ◌+◌, ◌-◌, ◌<◌, ◌≤◌, ◌^◌, Bool, false, List, [], ◌∷◌, ◌++◌, length, replicate, nat_lt, if◌then◌else◌}
 use Rattle.std.specs.Int.{w32, w64, to_be_bytes}
 use Rattle.std.specs.Str.{IsUtf8}
@@ -11,19 +11,19 @@ use Rattle.fe_wire.specs.declared.server_message.ServerMessage.{ServerMessage}
 use Rattle.fe_wire.specs.declared.server_message.ServerMessage.TheVariants as server
 use Rattle.fe_codes.specs.Codes.{tag_code, op_code, operand_of, answer_code, answer_number, answer_length}
 
--- a frame: how many bytes follow the length, the kind, and the body
+-- a frame: the number of bytes after the length field, the kind, and the body
 abbrev pub frame : ℕ → List ℕ → List ℕ
 frame kind body = to_be_bytes w32 (length body + 1) ++ kind ∷ body
 
--- a name above 16 bytes, which has kinds of its own
+-- a name of more than 16 bytes; its messages have kinds of their own
 abbrev pub is_long : List ℕ → Bool
 is_long name = nat_lt 16 (length name)
 
--- how many bytes a field has for a long or a short name
+-- the number of bytes in the field of a long or a short name
 abbrev pub name_room : Bool → ℕ
 name_room long = if long then 32 else 16
 
--- a name: its length, and 16 or 32 bytes that are zero after it
+-- a name: its length, and 16 or 32 bytes, zero after the name
 abbrev pub name_field : List ℕ → List ℕ
 name_field name = length name ∷ name ++ replicate (name_room (is_long name) - length name) 0
 
@@ -36,7 +36,7 @@ find_kind long = if long then 13 else 3
 abbrev pub access_kind : Bool → ℕ
 access_kind no_wait = if no_wait then 11 else 5
 
--- A row for each kind of message from a client.
+-- One row for each kind of message from a client.
 abbrev pub spelling : ClientMessage → List ℕ
 spelling (Attach session) = frame 1 (to_be_bytes w64 session)
 spelling (Call number (Create name length tag)) =
@@ -50,7 +50,7 @@ spelling (Settle floor) = frame 7 (to_be_bytes w64 floor)
 spelling Bye = frame 8 []
 spelling Report = frame 9 []
 
--- Each field of the message fits the bytes that it has.
+-- Each field of the message fits into its bytes.
 abbrev pub Fits : ClientMessage → Type 0
 Fits (Attach session) = session < 2 ^ 64
 Fits (Call number (Create name length_of tag)) = (number < 2 ^ 64) × (length name ≤ 32) × (length_of < 2 ^ 32)
@@ -62,7 +62,7 @@ Fits (Settle floor) = floor < 2 ^ 64
 Fits Bye = Unit {0}
 Fits Report = Unit {0}
 
--- The version has the message: version 1 has no access that doesn't wait, and no name above 16 bytes.
+-- The version has the message: version 1 has no access that must not wait, and no name of more than 16 bytes.
 abbrev pub IsIn : Version → ClientMessage → Type 0
 IsIn One (Attach session) = Unit {0}
 IsIn One (Call number (Create name length_of tag)) = length name ≤ 16
@@ -79,7 +79,7 @@ IsIn Two m = Unit {0}
 abbrev pub FitsIn : Version → ClientMessage → Type 0
 FitsIn version m = Fits m × IsIn version m
 
--- A row for each kind of message from the server.
+-- One row for each kind of message from the server.
 abbrev pub reply_spelling : ServerMessage → List ℕ
 reply_spelling (server.Welcome session floor) = frame 65 (to_be_bytes w64 session ++ to_be_bytes w64 floor)
 reply_spelling (server.Answer number answer) =
@@ -90,7 +90,7 @@ reply_spelling (server.Goodbye session) = frame 69 (to_be_bytes w64 session)
 reply_spelling (server.Refused number code) = frame 70 (to_be_bytes w64 number ++ code ∷ [])
 reply_spelling (server.Report text) = frame 71 text
 
--- Each field of the reply fits the bytes that it has, and is in its range.
+-- Each field of the reply fits into its bytes and is in its range.
 abbrev pub ReplyFits : ServerMessage → Type 0
 ReplyFits (server.Welcome session floor) = (session < 2 ^ 64) × (floor < 2 ^ 64)
 ReplyFits (server.Answer number answer) = (number < 2 ^ 64) × (answer_number answer < 2 ^ 64) × (answer_length answer < 2 ^ 32)

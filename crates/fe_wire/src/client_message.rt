@@ -3,16 +3,16 @@ use fe_state::Request;
 /// A message from a client.
 #[derive(Clone, Copy, PartialEq, Eq)]
 pub enum ClientMessage {
-    /// The connection asks for this session.
+    /// Attaches this session to the connection.
     Attach { session: u64 },
-    /// A request under a number of the session's window.
+    /// Makes a request under a number of the session's window.
     Call { number: u64, request: Request },
-    /// The waiting request of that number is taken back.
+    /// Cancels the waiting request with this number.
     Cancel { number: u64 },
-    /// Numbers below this one aren't asked again.
+    /// Raises the session's floor: numbers below it are never asked again.
     Settle { floor: u64 },
-    /// The session is over.
+    /// Ends the session.
     Bye,
-    /// The connection asks for a report of what waits.
+    /// Asks for a report of what waits.
     Report,
 }

@@ -11,8 +11,8 @@ use fe_state::{Request, named};
 use std::alloc::{AllocError, Global};
 use std::marker::Model;
 
-/// Reads the stream of one connection, which comes in any pieces. It keeps no more than the
-/// beginning of one frame (`docs/formats.md`, "Frames").
+/// Decodes the stream of one connection, which may come in pieces of any size. It stores at most the first 50 bytes
+/// of one unfinished frame (`docs/formats.md`, "Frames").
 #[derive(Drop)]
 pub struct Decoder {
     place: Place,
@@ -30,7 +30,7 @@ impl Model for Decoder {
 }
 
 impl Decoder {
-    /// A decoder of version 1 at the beginning of its stream.
+    /// A decoder for version 1, at offset 0.
     pub fn new() -> Decoder
         ensures begins { HasRead result [] [] }
         ensures version { result.version ≡ Version.One }
@@ -38,7 +38,7 @@ impl Decoder {
         Self::at(Version::One, 0)
     }
 
-    /// A decoder at the beginning of its stream.
+    /// A decoder for this version, at offset 0.
     pub fn with_version(version: Version) -> Decoder
         ensures begins { HasRead result [] [] }
         ensures version { result.version ≡ version }
@@ -46,8 +46,7 @@ impl Decoder {
         Self::at(version, 0)
     }
 
-    /// A decoder of version 1 at the beginning of a stream whose first byte counts as the one at
-    /// `offset`.
+    /// A decoder for version 1 that counts the stream's first byte as the one at `offset`.
     pub fn starting_at(offset: u64) -> Decoder
         ensures begins { HasReadFrom offset result [] [] }
         ensures version { result.version ≡ Version.One }
@@ -69,20 +68,20 @@ impl Decoder {
         Decoder { place }
     }
 
-    /// Reads the next piece of the stream. `AllocError` where there is no memory for the messages
-    /// in it; then nothing of the piece was taken.
+    /// Decodes the next piece of the stream. Fails only if memory for the messages in it runs out; then the decoder
+    /// is unchanged, as if the piece had not come.
     pub fn feed(&mut self, alloc: Global, piece: &[u8]) -> Result<Fed, AllocError>
-        // With this piece the stream is read as far, and has these messages more.
+        // What has been read now includes this piece and its messages.
         ensures reads { IfOk result (λ fed. (start : ℕ) (before : List ℕ) (earlier : List Message)
             → HasReadFrom start self.old before earlier
             → HasReadFrom start self.new (before ++ piece.now) (earlier ++ fed.messages.items)) }
         ensures version { self.new.version ≡ self.old.version }
         ensures fault { IfOk result (λ fed. fed.fault ≡ fault_of self.new) }
-        // After a bad frame each call tells the same fault, and no message.
+        // After a bad frame every call returns the same fault and no messages.
         ensures stopped { self.old.is_bad ≡ true → IsOkAnd result (λ fed. fed.messages.items ≡ []) }
         ensures still { self.old.is_bad ≡ true → self.new ≡ self.old }
         ensures err { OnErr result (self.new ≡ self.old) }
-        // Memory is wanted only where the piece completes a message.
+        // Memory can run out only if the piece completes a message.
         ensures memory { OnErr result (CompletesMessage self.old piece.now) }
         ensures held { length self.new.held ≤ 50 }
     {
@@ -101,8 +100,7 @@ impl Decoder {
     }
 }
 
-/// Reads the whole piece from a place, or as far as to a bad frame: the place after it, and the
-/// messages in it.
+/// Decodes the whole piece, or up to a bad frame. Returns the place after it and the messages in it.
 fn read_piece(
     alloc: Global,
     start: Place,

@@ -1,4 +1,4 @@
-//! The fields of frames that are no plain numbers, read.
+//! Reading the fields of frames that are not plain numbers.
 
 ghost use Rattle.std.specs.Prelude.{◌≡◌, length};
 ghost use Rattle.fe_wire.specs.Reading.{number_of, two_numbers_of, least_name, name_of, are_zero, ended};
@@ -7,7 +7,7 @@ ghost use Rattle.fe_wire.specs.Spelling.{name_room};
 use fe_fields::next_u64;
 use fe_state::Name;
 
-/// How many bytes the field of a name has, without that of its length.
+/// The number of bytes in the field of a name, without the byte of its length: 16, or 32 for a long name.
 pub fn name_room(is_long: bool) -> u8
     ensures { result ≡ name_room is_long }
 {
@@ -20,7 +20,8 @@ fn least_name(is_long: bool) -> usize
     if is_long { 17 } else { 0 }
 }
 
-/// The name of this length in the bytes of its field, if those after it are zero.
+/// The name of this length in the bytes of its field, or `None` if the length is wrong for the field or a byte after
+/// the name is not zero.
 #[tactic(auto, unfolding(crate::specs::Reading::name_of))]
 pub fn name_of(is_long: bool, len: u8, cells: &[u8]) -> Option<Name>
     requires { length cells.now ≡ name_room is_long }
@@ -40,7 +41,7 @@ fn are_zero(bytes: &[u8]) -> bool
     bytes.iter().all(|byte| *byte == 0)
 }
 
-/// The value, where no bytes are left.
+/// The value, or `None` if bytes are left.
 pub fn ended<T: Drop>(rest: &[u8], value: T) -> Option<T>
     ensures { result ≡ ended rest.now value }
 {
@@ -50,7 +51,7 @@ pub fn ended<T: Drop>(rest: &[u8], value: T) -> Option<T>
     }
 }
 
-/// The number that is the whole body.
+/// The number in a body of eight bytes, or `None` if the body has another length.
 pub fn number_of(body: &[u8]) -> Option<u64>
     ensures { result ≡ number_of body.now }
 {
@@ -58,7 +59,7 @@ pub fn number_of(body: &[u8]) -> Option<u64>
     ended(rest, number)
 }
 
-/// The two numbers that are the whole body.
+/// The two numbers in a body of 16 bytes, or `None` if the body has another length.
 pub fn two_numbers_of(body: &[u8]) -> Option<(u64, u64)>
     ensures { result ≡ two_numbers_of body.now }
 {

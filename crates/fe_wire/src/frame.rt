@@ -7,17 +7,17 @@ use crate::place::FRAME_BYTES;
 use fe_fields::Fields;
 use fe_state::{NAME_BYTES, Name};
 
-/// A frame that is being written.
+/// A frame under construction.
 pub type Frame = Fields<FRAME_BYTES>;
 
-/// Whether the name is spelled in the field of long ones, which is so above 16 bytes.
+/// Whether the name has more than 16 bytes, so that its frame has the kind for long names.
 pub fn is_long(name: &Name) -> bool
     ensures { result ≡ is_long name.now }
 {
     name.bytes().len() > 16
 }
 
-/// The length and the kind, with the body still to come.
+/// The length and the kind of a frame, without its body.
 pub fn frame_of(length: u32, kind: u8) -> Frame
     ensures { result ≡ to_be_bytes w32 length ++ kind ∷ [] }
 {
@@ -27,6 +27,7 @@ pub fn frame_of(length: u32, kind: u8) -> Frame
     frame
 }
 
+/// Appends the length of the name, its bytes and the zeros after them. There must be room for them.
 pub fn put_name(frame: &mut Frame, name: &Name)
     requires { length frame.old + 33 ≤ FRAME_BYTES }
     ensures field { frame.new ≡ frame.old ++ name_field name.now }

@@ -1,4 +1,4 @@
-//! What is at the front of a stream's bytes.
+//! What the bytes at the front of a stream are.
 
 ghost use Rattle.std.specs.Prelude.{◌≡◌, ◌≤◌, length};
 ghost use Rattle.fe_wire.specs.Stream.{IsHead, length_field, length_of_kind, longest};
@@ -8,22 +8,23 @@ use crate::messages::message_of;
 use crate::version::Version;
 use fe_fields::u32_at;
 
-/// The bytes of a frame's length.
+/// The number of bytes in the length field of a frame.
 pub const LENGTH_BYTES: usize = 4;
 
-/// The least length of a frame, which is that of its kind alone.
+/// The least value of the length field: the kind alone.
 const SHORTEST: u32 = 1;
 
-/// What is known of a frame by the bytes that are there.
+/// What is known of a frame from the bytes that have come.
 pub enum Head {
-    /// More bytes are waited for.
+    /// More bytes are needed.
     Unfinished,
-    /// It is outside the grammar, whatever comes.
+    /// The frame is bad, whatever bytes follow.
     Bad,
-    /// The whole frame of this many bytes is there, and spells the message.
+    /// The frame is complete. It has this many bytes, and spells the message.
     Whole(usize, ClientMessage),
 }
 
+/// The length field at the front of a frame: the number of bytes after it. Its four bytes must be there.
 pub fn length_field(bytes: &[u8]) -> u32
     requires { 4 ≤ length bytes.now }
     ensures { result ≡ length_field bytes.now }
@@ -31,7 +32,7 @@ pub fn length_field(bytes: &[u8]) -> u32
     u32_at(bytes, 0)
 }
 
-/// The greatest length of a frame from a client.
+/// The greatest value of the length field in a frame from a client.
 fn longest(version: Version) -> u32
     ensures { result ≡ longest version }
 {
@@ -61,7 +62,7 @@ fn length_of_kind(version: Version, kind: u8) -> Option<u32>
     }
 }
 
-/// The head of the bytes; others may follow its frame.
+/// What the bytes begin with; more bytes may follow the frame.
 pub fn head_of(version: Version, bytes: &[u8]) -> Head
     ensures { IsHead version result bytes.now }
 {

@@ -1,34 +1,34 @@
-//! Laws of the grammar, which hold of streams and messages apart from any decoder.
+//! Laws of the grammar. They hold of streams and messages, independently of any decoder.
 
 ghost use Rattle.fe_wire.specs.Laws.{EachHasReading, HasOneReading, HasOneOutcome, HasOneSpelling, HasOneReplySpelling, HasOneReplyReading};
 
-/// Two readings of one stream in one version are one: its messages, and the rest after them.
+/// A stream has at most one reading in a version: its messages, and the rest after them.
 pub fn one_reading()
     ensures { HasOneReading }
 {}
 
-/// Each list of bytes has a reading in each version, so that its messages and its rest are a function of it.
+/// Every list of bytes has a reading in each version. So its messages and its rest are a function of the bytes.
 pub fn has_reading()
     ensures { EachHasReading }
 {}
 
-/// Two decoders of one version that have read one stream have the same messages, and are in the same position, however the
-/// stream was cut into pieces for each.
+/// Two decoders of one version that have read the same stream have the same messages and are in the same state,
+/// whatever the pieces.
 pub fn one_outcome()
     ensures { HasOneOutcome }
 {}
 
-/// No message's frame begins another's, and no two messages have one frame, whatever their versions.
+/// No message's frame is a prefix of another's, and no two messages have the same frame, whatever their versions.
 pub fn one_spelling()
     ensures { HasOneSpelling }
 {}
 
-/// No reply's frame begins another's, and no two replies have one frame.
+/// No reply's frame is a prefix of another's, and no two replies have the same frame.
 pub fn one_reply_spelling()
     ensures { HasOneReplySpelling }
 {}
 
-/// Bytes are the frames of one list of replies at most, so that what was written to a client is read in one way.
+/// Bytes are the frames of at most one list of replies, so a client can read in only one way what was written to it.
 pub fn one_reply_reading()
     ensures { HasOneReplyReading }
 {}

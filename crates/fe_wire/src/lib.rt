@@ -1,4 +1,4 @@
-//! Messages between clients and the server as frames of bytes.
+//! The frames that clients and the server exchange (`docs/formats.md`, "Frames").
 #![tactic(auto)]
 
 mod client_message;

@@ -98,6 +98,7 @@ fn call_frame(number: u64, request: &Request) -> Frame
     }
 }
 
+/// The frame of a message, at most 51 bytes.
 pub fn message_frame(message: &ClientMessage) -> Frame
     ensures spelled { result ≡ spelling message.now }
     ensures fits { Fits message.now }

@@ -1,4 +1,4 @@
-//! The messages of clients, from the bodies of their frames.
+//! Reading clients' messages from the bodies of their frames.
 
 ghost use Rattle.std.specs.Prelude.{◌≡◌};
 ghost use Rattle.fe_wire.specs.Reading.{create_of, find_of, access_of, plain_of, message_of};
@@ -55,7 +55,7 @@ fn access_of(no_wait: bool, body: &[u8]) -> Option<ClientMessage>
     ended(rest, ClientMessage::Call { number, request })
 }
 
-/// The message of a kind whose body is whole numbers, or nothing.
+/// The message of a kind whose body has only 8-byte numbers, or `None` if there is none.
 #[tactic(auto, unfolding(crate::specs::Reading::plain_of))]
 fn plain_of(kind: u8, body: &[u8]) -> Option<ClientMessage>
     ensures { result ≡ plain_of kind body.now }
@@ -85,7 +85,7 @@ fn plain_of(kind: u8, body: &[u8]) -> Option<ClientMessage>
     }
 }
 
-/// The message that a frame of this kind with this body spells, in whichever version.
+/// The message that a frame with this kind and body spells in either version, or `None` if there is none.
 #[tactic(auto, unfolding(crate::specs::Reading::message_of))]
 pub fn message_of(kind: u8, body: &[u8]) -> Option<ClientMessage>
     ensures { result ≡ message_of kind body.now }

@@ -7,19 +7,19 @@ use crate::fed::BadFrame;
 use crate::head::{Head, LENGTH_BYTES, head_of, length_field};
 use crate::version::Version;
 
-/// The bytes of the longest frame from a client.
+/// The length of the longest frame from a client, in bytes.
 pub const FRAME_BYTES: usize = 51;
 
 /// A decoder's position in its stream.
 #[derive(Clone, Copy)]
 pub struct Place {
-    /// Where the frame begins that the bytes held are of; 2^64 - 1 for places beyond.
+    /// The offset of the current frame's first byte, at most 2^64 - 1: offsets beyond that stay there.
     pub offset: u64,
-    /// The bytes of that frame, at the front.
+    /// The first `len` of these are the bytes of the current frame that have come.
     pub cells: [u8; FRAME_BYTES],
-    /// How many bytes are held.
+    /// How many bytes of the current frame are stored, at most 50.
     pub len: usize,
-    /// That frame is bad, and nothing of it is held.
+    /// The current frame is bad, and none of its bytes are stored.
     pub is_bad: bool,
     /// The version of the stream's frames.
     pub version: Version,
@@ -36,7 +36,7 @@ fn wanted(held: &[u8]) -> usize
 }
 
 impl Place {
-    /// Holds bytes of the piece as far as its frame is known to go, and says how many.
+    /// Copies bytes of the piece, up to the known end of the current frame, and returns how many.
     fn fill(&mut self, piece: &[u8]) -> usize
         requires place { IsPlace self.old }
         requires good { self.old.is_bad ≡ false }
@@ -58,7 +58,7 @@ impl Place {
         count
     }
 
-    /// `step` where bytes of the frame are held: it is read in the place.
+    /// `step` when bytes of the current frame are stored already: reads the frame in `cells`.
     fn step_in_place(&mut self, piece: &[u8]) -> (usize, Option<ClientMessage>)
         requires place { IsPlace self.old }
         requires good { self.old.is_bad ≡ false }
@@ -84,9 +84,9 @@ impl Place {
         }
     }
 
-    /// Reads on to the end of its frame, or of the piece, or to where the frame turns out bad: how
-    /// many bytes that took, and the message of the frame. A frame that is whole in the piece is
-    /// read there, and copied nowhere.
+    /// Reads to the end of the current frame, to the end of the piece, or to where the frame turns out bad. Returns
+    /// how many bytes it read, and the frame's message. A frame that is complete in the piece is read there, without
+    /// a copy.
     pub fn step(&mut self, piece: &[u8]) -> (usize, Option<ClientMessage>)
         requires place { IsPlace self.old }
         requires good { self.old.is_bad ≡ false }
@@ -116,7 +116,7 @@ impl Place {
         }
     }
 
-    /// The bad frame, where one has come.
+    /// The bad frame, if the decoder has come to one.
     pub fn fault(&self) -> Option<BadFrame>
         ensures { result ≡ fault_of (decoding self.now) }
     {

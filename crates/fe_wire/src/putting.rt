@@ -1,4 +1,4 @@
-//! Messages become bytes.
+//! Writing messages as bytes.
 
 ghost use Rattle.std.specs.Prelude.{◌≡◌, ◌+◌, ◌<◌, ◌++◌, length, OnOk, OnErr, vec_len, vec_capacity};
 ghost use Rattle.fe_wire.specs.Spelling.{spelling, reply_spelling, Fits, ReplyFits, HasRefusalCode};
@@ -12,13 +12,13 @@ use fe_mail::ReportText;
 use fe_state::Answer;
 use std::alloc::AllocError;
 
-/// Appends the frame of a message. `AllocError` where the spare room doesn't hold it and there is
-/// no memory for more; then nothing is appended.
+/// Appends the frame of a message. Fails only if the vector has no spare room for it and memory runs out; then
+/// nothing is appended.
 pub fn put_message(out: &mut Vec<u8>, message: &ClientMessage) -> Result<(), AllocError>
     ensures ok { OnOk result (out.new.items ≡ out.old.items ++ spelling message.now) }
     ensures err { OnErr result (out.new.items ≡ out.old.items) }
     ensures full { OnErr result (vec_capacity out.old < vec_len out.old + length (spelling message.now)) }
-    // What is put is in the grammar, so that it is read again.
+    // The message is in the grammar, so it can be read again.
     ensures fits { Fits message.now }
 {
     out.extend_from_slice(message_frame(message).bytes())
@@ -78,7 +78,7 @@ fn refused_frame(number: u64, code: u8) -> Frame
     frame
 }
 
-/// The text goes straight into `out`, after its length and kind, and not through a `Frame`.
+/// Writes the text directly to `out`, after the length and the kind, instead of through a `Frame`.
 fn put_report(out: &mut Vec<u8>, report: &ReportText) -> Result<(), AllocError>
     ensures ok { OnOk result (out.new.items ≡ out.old.items ++ reply_spelling (ServerMessage.Report report.now)) }
     ensures err { OnErr result (out.new.items ≡ out.old.items) }
@@ -94,14 +94,14 @@ fn put_report(out: &mut Vec<u8>, report: &ReportText) -> Result<(), AllocError>
     out.extend_from_slice(text)
 }
 
-/// Appends the frame of a reply, where a refusal's code is from 1 to 10. `AllocError` where the
-/// spare room doesn't hold it and there is no memory for more; then nothing is appended.
+/// Appends the frame of a reply. The code of a refusal must be 1 to 10. Fails only if the vector has no spare room
+/// for it and memory runs out; then nothing is appended.
 pub fn put_reply(out: &mut Vec<u8>, message: &ServerMessage) -> Result<(), AllocError>
     requires { HasRefusalCode message.now }
     ensures ok { OnOk result (out.new.items ≡ out.old.items ++ reply_spelling message.now) }
     ensures err { OnErr result (out.new.items ≡ out.old.items) }
     ensures full { OnErr result (vec_capacity out.old < vec_len out.old + length (reply_spelling message.now)) }
-    // What is put is in the grammar, so that it is read again.
+    // The reply is in the grammar, so it can be read again.
     ensures fits { ReplyFits message.now }
 {
     let frame = match message {

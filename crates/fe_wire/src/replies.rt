@@ -1,4 +1,4 @@
-//! The replies of the server, from their frames.
+//! Reading the server's replies from their frames.
 
 ghost use Rattle.std.specs.Prelude.{◌≡◌, Some, IfOk, IfSome, OnErr};
 ghost use Rattle.fe_wire.specs.Spelling.{reply_spelling, ReplyFits, IsReport};
@@ -39,7 +39,7 @@ fn refused_of(body: &[u8]) -> Option<ServerMessage>
     ended(rest, ServerMessage::Refused { number, code })
 }
 
-/// The reply that a frame of this kind with this body spells, where it is no report.
+/// The reply that a frame with this kind and body spells, unless it is a report.
 #[tactic(auto, unfolding(crate::specs::Reading::reply_of_kind))]
 fn reply_of_kind(kind: u8, body: &[u8]) -> Option<ServerMessage>
     ensures { result ≡ reply_of_kind kind body.now }
@@ -67,7 +67,7 @@ fn reply_of_kind(kind: u8, body: &[u8]) -> Option<ServerMessage>
     }
 }
 
-/// The report of these bytes, or `None` where they aren't 1 to 262,144 bytes of UTF-8.
+/// The report with this text, or `None` if it is not 1 to 262,144 bytes of UTF-8.
 fn report_of(alloc: Global, body: &[u8]) -> Result<Option<ServerMessage>, AllocError>
     ensures value { IfOk result (λ reply. reply ≡ report_of body.now) }
     ensures memory { OnErr result (ReplyFits (Reply.Report body.now)) }
@@ -82,7 +82,7 @@ fn report_of(alloc: Global, body: &[u8]) -> Result<Option<ServerMessage>, AllocE
     Ok(Some(ServerMessage::Report(ReportText::new(text))))
 }
 
-/// The kind and the body of a frame that is the bytes, all of them.
+/// The kind and the body, if the bytes are exactly one frame.
 #[tactic(auto, unfolding(crate::specs::Reading::parts_of))]
 fn parts_of(frame: &[u8]) -> Option<(u8, &[u8])>
     ensures { Gives (λ x. (x.0, x.1.now)) result (parts_of frame.now) }
@@ -95,14 +95,14 @@ fn parts_of(frame: &[u8]) -> Option<(u8, &[u8])>
     }
 }
 
-/// The reply that one whole frame spells, or `None` where it spells none. `AllocError` where
-/// there is no memory for a report's text.
+/// The reply that exactly one whole frame spells, or `None` if it spells none. Fails only if memory for a report's
+/// text runs out.
 pub fn read_reply(alloc: Global, frame: &[u8]) -> Result<Option<ServerMessage>, AllocError>
-    // What is read is spelled so.
+    // What is read has this frame.
     ensures found { IfOk result (λ reply. IfSome reply (λ m. ReplyFits m × (frame.now ≡ reply_spelling m))) }
-    // What is spelled so is read, so that `None` comes only outside the grammar.
+    // Every frame in the grammar is read, so `None` means that the bytes are outside it.
     ensures only { (m : Reply) → ReplyFits m → frame.now ≡ reply_spelling m → IfOk result (λ reply. reply ≡ Some m) }
-    // Memory is wanted for a report's text alone.
+    // Memory can run out only for the text of a report.
     ensures memory { OnErr result (IsReport frame.now) }
 {
     let Some((kind, body)) = parts_of(frame) else {

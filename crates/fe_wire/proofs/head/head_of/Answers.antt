@@ -10,7 +10,7 @@ is_true : (b : Bool) → false ≡ not b → b ≡ true
 is_true true e = refl
 is_true false e = absurd cc
 
--- a length that is not another is that of the kind
+-- the length equals the kind's if it does not differ from it
 known : (o : Option ℕ) (n : ℕ) → false ≡ not (option_eq eqb o (Some n)) → o ≡ Some n
 known None n e = absurd cc
 known (Some m) n e = ap (λ (k : ℕ). Some k) (eqb-true m n (is_true (eqb m n) e))

@@ -3,7 +3,7 @@ use Rattle.std.proofs.lemmas.Slice.{take-put_mid}
 use borrow.Rule.Slice.PartMut.{put_mid}
 use Rattle.fe_wire.proofs.place.Place.fill.Goals as goal
 
--- what is written after the front is held after it
+-- bytes written after the stored ones are stored after them
 filled : (len count k : ℕ) (cells piece new : List ℕ) → new ≡ take count piece → count ≤ length piece → len ≤ length cells → take (len + count) (put_mid len k cells new) ≡ take len cells ++ take count piece
 filled len count k cells piece new same fits room =
     let long : length new ≡ count = ap length same ∙ length-take-le count piece fits in

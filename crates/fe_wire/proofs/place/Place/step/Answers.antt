@@ -5,15 +5,15 @@ use Rattle.fe_wire.specs.declared.place.Place.{Place}
 use Rattle.fe_wire.proofs.Pieces.{goes_unfinished, goes_bad, goes_whole}
 use Rattle.fe_wire.proofs.place.Place.step.Goals as goal
 
--- nothing is held
+-- nothing is stored
 empty : (place : Place) → place.len ≤ 0 → held_of place ≡ []
 empty place none = let zero : place.len ≡ 0 = omega arith in ap (λ (n : ℕ). take n place.cells) zero
 
--- what is read after nothing is all that is read
+-- what is read after nothing is everything that was read
 alone : (held more piece : List ℕ) → held ≡ [] → piece ≡ more → piece ≡ held ++ more
 alone held more piece none same = same ∙ ap (λ (t : List ℕ). t ++ more) (sym none)
 
--- what was copied to the front is held
+-- the bytes copied to the front are stored
 front : (piece copied others : List ℕ) → copied ≡ piece → take (length piece) (copied ++ others) ≡ piece
 front piece copied others same = ap (λ (t : List ℕ). take (length piece) (t ++ others)) same ∙ take_at piece others (length piece) refl
 
