@@ -1,4 +1,4 @@
--- Words that `clap` takes ask for one command.
+-- A command line that `clap` accepts asks for one command.
 use Rattle.std.proofs.Common.{◌≡◌, ◌<◌, ◌&&◌, ◌||◌, inl, inr, Bool, true, false, not, cond, refl, sym, subst, arith, ℕ, List, [], ◌∷◌, length, length-append, codes, Option, Some, None, is_some}
 use Rattle.std.specs.Prelude.{⊤, IfSome, find, fold, option_and_then, option_map, slice_get}
 use Rattle.std.specs.List.{AllByRecursion}
@@ -43,7 +43,7 @@ not_left_out : (given : Bool) → (not given || (false || false)) ≡ false → 
 not_left_out true e = refl
 not_left_out false e = absurd cc
 
--- the program above the commands, and one of them with an option, when they are built
+-- the program above the commands, and a command with an option, once they are built
 abbrev above : Shape
 above = with_leaf_noted (marked_built femem.top)
 
@@ -66,7 +66,7 @@ no_defaults (a ∷ rules) rows none h =
     cond_both (has_row a.id rows) rows (default_rows a.id (reading_by a) a.defaults rows) AreFilled (λ e. h) (λ e. subst (λ (d : List Text). AreFilled (default_rows a.id (reading_by a) d rows)) (sym none.0) h) in
     no_defaults rules (with_default rows a) none.1 one
 
--- what a command with an option leaves has the value of the option
+-- a command with an option has the option's value after the parse
 leaf_value : (name id : Text) (words : List Text) → level_fault (leaf name id) [] nothing_held words false [] ≡ [] → is_some (first_of id (rows_after (leaf name id).rules [] words)) ≡ true
 leaf_value name id words e =
     let s : Shape = leaf name id in
@@ -80,7 +80,7 @@ leaf_value name id words e =
 
 -- ---- the program
 
--- what a walk stops at, or a step is, is not the command `help`
+-- a walk does not stop at the command `help`, and a step does not enter it
 abbrev IsNoHelp : Option (Text × List Text) → Type 0
 IsNoHelp stopped = IfSome stopped (λ p. bytes_eq p.0 (codes "help") ≡ false)
 
@@ -180,7 +180,7 @@ in_front : (name : Text) (s : Shape) (others : List Shape) (P : Option Shape →
     → P (find (λ k. answers_to name (label_of k)) others) → P (find (λ k. answers_to name (label_of k)) (s ∷ others))
 in_front name s others P here behind = cond_both (answers_to name (label_of s)) (Some s) (find (λ k. answers_to name (label_of k)) others) P here (λ other. behind)
 
--- a command that was entered with no fault, and is not `help`, asks for something
+-- a command that was entered without a fault, and is not `help`, asks for something
 abbrev Asks : List Text → Option Shape → Type 0
 Asks words o = option_map_or (λ s. level_fault s [] nothing_held words false []) o [] ≡ [] → is_some (option_map (λ s. rows_at s words) o) ≡ true → is_asked (option_map (λ s. rows_at s words) o) ≡ true
 

@@ -1,4 +1,4 @@
--- A level of a parse that has no fault leaves a value in each of its rows.
+-- A level of a parse without a fault leaves a value in each of its rows.
 use Rattle.std.proofs.Common.{◌≡◌, ◌<◌, ◌&&◌, ℕ, Bool, true, false, zero, suc, cond, refl, List, [], ◌∷◌, ◌++◌, length, drop, Option, Some, None, is_some}
 use Rattle.std.specs.Prelude.{IfSome, encode_utf8, find, fold, slice_get}
 use Rattle.std.specs.List.{AllByRecursion}
@@ -20,7 +20,7 @@ both_none (k ∷ ks) b e = absurd cc
 abbrev pub AreFilled : List Row → Type 0
 AreFilled = AllByRecursion (λ r. 0 < length r.values)
 
--- a use with no fault leaves them so
+-- a use without a fault keeps them so
 abbrev pub Fills : Rule → Type 0
 Fills a = (again : Bool) (values : List Text) (rows : List Row) → use_fault again a values rows ≡ [] → AreFilled rows → AreFilled (used a values rows)
 
@@ -32,7 +32,7 @@ pub at_filled : (id : Text) (change : Row → List Row) (missing rows : List Row
 at_filled id change missing [] each p h = p
 at_filled id change missing (r ∷ rs) each p h = cond_both (bytes_eq r.id id) _ _ AreFilled (λ e. append_filled (change r) rs (each r h.0) h.1) (λ e. (h.0, at_filled id change missing rs each p h.1))
 
--- what a search finds is one of the list
+-- what a search finds is in the list
 pub found : {X : Type 0} (P : X → Type 0) (p : X → Bool) (xs : List X) → AllByRecursion P xs → IfSome (find p xs) P
 found P p [] all = tt
 found P p (x ∷ xs) all = cond_both (p x) (Some x) (find p xs) (λ o. IfSome o P) (λ e. all.0) (λ e. found P p xs all.1)

@@ -6,7 +6,7 @@ use Rattle.clap.specs.Simple.{on_top}
 use Rattle.fe_options.specs.declared.command_line.Invocation.{Invocation}
 use Rattle.fe_options.specs.declared.command_line.Invocation.TheVariants.{Run, Serve, Call, Look}
 
--- an option that has to be given, with one value
+-- a required option with one value
 abbrev pub option_rule : Text → Rule
 option_rule name = record (new_rule name) { long = Some name; value_names = 1; required = true }
 
@@ -14,11 +14,11 @@ option_rule name = record (new_rule name) { long = Some name; value_names = 1; r
 abbrev pub with_option : Text → Text → App
 with_option name option = with_rule (new_app name) (option_rule option)
 
--- the program, which needs a command
+-- the program, which requires a command
 abbrev pub program : App
 program = on_top (λ s. record s { has_version = true; subcommand_required = true }) (new_app (codes "femem"))
 
--- with `run`, which has no option
+-- the program with `run`, which has no option
 abbrev pub program_with_run : App
 program_with_run = with_subcommand program (new_app (codes "run")).top
 
@@ -32,19 +32,19 @@ femem =
     (with_option (codes "call") (codes "socket")).top)
     (with_option (codes "look") (codes "store")).top
 
--- a command of this name, where this was found of its options, asks for it
+-- the command with this name and these option values asks for this
 abbrev pub IsCommand : Invocation → Text → List Row → Type 0
 IsCommand Run name found = name ≡ codes "run"
 IsCommand (Serve settings) name found = (name ≡ codes "serve") × (first_of (codes "settings") found ≡ Some settings.now)
 IsCommand (Call socket) name found = (name ≡ codes "call") × (first_of (codes "socket") found ≡ Some socket.now)
 IsCommand (Look store) name found = (name ≡ codes "look") × (first_of (codes "store") found ≡ Some store.now)
 
--- the command that was met, with what was found of its options, asks for it
+-- the command that was entered, with its option values, asks for this
 abbrev pub IsAsked : Invocation → Option (Text × List Row) → Type 0
 IsAsked asked None = ⊥
 IsAsked asked (Some met) = IsCommand asked met.0 met.1
 
--- a command of this name, where this was found of its options, asks for something
+-- the command with this name and these option values asks for something
 abbrev pub is_complete : Text → List Row → Bool
 is_complete name found =
     if bytes_eq name (codes "run") then true
@@ -53,7 +53,7 @@ is_complete name found =
     else if bytes_eq name (codes "look") then is_some (first_of (codes "store") found)
     else false
 
--- the command that was met asks for something
+-- the command that was entered asks for something
 abbrev pub is_asked : Option (Text × List Row) → Bool
 is_asked None = false
 is_asked (Some met) = is_complete met.0 met.1

@@ -15,39 +15,39 @@ use Rattle.fe_options.specs.declared.settings_fault.SettingsFault.TheVariants as
 abbrev pub value_of : Key → Members → Option Data
 value_of k document = get_member (name_of k) document
 
--- the text at a key; nothing where there is none
+-- the text at a key; None if there is none
 abbrev pub text_of : Key → Members → Option (List ℕ)
 text_of k document = option_and_then as_str (value_of k document)
 
--- the number that an integer is, within bounds
+-- the integer as a number, if it is within the bounds
 abbrev pub within : ℕ → ℕ → ℤ → Option ℕ
 within least most (pos n) = if nat_le least n && nat_le n most then Some n else None
 within least most other = None
 
--- the number that a value is, within bounds
+-- the value as a number, if it is an integer within the bounds
 abbrev pub number_in : ℕ → ℕ → Data → Option ℕ
 number_in least most value = option_and_then (within least most) (as_integer value)
 
--- the number at a key, and the usual one where the key is absent; nothing where another value is there
+-- the number at a key, or the default if the key is absent; None if the value is not a number within the bounds
 abbrev pub number_under : Key → ℕ → ℕ → ℕ → Members → Option ℕ
 number_under k least most usual document = option_map_or (number_in least most) (value_of k document) (Some usual)
 
--- whether a flag is set, which it isn't where the key is absent; nothing where another value is there
+-- the flag at a key, or false if the key is absent; None if the value is not a boolean
 abbrev pub flag_under : Key → Members → Option Bool
 flag_under k document = option_map_or as_bool (value_of k document) (Some false)
 
--- a setting has this name
+-- there is a setting with this name
 abbrev pub is_known : List ℕ → Bool
 is_known name =
     bytes_eq name (codes "socket") || (bytes_eq name (codes "store") || (bytes_eq name (codes "connections")
     || (bytes_eq name (codes "format") || (bytes_eq name (codes "accepts") || bytes_eq name (codes "turns")))))
 
--- all keys are those of settings
+-- every key is the name of a setting
 abbrev pub has_known_keys : Members → Bool
 has_known_keys no_members = true
 has_known_keys (member name value others) = is_known name && has_known_keys others
 
--- These settings are those of the document, which has no other key.
+-- These are the settings of the document, which has no other keys.
 pub record IsSettingsOf (document : Members) (s : Settings) : Type 0 where
   pub socket : text_of key.Socket document ≡ Some (string_bytes s.socket)
   pub store : text_of key.Store document ≡ Some (string_bytes s.store)
@@ -69,7 +69,7 @@ IsWrong key.Turns document = number_under key.Turns 1 (2 ^ 40) 1000000000 docume
 abbrev pub IsRight : Key → Members → Type 0
 IsRight k document = IsWrong k document → ⊥
 
--- the settings of texts, those before the flag, those before the turns, and all of them are right
+-- the two texts are right; also the connections; also the flag and the accepts
 abbrev pub AreTextsRight : Members → Type 0
 AreTextsRight document = IsRight key.Socket document × IsRight key.Store document
 
@@ -79,7 +79,7 @@ AreFirstRight document = AreTextsRight document × IsRight key.Connections docum
 abbrev pub AreMostRight : Members → Type 0
 AreMostRight document = AreFirstRight document × (IsRight key.Format document × IsRight key.Accepts document)
 
--- the keys before this one, in the order in which they are looked at, are right
+-- the keys that are checked before this one are right
 abbrev pub AreRightBefore : Key → Members → Type 0
 AreRightBefore key.Socket document = Unit {0}
 AreRightBefore key.Store document = IsRight key.Socket document
@@ -88,14 +88,16 @@ AreRightBefore key.Format document = AreFirstRight document
 AreRightBefore key.Accepts document = AreFirstRight document × IsRight key.Format document
 AreRightBefore key.Turns document = AreMostRight document
 
--- The document is refused for this: its first wrong key, and where none is wrong, a key that is none of the settings.
+-- The document is refused with this fault: its first wrong key, or, if no key is wrong, that it has a key outside the
+-- settings. A lack of memory says nothing about the document.
 abbrev pub RefusesDocument : Members → SettingsFault → Type 0
 RefusesDocument document (fault.Setting k) = IsWrong k document × AreRightBefore k document
 RefusesDocument document fault.UnknownKey = (has_known_keys document ≡ false) × (AreMostRight document × IsRight key.Turns document)
 RefusesDocument document fault.Memory = Unit {0}
 RefusesDocument document fault.NotToml = ⊥
 
--- The text is refused for this: it is no document, or its document is refused. A lack of memory says nothing of it.
+-- The text is refused with this fault: it is not a document, or its document is refused. A lack of memory says
+-- nothing about the text.
 abbrev pub RefusesText : List ℕ → SettingsFault → Type 0
 RefusesText text fault.NotToml = parse_document text ≡ None
 RefusesText text fault.Memory = Unit {0}

@@ -1,4 +1,4 @@
-//! The words of the command line.
+//! The command line.
 
 ghost use Rattle.std.specs.Prelude.{◌≡◌, ◌⊎◌, false, map, is_some, IfSome, IfOk, IfErr, Ok, option_map};
 ghost use Rattle.clap.specs.Words.{AddsSubcommand, HasKind, app_of, fault_of, first_of, found_of, kind_of, rows_of, subcommand_of, subcommand_rows_of};
@@ -14,7 +14,7 @@ use std::convert::AsStr;
 /// The version that `femem --version` prints.
 const VERSION: &str = "1.0.0";
 
-/// What help says of each command.
+/// What the help says about each command.
 const RUN: &str = "Runs a schedule from standard input";
 
 const SERVE: &str = "Serves clients at a socket";
@@ -28,15 +28,15 @@ const LOOK: &str = "Shows what is in a store";
 pub enum Invocation<'a> {
     /// Run a schedule from standard input.
     Run,
-    /// Serve by the settings in a file.
+    /// Serve with the settings in this file.
     Serve { settings: &'a str },
-    /// Send the lines of standard input to a server's socket.
+    /// Send the lines of standard input to the server at this socket.
     Call { socket: &'a str },
-    /// Show what is in the store in a file.
+    /// Show what is in the store in this file.
     Look { store: &'a str },
 }
 
-/// A command with one option, which has to be given.
+/// A command with one required option.
 fn with_option<'a>(
     alloc: Global,
     name: &'a str,
@@ -56,7 +56,7 @@ fn with_option<'a>(
     Command::new(alloc, name).about(about).arg(option)
 }
 
-/// A program with a command more.
+/// A program with one more command.
 fn with<'a>(
     program: Command<'a>,
     command: Result<Command<'a>, AllocError>,
@@ -73,7 +73,7 @@ fn with<'a>(
     }
 }
 
-/// The program, with its one command that takes no option.
+/// The program with `run`, its only command without an option.
 fn program_with_run<'a>(alloc: Global) -> Result<Command<'a>, AllocError>
     ensures { IfOk result (λ command. app_of command ≡ program_with_run) }
 {
@@ -121,14 +121,14 @@ fn error_of(alloc: Global, kind: ErrorKind, text: &str) -> Result<Error, AllocEr
     error
 }
 
-/// The value that was found for an option.
+/// The value given for an option.
 fn value_of<'a>(found: &ArgMatches<'a>, option: &str) -> Option<&'a str>
     ensures { option_map (λ value. value.now) result ≡ first_of option.now (rows_of (found_of found.now)) }
 {
     found.get_str(option)
 }
 
-/// What a command of this name asks for with what was found of its option.
+/// What the command with this name and these option values asks for.
 fn asked<'a>(name: &str, found: &ArgMatches<'a>) -> Option<Invocation<'a>>
     ensures some { IfSome result (λ asked. IsCommand asked name.now (rows_of (found_of found.now))) }
     ensures complete { is_some result ≡ is_complete name.now (rows_of (found_of found.now)) }
@@ -158,12 +158,12 @@ fn asked_by<'a>(matches: &ArgMatches<'a>) -> Option<Invocation<'a>>
     asked(name, found)
 }
 
-/// What a command line asks for; its first word is the program's name. The error says what is wrong
-/// with the words, or has the help or the version that was asked for.
+/// What a command line asks for; its first word is the program's name. The error says what is wrong with the words,
+/// or contains the help or the version that was asked for, or says that memory ran out.
 pub fn arguments<'a, S: AsStr>(alloc: Global, words: &'a [S]) -> Result<Invocation<'a>, Error>
-    // It is the command that `clap` finds in the words, with the value that it finds for its option.
+    // It is the command that `clap` finds in the words, with the value of its option.
     ensures asked { IfOk result (λ asked. IsAsked asked (subcommand_of femem (map S.text words.entry.now))) }
-    // The words are refused only as `clap` refuses them: what it accepts asks for one command.
+    // Every error is one of `clap`: words that it accepts ask for a command.
     ensures refused { IfErr result (HasKind (fault_of femem (map S.text words.entry.now))) }
 {
     let program = commands(alloc)?;
@@ -176,7 +176,7 @@ pub fn arguments<'a, S: AsStr>(alloc: Global, words: &'a [S]) -> Result<Invocati
     }
 }
 
-/// The error of a command line that is no text.
+/// The error for a command line that is not UTF-8, or for a lack of memory.
 pub fn not_text(alloc: Global) -> Error
     ensures { (kind_of result ≡ ErrorKind.InvalidValue) ⊎ (kind_of result ≡ ErrorKind.OutOfMemory) }
 {

@@ -15,7 +15,7 @@ pub enum Key {
 }
 
 impl Key {
-    /// The name in a document of settings.
+    /// The name of the key in a settings document.
     pub fn name(self) -> &'static str
         ensures { result.now ≡ name_of self }
     {

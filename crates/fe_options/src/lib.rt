@@ -1,4 +1,4 @@
-//! What `femem` is asked for: the words of its command line, and the settings of a server.
+//! The program's command line, and a server's settings.
 #![tactic(auto)]
 
 mod command_line;

@@ -1,4 +1,4 @@
-//! The settings of a server are read (`docs/settings.md`).
+//! Reading the settings of a server (`docs/settings.md`).
 
 ghost use Rattle.std.specs.Prelude.{◌≡◌, Some, IfOk, IfErr, option_map};
 ghost use Rattle.toml.specs.Data.{Members};
@@ -12,15 +12,15 @@ use crate::settings_fault::SettingsFault;
 use std::alloc::Global;
 use toml::{Table, Value};
 
-/// How many connections are served at once at most, and how many where the settings don't say.
+/// The maximum number of connections served at once, and the default.
 const CONNECTIONS: u64 = 256;
 
 const USUAL_CONNECTIONS: u64 = 64;
 
-/// How many connections a server may count before it ends.
+/// The maximum of `accepts`.
 const ACCEPTS: u64 = 65_536;
 
-/// How often one connection may be read, and how often where the settings don't say.
+/// The maximum of `turns`, and the default.
 const TURNS: u64 = 1 << 40;
 
 const USUAL_TURNS: u64 = 1_000_000_000;
@@ -40,7 +40,7 @@ fn text_at<'a>(table: &'a Table, key: Key) -> Option<&'a str>
     value.as_str()
 }
 
-/// The number that a value is, where it is within these bounds.
+/// The value as a number, if it is an integer within these bounds.
 fn number_in(value: &Value, least: u64, most: u64) -> Option<u64>
     ensures { result ≡ number_in least most (view value.now) }
 {
@@ -56,7 +56,7 @@ fn number_in(value: &Value, least: u64, most: u64) -> Option<u64>
     }
 }
 
-/// The number at a key, within these bounds, or the usual one where the key is absent.
+/// The number at a key, or `usual` if the key is absent. `None` if the value is not an integer within these bounds.
 fn number_under(table: &Table, key: Key, least: u64, most: u64, usual: u64) -> Option<u64>
     ensures { result ≡ number_under key least most usual (table_view table.now) }
 {
@@ -66,7 +66,7 @@ fn number_under(table: &Table, key: Key, least: u64, most: u64, usual: u64) -> O
     }
 }
 
-/// Whether a flag is set; it isn't where the key is absent.
+/// The flag at a key, or `false` if the key is absent. `None` if the value is not a boolean.
 fn flag_under(table: &Table, key: Key) -> Option<bool>
     ensures { result ≡ flag_under key (table_view table.now) }
 {
@@ -76,7 +76,7 @@ fn flag_under(table: &Table, key: Key) -> Option<bool>
     }
 }
 
-/// Whether a setting has this name.
+/// Whether there is a setting with this name.
 fn is_known(name: &str) -> bool
     ensures { result ≡ is_known name.now }
 {
@@ -88,7 +88,7 @@ fn is_known(name: &str) -> bool
         || name == "turns"
 }
 
-/// Whether each key is that of a setting.
+/// Whether every key is the name of a setting.
 fn has_known_keys(table: &Table) -> bool
     ensures { result ≡ has_known_keys (table_view table.now) }
 {
@@ -140,9 +140,9 @@ fn settings_in(alloc: Global, table: &Table) -> Result<Settings, SettingsFault>
     })
 }
 
-/// Reads the settings in a text (`docs/settings.md`). `NotToml` where the text is no document; else `Setting` at the first
-/// key, in the order of the fields, that has to be there and isn't or has a value that it may not have; else
-/// `UnknownKey` if there is any other key.
+/// Reads the settings from a text (`docs/settings.md`). The error is `NotToml` if the text is not a TOML document;
+/// otherwise `Setting` with the first key, in the order of the fields, that is required and missing or has a wrong
+/// value; otherwise `UnknownKey` if there is any other key; or `Memory` if memory runs out.
 pub fn read_settings(alloc: Global, text: &str) -> Result<Settings, SettingsFault>
     ensures settings { IfOk result (λ settings. (document : Members) × (parse_document text.now ≡ Some document)
         × IsSettingsOf document settings) }

@@ -1,18 +1,18 @@
-//! How a server is run.
+//! A server's settings.
 
-/// How a server is run (`docs/settings.md`).
+/// A server's settings (`docs/settings.md`).
 #[derive(Drop, PartialEq, Eq)]
 pub struct Settings {
-    /// The path of the socket.
+    /// The path of the Unix socket.
     pub socket: String,
     /// The path of the store's file.
     pub store: String,
-    /// How many connections are served at once, 1 to 256.
+    /// The maximum number of connections served at once, 1 to 256.
     pub connections: u64,
-    /// Whether a store that is missing or unformatted is formatted.
+    /// Whether to make a store if the file is missing or holds none.
     pub format: bool,
-    /// After how many connections the server ends, up to 65,536; it doesn't where this is 0.
+    /// The number of connections after which the server ends, 1 to 65,536; with 0 it never ends by itself.
     pub accepts: u64,
-    /// How often one connection may be read, 1 to 2^40.
+    /// The maximum number of reads of one connection, 1 to 2^40.
     pub turns: u64,
 }

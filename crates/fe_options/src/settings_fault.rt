@@ -1,14 +1,14 @@
 use crate::key::Key;
 
-/// Why no settings are read (`docs/settings.md`).
+/// Why settings were not read (`docs/settings.md`).
 #[derive(Clone, Copy, PartialEq, Eq)]
 pub enum SettingsFault {
-    /// The setting has to be there and isn't, or has a value that it may not have.
+    /// The setting is required and missing, or has a wrong value.
     Setting(Key),
-    /// There is a key that is none of the settings.
+    /// There is a key outside the settings.
     UnknownKey,
-    /// The text is no document of TOML.
+    /// The text is not a TOML document.
     NotToml,
-    /// There is no memory.
+    /// Memory ran out.
     Memory,
 }

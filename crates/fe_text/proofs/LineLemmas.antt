@@ -1,4 +1,4 @@
--- The lines of bytes, one after the other.
+-- The lines of bytes, one after another.
 use Rattle.std.proofs.Common.{◌≡◌, ℕ, zero, suc, ◌+◌, ◌-◌, ◌<◌, Bool, true, false, List, [], ◌∷◌, ◌++◌, None, Some, length, take, take_all, drop, get_or, refl, sym, ap, subst, ◌∙◌, eqb, ltb, cond, arith, if◌then◌else◌}
 use Rattle.std.specs.Prelude.{position}
 use Rattle.std.specs.List.{position_or_len}
@@ -11,13 +11,13 @@ use Rattle.std.proofs.lemmas.List.{take-append-drop, length-drop}
 use Rattle.std.proofs.lemmas.List.Quantifiers.{position-Some}
 use Rattle.fe_text.specs.Lines.{before_first, lines_of, HasNoFeed}
 
--- no byte of a front is a line feed
+-- no byte of the prefix is a line feed
 front_no_feed : (n : ℕ) (xs : List ℕ) → ((k : ℕ) → k < n → eqb (get_or xs k 0) 10 ≡ false) → HasNoFeed (take n xs)
 front_no_feed zero xs none = tt
 front_no_feed (suc n) [] none = tt
 front_no_feed (suc n) (x ∷ xs) none = (none 0 (omega arith), front_no_feed n xs (λ k lt. none (suc k) (omega (arith, lt))))
 
--- where no place of one was found, there is none
+-- if no line feed was found, there is none
 pub none_found : (xs : List ℕ) → None ≡ position (λ (byte : ℕ). eqb byte 10) xs → HasNoFeed xs
 none_found xs is = at (ltb (position_or_len (λ (byte : ℕ). eqb byte 10) xs) (length xs)) refl is
   where
@@ -27,11 +27,11 @@ none_found xs is = at (ltb (position_or_len (λ (byte : ℕ). eqb byte 10) xs) (
         let le = ltb-false (position_or_len (λ (byte : ℕ). eqb byte 10) xs) (length xs) e in
         subst HasNoFeed (take_all (length xs) xs (omega arith)) (front_no_feed (length xs) xs (λ k lt. fails_before_first (λ (byte : ℕ). eqb byte 10) xs k 0 (omega (arith, le, lt))))
 
--- the first one has none before it
+-- there is none before the first one
 pub before_found : (xs : List ℕ) (i : ℕ) → Some i ≡ position (λ (byte : ℕ). eqb byte 10) xs → HasNoFeed (take i xs)
 before_found xs i is = front_no_feed i xs (position-Some (λ (byte : ℕ). eqb byte 10) xs i 0 (sym is)).2
 
--- and parts the bytes
+-- and it splits the bytes
 pub at_found : (xs : List ℕ) (i : ℕ) → Some i ≡ position (λ (byte : ℕ). eqb byte 10) xs → xs ≡ take i xs ++ 10 ∷ take (length xs - (i + 1)) (drop (i + 1) xs)
 at_found xs i is =
     let p = position-Some (λ (byte : ℕ). eqb byte 10) xs i 0 (sym is) in
@@ -44,21 +44,21 @@ pub both_no_feed : (xs ys : List ℕ) → HasNoFeed xs → HasNoFeed ys → HasN
 both_no_feed [] ys p q = q
 both_no_feed (x ∷ xs) ys p q = (p.0, both_no_feed xs ys p.1 q)
 
--- a byte that is no line feed begins the first line
+-- a byte that is not a line feed begins the first line
 first_byte : (x : ℕ) (ls more : List (List ℕ)) → eqb x 10 ≡ false → (if eqb x 10 then more else before_first x ls) ≡ before_first x ls
 first_byte x ls more other = ap (λ (b : Bool). if b then more else before_first x ls) other
 
--- what precedes a line feed is a line
+-- the bytes before a line feed are a line
 pub fed : (xs others : List ℕ) → HasNoFeed xs → lines_of (xs ++ 10 ∷ others) ≡ xs ∷ lines_of others
 fed [] others none = refl
 fed (x ∷ xs) others none = first_byte x (lines_of (xs ++ 10 ∷ others)) ([] ∷ lines_of (xs ++ 10 ∷ others)) none.0 ∙ ap (before_first x) (fed xs others none.1)
 
--- the last line may lack it
+-- the last line may end without one
 pub unfed : (x : ℕ) (xs : List ℕ) → HasNoFeed (x ∷ xs) → lines_of (x ∷ xs) ≡ (x ∷ xs) ∷ []
 unfed x [] none = first_byte x [] ([] ∷ []) none.0
 unfed x (y ∷ xs) none = first_byte x (lines_of (y ∷ xs)) ([] ∷ lines_of (y ∷ xs)) none.0 ∙ ap (before_first x) (unfed y xs none.1)
 
--- the first line begins with what precedes the first line feed
+-- the first line begins with the bytes before the first line feed
 pub begins : (x : ℕ) (xs others : List ℕ) → HasNoFeed (x ∷ xs) → (more : List ℕ) × (left : List (List ℕ)) × (lines_of ((x ∷ xs) ++ others) ≡ ((x ∷ xs) ++ more) ∷ left)
 begins x [] others none = at (lines_of others) refl
   where

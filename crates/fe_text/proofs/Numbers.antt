@@ -1,4 +1,4 @@
--- The number that a word is the decimal digits of.
+-- The number whose decimal digits a word is.
 use Rattle.std.proofs.Common.{◌≡◌, ◌≢◌, ℕ, ◌<◌, ◌^◌, Bool, true, false, ◌&&◌, cond, List, [], ◌∷◌, length, get_or, Some, None, Result, Ok, Err, sym, refl, ap, ◌∙◌, subst, inl, inr, ⊎_elim, arith, rules, nat_lt, zero, suc, ◌⊎◌}
 use Rattle.std.specs.Fmt.{decimal}
 use Rattle.std.specs.Result.{result_ok, OkIff}
@@ -37,7 +37,7 @@ parts true true e = (refl, refl)
 parts true false e = absurd (false≢true e)
 parts false b e = absurd (false≢true e)
 
--- the digits of a number are read as it
+-- the decimal digits of a number are read as that number
 pub spelled : (word : List ℕ) (n : ℕ) → n < 2 ^ 64 → word ≡ decimal n → number_of word ≡ Some n
 unfolding number_of
 spelled word n small e =
@@ -46,7 +46,7 @@ spelled word n small e =
     let below : nat_lt (digits_value 10 word) (2 ^ 64) ≡ true = rw value (search (rules, nat_tests)) in
     chosen _ (digits_value 10 word) (both _ _ below same) ∙ ap Some value
 
--- what is no number's digits is no number
+-- a word that is not the decimal digits of a number is not a number
 unspelled : (word : List ℕ) → ((n : ℕ) → n < 2 ^ 64 → word ≡ decimal n → ⊥) → number_of word ≡ None
 unfolding number_of
 unspelled word d =
@@ -56,7 +56,7 @@ unspelled word d =
 pub empty : (word : List ℕ) → length word ≡ 0 → number_of word ≡ None
 empty word e = unspelled word (λ n small w. let some = decimal_nonempty n small in let len = ap length w in absurd (omega arith))
 
--- a number is 0, or begins with another digit
+-- the digits of a number are "0", or the first digit is not 0
 first : (n : ℕ) → n < 2 ^ 64 → (decimal n ≡ 48 ∷ []) ⊎ (48 < get_or (decimal n) 0 0)
 first zero small = inl (decimal_digit 0 (omega arith))
 first (suc n) small = inr (first_decimal (suc n) (omega arith) small)

@@ -1,18 +1,18 @@
--- What is said of a result, and what follows from it.
+-- Statements about a result, and what follows from them.
 use Rattle.std.proofs.Common.{◌≡◌, Option, Some, None, Result, Ok, Err, OnOk, OnErr, ap}
 use Rattle.std.specs.Prelude.{IfErr, IsErrAnd, IfNone, MatchResult}
 
--- what holds where a result is `Ok` gives what follows from it
+-- what follows from a statement about an `Ok` holds of an `Ok`
 pub then_ok : {A E : Type 0} (r : Result A E) {P Q : Type 0} → (P → Q) → OnOk r P → OnOk r Q
 then_ok (Ok x) f p = f p
 then_ok (Err e) f p = tt
 
--- each of two
+-- both of two
 pub ok_both : {A E : Type 0} (r : Result A E) (P Q : Type 0) → OnOk r P → OnOk r Q → OnOk r (P × Q)
 ok_both (Ok x) P Q p q = (p, q)
 ok_both (Err e) P Q p q = tt
 
--- what holds in any case holds where a result is `Ok`
+-- what always holds also holds of an `Ok`
 pub always : {A E : Type 0} (r : Result A E) {P : Type 0} → P → OnOk r P
 always (Ok x) p = p
 always (Err e) p = tt
@@ -30,7 +30,7 @@ pub match_of : {A E : Type 0} (r : Result A E) (P : Type 0) (Q : E → Type 0) �
 match_of (Ok x) P Q p q = p
 match_of (Err e) P Q p q = q
 
--- a result is the `Err` that was handed on
+-- the result is the `Err` that was passed on
 pub failed : {A E : Type 0} (r : Result A E) (e : E) → IsErrAnd r (λ f. f ≡ e) → r ≡ Err e
 failed (Ok x) e p = absurd p
 failed (Err f) e p = ap (λ g. Err g) p

@@ -1,4 +1,4 @@
--- What a writer holds after a part of a text more.
+-- The contents of a writer after one more part of a text.
 use Rattle.std.proofs.Common.{◌≡◌, ℕ, ◌+◌, ◌-◌, ◌≤◌, List, ◌++◌, Option, length, take, drop, sym, ap, subst, ◌∙◌, arith}
 use Rattle.std.proofs.lemmas.List.{take-take, take-append-drop, drop-take}
 use Rattle.std.proofs.KnownBytes.{Appends-trans}

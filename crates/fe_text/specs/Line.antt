@@ -35,13 +35,13 @@ plain_in word =
     else if bytes_eq word (codes "report") then Some message.Report
     else None
 
--- a message that is made of the number which the word says
+-- a message made from the number in the word
 abbrev made_of : (ℕ → ClientMessage) → List ℕ → Option ClientMessage
 made_of make word = do
   number ← number_of word
   Some (make number)
 
--- NUMBER, and then a request
+-- NUMBER, then a request
 abbrev call_in : List ℕ → List ℕ → Option ClientMessage
 call_in word words = do
   number ← number_of word
@@ -56,17 +56,17 @@ numbered_in first words =
     else if bytes_eq first (codes "settle") then made_of (λ floor. message.Settle floor) words
     else call_in first words
 
--- The message that the bytes say.
+-- The message that the bytes spell.
 unfoldable pub message_in : List ℕ → Option ClientMessage
 message_in words = option_map_or (λ parts. numbered_in parts.0 parts.1) (words_at words) (plain_in words)
 
--- a message of this connection
+-- a message from this connection
 abbrev message_of : ℕ → List ℕ → Option Line
 message_of conn words = do
   told ← message_in words
   Some (Message conn told)
 
--- what follows the name of a connection
+-- the line after the name of its connection
 unfoldable pub told_in : ℕ → List ℕ → Option Line
 told_in conn words = if bytes_eq words (codes "gone") then Some (Gone conn) else message_of conn words
 
@@ -76,13 +76,13 @@ named_in name words = do
   conn ← conn_of name
   told_in conn words
 
--- The line that the bytes say. No line has more than 99 bytes.
+-- The line that the bytes spell. No line has more than 99 bytes.
 unfoldable pub parsed : List ℕ → Option Line
 parsed bytes =
     if nat_lt 99 (length bytes) then None
     else option_map_or (λ parts. named_in parts.0 parts.1) (words_at bytes) (control_in bytes)
 
--- what the line says has a frame
+-- the line's message has a frame
 abbrev pub LineFits : Line → Type 0
 LineFits (Message conn told) = Fits told
 LineFits (Gone conn) = Unit {0}

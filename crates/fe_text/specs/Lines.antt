@@ -1,23 +1,23 @@
--- The lines of an input, and what is read of it.
+-- The lines of an input, and what a read takes from it.
 use Rattle.std.specs.Prelude.{◌≡◌, ℕ, ◌<◌, ◌≤◌, List, [], ◌∷◌, length, take, Option, None, Some, false, ◌==◌, if◌then◌else◌}
 use Rattle.std.specs.Io.KnownBytes.{Keeps, Consumes, IsAtEnd}
 
--- the byte at the front of the first line
+-- the lines with this byte before the first one
 abbrev pub before_first : ℕ → List (List ℕ) → List (List ℕ)
 before_first byte [] = (byte ∷ []) ∷ []
 before_first byte (line ∷ lines) = (byte ∷ line) ∷ lines
 
--- The lines of the bytes. A line feed ends each; the last one may lack it.
+-- The lines of the bytes. Each ends with a line feed; the last one may end without.
 abbrev pub lines_of : List ℕ → List (List ℕ)
 lines_of [] = []
 lines_of (byte ∷ bytes) = if byte == 10 then [] ∷ lines_of bytes else before_first byte (lines_of bytes)
 
--- no line feed is among the bytes
+-- there is no line feed among the bytes
 abbrev pub HasNoFeed : List ℕ → Type 0
 HasNoFeed [] = Unit {0}
 HasNoFeed (byte ∷ bytes) = ((byte == 10) ≡ false) × HasNoFeed bytes
 
--- what a read gave of the bytes that are left, if it was not interrupted
+-- what a read took from the bytes that are left, or None if it was interrupted
 abbrev pub ReadsSome : Option (List ℕ) → Option (List ℕ) → List ℕ → Option ℕ → Type 0
 ReadsSome old new piece None = Keeps old new
 ReadsSome old new piece (Some count) = (count ≤ length piece) × Consumes old new (take count piece) × (count ≡ 0 → 0 < length piece → IsAtEnd new)

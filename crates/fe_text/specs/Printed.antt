@@ -21,7 +21,7 @@ answer_text BadName = codes "bad-name"
 answer_text BadLength = codes "bad-length"
 answer_text NotNow = codes "not-now"
 
--- the name of the refusal of each code in frames
+-- the name of the refusal with this code
 unfoldable pub refusal_text : ℕ → List ℕ
 refusal_text code =
     if code == 1 then codes "not-attached"
@@ -35,7 +35,7 @@ refusal_text code =
     else if code == 9 then codes "spent"
     else codes "not-waiting"
 
--- the name of a connection and a space, and nothing where it has no name
+-- the name of a connection and a space, or nothing without a connection
 abbrev pub name_text : Option ℕ → List ℕ
 name_text None = []
 name_text (Some conn) = codes "c" ++ (decimal conn ++ codes " ")
@@ -44,7 +44,7 @@ name_text (Some conn) = codes "c" ++ (decimal conn ++ codes " ")
 abbrev pub report_line : Option ℕ → List ℕ → List ℕ
 report_line conn line = name_text conn ++ (line ++ codes "\n")
 
--- The line for a reply to a connection, with its line feed, or of a report a line for each of its lines.
+-- The line for a reply to a connection, with its line feed; for a report, each of its lines.
 unfoldable pub printed : Option ℕ → ServerMessage → List ℕ
 printed conn (server.Welcome session floor) =
     name_text conn ++ (codes "welcome " ++ (decimal session ++ (codes " " ++ (decimal floor ++ codes "\n"))))

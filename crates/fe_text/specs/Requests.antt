@@ -1,4 +1,4 @@
--- The requests of a line.
+-- The requests of a schedule's lines.
 use Rattle.std.specs.Prelude.{ℕ, ◌^◌, ◌<◌, ◌≤◌, length, List, codes, Bool, true, false, Option, Some, None, if◌then◌else◌}
 use Rattle.std.specs.Option.{option_map_or}
 use Rattle.std.specs.Str.{bytes_eq}
@@ -10,7 +10,7 @@ use Rattle.fe_codes.specs.Codes.{operand_of}
 use Rattle.fe_codes.specs.Binding.{◌>>=◌}
 use Rattle.fe_text.specs.Words.{words_at, number_of, small_number_of, name_in, tag_named}
 
--- the operation of that name, if it has no operand
+-- the operation with this name, if it has no operand
 unfoldable pub op_named : List ℕ → Option Op
 op_named word =
     if bytes_eq word (codes "readfe") then Some ReadFe
@@ -19,7 +19,7 @@ op_named word =
     else if bytes_eq word (codes "purge") then Some Purge
     else None
 
--- the operation of that name with this operand
+-- the operation with this name and operand, if it has an operand
 unfoldable pub writing_op_named : List ℕ → ℕ → Option Op
 writing_op_named word operand =
     if bytes_eq word (codes "writeef") then Some (WriteEf operand)
@@ -28,7 +28,7 @@ writing_op_named word operand =
     else if bytes_eq word (codes "int_fetch_add") then Some (IntFetchAdd operand)
     else None
 
--- each field of the request fits the bytes that its frame has for it
+-- each field of the request fits into its bytes in the frame
 abbrev pub RequestFits : Request → Type 0
 RequestFits (Create name size tag) = (length name ≤ 32) × (size < 2 ^ 32)
 RequestFits (Find name) = length name ≤ 32
@@ -45,7 +45,7 @@ create_in words = do
   tag ← tag_named size.1
   Some (Create bytes length_of tag)
 
--- NAME in one word
+-- NAME, which is one word
 abbrev find_named : List ℕ → Option Request
 find_named word = do
   name ← name_in word
@@ -60,15 +60,15 @@ remove_in words = do
   array ← number_of words
   Some (Remove array)
 
--- what precedes the word nowait
+-- the words before the word nowait
 abbrev flagged_in : List ℕ → List ℕ → Option (List ℕ × Bool)
 flagged_in word flag = if bytes_eq flag (codes "nowait") then Some (word, true) else None
 
--- the last word without a following nowait, and whether there is one
+-- the last word without the nowait after it, and whether there is one
 unfoldable pub last_in : List ℕ → Option (List ℕ × Bool)
 last_in words = option_map_or (λ parts. flagged_in parts.0 parts.1) (words_at words) (Some (words, false))
 
--- ARRAY INDEX, and perhaps nowait
+-- ARRAY INDEX, with or without nowait
 unfoldable pub access_in : Op → List ℕ → Option Request
 access_in op words = do
   parts ← words_at words
@@ -77,7 +77,7 @@ access_in op words = do
   index ← small_number_of last.0
   Some (Access array index op last.1)
 
--- ARRAY INDEX OPERAND, and perhaps nowait
+-- ARRAY INDEX OPERAND, with or without nowait
 unfoldable pub writing_access_in : List ℕ → List ℕ → Option Request
 writing_access_in name words = do
   parts ← words_at words
@@ -89,7 +89,8 @@ writing_access_in name words = do
   op ← writing_op_named name operand
   Some (Access array index op last.1)
 
--- an access of this operation, which has no operand, or one of the name, which has one
+-- an access by the operation, if it was found without an operand, and otherwise by the one with this name and an
+-- operand
 unfoldable pub access_named : Option Op → List ℕ → List ℕ → Option Request
 access_named (Some op) name words = access_in op words
 access_named None name words = writing_access_in name words

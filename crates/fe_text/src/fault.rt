@@ -1,8 +1,8 @@
 /// Why a stream was not read or written to its end.
 #[derive(Clone, Copy, PartialEq, Eq)]
 pub enum StreamFault {
-    /// It can't be read or written further.
+    /// It can't be read or written any further.
     Input,
-    /// There is no memory.
+    /// Memory ran out.
     Memory,
 }

@@ -11,7 +11,7 @@ fn feed_in(bytes: &[u8]) -> Option<usize>
     bytes.iter().position(|byte| *byte == b'\n')
 }
 
-/// The bytes before the first line feed and those after it, if there is one.
+/// The bytes before the first line feed and those after it, or `None` if there is no line feed.
 pub fn first_line(bytes: &[u8]) -> Option<(&[u8], &[u8])>
     ensures parts { IfSome result (λ p. bytes.entry.now ≡ p.0.now ++ 10 ∷ p.1.now) }
     ensures first { IfSome result (λ p. HasNoFeed p.0.now) }

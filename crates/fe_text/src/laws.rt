@@ -1,6 +1,6 @@
 ghost use Rattle.fe_text.specs.RefusalNames.{PrintsTheirNames};
 
-/// A refusal is printed by the name that the front gives it.
+/// The name printed for a refusal's code is the refusal's name.
 pub fn refusals_print_their_names()
     ensures { PrintsTheirNames }
 {}

@@ -1,4 +1,4 @@
-//! The text of `femem`: the lines that say messages, the lines that replies are printed as, and the streams of both.
+//! The text that `femem` reads and prints: schedule lines, printed replies, and the streams for both.
 #![tactic(auto)]
 
 mod fault;

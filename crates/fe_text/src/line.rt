@@ -8,10 +8,10 @@ use crate::request::request_in;
 use crate::word::{number_of, says, word_at};
 use fe_wire::ClientMessage;
 
-/// How many bytes the longest line has.
+/// The length of the longest line, in bytes, without its line feed.
 pub const LONGEST: usize = 99;
 
-/// The greatest number of a connection.
+/// The greatest number of a connection; the least is 1.
 const CONNECTIONS: u64 = 999;
 
 /// A line of a schedule.
@@ -19,19 +19,19 @@ const CONNECTIONS: u64 = 999;
 pub enum Line {
     /// A connection sends a message.
     Message { conn: u64, message: ClientMessage },
-    /// A connection goes.
+    /// A connection ends.
     Gone { conn: u64 },
-    /// Nothing is stored and posted from here on.
+    /// From here on nothing is stored or posted.
     Hold,
     /// What is pending is stored and posted, and a hold ends.
     Flush,
-    /// The server stops and is opened again, and a hold ends.
+    /// The server stops and its store is opened again; a hold ends.
     Stop,
     /// A whole checkpoint is made.
     Check,
 }
 
-/// The number of the connection of that name, `c1` to `c999`.
+/// The number of the connection with this name, `c1` to `c999`.
 #[tactic(auto, unfolding(crate::specs::Line::conn_of))]
 fn conn_of(word: &[u8]) -> Option<u64>
     ensures { result ≡ conn_of word.now }
@@ -102,8 +102,8 @@ fn numbered_in(first: &[u8], words: &[u8]) -> Option<ClientMessage>
     Some(ClientMessage::Call { number, request })
 }
 
-/// The message that these bytes say: a line of a schedule without the name of its connection. None of them has more than
-/// 94 bytes.
+/// The message that the bytes spell: a line of a schedule without the name of its connection, at most 94 bytes.
+/// `None` if they spell none.
 #[tactic(auto, unfolding(crate::specs::Line::message_in))]
 pub fn message_in(words: &[u8]) -> Option<ClientMessage>
     ensures message { result ≡ message_in words.now }
@@ -115,7 +115,7 @@ pub fn message_in(words: &[u8]) -> Option<ClientMessage>
     }
 }
 
-/// What follows the name of a connection.
+/// The line after the name of its connection.
 #[tactic(auto, unfolding(crate::specs::Line::told_in))]
 fn told_in(conn: u64, words: &[u8]) -> Option<Line>
     ensures line { result ≡ told_in conn words.now }
@@ -128,8 +128,8 @@ fn told_in(conn: u64, words: &[u8]) -> Option<Line>
     Some(Line::Message { conn, message })
 }
 
-/// The line that these bytes say, without a line feed, with single spaces between the words. `None` for any other
-/// bytes, and for more than 99, which no line has.
+/// The line that the bytes spell, without a line feed, with single spaces between words. `None` if they spell none,
+/// as always with more than 99 bytes.
 #[tactic(auto, unfolding(crate::specs::Line::parsed))]
 pub fn parse(bytes: &[u8]) -> Option<Line>
     ensures line { result ≡ parsed bytes.now }

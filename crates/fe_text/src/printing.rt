@@ -28,7 +28,8 @@ fn print_answer(text: &mut String, answer: &Answer) -> Result<(), AllocError>
     }
 }
 
-/// Prints a reply: a line, or a line for each of a report. Each begins with the name of the connection, if it has one.
+/// Prints a reply as a line, or a report as one line for each of its lines. Each line begins with the name of the
+/// connection, if there is one. Fails only if memory runs out; part of the reply may then be in `text`.
 #[tactic(auto, unfolding(crate::specs::Printed::printed))]
 pub fn print_reply(
     text: &mut String,
@@ -79,7 +80,7 @@ fn print_name(text: &mut String, conn: Option<u64>) -> Result<(), AllocError>
     }
 }
 
-/// Prints each line of a report after the name of the connection.
+/// Prints each line of a report, preceded by the name of the connection.
 fn print_report(text: &mut String, conn: Option<u64>, report: &str) -> Result<(), AllocError>
     ensures { OnOk result (string_bytes text.new
         ≡ string_bytes text.old ++ flat_map (report_line conn) (lines report.now)) }
@@ -91,7 +92,7 @@ fn print_report(text: &mut String, conn: Option<u64>, report: &str) -> Result<()
     Ok(())
 }
 
-/// The name of the refusal of that code.
+/// The name of the refusal with this code, 1 to 10.
 #[tactic(auto, unfolding(crate::specs::Printed::refusal_text))]
 fn refusal_name(code: u8) -> &'static str
     ensures { result.now ≡ refusal_text code }

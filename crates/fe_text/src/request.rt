@@ -1,4 +1,4 @@
-//! The requests of a line.
+//! The requests of a schedule's lines.
 
 ghost use Rattle.std.specs.Prelude.{◌≡◌, IfSome};
 ghost use Rattle.std.specs.Option.{option_map};
@@ -8,7 +8,7 @@ use crate::word::{name_in, number_of, says, small_number_of, tag_named, word_at}
 use fe_state::Request;
 use fe_words::Op;
 
-/// The operation of that name, if it has no operand.
+/// The operation with this name, if it has no operand.
 #[tactic(auto, unfolding(crate::specs::Requests::op_named))]
 fn op_named(word: &[u8]) -> Option<Op>
     ensures { result ≡ op_named word.now }
@@ -26,7 +26,7 @@ fn op_named(word: &[u8]) -> Option<Op>
     }
 }
 
-/// The operation of that name with this operand.
+/// The operation with this name and operand, if it has an operand.
 #[tactic(auto, unfolding(crate::specs::Requests::writing_op_named))]
 fn writing_op_named(word: &[u8], operand: u64) -> Option<Op>
     ensures { result ≡ writing_op_named word.now operand }
@@ -58,7 +58,7 @@ fn create_in(words: &[u8]) -> Option<Request>
     Some(Request::Create { name, length, tag })
 }
 
-/// `NAME`, which is one word.
+/// `NAME`, one word.
 #[tactic(auto, unfolding(crate::specs::Requests::find_in))]
 fn find_in(words: &[u8]) -> Option<Request>
     ensures request { result ≡ find_in words.now }
@@ -83,7 +83,7 @@ fn remove_in(words: &[u8]) -> Option<Request>
     Some(Request::Remove { array })
 }
 
-/// The last word, without a `nowait` after it, and whether there is one.
+/// The last word without the `nowait` after it, and whether there is one.
 #[tactic(auto, unfolding(crate::specs::Requests::last_in))]
 fn last_in(words: &[u8]) -> Option<(&[u8], bool)>
     ensures { option_map (λ p. (p.0.now, p.1)) result ≡ last_in words.entry.now }
@@ -139,7 +139,8 @@ fn writing_access_in(name: &[u8], words: &[u8]) -> Option<Request>
     })
 }
 
-/// `create NAME LENGTH full|empty`, `find NAME`, `remove A`, `OP A I` or `OP A I V`, an access perhaps with `nowait`.
+/// `create NAME LENGTH full|empty`, `find NAME`, `remove A`, `OP A I` or `OP A I V`, the last two with or without
+/// `nowait`.
 #[tactic(auto, unfolding(crate::specs::Requests::request_in, crate::specs::Requests::access_named))]
 pub(crate) fn request_in(words: &[u8]) -> Option<Request>
     ensures request { result ≡ request_in words.now }

@@ -1,4 +1,4 @@
-//! Pieces of a stream, and text to one.
+//! Reading a stream in pieces, and writing text to one.
 
 ghost use Rattle.std.specs.Prelude.{◌≡◌, ◌↔◌, ℕ, [], length, string_bytes, take, vec_len, IfOk, IfErr, OnOk};
 ghost use Rattle.std.specs.IoError.{error_kind};
@@ -9,16 +9,16 @@ use crate::fault::StreamFault;
 use std::alloc::Global;
 use std::io::{Error, ErrorKind, Read, Write};
 
-/// How often a stream is read at most.
+/// The maximum number of reads of a stream.
 pub const READS: u64 = 1 << 40;
 
-/// How many bytes one read takes at most.
+/// The maximum number of bytes in one read.
 pub const PIECE: usize = 65536;
 
-/// How often a stream is written at most for one text.
+/// The maximum number of writes for one text.
 const WRITES: u64 = 1 << 40;
 
-/// The fault of a stream that gave this error: `Memory` where it took none, else `Input`.
+/// The fault for a stream's error: `Memory` if memory ran out, otherwise `Input`.
 pub fn stream_fault(error: Error) -> StreamFault
     ensures { (result ≡ StreamFault.Memory) ↔ (error_kind error ≡ ErrorKind.OutOfMemory) }
 {
@@ -29,7 +29,7 @@ pub fn stream_fault(error: Error) -> StreamFault
     }
 }
 
-/// What reads write into, with `count` bytes.
+/// A buffer of `count` bytes for reads. Fails only with `Memory`.
 pub fn buffer(alloc: Global, count: usize) -> Result<Vec<u8>, StreamFault>
     ensures len { IfOk result (λ piece. vec_len piece ≡ count) }
     ensures err { IfErr result (λ fault. fault ≡ StreamFault.Memory) }
@@ -37,7 +37,8 @@ pub fn buffer(alloc: Global, count: usize) -> Result<Vec<u8>, StreamFault>
     vec![in alloc; 0; count].map_err(|_| StreamFault::Memory)
 }
 
-/// How many bytes a read gave, 0 at the end. `None` where it was interrupted.
+/// Reads once, and returns how many bytes were read, 0 at the end of the stream. `None` means that a signal
+/// interrupted the read. If the read fails, nothing was taken from the stream.
 pub fn read_once<R: Read>(reader: &mut R, piece: &mut [u8]) -> Result<Option<usize>, StreamFault>
     ensures reads { IfOk result (ReadsSome (R.remaining reader.old) (R.remaining reader.new) piece.new) }
     ensures len { length piece.new ≡ length piece.old }
@@ -54,7 +55,8 @@ pub fn read_once<R: Read>(reader: &mut R, piece: &mut [u8]) -> Result<Option<usi
     }
 }
 
-/// Writes the text, or where the writer fails, a front of it.
+/// Writes the whole text. If the writer fails, a prefix of the text is written. A write of no bytes, or 2^40 writes
+/// that don't finish the text, are faults of the writer.
 pub fn write_text<W: Write>(writer: &mut W, text: &[u8]) -> Result<(), StreamFault>
     ensures ok { OnOk result (Appends (W.contents writer.old) (W.contents writer.new) text.now) }
     ensures front { (count : ℕ) × Appends (W.contents writer.old) (W.contents writer.new) (take count text.now) }
@@ -77,7 +79,7 @@ pub fn write_text<W: Write>(writer: &mut W, text: &[u8]) -> Result<(), StreamFau
     Err(StreamFault::Input)
 }
 
-/// Writes the text, and empties it. Where the writer fails, a front of it is written.
+/// Writes the whole text, and empties it in any case. If the writer fails, a prefix of the text is written.
 pub fn write_out<W: Write>(text: &mut String, writer: &mut W) -> Result<(), StreamFault>
     ensures ok { OnOk result (Appends (W.contents writer.old) (W.contents writer.new) (string_bytes text.old)) }
     ensures front { (count : ℕ)

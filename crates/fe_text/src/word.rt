@@ -1,4 +1,4 @@
-//! The words of a line: how they are parted, and what each may say.
+//! The words of a line: how a line is split, and what each word may spell.
 
 ghost use Rattle.std.specs.Prelude.{◌≡◌, ◌<◌, ◌==◌, length, position, IfSome};
 ghost use Rattle.std.specs.Option.{option_map};
@@ -18,7 +18,7 @@ fn space_in(line: &[u8]) -> Option<usize>
     line.iter().position(|byte| *byte == SPACE)
 }
 
-/// The word before the first space, and what follows that space.
+/// The word before the first space and the bytes after the space, or `None` if there is no space.
 #[tactic(auto, unfolding(crate::specs::Words::words_at))]
 pub(crate) fn word_at(line: &[u8]) -> Option<(&[u8], &[u8])>
     ensures { option_map (λ p. (p.0.now, p.1.now)) result ≡ words_at line.entry.now }
@@ -27,14 +27,14 @@ pub(crate) fn word_at(line: &[u8]) -> Option<(&[u8], &[u8])>
     Some((&line[..at], &line[at + 1..]))
 }
 
-/// Whether the word is that text.
+/// Whether the word is this text.
 pub(crate) fn says(word: &[u8], text: &str) -> bool
     ensures { result ≡ bytes_eq word.now text.now }
 {
     word == text.as_bytes()
 }
 
-/// The number that the word is the decimal digits of.
+/// The number below 2^64 whose decimal digits the word is, without leading zeros.
 #[tactic(auto, using(crate::proofs::Numbers::empty, crate::proofs::Numbers::sign, crate::proofs::Numbers::zeros, crate::proofs::Numbers::no_text, crate::proofs::Numbers::parsed))]
 pub(crate) fn number_of(word: &[u8]) -> Option<u64>
     ensures { result ≡ number_of word.now }
@@ -49,7 +49,7 @@ pub(crate) fn number_of(word: &[u8]) -> Option<u64>
     text.parse::<u64>().ok()
 }
 
-/// The same of a number below 2^32.
+/// The same for a number below 2^32.
 #[tactic(auto, unfolding(crate::specs::Words::small_number_of))]
 pub(crate) fn small_number_of(word: &[u8]) -> Option<u32>
     ensures { result ≡ small_number_of word.now }
@@ -61,7 +61,7 @@ pub(crate) fn small_number_of(word: &[u8]) -> Option<u32>
     Some(number as u32)
 }
 
-/// The word as a name, which has 1 to 32 bytes of any kind.
+/// The word as a name: 1 to 32 bytes of any kind.
 #[tactic(auto, unfolding(crate::specs::Words::name_in))]
 pub(crate) fn name_in(word: &[u8]) -> Option<Name>
     ensures { result ≡ name_in word.now }

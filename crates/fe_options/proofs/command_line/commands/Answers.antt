@@ -11,7 +11,7 @@ use Rattle.fe_options.proofs.command_line.commands.Goals as goal
 abbrev top_of : App → Shape
 top_of a = a.top
 
--- a program with a command that was made
+-- a program with a command that was built
 with_made : {E : Type 0} (old more : Command) (before : App) (name option : Text) (made : Result Command E)
     → IfOk made (λ command. app_of command ≡ with_option name option)
     → IfOk made (λ command. (fields_of command).has_globals ≡ false)
