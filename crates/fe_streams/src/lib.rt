@@ -1,4 +1,4 @@
-//! One call of a stream, tried again where a signal interrupted it: over any reader and any writer.
+//! One read or write of any stream, repeated if a signal interrupts it.
 #![tactic(auto)]
 
 ghost use Rattle.std.specs.Prelude.{◌≡◌, ◌≤◌, length, IfOk};
@@ -6,14 +6,15 @@ ghost use Rattle.std.specs.Io.KnownBytes.{ReadConsumes, WriteAppends};
 
 use std::io::{ErrorKind, Read, Write};
 
-/// How often a call that was interrupted is tried.
+/// How often an interrupted call is tried.
 const TRIES: u64 = 1 << 40;
 
-/// A read or a write failed, for another reason than a signal.
+/// A read or a write failed, for a reason other than a signal, or a signal interrupted 2^40 tries.
 #[derive(Clone, Copy, PartialEq, Eq)]
 pub struct Failed;
 
-/// Reads some bytes into the front of the buffer, and says how many; none only where the stream has ended or the buffer has no room.
+/// Reads at least one byte into the front of the buffer and returns how many; returns 0 only at the end of the stream
+/// or if the buffer is empty.
 pub fn read_some<R: Read>(reader: &mut R, buffer: &mut [u8]) -> Result<usize, Failed>
     ensures fits { IfOk result (λ count. count ≤ length buffer.old) }
     ensures consumed { ReadConsumes (R.remaining reader.old) (R.remaining reader.new) result buffer.new }
@@ -31,7 +32,7 @@ pub fn read_some<R: Read>(reader: &mut R, buffer: &mut [u8]) -> Result<usize, Fa
     Err(Failed)
 }
 
-/// Writes some bytes from the front, and says how many.
+/// Writes bytes from the front, and returns how many.
 pub fn write_some<W: Write>(writer: &mut W, bytes: &[u8]) -> Result<usize, Failed>
     ensures fits { IfOk result (λ count. count ≤ length bytes.now) }
     ensures wrote { WriteAppends (W.contents writer.old) (W.contents writer.new) result bytes.now }

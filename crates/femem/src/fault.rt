@@ -10,53 +10,52 @@ use fe_store::OpenFault;
 use fe_text::StreamFault;
 use thiserror::Error;
 
-/// Why a command ended before its end. The text is the line on standard error.
+/// Why a command failed. The text is the line on standard error.
 #[derive(Clone, Copy, Debug, PartialEq, Eq, Error)]
 pub(crate) enum Fault {
-    /// The line of that number, counted from 1, isn't in the syntax.
+    /// The line with this number, counted from 1, is outside the syntax.
     #[error("femem: line {0}")]
     Line(u64),
     /// The input can't be read to its end, or the output can't be written.
     #[error("femem: input")]
     Input,
-    /// There is no memory.
+    /// Memory ran out.
     #[error("femem: memory")]
     Memory,
-    /// There is no file of the store, or its device failed.
+    /// The store's file is missing, or its device failed.
     #[error("femem: store device")]
     Device,
-    /// The store's file has this size, which no store has.
+    /// The store's file has this many bytes, which is not the size of a store.
     #[error("femem: store size {0}")]
     Size(u64),
     /// No slot of the store is valid.
     #[error("femem: store unformatted")]
     Unformatted,
-    /// The slot of the store that counts is wrong at this offset (`docs/formats.md`, "Device").
+    /// The slot that counts is damaged at this offset on the device (`docs/formats.md`, "Journal area").
     #[error("femem: store damaged at {0}")]
     Damaged(usize),
-    /// The setting has to be there and isn't, or has a value that it may not have (`docs/settings.md`).
+    /// The setting is required and missing, or has a wrong value (`docs/settings.md`).
     #[error("femem: settings: {0}")]
     Setting(Key),
-    /// The settings have a key that is none of theirs.
+    /// There is a key outside the settings.
     #[error("femem: settings: unknown key")]
     UnknownKey,
-    /// The settings are no document of TOML.
+    /// The settings are not a TOML document.
     #[error("femem: settings: not toml")]
     NotToml,
-    /// The file of the settings can't be read as text.
+    /// The settings file can't be read, or is not UTF-8.
     #[error("femem: settings: unreadable")]
     Unreadable,
-    /// The socket can't be made, or a server at its other end broke off or broke the rules of frames.
+    /// The socket can't be made, or the server at the other end broke the connection or the rules of frames.
     #[error("femem: socket")]
     Socket,
-    /// A layer below answered what a right one never answers.
+    /// A lower layer returned what a correct one never returns.
     #[error("femem: strange")]
     Strange,
 }
 
 impl Fault {
-    /// The status that the program ends with: 2 where the input, the output or the settings are at fault, 4 where the
-    /// socket is, else 3.
+    /// The exit status: 2 for a fault of the input, the output or the settings, 4 for one of the socket, otherwise 3.
     pub(crate) fn status(self) -> u8
         ensures { result ≡ status_of self }
     {

@@ -1,5 +1,5 @@
-//! The program `femem`: `run` runs a schedule from standard input to standard output, `serve` serves a store at a socket, `call`
-//! sends standard input to a server, and `look` shows what is in a store.
+//! The program `femem`: `run` runs a schedule from standard input, `serve` serves a store at a socket, `call` sends lines
+//! from standard input to a server, and `look` shows what is in a store.
 #![tactic(auto)]
 
 ghost use Rattle.std.specs.Prelude.{◌≡◌, ℕ, take, is_ok, IfOk, IfErr, OnOk};
@@ -36,17 +36,17 @@ use std::thread::Threads;
 use std::time::Clock;
 use std::{fs, io};
 
-/// The status where the words of a command line are wrong.
+/// The exit status for a wrong command line.
 const USAGE: u8 = 2;
 
-/// The status where memory is short.
+/// The exit status if memory runs out.
 const SHORT: u8 = 3;
 
 /// The descriptor of standard error, the last of the three standard streams.
 const STANDARD_ERROR: i32 = 2;
 
-/// Puts an unconnected socket in the place of each standard stream that is closed: each read and write of it fails. Otherwise the
-/// next socket would get that descriptor, and a server would be sent what is meant for standard output.
+/// Replaces each closed standard stream by an unconnected socket, so that every read and write of it fails. Otherwise
+/// the next socket would get that descriptor, and a server would receive what is meant for standard output.
 fn hold_closed_streams() {
     for _stream in 0..=STANDARD_ERROR {
         let fd = unsafe { c::socket(c::AF_UNIX, c::SOCK_STREAM | c::SOCK_CLOEXEC, 0) };
@@ -57,7 +57,7 @@ fn hold_closed_streams() {
     }
 }
 
-/// The words of the command line. The error says that they are no text, or that memory is short.
+/// The words of the command line. The error says that they are not UTF-8, or that memory ran out.
 fn words<R: Env + AllocGlobal>(rt: &R) -> Result<Vec<String>, Error> {
     match std::env::args(rt) {
         Ok(args) => Ok(args.collect::<Vec<String>>(rt.alloc())?),
@@ -87,7 +87,7 @@ fn start<R: Runtime + Files<File = File> + Net + Threads + Wait + Sync + AllocGl
     Ok(())
 }
 
-/// Runs the schedule that the reader gives, over a disk in memory.
+/// Runs the schedule from the reader, on a disk in memory.
 fn run_by<R: Read, W: Write>(alloc: Global, reader: &mut R, writer: &mut W) -> Result<(), Fault> {
     let Ok(disk) = MemoryDisk::new(alloc, STORE) else {
         return Err(Fault::Memory);
@@ -97,7 +97,7 @@ fn run_by<R: Read, W: Write>(alloc: Global, reader: &mut R, writer: &mut W) -> R
     Ok(ended?)
 }
 
-/// Serves by the settings in a file, and writes the books at the end.
+/// Serves with the settings in a file, and writes the books at the end.
 fn serve_by<R: Files<File = File> + Net + Clock + Threads + Wait + Sync + AllocGlobal, W: Write>(
     rt: &R,
     path: &str,
@@ -124,7 +124,7 @@ fn settings_at<R: Files + AllocGlobal>(rt: &R, path: &str) -> Result<Settings, F
     }
 }
 
-/// Writes the books, or where the writer fails, a front of their text.
+/// Writes the books. If the writer fails, a prefix of their text is written.
 fn show_books<W: Write>(alloc: Global, books: &Books, writer: &mut W) -> Result<(), StreamFault>
     ensures ok { OnOk result (Appends (W.contents writer.old) (W.contents writer.new) (books_text books.now)) }
     ensures front { (count : ℕ)
@@ -136,7 +136,7 @@ fn show_books<W: Write>(alloc: Global, books: &Books, writer: &mut W) -> Result<
     }
 }
 
-/// The status of a command, whose fault is printed on standard error.
+/// The exit status of a command, after printing its fault on standard error.
 fn ended_with(rt: &impl Eprint, ended: Result<(), Fault>) -> u8
     ensures { result ≡ command_status ended }
 {
@@ -146,7 +146,7 @@ fn ended_with(rt: &impl Eprint, ended: Result<(), Fault>) -> u8
     }
 }
 
-/// Tells a fault on standard error, and gives its status.
+/// Prints a fault on standard error, and returns its exit status.
 fn end(rt: &impl Eprint, fault: Fault) -> u8
     ensures { result ≡ status_of fault }
 {
@@ -154,7 +154,8 @@ fn end(rt: &impl Eprint, fault: Fault) -> u8
     fault.status()
 }
 
-/// Shows the help that was asked for, or tells what is wrong with the words on standard error.
+/// Prints the help or the version that was asked for, or what is wrong with the words on standard error, and returns
+/// the exit status.
 fn refuse(rt: &(impl Print + Eprint), error: &Error) -> u8
     ensures { IsWordsStatus (kind_of error.now) result }
 {
@@ -165,7 +166,7 @@ fn refuse(rt: &(impl Print + Eprint), error: &Error) -> u8
     shown_with(rt, error.kind(), shown)
 }
 
-/// The status of help that was shown, or of words that were told to be wrong. Help that can't be written is a fault.
+/// The exit status after printing help or an error about the words. Help that can't be written is a fault.
 fn shown_with(rt: &impl Eprint, kind: ErrorKind, shown: io::Result<()>) -> u8
     ensures { result ≡ shown_status kind (is_ok shown) }
 {
@@ -176,7 +177,7 @@ fn shown_with(rt: &impl Eprint, kind: ErrorKind, shown: io::Result<()>) -> u8
     status
 }
 
-/// The status where the words of a command line are not those of a command.
+/// The exit status if the words don't ask for a command.
 fn status_of_words(kind: ErrorKind) -> u8
     ensures { result ≡ words_status kind }
 {

@@ -1,4 +1,4 @@
--- The program's faults: what each command's fault is among them, and the statuses that they end the program with.
+-- The program's faults: how the faults of each command are mapped to them, and the exit status for each.
 use Rattle.std.specs.Prelude.{ℕ}
 use Rattle.fe_client.specs.declared.fault.CallFault.{CallFault}
 use Rattle.fe_client.specs.declared.fault.CallFault.TheVariants as call
@@ -19,7 +19,7 @@ use Rattle.fe_text.specs.declared.fault.StreamFault.TheVariants as stream
 use Rattle.femem.specs.declared.fault.Fault.{Fault}
 use Rattle.femem.specs.declared.fault.Fault.TheVariants as fault
 
--- 2 where the input, the output or the settings are at fault, 4 where the socket is, else 3
+-- 2 for a fault of the input, the output or the settings, 4 for one of the socket, otherwise 3
 abbrev pub status_of : Fault → ℕ
 status_of (fault.Line number) = 2
 status_of fault.Input = 2
@@ -60,20 +60,20 @@ abbrev pub of_look : LookFault → Fault
 of_look (look.Store why) = of_store why
 of_look (look.Stream why) = of_stream why
 
--- no settings were read
+-- settings were not read
 abbrev pub of_settings : SettingsFault → Fault
 of_settings (settings.Setting key) = fault.Setting key
 of_settings settings.UnknownKey = fault.UnknownKey
 of_settings settings.NotToml = fault.NotToml
 of_settings settings.Memory = fault.Memory
 
--- an opened store was served, and the server stopped for a fault
+-- a server that had opened its store stopped because of a fault
 abbrev pub of_stop : StopFault → Fault
 of_stop stop.Device = fault.Device
 of_stop stop.Memory = fault.Memory
 of_stop stop.Strange = fault.Strange
 
--- a server ended with no books
+-- a server ended without books
 abbrev pub of_serve : ServeFault → Fault
 of_serve (serve.Store why) = of_store why
 of_serve serve.Socket = fault.Socket

@@ -1,4 +1,4 @@
--- What serving by the settings in a file gives.
+-- What serving with the settings in a file gives.
 use Rattle.std.specs.Prelude.{◌≡◌, ◌⊎◌, ℕ, List, Option, Some, false}
 use Rattle.std.specs.Io.KnownBytes.{Appends}
 use Rattle.toml.specs.Data.{Members}
@@ -12,18 +12,18 @@ use Rattle.femem.specs.declared.fault.Fault.{Fault}
 use Rattle.femem.specs.declared.fault.Fault.TheVariants as fault
 use Rattle.femem.specs.within.Faults.{of_settings}
 
--- the settings are those of the document of some text
+-- these are the settings of some text's document
 pub record AreSettings (settings : Settings) : Type 0 where
   pub text : List ℕ
   pub document : Members
   pub parsed : parse_document text ≡ Some document
   pub are : IsSettingsOf document settings
 
--- the file can't be read, there is no memory for its text, or some text in it is refused for this
+-- the file can't be read, memory for its text ran out, or some text in it is refused with this fault
 abbrev pub RefusesFile : Fault → Type 0
 RefusesFile end = (end ≡ fault.Unreadable) ⊎ ((end ≡ fault.Memory) ⊎ ((text : List ℕ) × (why : SettingsFault) × RefusesText text why × (end ≡ of_settings why)))
 
--- the text of books that count each call and each mail in one column was written
+-- the text of books was written; they count each call and each mail in exactly one column, and are not spent
 pub record WritesBooks (before after : Option (List ℕ)) : Type 0 where
   pub books : Books
   pub add_up : AddUp books

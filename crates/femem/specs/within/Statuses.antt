@@ -1,4 +1,4 @@
--- The statuses that the program ends with.
+-- The program's exit statuses.
 use Rattle.std.specs.Prelude.{◌≡◌, ◌==◌, ℕ, Bool, true, false, if◌then◌else◌, Result, Ok, Err}
 use Rattle.clap.specs.declared.error.kind.ErrorKind.{ErrorKind}
 use Rattle.clap.specs.declared.error.kind.ErrorKind.TheVariants as kind
@@ -6,14 +6,14 @@ use Rattle.femem.specs.declared.fault.Fault.{Fault}
 use Rattle.femem.specs.declared.fault.Fault.TheVariants as fault
 use Rattle.femem.specs.within.Faults.{status_of}
 
--- 0 for help that was asked for, 3 where memory was short, and 2 for any other words
+-- 0 for help or a version that was asked for, 3 if memory ran out, 2 for any other words
 abbrev pub words_status : ErrorKind → ℕ
 words_status kind.OutOfMemory = 3
 words_status kind.DisplayHelp = 0
 words_status kind.DisplayVersion = 0
 words_status other = 2
 
--- the status of these words, and that of a fault of the output where help that was asked for was not written
+-- the status for these words; if help that was asked for could not be written, that of a fault of the output
 abbrev pub shown_status : ErrorKind → Bool → ℕ
 shown_status k true = words_status k
 shown_status k false = if words_status k == 0 then status_of fault.Input else words_status k
@@ -21,7 +21,7 @@ shown_status k false = if words_status k == 0 then status_of fault.Input else wo
 abbrev pub IsWordsStatus : ErrorKind → ℕ → Type 0
 IsWordsStatus k status = (written : Bool) × (status ≡ shown_status k written)
 
--- 0 for a command that did all, and else what its fault says
+-- 0 for a command without a fault, otherwise the status of its fault
 abbrev pub command_status : Result (Unit {0}) Fault → ℕ
 command_status (Ok done) = 0
 command_status (Err fault) = status_of fault
