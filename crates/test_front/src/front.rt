@@ -1,4 +1,4 @@
-//! The end of the history, a batch that is not the one that is out, and a box that is full.
+//! The end of the history, a batch other than the one that was cut, and a full mailbox.
 
 use fe_front::{Front, StrangeBatch};
 use fe_mail::Refusal;
@@ -13,13 +13,13 @@ fn new_front(alloc: Global) -> Result<Front, AllocError> {
     Front::new(alloc, state)
 }
 
-/// A front with one place left.
+/// A front whose history has room for one more event.
 fn late_front(alloc: Global) -> Result<Front, AllocError> {
     let state = State::starting(alloc, 9223372036854773758, 1)?;
     Front::new(alloc, state)
 }
 
-/// Connection 1 comes and attaches session 7.
+/// Connects connection 1 and attaches session 7 to it.
 fn come(rt: &impl Abort, front: &mut Front) {
     assert!(rt; !front.connected(1) && front.connect(1).is_ok());
     assert!(rt; front.room() && front.attach(1, 7) == Ok(()));
@@ -39,7 +39,7 @@ fn ends(rt: HostRuntime) -> Result<(), Fail> {
     Ok(())
 }
 
-/// A session's beginning and its end.
+/// An attach and a close of a session.
 const LONG: [Entry; 2] = [
     Entry::Attached {
         session: 7,
@@ -55,7 +55,7 @@ fn long_batch(alloc: Global) -> Result<Batch, AllocError> {
     Ok(long)
 }
 
-/// Whether the batch, which begins at place 0 and has these entries, is refused and comes back as it was.
+/// Whether the batch, which begins at place 0 and has these entries, is refused and returned unchanged.
 fn is_strange(front: &mut Front, batch: Batch, entries: &[Entry]) -> bool {
     match front.post(batch) {
         Ok(()) => false,
@@ -67,7 +67,7 @@ fn is_strange(front: &mut Front, batch: Batch, entries: &[Entry]) -> bool {
     }
 }
 
-/// While no batch is out each one is refused; then the one that is longer than the one that is out.
+/// Without a cut batch every batch is refused; with one, a longer batch is refused.
 fn check_batches(rt: &impl Abort, alloc: Global, front: &mut Front) -> Result<(), Fail> {
     assert!(rt; is_strange(front, Batch::new(alloc, 0)?, &[]));
     come(rt, front);
@@ -86,7 +86,7 @@ fn strange_batch(rt: HostRuntime) -> Result<(), Fail> {
     checked
 }
 
-/// A connection has 128 mails in its box. One more, and it goes.
+/// A connection with 128 mails in its box gets one more, and is removed.
 fn check_box(rt: &impl Abort, front: &mut Front) {
     come(rt, front);
     let batch = front.cut().expect(rt, "the attach is cut");

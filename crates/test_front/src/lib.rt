@@ -1,8 +1,9 @@
-//! What no schedule and no process shows of the crates up to the front: a file for each crate.
+//! Tests of the crates up to the front that neither a schedule nor a process can do, in one file for each crate.
 //!
-//! A crate with tests of its own is proved twice from nothing, so the tests are here. A test makes what it tests, lends it to a
-//! function that has the assertions, and then drops it by name, before it answers: a front that goes at a function's end is
-//! taken apart field by field on each way out, which takes the check seconds each time, where `drop` is one call.
+//! The tests are in a crate of their own because a crate with tests is proved twice from scratch. A test makes its
+//! value, lends it to a function with the assertions, and then calls `drop` before it returns. A front that is
+//! dropped implicitly is dropped field by field at every return, which costs the prover seconds each; an explicit
+//! `drop` is one call.
 #![tactic(auto)]
 
 #[cfg(test)]

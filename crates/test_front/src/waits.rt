@@ -1,4 +1,4 @@
-//! The lists of words and sessions, driven together until nothing waits.
+//! The lists of words and of sessions, used together until nothing waits.
 
 ghost use Rattle.std.specs.Prelude.{◌≡◌, ◌<◌, Some, IfOk};
 ghost use Rattle.std.specs.FinMap as map;
@@ -13,7 +13,7 @@ const ARRAY: u64 = 1;
 
 const WORDS: u32 = 8;
 
-/// The request of a slot and a number: neighbours go to the words in turn.
+/// The request with this slot and number. Adjacent numbers and slots wait on different words.
 fn request(slot: u8, number: u64) -> Row
     ensures array { result.array ≡ 1 }
     ensures index { result.index < 8 }
@@ -28,7 +28,7 @@ fn request(slot: u8, number: u64) -> Row
     }
 }
 
-/// Each of 64 slots waits with 32 requests.
+/// Makes 32 requests wait in each of 64 slots.
 fn fill(rt: &impl Abort, waits: &mut Waits)
     requires { map.get waits.old.arrays 1 ≡ Some 8 }
     ensures { map.get waits.new.arrays 1 ≡ Some 8 }
@@ -43,7 +43,7 @@ fn fill(rt: &impl Abort, waits: &mut Waits)
     assert!(rt; waits.len() == 2048);
 }
 
-/// Finishes requests on a word, at most `most`. They come in the order in which they began to wait.
+/// Finishes at most `most` requests on a word. They come in the order in which they were added.
 fn finish(rt: &impl Abort, waits: &mut Waits, index: u32, most: u32)
     requires word { index < 8 }
     requires words { map.get waits.old.arrays 1 ≡ Some 8 }
@@ -62,7 +62,7 @@ fn finish(rt: &impl Abort, waits: &mut Waits, index: u32, most: u32)
     }
 }
 
-/// A number in the middle of each slot's list is taken out.
+/// Cancels a request in the middle of each slot's list.
 fn cancel_each(rt: &impl Abort, waits: &mut Waits)
     ensures { waits.new.arrays ≡ waits.old.arrays }
 {
@@ -71,7 +71,7 @@ fn cancel_each(rt: &impl Abort, waits: &mut Waits)
     }
 }
 
-/// Some requests on the word of each slot are finished, and all of every second slot are dropped; then the rest is finished.
+/// Finishes some requests on each slot's word and drops all requests of every second slot; then finishes the rest.
 fn empty(rt: &impl Abort, waits: &mut Waits)
     requires { map.get waits.old.arrays 1 ≡ Some 8 }
     ensures { map.get waits.new.arrays 1 ≡ Some 8 }

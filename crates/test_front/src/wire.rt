@@ -9,7 +9,7 @@ use std::alloc::{AllocError, Global};
 use std::process::Abort;
 use std::test::Fail;
 
-/// The client's frames of the first path: attach, create, `writeef`, `readfe`, `readxx`.
+/// The client's frames of the first test path: attach, create, `writeef`, `readfe`, `readxx`.
 const FRAMES: [&[u8]; 5] = [
     b"\0\0\0\x09\x01\0\0\0\0\0\0\0\x07",
     b"\0\0\0\x1f\x02\0\0\0\0\0\0\0\x01\x05cells\0\0\0\0\0\0\0\0\0\0\0\0\0\0\x02\0",
@@ -18,7 +18,7 @@ const FRAMES: [&[u8]; 5] = [
     b"\0\0\0\x1e\x05\0\0\0\0\0\0\0\x04\x12\0\0\0\0\0\0\0\x01\0\0\0\0\0\0\0\0\0\0\0\0",
 ];
 
-/// `readfe` that may not wait: a frame of version 2 alone.
+/// A `readfe` that must not wait: a frame of version 2 only.
 const NO_WAIT: &[u8] =
     b"\0\0\0\x1e\x0b\0\0\0\0\0\0\0\x02\x10\0\0\0\0\0\0\0\x01\0\0\0\0\0\0\0\0\0\0\0\0";
 
@@ -35,7 +35,7 @@ fn access(number: u64, op: Op) -> ClientMessage {
     ClientMessage::Call { number, request }
 }
 
-/// The messages of the first path.
+/// The messages of the first test path.
 fn first_path(rt: &impl Abort) -> [ClientMessage; 5] {
     let name = Name::new(b"cells").expect(rt, "five bytes");
     let (length, tag) = (2, Tag::Empty);
@@ -49,7 +49,7 @@ fn first_path(rt: &impl Abort) -> [ClientMessage; 5] {
     ]
 }
 
-/// The decoder gives these messages and this fault for a piece.
+/// The decoder returns these messages and this fault for a piece.
 fn fed(
     rt: &impl Abort,
     alloc: Global,
@@ -63,7 +63,7 @@ fn fed(
     Ok(())
 }
 
-/// Each message comes with the last byte of its frame.
+/// Each message is returned with the last byte of its frame.
 fn check_pieces(rt: &impl Abort, alloc: Global, decoder: &mut Decoder) -> Result<(), Fail> {
     for (frame, message) in FRAMES.iter().zip(&first_path(rt)) {
         let Some((last, front)) = frame.split_last() else {
@@ -77,7 +77,7 @@ fn check_pieces(rt: &impl Abort, alloc: Global, decoder: &mut Decoder) -> Result
     Ok(())
 }
 
-/// An attach and four zeros give the attach and a fault at that offset, and what is fed then the fault alone.
+/// An attach and four zeros give the attach and a fault at that offset; later pieces give only the fault.
 fn check_fault(
     rt: &impl Abort,
     alloc: Global,
@@ -112,7 +112,7 @@ fn offset_stands_still(rt: HostRuntime) -> Result<(), Fail> {
 /// A report of one line.
 const REPORT: &[u8] = b"\0\0\0\x0b\x47waiting 0\n";
 
-/// The attach is put at the second try if not at the first, and nothing of it at the first.
+/// Writes the attach, at the latest at the second try. A failed try writes nothing.
 fn check_putting(rt: &impl Abort, alloc: Global) -> Result<(), AllocError> {
     let mut out = Vec::new(alloc);
     if put_message(&mut out, &ATTACH).is_err() {
@@ -123,7 +123,7 @@ fn check_putting(rt: &impl Abort, alloc: Global) -> Result<(), AllocError> {
     Ok(())
 }
 
-/// A piece with an attach in it is read at the second try if not at the first, and nothing of it at the first.
+/// Decodes a piece with an attach, at the latest at the second try. A failed try takes nothing.
 fn check_feeding(rt: &impl Abort, alloc: Global) -> Result<(), AllocError> {
     let mut decoder = Decoder::new();
     let fed = match decoder.feed(alloc, FRAMES[0]) {
@@ -141,7 +141,7 @@ fn report_at_last(alloc: Global) -> Result<Option<ServerMessage>, AllocError> {
     }
 }
 
-/// A report is read, and put, at the second try if not at the first.
+/// Reads and writes a report, each at the latest at the second try.
 fn check_report(rt: &impl Abort, alloc: Global) -> Result<(), AllocError> {
     let Some(ServerMessage::Report(report)) = report_at_last(alloc)? else {
         assert!(rt; false, "the bytes are a report");

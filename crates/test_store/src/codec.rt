@@ -1,4 +1,4 @@
-//! An entry's record in both formats, and what is read and put where memory ends.
+//! An entry's record in both formats, and reading and writing when memory runs out.
 ghost use Rattle.std.specs.Prelude.{◌≡◌, false};
 
 mod memory;

@@ -1,4 +1,4 @@
-//! A file as a disk, a sync that is held, and a disk in memory where memory ends.
+//! A disk over a file, a sync that is held, and a disk in memory when memory runs out.
 mod file;
 mod held;
 mod memory;
@@ -6,12 +6,12 @@ mod memory;
 use fe_disk::{DeviceFault, Disk};
 use std::process::Abort;
 
-// What a call gave. A test ends with the text where it failed.
+// The result of a successful call. If the call failed, the test fails with this text.
 fn done<T, E: Copy>(given: Result<T, E>) -> Result<T, &'static str> {
     given.ok().ok_or("a call of a disk failed")
 }
 
-// Writes in the bytes of a disk that has them.
+// Writes bytes that are on the disk.
 fn write<D: Disk>(
     rt: &impl Abort,
     disk: &mut D,
@@ -22,7 +22,7 @@ fn write<D: Disk>(
     disk.write_at(at, bytes)
 }
 
-// Fills the buffer from the bytes of a disk that has them.
+// Fills the buffer with bytes that are on the disk.
 fn read<D: Disk>(
     rt: &impl Abort,
     disk: &mut D,

@@ -1,13 +1,12 @@
-//! Formatting and opening where memory ends: the disk comes back, and what was asked is done once there is memory.
-//! `rt try --test --fail-alloc N`, for N from 1 on, takes each allocation away in turn; where all are granted, each call has to
-//! do it at once.
+//! Formatting and opening when memory runs out: the disk is returned, and a second try with memory succeeds. `rt try
+//! --test --fail-alloc N`, for N from 1 on, refuses the Nth allocation. Without a refusal the first try must succeed.
 use fe_disk::{Disk, MemoryDisk};
 use fe_journal::{Found, Journal, StoreFault};
 use std::alloc::Global;
 use std::process::Abort;
 use std::test::Fail;
 
-/// The bytes of a store.
+/// The size of a store's device, in bytes.
 const DEVICE_BYTES: usize = 4_202_496;
 
 /// The image of the first state (`docs/formats.md`, "Image").
@@ -15,7 +14,7 @@ const EMPTY: [u8; 24] = [
     0, 0, 0, 0, 0, 0, 0, 0, 0, 0, 0, 0, 0, 0, 0, 1, 0, 0, 0, 0, 0, 0, 0, 0,
 ];
 
-// The journal needs memory, or the disk for its record of the call, which is then a fault of the device.
+// Memory ran out in the journal, or in the disk for its record of the call, which is then a fault of the device.
 fn wants_memory(fault: StoreFault, disk: &MemoryDisk) -> bool {
     match fault {
         StoreFault::NoMemory => disk.failures() == 0,
@@ -47,7 +46,7 @@ fn found_again(rt: &impl Abort, alloc: Global, disk: MemoryDisk) -> Found<Memory
     }
 }
 
-// Whether the store is a new one.
+// Whether the store is new.
 fn is_new(found: Found<MemoryDisk>) -> bool {
     let Found {
         journal,

@@ -1,8 +1,8 @@
-//! The tests of the crates of the store that a script of `test_laboratory` cannot be: of a file, of threads, of functions that the
-//! other crates do not call, and of memory that ends.
+//! Tests of the store's crates that a script of `test_laboratory` can't do: of files, of threads, of functions that
+//! no other crate calls, and of lack of memory.
 //!
-//! A test makes a store, lends it to functions that have the assertions, and then drops it by name: what goes at a function's end
-//! is taken apart field by field on each way out.
+//! A test makes a store, lends it to functions with the assertions, and then calls `drop`: a store that is dropped
+//! implicitly is dropped field by field at every return, which the prover checks each time.
 #![tactic(auto)]
 
 #[cfg(test)]

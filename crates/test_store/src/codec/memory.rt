@@ -1,5 +1,5 @@
-// Reading and putting where memory ends. `rt try --test --fail-alloc N`, for N from 1 on, takes each allocation away in
-// turn: what was to be put is not there then, and the call does its work when it is made again.
+// Reading and writing when memory runs out. `rt try --test --fail-alloc N`, for N from 1 on, refuses the Nth
+// allocation: the failed call has written nothing, and a second call succeeds.
 use super::RECORD;
 use fe_codec::{Format, ImageFault, put_image, read_group, read_image};
 use fe_state::{Entry, State};
@@ -7,7 +7,7 @@ use std::alloc::{AllocError, Global};
 use std::process::Abort;
 use std::test::Fail;
 
-/// An image of format 2: array 1 `cells` of one word, and session 7 from floor 1 on.
+/// An image of format 2: array 1 `cells` with one word, and session 7 with floor 1.
 const IMAGE: &[u8] = b"\0\0\0\0\0\0\0\x09\0\0\0\0\0\0\0\x02\0\0\0\x01\0\0\0\x01\
     \0\0\0\0\0\0\0\x01\x05cells\0\0\0\0\0\0\0\0\0\0\0\0\0\0\0\0\0\0\0\0\0\0\0\0\0\0\0\0\0\0\x01\x01\0\0\0\0\0\0\0\x2a\
     \0\0\0\0\0\0\0\x07\0\0\0\0\0\0\0\x01\0\0\0\0";

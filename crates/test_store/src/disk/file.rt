@@ -9,7 +9,7 @@ use std::{env, fs, process};
 
 const SIZE: usize = 64;
 
-// A path of this process's own.
+// A path that no other process uses.
 fn path_of<R: Env + AllocGlobal>(rt: &R, id: u32, name: &str) -> Result<String, Fail> {
     let folder = env::temp_dir(rt)?;
     Ok(format!(in rt.alloc(); "{}/fe_disk_{id}_{name}", folder.as_str())?)
@@ -22,7 +22,8 @@ fn check_bytes<D: Disk>(rt: &impl Abort, disk: &mut D, want: [u8; 5]) -> Result<
     Ok(())
 }
 
-// A new file is of zeros, its owner alone may read it, and no second disk that writes is made over it meanwhile.
+// A new file has only zeros and only its owner may read it; while it is open, no second disk for writing can be made
+// on it.
 fn check_new<R: Files<File = File> + Abort, D: Disk>(
     rt: &R,
     disk: &mut D,
@@ -39,7 +40,7 @@ fn check_new<R: Files<File = File> + Abort, D: Disk>(
     Ok(())
 }
 
-// What was written is in the file.
+// The file has what was written.
 fn check_again<R: Files<File = File> + Abort>(rt: &R, path: &str) -> Result<(), Fail> {
     let mut disk = done(FileDisk::at(rt, path, SIZE))?;
     let checked = check_bytes(rt, &mut disk, [0, 1, 2, 3, 0]);
@@ -50,8 +51,8 @@ fn check_again<R: Files<File = File> + Abort>(rt: &R, path: &str) -> Result<(), 
     Ok(())
 }
 
-// A disk that reads alone has what was written, and each write is a fault, which is counted. Others are made beside it, also one
-// that writes.
+// A read-only disk has what was written; each write is a fault and is counted. Other disks, including one for
+// writing, can be made at the same time.
 fn check_reading<R: Files<File = File> + Abort, D: Disk>(
     rt: &R,
     disk: &mut D,
@@ -80,7 +81,7 @@ fn check_read_only<R: Files<File = File> + Abort>(rt: &R, path: &str) -> Result<
     Ok(())
 }
 
-// A file that was cut under its disk: a read after the end is a fault, which is counted, and the disk goes on.
+// The file is cut short under the disk: a read past the end is a fault and is counted, and the disk still works.
 fn check_cut<R: Files<File = File> + Abort, D: Disk>(
     rt: &R,
     disk: &mut D,
@@ -124,7 +125,7 @@ fn counts_faults_of_a_file(rt: HostRuntime) -> Result<(), Fail> {
     Ok(())
 }
 
-// A sync is a fault while the path does not lead to the file, or to another one, and where the file has another size.
+// A sync is a fault while the path is missing or leads to another file, and while the file has another size.
 fn check_watched<R: Files<File = File> + Abort, D: Disk>(
     rt: &R,
     disk: &mut D,
@@ -160,7 +161,7 @@ fn watches_a_file(rt: HostRuntime) -> Result<(), Fail> {
     checked
 }
 
-// A second name is given where no file has it, and leads to the same file until it is taken away.
+// A second name is given only if no file has it. It leads to the same file until it is removed.
 #[test]
 fn gives_names(rt: HostRuntime) -> Result<(), Fail> {
     let path = path_of(&rt, process::id(rt.process()), "named")?;

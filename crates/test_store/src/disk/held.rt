@@ -6,7 +6,7 @@ use std::test::Fail;
 use std::thread;
 use std::time::Duration;
 
-// How often it is asked whether a sync is held, with a millisecond between.
+// How often to check whether a sync is held, at intervals of a millisecond.
 const TURNS: usize = 100000;
 
 fn is_held_at_last(rt: &(impl Wait + Clock), hold: &Hold) -> bool {
@@ -19,7 +19,7 @@ fn is_held_at_last(rt: &(impl Wait + Clock), hold: &Hold) -> bool {
     false
 }
 
-// A sync is held until it is let go, and before and after that none is.
+// A sync is held until it is released; before and after that, none is held.
 #[test]
 fn holds_a_sync(rt: HostRuntime) -> Result<(), Fail> {
     let hold = Arc::new(rt.alloc(), Hold::new())?;

@@ -3,8 +3,8 @@ use fe_disk::{Disk, MemoryDisk};
 use std::process::Abort;
 use std::test::Fail;
 
-// A write or a sync whose record finds no memory is a device fault that leaves the disk as it was.
-// `rt try --test --fail-alloc N`, for N from 1 on, takes each allocation away in turn.
+// A write or a sync is a device fault if memory for its record runs out, and leaves the disk unchanged. `rt try
+// --test --fail-alloc N`, for N from 1 on, refuses the Nth allocation.
 fn check_faults(rt: &impl Abort, disk: &mut MemoryDisk) -> Result<(), Fail> {
     let mut found = [0; 2];
     let mut faults = 0;
