@@ -1,4 +1,4 @@
-//! The clients of a play, under one lock: what they said, and what was written to them.
+//! The clients of a play, under one lock: what they sent, and what was written to them.
 
 use crate::play::{Play, Replies, Script, Step};
 use crate::saying::{Say, put_said};
@@ -9,33 +9,33 @@ use fe_words::Op;
 use std::alloc::{AllocError, Global};
 use std::sync::Wait;
 
-/// How many replies a client gets that says a window: one for each call, and one for the attach or the settling.
+/// The number of replies to a window: one to each call, and one to the attach or the settle.
 const REPLIES: usize = WINDOW as usize + 1;
 
-/// How many words the windows are about.
+/// The number of words that the windows use.
 const WORDS: u64 = 16;
 
 /// A client of a play.
 #[derive(Drop)]
 pub struct Client {
-    /// The frames that were written to it; of windows none is kept.
+    /// The frames that were written to it; in a play of windows they are not kept.
     pub written: Vec<u8>,
-    /// How many frames were.
+    /// The number of frames that were written to it.
     heard: usize,
-    /// How many windows it said.
+    /// The number of windows that it has sent.
     said: usize,
     pub read_end: Option<ReadEnd>,
     pub write_end: Option<WriteEnd>,
 }
 
-/// What becomes of a client that asks what to say.
+/// The answer to a client that asks what to send.
 #[derive(Clone, Copy, PartialEq, Eq)]
 pub enum Told {
-    /// It says something.
+    /// It sends something.
     Line,
     /// It waits, and asks again.
     Nothing,
-    /// Nothing any more.
+    /// It sends nothing more.
     End,
 }
 
@@ -45,11 +45,11 @@ pub struct Board {
     script: Script,
     is_deaf: bool,
     clients: Vec<Client>,
-    /// How many steps were made.
+    /// The number of steps made.
     made: usize,
-    /// The connection that made the last one, until that is handled.
+    /// The connection that made the last step, until the step is handled.
     speaker: Option<u64>,
-    /// How many replies came, and how many should have come by now.
+    /// The number of replies that have come, and the number that should have come by now.
     heard: usize,
     awaited: usize,
     /// The committing side has ended.
@@ -57,7 +57,7 @@ pub struct Board {
 }
 
 impl Board {
-    /// Nothing was said.
+    /// A board on which nothing was sent yet.
     pub fn new(alloc: Global, play: &Play) -> Result<Board, AllocError> {
         let mut clients = Vec::new(alloc);
         for _ in 0..play.connections {
@@ -91,7 +91,7 @@ impl Board {
             .get_mut(conn.saturating_sub(1) as usize)
     }
 
-    /// A connection has handled what it said, and asks what to say next, which is put to the line.
+    /// A connection has handled what it sent, and asks what to send next. It is appended to the line.
     pub fn next(
         &mut self,
         rt: &impl Wait,
@@ -122,7 +122,7 @@ impl Board {
         }
     }
 
-    /// Makes a step, if it is this connection's or nobody's.
+    /// Makes a step, if it belongs to this connection or to none.
     fn make(
         &mut self,
         rt: &impl Wait,
@@ -192,7 +192,7 @@ impl Board {
         Told::Line
     }
 
-    /// The next window of a connection, once all that it said before is answered.
+    /// The next window of a connection, once everything it sent before is answered.
     fn next_window(
         &mut self,
         conn: u64,
@@ -214,7 +214,7 @@ impl Board {
         Ok(Told::Line)
     }
 
-    /// Frames were written to a connection.
+    /// Notes frames that were written to a connection.
     pub fn hear(&mut self, conn: u64, bytes: &[u8]) -> Result<(), AllocError> {
         let keeps = matches!(self.script, Script::Steps(_));
         let count = frames_in(bytes);
@@ -229,7 +229,7 @@ impl Board {
         Ok(())
     }
 
-    /// Whether the writes of a connection return.
+    /// Whether a write to the connection returns.
     pub fn takes(&mut self, conn: u64) -> bool {
         let waits = self.is_deaf;
         match self.client(conn) {
@@ -238,7 +238,7 @@ impl Board {
         }
     }
 
-    /// The read side of a connection has ended.
+    /// Notes that the read side of a connection ended.
     pub fn read_ended(&mut self, conn: u64, end: ReadEnd) {
         self.handled(conn);
         if let Some(client) = self.client(conn) {
@@ -246,7 +246,7 @@ impl Board {
         }
     }
 
-    /// The write side of a connection has ended.
+    /// Notes that the write side of a connection ended.
     pub fn write_ended(&mut self, conn: u64, end: WriteEnd) {
         if let Some(client) = self.client(conn) {
             client.write_end = Some(end);
@@ -254,7 +254,7 @@ impl Board {
     }
 }
 
-/// How many frames these bytes are. None of them has 65,536 bytes.
+/// The number of frames in these bytes. Each has fewer than 65,536 bytes.
 fn frames_in(bytes: &[u8]) -> usize {
     let mut rest = bytes;
     for count in 0..bytes.len() {
@@ -267,8 +267,8 @@ fn frames_in(bytes: &[u8]) -> usize {
     0
 }
 
-/// Puts a window of a connection: it comes, or settles the window before; then it empties a word and fills it again, for
-/// sixteen words.
+/// Appends a window of a connection: an attach, or a settle of the window before; then `readfe` and `writeef` of each
+/// of sixteen words.
 fn put_window(conn: u64, window: u64, line: &mut Vec<u8>) -> Result<(), AllocError> {
     let first = window.saturating_mul(WINDOW).saturating_add(1);
     if window == 0 {

@@ -1,4 +1,4 @@
-//! Halls that are closed with receipts that no side of theirs gave.
+//! Halls that are closed with receipts that none of their connections got.
 
 ghost use Rattle.std.specs.Prelude.{◌≡◌, ◌+◌};
 ghost use Rattle.fe_hall.specs.Seats.{most_connections};
@@ -24,8 +24,8 @@ use std::sync::ledger::Blank;
 use std::thread::Threads;
 use std::time::Clock;
 
-/// A hall with connections, whose first one hands in its seats; what that one is said to have sent; a receipt, and
-/// how the hall is closed.
+/// A hall with some connections, the first of which hands in its seats; the messages it claims to have sent; a
+/// receipt; and the expected result of closing the hall.
 struct Case {
     connections: u64,
     sent: &'static [Say],
@@ -33,7 +33,7 @@ struct Case {
     closed: Result<(), Unclosed>,
 }
 
-/// The receipt of the first path's write.
+/// The receipt for the first path's write.
 const WRITTEN: Receipt = Receipt {
     session: 7,
     number: 2,
@@ -41,7 +41,7 @@ const WRITTEN: Receipt = Receipt {
     place: 2,
 };
 
-/// One that nobody can have, since the store is at its place.
+/// A receipt that nobody can have, because its place is the store's own.
 const AHEAD: Receipt = Receipt {
     session: 7,
     number: 5,
@@ -77,7 +77,7 @@ const CASES: [Case; 4] = [
 ];
 
 fn messages(alloc: Global, said: &[Say]) -> Result<Vec<ClientMessage>, AllocError> {
-    // It names what a message holds (`docs/DECISIONS.md`, "Toolchain").
+    // The type is named because a message contains it (`docs/DECISIONS.md`, "Toolchain").
     let _named: Option<Request> = None;
     let mut messages = Vec::new(alloc);
     for say in said {
@@ -88,7 +88,7 @@ fn messages(alloc: Global, said: &[Say]) -> Result<Vec<ClientMessage>, AllocErro
     Ok(messages)
 }
 
-/// Makes connections, and gives the seats of the first one.
+/// Makes connections, and returns the seats of the first one.
 fn connect<C: Tally, M: Tally, R: Wait>(
     rt: &R,
     hall: &Hall<C, M>,

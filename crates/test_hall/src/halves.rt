@@ -1,4 +1,4 @@
-//! The two directions of a client's connection.
+//! The two halves of a client's connection.
 
 use crate::board::{Board, Told};
 use fe_disk::Hold;
@@ -8,19 +8,19 @@ use std::sync::{Mutex, Wait};
 use std::thread;
 use std::time::{Clock, Duration};
 
-/// How often a half looks whether it goes on, with a millisecond between.
+/// How often a half checks whether it may go on, at intervals of a millisecond.
 const TURNS: usize = 100_000;
 
-/// What a client says.
+/// The half from which a client's messages are read.
 #[derive(Drop)]
 pub struct ClientRead<'r, 'b, 'h, R> {
     rt: &'r R,
     board: &'b Mutex<Board>,
     hold: &'h Hold,
     conn: u64,
-    /// How many bytes a read gives at most.
+    /// The maximum number of bytes in one read.
     piece: usize,
-    /// What it says now, and how much of it was read.
+    /// What it is sending, and how much of that was read.
     line: Vec<u8>,
     next: usize,
 }
@@ -45,7 +45,7 @@ impl<'r, 'b, 'h, R: Clock + Wait> ClientRead<'r, 'b, 'h, R> {
         }
     }
 
-    /// Waits until it says something. Whether it does.
+    /// Waits until there is something to send. Returns whether there is.
     fn wait(&mut self) -> Result<bool, LineFault> {
         self.next = 0;
         self.line.clear();
@@ -85,7 +85,7 @@ impl<'r, 'b, 'h, R: Clock + Wait> ReadHalf for ClientRead<'r, 'b, 'h, R> {
     }
 }
 
-/// What is written to a client.
+/// The half to which a client's replies are written.
 #[derive(Drop)]
 pub struct ClientWrite<'r, 'b, R> {
     rt: &'r R,

@@ -1,4 +1,4 @@
-//! The tests of the hall: clients in memory, each with two threads, and a thread that stores on a disk in memory.
+//! Tests of the hall: clients in memory, each with two threads, and a thread that stores to a disk in memory.
 #![tactic(auto)]
 
 #[cfg(test)]

@@ -1,7 +1,8 @@
-//! Groups that are stored one by one, until a checkpoint is made.
+//! Groups that are stored one by one until a checkpoint is made.
 //!
-//! `scripts/refuse_test` takes each allocation away in turn: what failed for lack of memory succeeds when it is tried
-//! again, a read side whose stream or list found none says so, and the committing side goes on where a checkpoint can't be begun.
+//! `scripts/refuse_test` refuses each allocation in turn. What failed for lack of memory succeeds at the second try,
+//! a read side reports that memory ran out for its stream or its list, and the committing side goes on if it can't
+//! begin a checkpoint.
 
 ghost use Rattle.std.specs.Prelude.{◌≡◌, ◌+◌};
 ghost use Rattle.fe_hall.specs.Seats.{most_connections};
@@ -20,10 +21,10 @@ use std::process::Abort;
 use std::sync::Wait;
 use std::sync::ledger::Blank;
 
-/// The bytes of a store.
+/// The size of a store's device, in bytes.
 const DEVICE_BYTES: usize = 4_202_496;
 
-/// The bytes of a new store, except those that are zero: slot 0 has generation 1 and the image of the first state
+/// The bytes of a new store that are not zero: slot 0 has generation 1 and the image of the first state
 /// (`docs/formats.md`, "Device").
 const STORE: [(usize, &'static [u8]); 4] = [
     (0, b"FEMEMST2"),
@@ -32,12 +33,12 @@ const STORE: [(usize, &'static [u8]); 4] = [
     (4111, &[1]),
 ];
 
-/// How many entries a group has, of 80 bytes each. With the fourth group a checkpoint is due, and the seventh has no room but
-/// after it.
+/// The number of entries in a group, 80 bytes each. After the fourth group a checkpoint is due; the seventh group
+/// fits only after it.
 const ENTRIES: usize = 2000;
 
-/// What the journal has after the checkpoint: a group of all that came since it was begun, and the seventh. It has one group's
-/// entries fewer if it could begin only after the fifth, because memory was refused.
+/// The bytes used in the journal after the checkpoint: one group with everything since the checkpoint began, and the
+/// seventh. There is one group less in it if the checkpoint began only after the fifth, because memory was refused.
 const USED: u32 = 480_010;
 
 const USED_LATER: u32 = 320_010;
@@ -51,7 +52,7 @@ fn stream(alloc: Global) -> Result<Vec<u8>, AllocError> {
     Ok(bytes)
 }
 
-/// A stream that fails where it would end, so that its read side does not wait for what is stored only afterwards.
+/// A stream that fails at its end, so that its read side does not wait for what is stored later.
 #[derive(Drop)]
 struct Failing {
     half: MemoryRead,
@@ -72,7 +73,8 @@ impl ReadHalf for Failing {
     }
 }
 
-/// Reads the client's stream until it fails, and stores what it did. `None` where there was no memory; nothing is stored then.
+/// Reads the client's stream until it fails, and stores what the client asked. `None` if memory ran out; then nothing
+/// is stored.
 fn store<C: Tally, M: Tally, R: Abort + Wait>(
     rt: &R,
     alloc: Global,
@@ -129,7 +131,7 @@ fn store_group<R: Abort + Wait>(
     store_as::<Brand, Brand, R>(rt, alloc, keeper, blanks.0, blanks.1, history)
 }
 
-// Stores seven groups. How many bytes of the journal are used then.
+// Stores seven groups, and returns how many bytes of the journal are used afterwards.
 fn used_behind<R: Abort + Wait>(rt: &R, alloc: Global, keeper: &mut Keeper<Liar>) -> u32 {
     for _ in 0..7 {
         let end = match store_group(rt, alloc, keeper) {
@@ -142,7 +144,7 @@ fn used_behind<R: Abort + Wait>(rt: &R, alloc: Global, keeper: &mut Keeper<Liar>
     keeper.used()
 }
 
-// Zeros, at the second try if not at the first.
+// A device of zeros, made at the latest at the second try.
 fn zeros(rt: &impl Abort, alloc: Global) -> Vec<u8> {
     match vec![in alloc; 0; DEVICE_BYTES] {
         Ok(bytes) => bytes,
@@ -150,7 +152,7 @@ fn zeros(rt: &impl Abort, alloc: Global) -> Vec<u8> {
     }
 }
 
-// A disk that takes no memory, and reads a new store whatever is written.
+// A disk that allocates nothing, and always reads a new store, whatever is written.
 fn new_liar(rt: &impl Abort, alloc: Global) -> Liar {
     let mut bytes = zeros(rt, alloc);
     assert!(rt; bytes.len() == DEVICE_BYTES);

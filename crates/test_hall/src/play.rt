@@ -1,27 +1,27 @@
-//! What clients say to a hall, and what should come of it.
+//! What clients send to a hall, and what should come of it.
 
 use crate::saying::{Hear, Say, put_heard};
 use fe_hall::{CommitEnd, ReadEnd, WriteEnd};
 use std::alloc::AllocError;
 
-/// The replies that come of a step: to which connection, and what. Those to one connection come in this order.
+/// The replies to a step, each with its connection. Those to one connection come in this order.
 pub type Replies = &'static [(u64, Hear)];
 
-/// A step of clients that take turns. It is made once what was said before is handled, and once all replies to it came.
+/// A step of clients that take turns. It is made once the step before is handled and all replies have come.
 pub enum Step {
-    /// A connection says this.
+    /// A connection sends this.
     Says(u64, Say, Replies),
-    /// A connection says this so often at once. No reply comes of it.
+    /// A connection sends this message, this many times at once. There is no reply.
     Repeats(u64, Say, usize),
-    /// A connection sends these bytes. No reply comes of them.
+    /// A connection sends these bytes. There is no reply.
     Spells(u64, &'static [u8]),
     /// From here on the syncs of the store are held back.
     Holds,
-    /// A sync is held back.
+    /// Waits until a sync is held back.
     IsHeld,
-    /// Syncs go on.
+    /// Syncs go on. These replies come.
     LetsGo(Replies),
-    /// The committing side has ended.
+    /// Waits until the committing side has ended.
     HasEnded,
 }
 
@@ -33,7 +33,7 @@ impl Step {
         }
     }
 
-    /// Puts the frames that come of it to a connection.
+    /// Appends the frames of the step's replies to a connection.
     fn put(&self, conn: u64, line: &mut Vec<u8>) -> Result<(), AllocError> {
         for (to, hear) in self.replies() {
             if *to == conn {
@@ -44,18 +44,18 @@ impl Step {
     }
 }
 
-/// How clients speak.
+/// How clients send.
 #[derive(Clone, Copy)]
 pub enum Script {
     /// They take turns.
     Steps(&'static [Step]),
-    /// All at once, each with a session of its own: this many windows of 32 calls, each once all calls of the one before are
-    /// answered.
+    /// All at once, each with its own session: this many windows of 32 calls, each sent once all calls of the window
+    /// before are answered.
     Windows(usize),
 }
 
 impl Script {
-    /// Puts the frames that should be written to a connection. Of windows none is looked at.
+    /// Appends the frames that should be written to a connection. In a play of windows none are checked.
     pub fn put(&self, conn: u64, line: &mut Vec<u8>) -> Result<(), AllocError> {
         if let Script::Steps(steps) = self {
             for step in *steps {
@@ -70,19 +70,19 @@ impl Script {
 #[derive(Clone, Copy)]
 pub struct Play {
     pub script: Script,
-    /// Their connections are numbered from 1 on.
+    /// The number of connections; they are numbered from 1 on.
     pub connections: u64,
-    /// Where it is there, a read gives one byte, and a connection may make this many.
+    /// If present, a read returns one byte, and this is the maximum number of reads of a connection.
     pub reads: Option<u64>,
     /// No write returns before the read side of its connection has ended.
     pub is_deaf: bool,
     /// How both sides of each connection end.
     pub ends: (ReadEnd, WriteEnd),
     pub commit_end: CommitEnd,
-    /// How many calls were made, completed, wait, were withdrawn, repeated and refused.
+    /// The numbers of calls: made, completed, waiting, withdrawn, repeated and refused.
     pub calls: [u64; 6],
-    /// How many mails were made, taken, dropped and left.
+    /// The numbers of mails: made, taken, dropped and left.
     pub mails: [u64; 4],
-    /// How many answers were taken.
+    /// The number of answers taken.
     pub receipts: usize,
 }

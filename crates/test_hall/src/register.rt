@@ -9,7 +9,7 @@ use fe_keeper::Keeper;
 use fe_wire::ClientMessage;
 use std::alloc::Global;
 
-/// What the connections of a hall did that ended.
+/// What the ended connections of a hall sent and got.
 #[derive(Drop)]
 pub struct Register<C: Tally, M: Tally> {
     calls: Option<CallSeats<C>>,
@@ -19,7 +19,7 @@ pub struct Register<C: Tally, M: Tally> {
 }
 
 impl<C: Tally, M: Tally> Register<C, M> {
-    /// None has ended.
+    /// A register with no connections.
     pub fn new(alloc: Global) -> Register<C, M> {
         Register {
             calls: None,
@@ -29,7 +29,7 @@ impl<C: Tally, M: Tally> Register<C, M> {
         }
     }
 
-    /// Adds what a read side did. The list is lost where there is no memory.
+    /// Adds what a read side received. If memory runs out, its list is lost.
     pub fn add_calls(&mut self, seat: CallSeat<C>, sent: Vec<ClientMessage>)
         requires { C.all ≡ C.parts }
     {
@@ -40,7 +40,7 @@ impl<C: Tally, M: Tally> Register<C, M> {
         let _ = self.sent.push(sent);
     }
 
-    /// Adds what a write side did. The receipts are lost where there is no memory.
+    /// Adds what a write side sent. If memory runs out, its receipts are lost.
     pub fn add_mails(&mut self, seat: MailSeat<M>, receipts: Receipts<M>)
         requires { M.all ≡ M.parts }
     {
@@ -63,7 +63,7 @@ impl<C: Tally, M: Tally> Register<C, M> {
         }
     }
 
-    /// Closes the hall with all of that.
+    /// Closes the hall with everything in the register.
     pub fn close<D: Disk + Drop>(
         self,
         hall: Hall<C, M>,

@@ -7,7 +7,7 @@ use fe_hall::{CommitEnd, ReadEnd, WriteEnd};
 use fe_keeper::Fault;
 use fe_words::{Op, Tag};
 
-/// One client stays until all is said.
+/// One client that stays until everything is sent.
 const STAYING: Play = Play {
     script: Script::Steps(&[]),
     connections: 1,
@@ -35,7 +35,7 @@ pub const FIRST_PATH: Play = Play {
     ..STAYING
 };
 
-/// One write answers all who wait to read.
+/// One write answers all waiting readers.
 pub const BROADCAST: Play = Play {
     script: Script::Steps(&[
         Step::Says(1, Say::Attach(7), &[(1, Hear::Welcome(7))]),
@@ -88,7 +88,7 @@ pub const TURNS_OF_WRITERS: Play = Play {
     ..STAYING
 };
 
-/// A sum goes round at 2^64, and a purge leaves 0.
+/// A sum wraps at 2^64, and a purge leaves 0.
 pub const ARITHMETIC: Play = Play {
     script: Script::Steps(&[
         Step::Says(1, Say::Attach(7), &[(1, Hear::Welcome(7))]),
@@ -115,7 +115,7 @@ pub const ARITHMETIC: Play = Play {
     ..STAYING
 };
 
-/// A purge lets a writer go on that waits.
+/// A purge lets a waiting writer continue.
 pub const PURGE: Play = Play {
     script: Script::Steps(&[
         Step::Says(1, Say::Attach(7), &[(1, Hear::Welcome(7))]),
@@ -139,7 +139,8 @@ pub const PURGE: Play = Play {
     ..STAYING
 };
 
-/// A session goes to another connection, and its old one has none. A call is answered before the one that it lets go on.
+/// A session moves to another connection, and its old connection has none. A call is answered before the call that it
+/// unblocks.
 pub const TAKEN_OVER: Play = Play {
     script: Script::Steps(&[
         Step::Says(1, Say::Attach(7), &[(1, Hear::Welcome(7))]),
@@ -170,7 +171,7 @@ pub const TAKEN_OVER: Play = Play {
     ..STAYING
 };
 
-/// A session ends and comes again, so that its number 1 is answered twice.
+/// A session ends and begins again, so its number 1 is answered twice.
 pub const TWO_LIVES: Play = Play {
     script: Script::Steps(&[
         Step::Says(1, Say::Attach(7), &[(1, Hear::Welcome(7))]),
@@ -190,8 +191,8 @@ pub const TWO_LIVES: Play = Play {
     ..STAYING
 };
 
-/// A call is sent again, from another connection, while the sync of its entry is held back. Its one answer comes before the
-/// welcome of what is stored after it.
+/// A call is sent again from another connection while the sync of its entry is held back. Its only answer comes
+/// before the welcome, which is stored after it.
 pub const RESENT: Play = Play {
     script: Script::Steps(&[
         Step::Says(1, Say::Attach(7), &[(1, Hear::Welcome(7))]),
@@ -221,7 +222,7 @@ pub const BAD_FRAME: Play = Play {
     ..STAYING
 };
 
-/// Ten reads are too few for the first message, where each gives a byte.
+/// With one byte per read, ten reads are too few for the first message.
 pub const FEW_TURNS: Play = Play {
     script: Script::Steps(&[Step::Says(1, Say::Attach(7), &[])]),
     reads: Some(10),
@@ -238,8 +239,8 @@ pub const LAST_TURN: Play = Play {
     ..STAYING
 };
 
-/// A client that takes nothing after its first refusal: its box has 128 more, the next one drops the connection, and the last
-/// call finds none.
+/// A client that takes nothing after its first refusal: its box gets 128 more, the next one removes the connection,
+/// and the last call finds no connection.
 pub const FULL_BOX: Play = Play {
     script: Script::Steps(&[
         Step::Says(
@@ -256,7 +257,7 @@ pub const FULL_BOX: Play = Play {
     ..STAYING
 };
 
-/// The disk fails, so no client is served any more, also not one that said nothing before.
+/// The disk fails, so no client is served any more, not even one that sent nothing before.
 pub const FAULT: Play = Play {
     script: Script::Steps(&[
         Step::Says(1, Say::Attach(7), &[(1, Hear::Welcome(7))]),
@@ -304,7 +305,7 @@ pub const LEFT_MAIL: Play = Play {
     ..STAYING
 };
 
-/// The words of the windows: sixteen, all of them full.
+/// The sixteen words of the windows, all full.
 pub const WORDS: Play = Play {
     script: Script::Steps(&[
         Step::Says(1, Say::Attach(7), &[(1, Hear::Welcome(7))]),

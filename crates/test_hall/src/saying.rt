@@ -1,4 +1,4 @@
-//! What clients say and hear, in few words: one array, `cells`, whose id is 1.
+//! Short names for what clients send and receive. There is one array, `cells`, with id 1.
 
 use fe_front::{Mail, Refusal};
 use fe_messages::Reply;
@@ -11,11 +11,11 @@ use std::alloc::AllocError;
 #[derive(Clone, Copy)]
 pub enum Say {
     Attach(u64),
-    /// A call of that number makes the array, with this many words.
+    /// A call with this number creates the array, with this many words.
     Create(u64, u32, Tag),
-    /// One finds it.
+    /// A call with this number finds the array.
     Find(u64),
-    /// One makes an operation on the word of that index.
+    /// A call with this number operates on the word with this index.
     Does(u64, u32, Op),
     Settle(u64),
     Bye,
@@ -25,7 +25,7 @@ pub enum Say {
 #[derive(Clone, Copy)]
 pub enum Hear {
     Welcome(u64),
-    /// The answers of the call of that number: the array, with this many words; that it is done; and the value.
+    /// The answers to the call with this number: the array, with this many words; done; and the value.
     Array(u64, u32),
     Done(u64),
     Value(u64, u64),
@@ -33,7 +33,7 @@ pub enum Hear {
     Goodbye(u64),
 }
 
-/// The message that is said. `None`: the name is none.
+/// The message that is sent, or `None` if the name is not a name.
 pub fn message_of(say: Say) -> Option<ClientMessage> {
     let (number, request) = match say {
         Say::Attach(session) => return Some(ClientMessage::Attach { session }),
@@ -60,7 +60,7 @@ pub fn message_of(say: Say) -> Option<ClientMessage> {
     Some(ClientMessage::Call { number, request })
 }
 
-/// Puts the frame of what is said.
+/// Appends the frame of a message.
 pub fn put_said(line: &mut Vec<u8>, say: Say) -> Result<(), AllocError> {
     match message_of(say) {
         Some(message) => put_message(line, &message),
@@ -68,7 +68,7 @@ pub fn put_said(line: &mut Vec<u8>, say: Say) -> Result<(), AllocError> {
     }
 }
 
-/// Puts the frame of what is heard.
+/// Appends the frame of a reply.
 pub fn put_heard(line: &mut Vec<u8>, hear: Hear) -> Result<(), AllocError> {
     let mail = match hear {
         Hear::Welcome(session) => Mail::Welcome { session, floor: 1 },
@@ -81,7 +81,7 @@ pub fn put_heard(line: &mut Vec<u8>, hear: Hear) -> Result<(), AllocError> {
     Reply::of(mail).put(line)
 }
 
-/// Session and place of an answer are not told.
+/// The session and the place of an answer do not matter here.
 fn answered(number: u64, answer: Answer) -> Mail {
     Mail::Answer {
         session: 0,

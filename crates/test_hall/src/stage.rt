@@ -1,4 +1,4 @@
-//! Plays in a hall: each client has two threads, and one stores.
+//! Plays in a hall: each client has two threads, and one more thread stores.
 
 ghost use Rattle.std.specs.Prelude.{◌≡◌, ◌+◌};
 ghost use Rattle.fe_hall.specs.Seats.{most_connections};
@@ -24,10 +24,10 @@ use std::thread;
 use std::thread::{Scope, Threads};
 use std::time::Clock;
 
-/// How many parts the ledgers of a hall have, 2^62 + 1.
+/// The number of parts in the ledgers of a hall, 2^62 + 1.
 pub const PARTS: u64 = 4611686018427387905;
 
-/// How many bytes a read gives at most: less than a window, so that its frames are cut.
+/// The maximum number of bytes in one read: less than a window, so that frames are split.
 const PIECE: usize = 1000;
 
 /// What the threads of a play share.
@@ -40,17 +40,18 @@ struct Stage<'a, C: Tally, M: Tally> {
     board: Mutex<Board>,
 }
 
-/// What came of a play.
+/// The result of a play.
 #[derive(Drop)]
 pub struct Played<D: Disk + Drop> {
     pub board: Board,
     pub commit_end: CommitEnd,
-    /// How many answers were taken.
+    /// The number of answers taken.
     pub receipts: usize,
     pub closed: Result<Closing<D>, Unclosed>,
 }
 
-/// Plays over the store of a keeper, whose syncs the hold holds back where they are held. At its end the hall is closed.
+/// Performs a play over the store of a keeper. The hold holds back its syncs when a step says so. At the end the hall
+/// is closed.
 pub fn perform<D: Disk + Drop + Send, R: Abort + Clock + Threads + Wait + Sync>(
     rt: &R,
     alloc: Global,
@@ -132,7 +133,7 @@ fn finish<C: Tally, M: Tally, D: Disk + Drop>(
     }
 }
 
-/// A hall round a front over a copy of a state, and the seat of its committing side.
+/// A hall around a front with a copy of a state, and the seat of the hall's committing side.
 pub fn hall_over<C: Tally, M: Tally>(
     alloc: Global,
     state: &State,
@@ -156,7 +157,7 @@ pub fn hall_over<C: Tally, M: Tally>(
     }
 }
 
-/// Serves the clients and stores what they do, until all of them have ended.
+/// Serves the clients and stores their requests until all clients have ended.
 fn run<
     C: Tally + Send + Sync,
     M: Tally + Send + Sync,
@@ -226,7 +227,7 @@ fn commit<C: Tally, M: Tally, D: Disk, R: Wait>(
     (keeper, end, seat)
 }
 
-/// Serves the clients, until all of them have ended.
+/// Serves the clients until all have ended.
 fn serve<C: Tally + Send + Sync, M: Tally + Send + Sync, R: Clock + Threads + Wait + Sync>(
     rt: &R,
     alloc: Global,
@@ -257,7 +258,7 @@ fn serve_all<
     }
 }
 
-/// Makes a connection, and starts its threads. Where one can't be started it is served once the hall is stopped.
+/// Makes a connection and starts its threads. If one can't be started, it is served once the hall is stopped.
 fn serve_one<
     's,
     E,

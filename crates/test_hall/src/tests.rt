@@ -19,10 +19,10 @@ use std::test::Fail;
 use std::thread::Threads;
 use std::time::Clock;
 
-/// Paths of several calls, on to the end of what is said.
+/// Plays of several calls, to the end of the script.
 const PATHS: [Play; 5] = [FIRST_PATH, BROADCAST, TURNS_OF_WRITERS, ARITHMETIC, PURGE];
 
-/// More device calls than are made to open a store and to append a group, and fewer than are made for two.
+/// More device calls than opening a store and appending one group take, and fewer than appending two take.
 const CALLS: u64 = 10;
 
 fn is_written(alloc: Global, play: &Play, conn: u64, client: &Client) -> Result<bool, AllocError> {
@@ -64,7 +64,7 @@ fn check<D: Disk + Drop>(rt: &impl Abort, alloc: Global, play: &Play, played: &P
     }
 }
 
-/// Plays over a store, and checks what comes of it. The keeper comes back.
+/// Performs a play over a store, and checks the results. Returns the keeper.
 fn keeper_after<D: Disk + Drop + Send, R: Abort + Clock + Threads + Wait + Sync>(
     rt: &R,
     alloc: Global,
@@ -79,7 +79,7 @@ fn keeper_after<D: Disk + Drop + Send, R: Abort + Clock + Threads + Wait + Sync>
     closed.ok().expect(rt, "closed").keeper
 }
 
-/// The store of a play that begins with a new one.
+/// The store after a play on a new one.
 pub fn store_after<R: Abort + Clock + Threads + Wait + Sync>(
     rt: &R,
     alloc: Global,
@@ -139,7 +139,7 @@ fn resend_between(rt: HostRuntime) -> Result<(), Fail> {
     Ok(())
 }
 
-/// Plays over a store whose disk fails with the second group.
+/// Performs a play over a store whose disk fails at the second group.
 fn play_until_fault<R: Abort + Clock + Threads + Wait + Sync>(rt: &R, alloc: Global, play: &Play) {
     let disk = Guarded::new(new_store(rt, alloc).into_disk(), Fuse::new(CALLS));
     let keeper = Keeper::open(alloc, disk).ok().expect(rt, "opened");

@@ -1,4 +1,4 @@
--- A log: the events of a conversation as bytes, in their order.
+-- A log: the events of a conversation as bytes, in order.
 use Rattle.std.specs.Prelude.{◌≡◌, ℕ, List, [], ◌∷◌, ◌++◌, length, take}
 use Rattle.std.proofs.Common.{sym, ap, ◌∙◌, append-nil, append_assoc}
 use Rattle.std.specs.List.{flat_map}
@@ -12,7 +12,7 @@ code (Event.Received byte) = 130 ∷ byte ∷ []
 code (Event.Written byte) = byte ∷ []
 code Event.Flushed = 131 ∷ []
 
--- a log is the other one, and these events after it
+-- the later log is the earlier one followed by these events
 abbrev pub Follows : List ℕ → List Event → List ℕ → Type 0
 Follows before events after = after ≡ before ++ flat_map code events
 

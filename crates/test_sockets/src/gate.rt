@@ -1,4 +1,4 @@
-//! A server holds one connection in its gate, and serves another one meanwhile.
+//! A server holds one connection at its gate, and serves another one at the same time.
 
 use fe_client::call_over;
 use fe_disk::Hold;
@@ -14,19 +14,19 @@ use std::thread::Threads;
 use std::time::Duration;
 use std::{env, fs, process, thread};
 
-/// How often something that another thread does is waited for, with a millisecond between.
+/// How often to check for something that another thread does, at intervals of a millisecond.
 const TURNS: usize = 100_000;
 
-/// How many seconds a client waits for what the server writes, as long as a test may take.
+/// How many seconds a client waits for the server's reply: as long as a test may take.
 const PATIENCE: u64 = 60;
 
 const BOOKS: &str =
     "calls 3 completed 3 waiting 0 withdrawn 0 repeated 0 refused 0\nmails 5 taken 5 dropped 0 left 0\n";
 
-/// How many answers the two clients get.
+/// The number of answers to the two clients.
 const ANSWERS: usize = 3;
 
-/// Lets the messages of the first connection wait while they are held.
+/// Makes the messages of the first connection wait while they are held.
 #[derive(Drop)]
 struct Barrier {
     hold: Hold,
@@ -40,7 +40,7 @@ impl Gate for Barrier {
     }
 }
 
-/// Returns once something is held.
+/// Returns once a message is held.
 fn wait_until_held(rt: &(impl Wait + Clock + Abort), hold: &Hold) {
     for _ in 0..TURNS {
         if hold.is_holding(rt) {
@@ -51,7 +51,7 @@ fn wait_until_held(rt: &(impl Wait + Clock + Abort), hold: &Hold) {
     assert!(rt; false, "nothing is held");
 }
 
-/// A connection to the server at a socket, once there is one.
+/// A connection to the server at this socket, made once the socket is there.
 fn connected<R: Net + Clock + Abort>(rt: &R, socket: &str) -> UnixStream {
     for _ in 0..TURNS {
         if let Ok(stream) = UnixStream::connect(rt, socket) {
@@ -64,7 +64,7 @@ fn connected<R: Net + Clock + Abort>(rt: &R, socket: &str) -> UnixStream {
     None.expect(rt, "there is a server")
 }
 
-/// Each line is answered, and these are the answers.
+/// Each line is answered, with these answers.
 fn asks(rt: &(impl Abort + AllocGlobal), stream: &mut UnixStream, lines: &[u8], answers: &[u8]) {
     let mut reader = lines;
     let mut printed = Vec::new(rt.alloc());
@@ -72,7 +72,7 @@ fn asks(rt: &(impl Abort + AllocGlobal), stream: &mut UnixStream, lines: &[u8], 
     assert!(rt; ended.is_ok() && printed.as_slice() == answers);
 }
 
-/// The first client's call is held until the second one's is answered.
+/// The first client's call is held until the second client's call is answered.
 fn two_calls<R: Net + Clock + Threads + Wait + Sync + Abort + AllocGlobal>(
     rt: &R,
     socket: &str,
@@ -101,7 +101,7 @@ fn two_calls<R: Net + Clock + Threads + Wait + Sync + Abort + AllocGlobal>(
     asks(rt, &mut second, b"2 find cells\n", b"2 array 1 2\n");
 }
 
-/// The path of a file of this process's own.
+/// The path of a file that no other process uses.
 fn path_of(rt: &(impl Env + AllocGlobal), id: u32, name: &str) -> Option<String> {
     let folder = env::temp_dir(rt).ok()?;
     format!(in rt.alloc(); "{}/fe_gate_{id}_{name}", folder.as_str()).ok()
@@ -112,7 +112,7 @@ fn gate_holds_one(rt: HostRuntime) {
     let id = process::id(rt.process());
     let socket = path_of(&rt, id, "socket").expect(&rt, "a path");
     let store = path_of(&rt, id, "store").expect(&rt, "a path");
-    // (a process of that number may have been ended in this test)
+    // (an earlier process with this number may have been killed in this test)
     let _ = (
         fs::remove_file(&rt, socket.as_str()),
         fs::remove_file(&rt, store.as_str()),

@@ -1,11 +1,11 @@
-//! A user who waits for each reply before the next line, and the server that the user talks to.
+//! A user who waits for each reply before typing the next line, and the server that replies.
 
 use fe_client::{Broken, Streams, converse};
 use fe_text::StreamFault;
 use std::alloc::{AllocError, Global};
 use std::process::Abort;
 
-// How the log marks what happens. What is written is there as it is: it has no byte above 127.
+// The codes of events in the log. Printed text is logged as it is: it has no byte above 127.
 const READ: u8 = 128;
 
 const SENT: u8 = 129;
@@ -14,16 +14,17 @@ const RECEIVED: u8 = 130;
 
 const FLUSHED: u8 = 131;
 
-/// What a user types, what a server replies, and what happened, in its order. A byte is read, sent or received at a time.
+/// What a user types, what a server replies, and a log of the events in order. Each call reads, sends or receives one
+/// byte.
 #[derive(Drop)]
 struct Dialogue<'i, 'r> {
-    /// What is left to type.
+    /// The input that is not typed yet.
     input: &'i [u8],
-    /// The line that was typed last has no reply yet that was written and flushed.
+    /// The reply to the last line typed is not written and flushed yet.
     is_waiting: bool,
-    /// Something was written since the last flush.
+    /// Something was written after the last flush.
     has_written: bool,
-    /// What is left of the replies.
+    /// The replies that are not received yet.
     replies: &'r [u8],
     has_failed: bool,
     log: Vec<u8>,
@@ -32,7 +33,7 @@ struct Dialogue<'i, 'r> {
 impl Dialogue<'_, '_> {
     ghost use Rattle.std.specs.Prelude.{◌≡◌, ◌++◌, is_ok, if◌then◌else◌};
 
-    /// Logs what happened.
+    /// Appends an event to the log.
     fn happened(&mut self, code: &[u8]) -> Result<(), AllocError>
         ensures { self.new.log.items ≡ (if is_ok result then self.old.log.items ++ code.now else self.old.log.items) }
     {
@@ -116,7 +117,7 @@ impl Streams for Dialogue<'_, '_> {
     }
 }
 
-/// Adds each byte to a log as an event of that kind.
+/// Appends one event of this kind for each byte.
 fn log_each(log: &mut Vec<u8>, kind: &[u8], bytes: &[u8]) -> Result<(), AllocError> {
     for byte in bytes {
         log.extend_from_slice(kind)?;
@@ -125,7 +126,7 @@ fn log_each(log: &mut Vec<u8>, kind: &[u8], bytes: &[u8]) -> Result<(), AllocErr
     Ok(())
 }
 
-/// What happens of a line, its message, the reply and what is printed of it, in this order.
+/// Appends the events for a line, its message, the reply and the printed text, in this order.
 fn log_turn(log: &mut Vec<u8>, line: &[u8], turn: [&[u8]; 3]) -> Result<(), AllocError> {
     let [message, reply, text] = turn;
     log_each(log, &[READ, 1], line)?;
@@ -135,7 +136,7 @@ fn log_turn(log: &mut Vec<u8>, line: &[u8], turn: [&[u8]; 3]) -> Result<(), Allo
     Ok(log.push(FLUSHED)?)
 }
 
-/// What happens of `attach 7` and `bye`.
+/// The events for `attach 7` and `bye`.
 fn transcript(alloc: Global) -> Result<Vec<u8>, AllocError> {
     let mut log = Vec::new(alloc);
     log_turn(&mut log, b"attach 7\n", [ATTACH, WELCOME, b"welcome 7 1\n"])?;
