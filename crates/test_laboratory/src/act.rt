@@ -1,4 +1,4 @@
-//! What a script has done to a disk, to a journal, to a keeper or to a desk.
+//! The calls of a script to a disk, a journal, a keeper or a desk.
 
 use crate::names::Names;
 use crate::trouble::Trouble;
@@ -8,18 +8,18 @@ use fe_desk::Step;
 use fe_state::Entry;
 use std::alloc::Global;
 
-/// What is called.
+/// What a call does.
 #[derive(Clone, Copy, PartialEq, Eq)]
 pub enum Verb {
-    /// Of a disk: a write, and a sync.
+    /// Calls of a disk.
     Write,
     Sync,
-    /// Of a journal: a group, and the other slot closed, written to and finished.
+    /// Calls of a journal: append a group; close, write and finish the other slot.
     Group,
     Close,
     Slice,
     Open,
-    /// Of a keeper.
+    /// Calls of a keeper.
     Append,
     Begin,
     Step,
@@ -28,11 +28,11 @@ pub enum Verb {
     Take,
 }
 
-/// A call, with what it is given.
+/// A call with its arguments.
 #[derive(Drop)]
 pub struct Act {
     pub verb: Verb,
-    /// The place of a write, or the length of an image.
+    /// The offset of a write, or the length of an image.
     pub number: u64,
     pub bytes: Vec<u8>,
     pub entries: Vec<Entry>,
@@ -49,7 +49,7 @@ fn new_act(alloc: Global, verb: Verb) -> Act {
     }
 }
 
-// The entries that records of format 2 spell; none of no bytes.
+// The entries in records of format 2; none if there are no bytes.
 fn entries_of(alloc: Global, records: &[u8]) -> Result<Vec<Entry>, Trouble> {
     if records.is_empty() {
         return Ok(Vec::new(alloc));
@@ -58,7 +58,7 @@ fn entries_of(alloc: Global, records: &[u8]) -> Result<Vec<Entry>, Trouble> {
     entries.ok_or(Trouble::Syntax)
 }
 
-/// The call of a disk, of a journal or of a keeper that a line says.
+/// The call of a disk, a journal or a keeper in a line.
 pub fn act_of(alloc: Global, names: &Names, line: &str) -> Result<Act, Trouble> {
     let (word, rest) = first_word(line);
     let mut act = new_act(alloc, verb_of(word)?);
@@ -95,7 +95,7 @@ fn verb_of(word: &str) -> Result<Verb, Trouble> {
     }
 }
 
-/// The steps of a desk that a line says.
+/// The steps of a desk in a line.
 pub fn taking(alloc: Global, names: &Names, line: &str) -> Result<Act, Trouble> {
     let (word, rest) = first_word(line);
     let mut act = new_act(alloc, Verb::Take);
@@ -114,7 +114,7 @@ pub fn taking(alloc: Global, names: &Names, line: &str) -> Result<Act, Trouble> 
     Ok(act)
 }
 
-// `bytes CONNECTION BYTES`; `line ..`, where the connection comes first; `pieces SIZE CONNECTION BYTES`.
+// `bytes CONNECTION BYTES`; the same with `line`, which connects first; `pieces SIZE CONNECTION BYTES`.
 fn put_stream(names: &Names, word: &str, rest: &str, steps: &mut Vec<Step>) -> Result<(), Trouble> {
     let (size, rest) = match word {
         "pieces" => first_number(rest)?,
@@ -139,7 +139,7 @@ fn put_pieces(conn: u64, bytes: &[u8], size: usize, steps: &mut Vec<Step>) -> Re
     Ok(())
 }
 
-// What comes is stored and posted.
+// Sends bytes, then cuts, stores and posts what is pending.
 fn put_bytes(conn: u64, piece: &[u8], steps: &mut Vec<Step>) -> Result<(), Trouble> {
     let piece = piece.to_vec(*steps.allocator())?;
     steps.push(Step::Bytes { conn, piece })?;

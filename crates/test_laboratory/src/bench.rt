@@ -1,4 +1,4 @@
-//! What a script works on: a disk, the calls that it says, and what came of them last.
+//! What a script works on: a disk, its calls, and the result of the last run.
 
 use crate::act::{Act, act_of, taking};
 use crate::disks;
@@ -14,23 +14,23 @@ use fe_disk::{MemoryDisk, Torn};
 use fe_journal::Journal;
 use std::alloc::Global;
 
-/// The bytes of a device.
+/// The size of a store's device, in bytes.
 pub const DEVICE_BYTES: usize = 4_202_496;
 
-/// A disk, the calls that are made over it, and what came of them last.
+/// A disk, the calls to make on it, and the result of the last run.
 #[derive(Drop)]
 pub struct Bench {
     pub alloc: Global,
     pub names: Names,
     pub disk: MemoryDisk,
     pub level: Level,
-    // As the script spells them: a name in them may stand for other bytes by and by.
+    // As the script spells them: the bytes of a name in them may change later.
     calls: Vec<String>,
     pub made: Made,
     pub counts: Counts,
 }
 
-/// A format, by its number.
+/// The format with this number.
 pub fn format_of(word: &str) -> Result<Format, Trouble> {
     match word {
         "1" => Ok(Format::One),
@@ -52,8 +52,8 @@ impl Bench {
         })
     }
 
-    /// Does what a line says that checks nothing: `let NAME BYTES`, `disk SIZE`, `store FORMAT`, `write PLACE BYTES`,
-    /// `calls LEVEL`, or `- CALL`, which is one more of them.
+    /// Carries out a line that checks nothing: `let NAME BYTES`, `disk SIZE`, `store FORMAT`, `write PLACE BYTES`,
+    /// `calls LEVEL`, or `- CALL`, which adds a call.
     pub fn set(&mut self, word: &str, rest: &str) -> Result<(), Trouble> {
         match word {
             "let" => {
@@ -79,7 +79,7 @@ impl Bench {
         }
     }
 
-    // A new store of the format.
+    // Makes a new store of the format.
     fn make_store(&mut self, format: Format) -> Result<(), Trouble> {
         let disk = MemoryDisk::new(self.alloc, DEVICE_BYTES)?;
         match Journal::format_in(self.alloc, format, disk) {
@@ -100,7 +100,7 @@ impl Bench {
         disks::write(&mut self.disk, at as usize, bytes.as_slice())
     }
 
-    /// The calls, with what their names mean.
+    /// The calls, with the current bytes of their names.
     pub fn acts(&self) -> Result<Vec<Act>, Trouble> {
         let mut acts = Vec::new(self.alloc);
         for line in self.calls.iter() {
@@ -121,7 +121,7 @@ impl Bench {
         Ok(self.disk.stopped(Torn::Kept)?)
     }
 
-    /// What is found on the disk: nothing, where it has no store.
+    /// What is found on the disk; empty if it has no store.
     pub fn start(&self) -> Result<Vec<u8>, Trouble> {
         if self.level == Level::Disk {
             return Ok(Vec::new(self.alloc));
@@ -134,7 +134,7 @@ impl Bench {
         }
     }
 
-    /// The calls over the disk.
+    /// The calls on the disk, as a trial.
     pub fn trial<'a>(&'a self, acts: &'a [Act], start: &'a [u8]) -> Trial<'a> {
         Trial {
             alloc: self.alloc,
@@ -145,7 +145,8 @@ impl Bench {
         }
     }
 
-    /// Makes the calls over a copy of the disk that passes this many device calls, or that fails only the one after this many.
+    /// Makes the calls on a copy of the disk that stops after this many device calls, or that fails only the call
+    /// after this many.
     pub fn ran(&self, fails_once: bool, calls: u64) -> Result<Run, Trouble> {
         let acts = self.acts()?;
         let start = self.start()?;

@@ -12,14 +12,14 @@ use crate::words::{byte_of, first_number, first_word, torn_of};
 use fe_disk::{MemoryDisk, Torn};
 use std::alloc::Global;
 
-/// What a line came to.
+/// The result of a line.
 #[derive(Drop)]
 pub enum Verdict {
     /// It checks nothing.
     Done,
-    /// What it says is so.
+    /// The check passed.
     Good,
-    /// This was found instead.
+    /// The check failed; this was found.
     Wrong(String),
 }
 
@@ -30,7 +30,7 @@ fn compared_text(found: String, wanted: &str) -> Verdict {
     Verdict::Wrong(found)
 }
 
-// Whether the bytes are those that are wanted.
+// Compares the bytes with the expected ones.
 fn compared(alloc: Global, found: &[u8], wanted: &[u8]) -> Result<Verdict, Trouble> {
     if found == wanted {
         return Ok(Verdict::Good);
@@ -52,7 +52,8 @@ fn truth(alloc: Global, is_so: bool) -> Result<Verdict, Trouble> {
     Ok(Verdict::Wrong(String::from_str(alloc, "no")?))
 }
 
-// How often something was stopped or failed, or the first call after which something was wrong.
+// Compares how many calls were stopped or failed, or the first after which something was wrong, with the expected
+// text.
 fn swept(alloc: Global, told: Result<u64, u64>, wanted: &str) -> Result<Verdict, Trouble> {
     let found = match told {
         Ok(calls) => format!(in alloc; "{calls}")?,
@@ -68,7 +69,7 @@ fn is_report(text: &[u8], lines: u64, first: &[u8], last: &[u8]) -> bool {
 }
 
 impl Bench {
-    /// Does what a line says.
+    /// Carries out a line.
     pub fn obey(&mut self, line: &str) -> Result<Verdict, Trouble> {
         let (word, rest) = first_word(line);
         match word {
@@ -85,7 +86,7 @@ impl Bench {
         }
     }
 
-    // `run`, `try`, `burn CALLS` and `once CALLS`, with how the calls end. A `try` leaves the disk as it was.
+    // `run`, `try`, `burn CALLS` and `once CALLS`, with how the calls should end. A `try` leaves the disk unchanged.
     fn run(&mut self, word: &str, rest: &str) -> Result<Verdict, Trouble> {
         let (calls, wanted) = match word {
             "burn" | "once" => first_number(rest)?,
@@ -122,7 +123,7 @@ impl Bench {
         swept(self.alloc, told?, wanted)
     }
 
-    // `stop FROM TO TORN BYTES`: what is found after a stop after this many device calls.
+    // `stop FROM TO TORN BYTES`: what is found after a stop after each number of device calls in this range.
     fn stop(&self, rest: &str) -> Result<Verdict, Trouble> {
         let (from, rest) = first_number(rest)?;
         let (to, rest) = first_number(rest)?;
@@ -158,7 +159,7 @@ impl Bench {
         }
     }
 
-    // The image of `other BYTES`; of other words nothing.
+    // The image in `other BYTES`; empty for other words.
     fn other(&self, wanted: &str) -> Result<Vec<u8>, Trouble> {
         match first_word(wanted) {
             ("other", spelled) => self.names.bytes_of(spelled),
@@ -166,7 +167,7 @@ impl Bench {
         }
     }
 
-    // `lie PLACE COUNT CHANGE WANTED`, of each of this many bytes.
+    // `lie PLACE COUNT CHANGE WANTED`, for each of this many bytes.
     fn lie(&self, rest: &str) -> Result<Verdict, Trouble> {
         let (at, rest) = first_number(rest)?;
         let (count, rest) = first_number(rest)?;
@@ -200,8 +201,8 @@ impl Bench {
         bytes
     }
 
-    // What came of the last calls: `told ENDS`, `counts READS WRITES SYNCS`, `groups COUNTS`, `written CONNECTION BYTES`, or
-    // `report CONNECTION PLACE LINES BYTES`.
+    // The result of the last calls: `told ENDS`, `counts READS WRITES SYNCS`, `groups COUNTS`, `written CONNECTION
+    // BYTES`, or `report CONNECTION PLACE LINES BYTES`.
     fn look(&self, word: &str, rest: &str) -> Result<Verdict, Trouble> {
         let alloc = self.alloc;
         match word {
@@ -242,8 +243,8 @@ impl Bench {
         truth(self.alloc, is_so)
     }
 
-    // What is on the disk: `holds TEXT`, `image BYTES`, `reads PLACE BYTES`, `left TORN BYTES`; or what images are: `again FORMAT
-    // BYTES`, `fault FORMAT OFFSET BYTES`.
+    // What is on the disk: `holds TEXT`, `image BYTES`, `reads PLACE BYTES`, `left TORN BYTES`; or what an image is:
+    // `again FORMAT BYTES`, `fault FORMAT OFFSET BYTES`.
     fn find(&mut self, word: &str, rest: &str) -> Result<Verdict, Trouble> {
         match word {
             "holds" => self.holds(rest),
@@ -288,7 +289,7 @@ impl Bench {
         compared(self.alloc, found.as_slice(), wanted.as_slice())
     }
 
-    // What a stop leaves of the first bytes of the disk, also after a further stop.
+    // The first bytes of the disk after a stop, and one more stop.
     fn left(&self, rest: &str) -> Result<Verdict, Trouble> {
         let (word, spelled) = first_word(rest);
         let wanted = self.names.bytes_of(spelled)?;

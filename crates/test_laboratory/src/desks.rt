@@ -12,7 +12,7 @@ use fe_state::State;
 use fe_wire::{ServerMessage, read_reply};
 use std::alloc::Global;
 
-/// The fault of the store, which lack of memory counts as.
+/// The fault of the store; lack of memory counts as one.
 pub fn store_fault(fault: DeskFault) -> Fault {
     match fault {
         DeskFault::Store(fault) => fault,
@@ -20,7 +20,7 @@ pub fn store_fault(fault: DeskFault) -> Fault {
     }
 }
 
-/// Opens a store of the state with that image, and takes all steps.
+/// Opens a store with this image, and takes all steps.
 pub fn made<D: Disk>(
     alloc: Global,
     disk: D,
@@ -48,7 +48,7 @@ fn traced<D: Disk>(
     Ok(made)
 }
 
-/// Takes all steps, each of which is refused after a fault of the device.
+/// Takes all steps. After a fault of the device every step must be refused.
 pub fn take_all<D: Disk>(alloc: Global, desk: &mut Desk<D>, acts: &[Act]) -> Result<Made, Trouble> {
     let mut made = Made::new(alloc);
     for act in acts {
@@ -71,7 +71,7 @@ fn take<D: Disk>(desk: &mut Desk<D>, act: &Act, made: &mut Made) -> Result<(), T
     Ok(())
 }
 
-// What a trace tells: what was written, the groups, and the states of which one is found on the disk.
+// Records a trace: what was written, the groups, and the two states one of which must be found on the disk.
 fn tell(alloc: Global, trace: &Trace, start: &[u8], made: &mut Made) -> Result<(), Trouble> {
     for port in trace.ports.iter() {
         let bytes = Vec::from_slice(alloc, port.written.as_slice())?;
@@ -108,7 +108,7 @@ fn image_after(
     }
 }
 
-// The image of the state after the groups, in which each answer is that was written.
+// The image of the state after the groups. Each answer that was written must be in the state.
 fn built(
     alloc: Global,
     trace: &Trace,
@@ -172,7 +172,7 @@ fn is_reply_held(
     }
 }
 
-// The answers are those of the session that was welcome last. One below its floor is kept no longer.
+// The answers belong to the session of the last welcome. An answer below its floor is no longer kept.
 fn holds(state: &State, own: &mut u64, reply: &ServerMessage) -> bool {
     match reply {
         ServerMessage::Welcome { session, floor } => {
@@ -187,7 +187,7 @@ fn holds(state: &State, own: &mut u64, reply: &ServerMessage) -> bool {
     }
 }
 
-/// The image of the state that a store is opened with, or why it is not opened.
+/// The image of the state in the store, or why it can't be opened.
 pub fn found<D: Disk>(alloc: Global, disk: D) -> (D, Result<Vec<u8>, Fault>) {
     match Desk::open(alloc, disk) {
         Ok(desk) => {
@@ -198,7 +198,7 @@ pub fn found<D: Disk>(alloc: Global, disk: D) -> (D, Result<Vec<u8>, Fault>) {
     }
 }
 
-/// Makes a store of the disk. Whether it met a fault.
+/// Makes a store on the disk. Returns whether there was a fault.
 pub fn formatted<D: Disk>(alloc: Global, disk: D) -> (D, bool) {
     match Desk::format(alloc, disk) {
         Ok(desk) => (desk.into_disk(), false),

@@ -1,4 +1,4 @@
-//! Calls of a disk alone.
+//! Calls of a disk by itself.
 
 use crate::act::{Act, Verb};
 use crate::made::Made;
@@ -16,7 +16,7 @@ pub fn write<D: Disk>(disk: &mut D, at: usize, bytes: &[u8]) -> Result<(), Troub
     Ok(())
 }
 
-/// Reads this many bytes.
+/// Reads this many bytes from an offset.
 pub fn read<D: Disk>(
     alloc: Global,
     disk: &mut D,
@@ -42,7 +42,7 @@ fn make<D: Disk>(disk: &mut D, act: &Act) -> Result<bool, Fault> {
     Err(Fault::Device)
 }
 
-/// Makes all calls, whether they fail or not.
+/// Makes all calls, whether or not they fail.
 pub fn made<D: Disk>(alloc: Global, mut disk: D, acts: &[Act]) -> (D, Result<Made, Trouble>) {
     let made = make_all(alloc, &mut disk, acts);
     (disk, made)

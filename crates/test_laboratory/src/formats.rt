@@ -1,4 +1,4 @@
-//! Formatting that is stopped, or meets a fault, at each device call, and is done again.
+//! Formatting that stops, or meets a fault, at each device call, and is repeated.
 
 use crate::trial::{PLENTY, TORN, Trial};
 use crate::trouble::Trouble;
@@ -11,7 +11,7 @@ const EMPTY: [u8; 24] = [
 ];
 
 impl<'a> Trial<'a> {
-    // Whether a format of the disk makes a store of the first state.
+    // Whether formatting the disk makes a store of the first state.
     fn is_made_new(&self, disk: MemoryDisk) -> Result<bool, Trouble> {
         let (disk, is_met) = self.level.formatted(self.alloc, disk);
         let found = self.left(&disk, Torn::Kept);
@@ -22,7 +22,7 @@ impl<'a> Trial<'a> {
         }
     }
 
-    // Whether a stop leaves no store, one of the first state, or the one that was there; and it is formatted again.
+    // Whether a stop leaves no store, one of the first state, or the old one; and whether formatting then succeeds.
     fn is_format_left(&self, disk: &MemoryDisk, torn: Torn) -> Result<bool, Trouble> {
         let is_left = match self.left(disk, torn)? {
             Ok(image) => image.as_slice() == self.start || image.as_slice() == EMPTY.as_slice(),
@@ -40,7 +40,7 @@ impl<'a> Trial<'a> {
         Ok(true)
     }
 
-    // Whether a format that is stopped after this many device calls leaves what it may, and whether it was stopped.
+    // Whether formatting that stops after this many device calls leaves what it may, and whether it was stopped.
     fn format_stopped(&self, calls: u64) -> Result<(bool, bool), Trouble> {
         let fuse = Guarded::new(self.store.stopped(Torn::Kept)?, Fuse::new(calls));
         let (fuse, is_met) = self.level.formatted(self.alloc, fuse);
@@ -50,14 +50,14 @@ impl<'a> Trial<'a> {
         Ok((is_left?, is_met))
     }
 
-    // Whether a format is done again of which one device call failed, and whether it did.
+    // Whether formatting succeeds after an attempt in which one device call failed, and whether one failed.
     fn format_failing(&self, calls: u64) -> Result<(bool, bool), Trouble> {
         let once = Guarded::new(self.store.stopped(Torn::Kept)?, FailOnce::new(calls));
         let (once, is_met) = self.level.formatted(self.alloc, once);
         Ok((self.is_made_new(once.into_inner())?, is_met))
     }
 
-    /// How many device calls of a format were stopped and failed, or the first after which something was wrong.
+    /// How many device calls of formatting were stopped and failed, or the first after which something was wrong.
     pub fn format_each(&self) -> Result<Result<u64, u64>, Trouble> {
         for calls in 0..PLENTY {
             let (is_left, is_met) = self.format_stopped(calls)?;

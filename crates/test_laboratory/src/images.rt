@@ -1,4 +1,4 @@
-//! Images that are read and spelled again, and images with a fault.
+//! Images that are read and written again, and images with a fault.
 
 ghost use Rattle.fe_codec.specs.Image.{StateOfFormat};
 
@@ -15,7 +15,7 @@ fn spelled(alloc: Global, format: Format, state: &State) -> Result<Vec<u8>, Trou
     Ok(image)
 }
 
-/// Whether the bytes are an image, and that of its state.
+/// Whether the bytes are an image, and equal the image written from its state.
 pub fn again(alloc: Global, format: Format, bytes: &[u8]) -> Result<bool, Trouble> {
     match read_image(alloc, format, bytes) {
         Ok(state) => {
@@ -27,7 +27,7 @@ pub fn again(alloc: Global, format: Format, bytes: &[u8]) -> Result<bool, Troubl
     }
 }
 
-/// The offset of what is wrong with the bytes, which are no image, or `image`.
+/// The offset of the fault in the bytes, or `image` if they are an image.
 pub fn image_fault(alloc: Global, format: Format, bytes: &[u8]) -> Result<String, Trouble> {
     match read_image(alloc, format, bytes) {
         Ok(state) => {

@@ -1,4 +1,4 @@
-//! Calls of a journal, whose conditions are asked first.
+//! Calls of a journal, made only if their conditions hold.
 
 use crate::act::{Act, Verb};
 use crate::made::Made;
@@ -41,7 +41,7 @@ fn make_all<D: Disk>(
     Ok(made)
 }
 
-// A call whose condition does not hold is told as a mismatch.
+// Makes a call and returns `true`, or returns `false` if its condition does not hold.
 fn make<D: Disk>(journal: &mut Journal<D>, act: &Act) -> Result<bool, Fault> {
     let bytes = act.bytes.as_slice();
     match act.verb {
@@ -103,7 +103,7 @@ fn finish<D: Disk>(journal: &mut Journal<D>, catch_up: &[u8]) -> Result<bool, Fa
     Ok(true)
 }
 
-/// What a store holds: its generation, its image with its length, and its groups with theirs.
+/// The contents of a store: its generation, its image with the length, and its groups with their lengths.
 pub fn held<D: Disk>(alloc: Global, disk: D) -> (D, Result<Vec<u8>, Fault>) {
     match Journal::find(alloc, disk) {
         Ok(found) => {
@@ -127,7 +127,7 @@ fn put_row(out: &mut Vec<u8>, bytes: &[u8]) -> Result<(), AllocError> {
     out.extend_from_slice(bytes)
 }
 
-// The groups of a journal are 209,714 at most.
+// A journal has at most 15,196 groups: the smallest takes 69 bytes.
 fn spelled(
     alloc: Global,
     generation: u64,

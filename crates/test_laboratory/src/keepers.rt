@@ -49,12 +49,12 @@ fn make<D: Disk>(alloc: Global, keeper: &mut Keeper<D>, act: &Act) -> Result<boo
     }
 }
 
-// Whether a batch came back as it was.
+// Whether a batch was returned unchanged.
 fn is_same(back: &Batch, first: u64, entries: &[Entry]) -> bool {
     back.first == first && back.entries.as_slice() == entries
 }
 
-// Appends the entries at the keeper's place. The batch comes back, whether it is taken or not.
+// Appends the entries at the keeper's place. Whether or not it takes the batch, it must return it unchanged.
 fn append<D: Disk>(
     alloc: Global,
     keeper: &mut Keeper<D>,
@@ -86,7 +86,8 @@ fn batch_of(alloc: Global, first: u64, entries: &[Entry]) -> Result<Batch, Fault
     Ok(batch)
 }
 
-// What may be found where the device failed in a call. Each call after it is refused, and the replica stays.
+// Records what may be found if the device failed in a call. Every later call must be refused, and the replica
+// unchanged.
 fn meet<D: Disk>(
     alloc: Global,
     keeper: &mut Keeper<D>,
@@ -126,7 +127,7 @@ fn advanced(alloc: Global, state: &mut State, entries: &[Entry]) -> Result<Vec<u
     image_of(alloc, state)
 }
 
-/// Takes the entries, which are legal.
+/// Adds the entries, which must be legal.
 pub fn advance(state: &mut State, entries: &[Entry]) -> Result<(), Trouble> {
     for entry in entries {
         if state.check(entry).is_err() {
@@ -137,7 +138,7 @@ pub fn advance(state: &mut State, entries: &[Entry]) -> Result<(), Trouble> {
     Ok(())
 }
 
-/// The image of the state that a store is opened with, or why it is not opened.
+/// The image of the state in the store, or why it can't be opened.
 pub fn found<D: Disk>(alloc: Global, disk: D) -> (D, Result<Vec<u8>, Fault>) {
     match Keeper::open(alloc, disk) {
         Ok(keeper) => {
@@ -148,7 +149,7 @@ pub fn found<D: Disk>(alloc: Global, disk: D) -> (D, Result<Vec<u8>, Fault>) {
     }
 }
 
-/// What a store is opened with: its place, how many bytes of its journal are used, and its format.
+/// The place of the store, how many bytes of its journal are used, and its format.
 pub fn opened<D: Disk>(alloc: Global, disk: D) -> (D, Result<String, Trouble>) {
     match Keeper::open(alloc, disk) {
         Ok(keeper) => {
@@ -165,7 +166,7 @@ pub fn opened<D: Disk>(alloc: Global, disk: D) -> (D, Result<String, Trouble>) {
     }
 }
 
-/// Makes a store of the disk. Whether it met a fault.
+/// Makes a store on the disk. Returns whether there was a fault.
 pub fn formatted<D: Disk>(alloc: Global, disk: D) -> (D, bool) {
     match Keeper::format(alloc, disk) {
         Ok(keeper) => (keeper.into_disk(), false),

@@ -1,4 +1,4 @@
-//! What a script calls: a disk alone, a journal, a keeper or a desk.
+//! What a script calls: a disk by itself, a journal, a keeper or a desk.
 
 use crate::act::Act;
 use crate::made::Made;
@@ -28,7 +28,7 @@ impl Level {
         }
     }
 
-    /// Makes the calls over the disk, which has a store of the state with that image unless it is called itself.
+    /// Makes the calls on the disk, which has a store with this image, except at the level of a disk.
     pub fn made<D: Disk>(
         self,
         alloc: Global,
@@ -44,7 +44,7 @@ impl Level {
         }
     }
 
-    /// What is found on the disk: what a journal holds, or else the image of the state that a store is opened with.
+    /// What is found on the disk: the contents of a journal, or the image of the state in the store.
     pub fn found<D: Disk>(self, alloc: Global, disk: D) -> (D, Result<Vec<u8>, Fault>) {
         match self {
             Level::Journal => journals::held(alloc, disk),
@@ -53,7 +53,7 @@ impl Level {
         }
     }
 
-    /// Makes a store of the disk. Whether it met a fault.
+    /// Makes a store on the disk. Returns whether there was a fault.
     pub fn formatted<D: Disk>(self, alloc: Global, disk: D) -> (D, bool) {
         match self {
             Level::Desk => desks::formatted(alloc, disk),

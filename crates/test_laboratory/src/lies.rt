@@ -1,4 +1,4 @@
-//! Stores that are read with one byte changed, from a disk that forgets what is written.
+//! Stores read with one byte changed, from a disk that forgets what is written.
 
 use crate::act::Act;
 use crate::desks::{store_fault, take_all};
@@ -13,26 +13,26 @@ use fe_disk::Liar;
 use fe_keeper::{Fault, Keeper};
 use std::alloc::Global;
 
-/// The bytes of a device.
+/// The size of a store's device, in bytes.
 const DEVICE_BYTES: usize = 4_202_496;
 
-/// A store's bytes, and calls over it.
+/// The bytes of a store, and calls on it.
 #[derive(Clone, Copy)]
 pub struct Lie<'a> {
     pub alloc: Global,
     pub level: Level,
     pub bytes: &'a [u8],
     pub acts: &'a [Act],
-    /// The image of the state that the bytes stand for, and that of another which a changed byte may make of it.
+    /// The image of the state in these bytes, and that of another state which a changed byte may turn it into.
     pub start: &'a [u8],
     pub other: &'a [u8],
 }
 
-// The image of what a store was opened with, or why it was not, and whether the calls after that were told what they may be.
+// The image of the opened store or why it can't be opened, and whether the calls after that ended as they may.
 type Told = (Result<Vec<u8>, Fault>, bool);
 
 impl<'a> Lie<'a> {
-    // The bytes with another at the place.
+    // The bytes with this one changed.
     fn changed(&self, at: usize, change: u8) -> Result<Liar, Trouble> {
         let mut bytes = self.bytes.to_vec(self.alloc)?;
         match bytes.get_mut(at) {
@@ -57,7 +57,7 @@ impl<'a> Lie<'a> {
         }
     }
 
-    // Each call of a keeper has an answer that is no fault of the device, which never fails.
+    // Makes each call of a keeper. None may end with a fault of the device, which never fails.
     fn keep(&self, keeper: &mut Keeper<Liar>) -> Result<Told, Trouble> {
         let image = image_of(self.alloc, keeper.state())?;
         let mut is_sound = true;
@@ -83,7 +83,7 @@ impl<'a> Lie<'a> {
         }
     }
 
-    // A desk takes every step.
+    // Takes every step of a desk.
     fn sit(&self, desk: &mut Desk<Liar>) -> Result<Told, Trouble> {
         let image = image_of(self.alloc, desk.keeper().state())?;
         let made = take_all(self.alloc, desk, self.acts)?;
@@ -91,8 +91,8 @@ impl<'a> Lie<'a> {
         Ok((Ok(image), is_sound))
     }
 
-    /// Whether a store is opened as is wanted whose byte at the place is changed: with a fault, in the `same` state, in the
-    /// `other`, or, by a desk, as by a keeper (`kept`).
+    /// Whether a store with this byte changed opens as expected: with a fault, in the `same` state, in the `other`
+    /// state, or, for a desk, like a keeper (`kept`).
     pub fn is_as(&self, at: usize, change: u8, wanted: &str) -> Result<bool, Trouble> {
         let liar = self.changed(at, change)?;
         let (found, is_sound) = match self.level {
@@ -109,7 +109,7 @@ impl<'a> Lie<'a> {
         Ok(is_wanted && is_sound)
     }
 
-    // Whether a keeper is opened with the same.
+    // Whether a keeper opens the same store with the same result.
     fn is_kept(
         &self,
         at: usize,
@@ -144,7 +144,7 @@ fn is_fault(alloc: Global, found: &Result<Vec<u8>, Fault>, wanted: &str) -> Resu
     }
 }
 
-// Whether the fault is one of what is read.
+// Whether the fault is one in what was read.
 fn is_read(fault: Fault) -> bool {
     match fault {
         Fault::Unformatted => true,

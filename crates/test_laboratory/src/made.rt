@@ -1,4 +1,4 @@
-//! What came of calls.
+//! The result of calls.
 
 use crate::shown::fault_text;
 use crate::trouble::Trouble;
@@ -7,32 +7,32 @@ use fe_keeper::Fault;
 use fe_state::State;
 use std::alloc::Global;
 
-/// What was written to a connection number.
+/// What was written to a connection.
 #[derive(Drop)]
 pub struct Written {
     pub conn: u64,
     pub bytes: Vec<u8>,
 }
 
-/// What came of calls over a disk.
+/// The result of calls on a disk.
 #[derive(Drop)]
 pub struct Made {
-    /// The fault of the first call that had one.
+    /// The fault of the first call that failed.
     pub fault: Option<Fault>,
-    /// Of each call `y` or `n`, or `x` where it had a fault.
+    /// For each call `y` or `n`, or `x` if it failed.
     pub told: String,
-    /// Whether all was as it should be after the fault.
+    /// Whether everything was right after the fault.
     pub is_sound: bool,
-    /// Images of states; one of them is found on the disk. Both are empty if no store was opened.
+    /// The images of two states, one of which must be found on the disk. Both are empty if no store was opened.
     pub before: Vec<u8>,
     pub after: Vec<u8>,
-    /// What a desk wrote, and how many entries the groups have that it handed to its store.
+    /// What a desk wrote, and the number of entries in each group that it gave its store.
     pub written: Vec<Written>,
     pub groups: String,
 }
 
 impl Made {
-    /// Nothing yet.
+    /// The result before any call.
     pub fn new(alloc: Global) -> Made {
         Made {
             fault: None,
@@ -45,14 +45,14 @@ impl Made {
         }
     }
 
-    /// The store was not opened, or formatted.
+    /// The store was not opened.
     pub fn refused(alloc: Global, fault: Fault) -> Made {
         let mut made = Made::new(alloc);
         made.fault = Some(fault);
         made
     }
 
-    /// Notes how a call ended. It tells whether it had a fault.
+    /// Records how a call ended, and returns whether it failed.
     pub fn note(&mut self, outcome: Result<bool, Fault>) -> Result<bool, Trouble> {
         match outcome {
             Ok(true) => self.told.push_str("y")?,
@@ -68,7 +68,7 @@ impl Made {
         Ok(false)
     }
 
-    /// Whether the image is one of those that may be found.
+    /// Whether the image is one that may be found.
     pub fn allows(&self, image: &[u8], start: &[u8]) -> bool {
         if self.before.is_empty() {
             return image == start;
@@ -84,7 +84,7 @@ pub fn image_of(alloc: Global, state: &State) -> Result<Vec<u8>, Trouble> {
     Ok(image)
 }
 
-/// How calls ended: `ok`, or the first fault.
+/// How the calls ended: `ok`, `unsound`, or the first fault.
 pub fn outcome_text(alloc: Global, made: &Made) -> Result<String, Trouble> {
     if !made.is_sound {
         return Ok(String::from_str(alloc, "unsound")?);

@@ -1,8 +1,9 @@
-//! A laboratory for stores: it reads cases from standard input, carries them out over disks in memory, and prints of each how many
-//! of its lines were so as they say, and what was found where one was not.
+//! A laboratory for stores. It reads cases from standard input and carries them out on disks in memory. For each case
+//! it prints how many of its checks passed and how many failed, and what was found instead.
 //!
-//! A script works on one disk and on a list of calls (`calls disk`, `calls journal`, `calls keeper`, `calls desk`). It makes them
-//! (`run`), stops them at each device call (`fuse`) or has each device call fail (`fail`), and says what is found then.
+//! A script works on one disk and a list of calls (`calls disk`, `calls journal`, `calls keeper`, `calls desk`). It
+//! makes the calls (`run`), stops them at each device call (`fuse`) or lets each device call fail (`fail`), and
+//! checks what is found afterwards.
 #![tactic(auto)]
 
 mod act;
@@ -30,7 +31,7 @@ use std::io;
 use trouble::Trouble;
 use words::first_word;
 
-/// How many lines of a case were so as they say, and how many were not.
+/// How many checks of a case passed, and how many failed.
 #[derive(Clone, Copy)]
 struct Score {
     good: u64,

@@ -1,4 +1,4 @@
-//! Bytes that a script spells, and those that it gave a name.
+//! Bytes as a script spells them, and names for bytes.
 
 use crate::trouble::Trouble;
 use crate::words::{byte_of, number};
@@ -10,7 +10,7 @@ struct Named {
     bytes: Vec<u8>,
 }
 
-/// The bytes that have a name.
+/// The names and their bytes.
 #[derive(Drop)]
 pub struct Names {
     alloc: Global,
@@ -25,7 +25,7 @@ impl Names {
         }
     }
 
-    /// Gives these bytes the name, also where others have it.
+    /// Names these bytes, or gives the name these bytes if it has others.
     pub fn set(&mut self, name: &str, bytes: Vec<u8>) -> Result<(), Trouble> {
         for named in self.list.iter_mut() {
             if named.name.as_str() == name {
@@ -68,7 +68,7 @@ impl Names {
         }
     }
 
-    // `$NAME`, `$NAME:FROM:TO`, `"TEXT"`, `WIDTH:NUMBER`, or digits to the base 16.
+    // `$NAME`, `$NAME:FROM:TO`, `"TEXT"`, `WIDTH:NUMBER`, or hexadecimal digits.
     fn put_piece(&self, piece: &str, out: &mut Vec<u8>) -> Result<(), Trouble> {
         if let Some(name) = piece.strip_prefix('$') {
             return self.put_named(name, out);
@@ -108,7 +108,7 @@ fn repeat(once: &[u8], count: u64, out: &mut Vec<u8>) -> Result<(), Trouble> {
     Ok(())
 }
 
-// The last bytes of a number, the highest first.
+// The last bytes of a number, big-endian.
 fn put_number(width: u64, value: u64, out: &mut Vec<u8>) -> Result<(), Trouble> {
     let bytes = value.to_be_bytes();
     let first = 8u64.checked_sub(width).ok_or(Trouble::Syntax)?;

@@ -1,10 +1,10 @@
-//! Faults and formats as a case of the script writes them.
+//! Faults and formats as a script writes them.
 
 use fe_codec::Format;
 use fe_keeper::Fault;
 use std::alloc::{AllocError, Global};
 
-/// A fault by its name, with its number in braces.
+/// A fault's name, followed by its number in braces.
 pub fn fault_text(alloc: Global, fault: &Fault) -> Result<String, AllocError> {
     match fault {
         Fault::Device => String::from_str(alloc, "Device"),
@@ -16,7 +16,7 @@ pub fn fault_text(alloc: Global, fault: &Fault) -> Result<String, AllocError> {
     }
 }
 
-/// A format by its name.
+/// A format's name.
 pub fn format_name(format: Format) -> &'static str {
     match format {
         Format::One => "One",

@@ -1,8 +1,8 @@
-//! A disk that counts the calls it is asked.
+//! A disk that counts its calls.
 
 use fe_disk::{DeviceFault, Disk};
 
-/// How many calls of each kind a disk was asked.
+/// The number of calls of each kind.
 #[derive(Clone, Copy, PartialEq, Eq)]
 pub struct Counts {
     pub reads: u64,
@@ -11,14 +11,14 @@ pub struct Counts {
 }
 
 impl Counts {
-    /// No call.
+    /// No calls.
     pub const NONE: Counts = Counts {
         reads: 0,
         writes: 0,
         syncs: 0,
     };
 
-    /// How many calls a disk was asked in all.
+    /// The number of all calls.
     pub fn total(self) -> u64 {
         self.reads
             .saturating_add(self.writes)
@@ -41,7 +41,7 @@ impl<D: Disk> Tally<D> {
         }
     }
 
-    /// The disk, and how many calls it was asked.
+    /// The disk, and the numbers of its calls.
     pub fn into_parts(self) -> (D, Counts) {
         let Tally { inner, counts } = self;
         (inner, counts)

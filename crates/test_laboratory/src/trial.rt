@@ -1,4 +1,4 @@
-//! Calls over copies of a disk that stop or fail at a call.
+//! Calls on copies of a disk that stops or fails at a device call.
 
 use crate::act::Act;
 use crate::level::Level;
@@ -9,27 +9,27 @@ use fe_disk::{Disk, FailOnce, Fuse, Guarded, MemoryDisk, Torn};
 use fe_keeper::Fault;
 use std::alloc::Global;
 
-/// What a stop does to what is not synced.
+/// What a stop may do to unsynced bytes.
 pub const TORN: [Torn; 4] = [Torn::Kept, Torn::Lost, Torn::Byte(0x01), Torn::Byte(0x37)];
 
-/// More calls of the device than any run makes.
+/// More device calls than any run makes.
 pub const PLENTY: u64 = 100;
 
-/// The calls of the device that an opening makes (`docs/store.md`).
+/// The device calls of an opening (`docs/store.md`).
 const OPENING: u64 = 5;
 
-/// Calls over a store.
+/// Calls on a store.
 #[derive(Clone, Copy)]
 pub struct Trial<'a> {
     pub alloc: Global,
     pub level: Level,
     pub store: &'a MemoryDisk,
     pub acts: &'a [Act],
-    /// What is found on the store.
+    /// What is found in the store at first.
     pub start: &'a [u8],
 }
 
-/// What came of the calls, and the disk then.
+/// The result of the calls, and the disk after them.
 #[derive(Drop)]
 pub struct Run {
     pub disk: MemoryDisk,
@@ -41,14 +41,14 @@ pub struct Run {
 /// The stops that are tried after a run.
 #[derive(Clone, Copy)]
 pub enum Stops {
-    /// Of each kind, with a stop at each device call of the opening after it.
+    /// All kinds, with a stop at each device call of the opening that follows.
     Each,
-    /// Of one kind alone.
+    /// Only this kind.
     One(Torn),
 }
 
 impl<'a> Trial<'a> {
-    /// The calls over a disk that passes this many device calls.
+    /// Makes the calls on a disk that stops after this many device calls.
     pub fn fused(&self, calls: u64) -> Result<Run, Trouble> {
         let copy = self.store.stopped(Torn::Kept)?;
         let fuse = Guarded::new(Tally::new(copy), Fuse::new(calls));
@@ -58,7 +58,7 @@ impl<'a> Trial<'a> {
         ran(disk, made, counts, failures)
     }
 
-    /// The calls over a disk that fails the call after this many.
+    /// Makes the calls on a disk that fails the device call after this many.
     pub fn failing(&self, calls: u64) -> Result<Run, Trouble> {
         let copy = self.store.stopped(Torn::Kept)?;
         let once = Guarded::new(Tally::new(copy), FailOnce::new(calls));
@@ -68,7 +68,7 @@ impl<'a> Trial<'a> {
         ran(disk, made, counts, failures)
     }
 
-    /// What is found on the disk that a stop of this kind leaves.
+    /// What is found on the disk after a stop of this kind.
     pub fn left(&self, disk: &MemoryDisk, torn: Torn) -> Result<Result<Vec<u8>, Fault>, Trouble> {
         let copy = disk.stopped(torn)?;
         let (copy, found) = self.level.found(self.alloc, copy);
@@ -84,7 +84,7 @@ impl<'a> Trial<'a> {
         }
     }
 
-    // The same, with a stop at each device call of an opening after it.
+    // The same after stops at each device call of an opening.
     fn leaves_behind_stops(
         &self,
         disk: &MemoryDisk,
@@ -107,7 +107,7 @@ impl<'a> Trial<'a> {
         self.leaves(&left, torn, made)
     }
 
-    // Whether the run had this many device calls and the one fault, and all stops leave what is allowed.
+    // Whether the run made this many device calls and met at most one fault, and every stop leaves what is allowed.
     fn is_left(&self, run: &Run, calls: u64, stops: Stops) -> Result<bool, Trouble> {
         if !is_sound(run, calls) {
             return Ok(false);
@@ -125,8 +125,8 @@ impl<'a> Trial<'a> {
         }
     }
 
-    /// Stops the calls at each device call, up to the first at which nothing stops. How many there were, or the first after
-    /// which something was wrong.
+    /// Stops the calls at each device call in turn, until a run is not stopped. Returns the number of stops, or the
+    /// first after which something was wrong.
     pub fn fuse_each(&self, stops: Stops) -> Result<Result<u64, u64>, Trouble> {
         for calls in 0..PLENTY {
             let run = self.fused(calls)?;
@@ -143,7 +143,7 @@ impl<'a> Trial<'a> {
         Ok(Err(PLENTY))
     }
 
-    /// Has each device call fail once, in the same way.
+    /// Lets each device call fail once, in the same way.
     pub fn fail_once_each(&self) -> Result<Result<u64, u64>, Trouble> {
         for calls in 0..PLENTY {
             let run = self.failing(calls)?;
@@ -160,7 +160,7 @@ impl<'a> Trial<'a> {
         Ok(Err(PLENTY))
     }
 
-    // Stops each kind of stop after the run, and has the calls stopped again at each device call.
+    // After every kind of stop, makes the calls again and stops them at each device call.
     fn fuse_again(&self, run: &Run) -> Result<bool, Trouble> {
         for torn in TORN {
             let store = run.disk.stopped(torn)?;
@@ -187,7 +187,7 @@ impl<'a> Trial<'a> {
         trial.fuse_each(Stops::One(torn))
     }
 
-    /// Stops the calls at each device call, and then again.
+    /// Stops the calls at each device call, and then a second time.
     pub fn fuse_twice(&self) -> Result<Result<u64, u64>, Trouble> {
         for calls in 0..PLENTY {
             let run = self.fused(calls)?;
@@ -225,7 +225,7 @@ fn ran(
     }
 }
 
-// Whether the one fault there was is that of the device, which was asked this many calls.
+// Whether the run made this many device calls, with no fault, or one that the device counted too.
 fn is_sound(run: &Run, calls: u64) -> bool {
     let is_told = match run.made.fault {
         None => run.failures == 0,

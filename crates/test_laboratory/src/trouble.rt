@@ -2,16 +2,16 @@ use fe_disk::DeviceFault;
 use std::alloc::{AllocError, AllocFailed};
 use std::io;
 
-/// Why a line of a script is not carried out.
+/// Why a line of a script can't be carried out.
 #[derive(Clone, Copy, Debug, PartialEq, Eq)]
 pub enum Trouble {
-    /// There is no memory.
+    /// Memory ran out.
     Memory,
     /// The line is outside the syntax.
     Syntax,
-    /// The disk has no such bytes, or a call of it failed where none is to fail.
+    /// The disk has no such bytes, or a call failed that should not.
     Disk,
-    /// Standard input is no text, or standard output takes nothing.
+    /// Standard input is not UTF-8, or standard output can't be written.
     Stream,
 }
 

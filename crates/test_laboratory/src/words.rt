@@ -3,7 +3,7 @@
 use crate::trouble::Trouble;
 use fe_disk::Torn;
 
-/// The first word of the text, and the text after the space that ends it.
+/// The first word of the text, and the text after the space that ends the word.
 pub fn first_word(text: &str) -> (&str, &str) {
     match text.split_once(' ') {
         Some(parts) => parts,
@@ -11,7 +11,7 @@ pub fn first_word(text: &str) -> (&str, &str) {
     }
 }
 
-/// The number that a word is.
+/// The word as a number.
 pub fn number(word: &str) -> Result<u64, Trouble> {
     match word.parse::<u64>() {
         Ok(number) => Ok(number),
@@ -33,7 +33,7 @@ fn digit(letter: u8) -> Result<u8, Trouble> {
     }
 }
 
-/// The byte that two digits to the base 16 spell.
+/// The byte spelled by two hexadecimal digits.
 pub fn byte_of(pair: &[u8]) -> Result<u8, Trouble> {
     match pair {
         [high, low] => Ok(digit(*high)?.wrapping_mul(16) | digit(*low)?),
@@ -41,7 +41,7 @@ pub fn byte_of(pair: &[u8]) -> Result<u8, Trouble> {
     }
 }
 
-/// What a stop does: `kept`, `lost`, or a byte.
+/// The kind of stop: `kept`, `lost`, or a byte.
 pub fn torn_of(word: &str) -> Result<Torn, Trouble> {
     match word {
         "kept" => Ok(Torn::Kept),
