@@ -32,7 +32,8 @@ pub enum Mail {
     Goodbye {
         session: u64,
     },
-    /// The message with this number was refused.
+    /// A message was refused. The number is that of the call or cancel, the session of an attach, the floor of a
+    /// settle, or 0 for a bye or a report.
     Refused {
         number: u64,
         refusal: Refusal,

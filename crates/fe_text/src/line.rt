@@ -128,8 +128,8 @@ fn told_in(conn: u64, words: &[u8]) -> Option<Line>
     Some(Line::Message { conn, message })
 }
 
-/// The line that the bytes spell, without a line feed, with single spaces between words. `None` if they spell none,
-/// as always with more than 99 bytes.
+/// The line that the bytes spell, without a line feed, with single spaces between words. `None` if they spell none; no
+/// line has more than 99 bytes.
 #[tactic(auto, unfolding(crate::specs::Line::parsed))]
 pub fn parse(bytes: &[u8]) -> Option<Line>
     ensures line { result ≡ parsed bytes.now }

@@ -88,7 +88,7 @@ pub record Decoding : Type 0 where
   -- the current frame is bad
   pub is_bad : Bool
 
--- the decoder's current frame is this rest
+-- the decoder is at this rest: it stores an unfinished frame, and nothing of a bad one
 abbrev pub StandsAt : Version → Bool → List ℕ → List ℕ → Type 0
 StandsAt v false held rest = IsUnfinished v rest × (held ≡ rest)
 StandsAt v true held rest = IsBad v rest × (held ≡ [])

@@ -55,7 +55,7 @@ fn access_of(no_wait: bool, body: &[u8]) -> Option<ClientMessage>
     ended(rest, ClientMessage::Call { number, request })
 }
 
-/// The message of a kind whose body has only 8-byte numbers, or `None` if there is none.
+/// The message of a kind whose body is at most two 8-byte numbers, or `None` if there is none.
 #[tactic(auto, unfolding(crate::specs::Reading::plain_of))]
 fn plain_of(kind: u8, body: &[u8]) -> Option<ClientMessage>
     ensures { result ≡ plain_of kind body.now }

@@ -25,7 +25,7 @@ impl Names {
         }
     }
 
-    /// Names these bytes, or gives the name these bytes if it has others.
+    /// Gives these bytes the name, even if other bytes have it.
     pub fn set(&mut self, name: &str, bytes: Vec<u8>) -> Result<(), Trouble> {
         for named in self.list.iter_mut() {
             if named.name.as_str() == name {

@@ -225,7 +225,7 @@ fn ran(
     }
 }
 
-// Whether the run made this many device calls, with no fault, or one that the device counted too.
+// Whether the run made this many device calls, and met no fault or exactly one, reported as a device fault.
 fn is_sound(run: &Run, calls: u64) -> bool {
     let is_told = match run.made.fault {
         None => run.failures == 0,
