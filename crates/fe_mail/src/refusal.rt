@@ -19,6 +19,7 @@ pub enum Refusal {
     StillWaiting,
     /// The session is being closed.
     Closing,
+    /// Memory ran out.
     NoMemory,
     /// The history has fewer places left than one event may need.
     Spent,
