@@ -21,7 +21,7 @@ pub enum Refusal {
     Closing,
     /// Memory ran out.
     NoMemory,
-    /// The history has fewer places left than one event may need.
+    /// The history has fewer than 2,049 places left, the most that one event may need.
     Spent,
     /// No request with the number is waiting.
     NotWaiting,
