@@ -53,7 +53,7 @@ run-back links p x (y ∷ ys) q n r (inl same) = (x, inl refl, ap (λ m. previou
 run-back links p x (y ∷ ys) q n r (inr i) =
     let rest = run-back links (Some x) y ys q n r.1 i in (rest.0, inr rest.1, rest.2)
 
--- a list has no duplicates if none of its nodes comes before it
+-- a list has no duplicates if the node before it is not in it
 pub run-different : (links : List Link) (p : Option ℕ) (xs : List ℕ) (q : Option ℕ) → IsRun links p xs q → ((m : ℕ) → p ≡ Some m → IsAmong m xs → ⊥) → AllDifferent xs
 run-different links p [] q r before = tt
 run-different links p (x ∷ xs) q r before = (off, run-different links (Some x) xs q r.1 after)
