@@ -2,18 +2,16 @@ ghost use Rattle.std.specs.Prelude.{◌≡◌};
 ghost use Rattle.fe_seats.specs.within.Inner.{slot_in};
 
 use crate::seat::Seat;
+use fe_state::SESSIONS;
 use fe_table::Table;
 
-/// How many sessions may have a seat.
-pub(crate) const SEATS: usize = 64;
-
 /// The places of the sessions.
-pub(crate) type Places = Table<Place, SEATS>;
+pub(crate) type Places = Table<Place, SESSIONS>;
 
 /// Where the requests of a session wait, and its seat.
 #[derive(Clone, Copy)]
 pub(crate) struct Place {
-    /// The slot of the session's requests, 0 to 63.
+    /// The slot of the session's requests, below `SESSIONS`.
     pub(crate) slot: u8,
     pub(crate) seat: Seat,
 }
