@@ -1,4 +1,5 @@
-ghost use Rattle.std.specs.Prelude.{◌≡◌};
+ghost use Rattle.std.specs.Prelude.{◌≡◌, option_copied};
+ghost use Rattle.std.specs.FinMap.{get};
 ghost use Rattle.fe_seats.specs.within.Inner.{slot_in};
 
 use crate::seat::Seat;
@@ -22,4 +23,16 @@ pub(crate) fn slot_of(places: &Places, session: u64) -> Option<u8>
 {
     let place = places.get(session)?;
     Some(place.slot)
+}
+
+// The place of a session, which is looked for at a guess first. Any guess is good.
+pub(crate) fn place_near(places: &Places, guess: usize, session: u64) -> Option<&Place>
+    ensures { option_copied result ≡ get places.now session }
+{
+    if let Some((here, place)) = places.at(guess) {
+        if here == session {
+            return Some(place);
+        }
+    }
+    places.get(session)
 }

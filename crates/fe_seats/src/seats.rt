@@ -4,7 +4,7 @@ ghost use Rattle.fe_waits.specs.Waiting.{IsWord, NoneOnWord, NoneOnArray, AreTol
 ghost use Rattle.fe_seats.specs.Seating.{free_seat, with_holder, with_closing, key_of, waiter_of, turn_of, turn_at, count_of, without_session, IsNodeOn, NoneOfSession, IsWithinLimits};
 ghost use Rattle.fe_state.specs.declared.bounds.TheConstants.{SESSIONS, ARRAYS, WINDOW};
 
-use crate::place::{Place, Places, slot_of};
+use crate::place::{Place, Places, place_near, slot_of};
 use crate::seat::Seat;
 use crate::slots::{all_slots, owner};
 use crate::turn::Turn;
@@ -89,7 +89,8 @@ impl Seats {
     pub fn seat(&self, session: u64) -> Option<Seat>
         ensures { result ≡ map.get self.now.seats session }
     {
-        let place = self.places.get(session)?;
+        let guess = self.guesses[(session % GUESSES as u64) as usize];
+        let place = place_near(&self.places, guess, session)?;
         Some(place.seat)
     }
 
