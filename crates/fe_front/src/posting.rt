@@ -6,7 +6,7 @@ ghost use Rattle.fe_front.specs.within.Tables.{front_of, AreSound};
 
 use crate::tables::Tables;
 use fe_mail::{Mail, session_of};
-use fe_state::{Batch, Entry, Request, named};
+use fe_state::{Batch, Entry};
 
 /// How many bells there are. A connection has the one at the remainder of its number.
 pub const BELLS: u64 = 256;
@@ -80,7 +80,6 @@ impl Tables {
         ensures posted { front_of self.new ≡ posted_all (front_of self.old) entries.now first }
         ensures rings { Rings (front_of self.old) (front_of self.new) bells.old bells.new }
     {
-        named::<Request>();
         for k in 0..entries.len() {
             self.post_entry(&entries[k], first + k as u64, bells);
         }
