@@ -1,5 +1,5 @@
 -- The state of the front, and what is always true of it.
-use Rattle.std.specs.Prelude.{◌≡◌, ◌↔◌, ℕ, ◌+◌, ◌-◌, ◌^◌, ◌≤◌, refl, Bool, not, ◌&&◌, nat_le, nat_lt, [], length, Option, Some, None, IfSome, is_some}
+use Rattle.std.specs.Prelude.{◌≡◌, ◌↔◌, ℕ, ◌+◌, ◌≤◌, refl, Bool, not, ◌&&◌, nat_le, nat_lt, [], length, Option, Some, None, IfSome, is_some}
 use Rattle.std.specs.Ordering.{nat_cmp}
 use Rattle.std.specs.Coded.{Coded, code_by, coded×, coded_ℕ, coded_option}
 use Rattle.std.specs.FinMap.{FinMap, code, empty, get, len}
@@ -13,6 +13,7 @@ use Rattle.fe_mail.specs.declared.connection.Connection.{Connection}
 use Rattle.fe_mail.specs.contracts.connection.Connection.{the_row as connection_row}
 use Rattle.fe_front.specs.declared.out.Out.{Out}
 use Rattle.fe_front.specs.contracts.out.Out.{the_row as out_row}
+use Rattle.fe_state.specs.declared.bounds.TheConstants.{BATCH_ENTRIES, EVENT_ENTRIES, GREATEST_PLACE, WAITING}
 
 -- The state with its seats, what waits and the entries not yet cut; the connections with their sessions and boxes; how
 -- many entries are durable; where the batch that is out begins, and how long it is; and the books.
@@ -43,7 +44,7 @@ out_length (Some o) = o.length
 pub record IsTied (f : FrontState) : Type 0 where
   pub agree : (session conn : ℕ) → (holder_of f.service.seats session ≡ Some conn) ↔ (session_on f.connections conn ≡ Some session)
   pub place : f.service.state.place ≡ f.durable + out_length f.out + length f.service.pending
-  pub few_out : out_length f.out ≤ 4097
+  pub few_out : out_length f.out ≤ BATCH_ENTRIES
   pub out_first : IfSome f.out (λ o. o.first ≡ f.durable)
   pub balance : Balances f.books (len f.service.waiting) (mails_in f.connections)
 
@@ -51,8 +52,8 @@ pub record IsTied (f : FrontState) : Type 0 where
 pub record IsFront (f : FrontState) : Type 0 where
   pub service : IsService f.service
   pub tied : IsTied f
-  pub few_waiting : len f.service.waiting ≤ 2048
-  pub few_pending : length f.service.pending ≤ 4097
+  pub few_waiting : len f.service.waiting ≤ WAITING
+  pub few_pending : length f.service.pending ≤ BATCH_ENTRIES
 
 -- a front as it begins, over a state: one seat for each session, which nobody has, and all entries durable
 pub record IsFirst (begun : ServerState) (f : FrontState) : Type 0 where
@@ -67,11 +68,11 @@ pub record IsFirst (begun : ServerState) (f : FrontState) : Type 0 where
 
 -- whether so few entries are pending that one more event has room
 abbrev pub has_room : FrontState → Bool
-has_room f = nat_le (length f.service.pending) 2048
+has_room f = nat_le (length f.service.pending) WAITING
 
 -- whether the history may have no place left for what one event adds
 abbrev pub is_spent : FrontState → Bool
-is_spent f = nat_lt (2 ^ 63 - 1) (f.service.state.place + 2049)
+is_spent f = nat_lt GREATEST_PLACE (f.service.state.place + EVENT_ENTRIES)
 
 -- whether a connection has the session, and it is not closing
 abbrev pub is_attached : FrontState → ℕ → Bool

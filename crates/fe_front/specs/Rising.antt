@@ -9,6 +9,7 @@ use Rattle.fe_front.specs.Front.{FrontState, IsFront}
 use Rattle.fe_front.specs.Call.{call_refused_by}
 use Rattle.fe_front.specs.Step.{FrontStep}
 use Rattle.fe_front.specs.Steps.{mailed}
+use Rattle.fe_state.specs.declared.bounds.TheConstants.{BATCH_ENTRIES}
 
 -- books that are not spent, with places for this many more calls and mails
 pub record HaveRoom (b : Books) (calls mails : ℕ) : Type 0 where
@@ -52,6 +53,6 @@ refused_to f conn number refusal = mailed (call_refused_by f) conn (mail.Refused
 pub record BooksRise : Type 0 where
   pub rises : (f f' : FrontState) (event : Event) (es : List Entry) → IsFront f → HaveRoom f.books (calls_of event) (most_mails_of event) → FrontStep f event es f'
       → Rise f.books (calls_of event) (taken_of event) (most_mails_of event) f'.books
-  pub few_mails : (f f' : FrontState) (event : Event) (es : List Entry) → IsFront f → FrontStep f event es f' → most_mails_of event ≤ 4097
+  pub few_mails : (f f' : FrontState) (event : Event) (es : List Entry) → IsFront f → FrontStep f event es f' → most_mails_of event ≤ BATCH_ENTRIES
   pub refused : (f : FrontState) → HaveRoom f.books 1 0 → Rise f.books 1 0 0 (call_refused_by f).books
   pub refused_to : (f : FrontState) (conn number : ℕ) (refusal : Refusal) → HaveRoom f.books 1 1 → Rise f.books 1 0 1 (refused_to f conn number refusal).books

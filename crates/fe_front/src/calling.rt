@@ -12,13 +12,12 @@ ghost use Rattle.fe_state.specs.declared.entry.Entry.TheVariants.{Finished};
 
 use crate::asked::is_same;
 use crate::outcome::Outcome;
-use crate::sessions::WINDOW;
 use crate::tables::Tables;
 use fe_mail::{Books, Mail, Refusal};
-use fe_state::{Answer, Request};
+use fe_state::{Answer, Request, WINDOW};
 
 impl Tables {
-    /// A session whose window has the number.
+    /// The session, if its window has the number, or why the call is refused.
     fn in_window(&self, session: u64, number: u64) -> Result<u64, Refusal>
         ensures { result ≡ in_window (front_of self.now) number session }
     {
@@ -76,7 +75,7 @@ impl Tables {
         }
     }
 
-    /// A call repeats the request of its number. A kept and durable answer is mailed again.
+    /// Repeats the request of a number. An answer that is kept and durable is mailed again.
     fn repeat(&mut self, conn: u64, session: u64, number: u64) -> Outcome
         requires sound { AreSound self.old }
         ensures sound { AreSound self.new }
@@ -100,7 +99,7 @@ impl Tables {
         Outcome::SentAgain
     }
 
-    /// A new request completes. The one refusal is that memory is short, for the words of a new array.
+    /// Completes a new request. The one refusal is `NoMemory`, for the words of a new array.
     fn complete(
         &mut self,
         session: u64,
@@ -132,7 +131,7 @@ impl Tables {
         }
     }
 
-    /// A new request waits, which has no reply yet.
+    /// Adds a waiting request, which has no reply yet.
     fn wait(&mut self, session: u64, number: u64, request: Request)
         requires sound { AreSound self.old }
         requires free { IsFree self.old.service session number }
@@ -155,7 +154,7 @@ impl Tables {
         self.books.call_waits();
     }
 
-    /// A request of a number that is in the window and belongs to no request yet.
+    /// Begins a request under a number of the window that belongs to no request yet.
     fn begin(&mut self, session: u64, number: u64, request: Request) -> Result<Outcome, Refusal>
         requires sound { AreSound self.old }
         requires free { IsFree self.old.service session number }
@@ -181,7 +180,7 @@ impl Tables {
         }
     }
 
-    /// A call, or why it is refused: its session's window has the number, and the number is new or belongs to the same request.
+    /// Makes a call, or says why it is refused. The number has to be in the window, and new or of the same request.
     pub(crate) fn call(
         &mut self,
         conn: u64,
@@ -206,7 +205,7 @@ impl Tables {
         self.call_within(conn, session, number, request)
     }
 
-    /// A call, whose number is in its session's window.
+    /// Makes a call whose number is in its session's window.
     fn call_within(
         &mut self,
         conn: u64,
@@ -218,9 +217,14 @@ impl Tables {
         requires room { IsTrue (has_room (front_of self.old)) }
         requires addressed { addressed (front_of self.old) conn number ≡ Ok session }
         ensures sound { AreSound self.new }
-        ensures called { IfOk result (λ outcome. (entries : List Entry) × Called (front_of self.old) conn session number request outcome entries (front_of self.new)) }
-        ensures refused { (refusal : refusals.Refusal) → IsCallRefused (front_of self.old) conn number request refusal → result ≡ Err refusal }
-        ensures refusal { IfErr result (λ refusal. IsCallRefused (front_of self.old) conn number request refusal ⊎ ((refusal ≡ Refusal.NoMemory) × WantsMemory (front_of self.old) conn number request)) }
+        ensures called { IfOk result
+            (λ outcome. (entries : List Entry)
+            × Called (front_of self.old) conn session number request outcome entries (front_of self.new)) }
+        ensures refused { (refusal : refusals.Refusal) → IsCallRefused (front_of self.old) conn number request refusal
+            → result ≡ Err refusal }
+        ensures refusal { IfErr result
+            (λ refusal. IsCallRefused (front_of self.old) conn number request refusal
+            ⊎ ((refusal ≡ Refusal.NoMemory) × WantsMemory (front_of self.old) conn number request)) }
         ensures err { OnErr result (self.new ≡ self.old) }
     {
         self.limits();

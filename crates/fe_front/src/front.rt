@@ -17,6 +17,7 @@ ghost use Rattle.fe_front.specs.Refusals.{attaching, settling, leaving, cancelli
 ghost use Rattle.fe_front.specs.Call.{IsCallRefused, WantsMemory, call_refused_by};
 ghost use Rattle.fe_front.specs.Posting.{IsOut, posted};
 ghost use Rattle.fe_front.specs.Ringing.{Rings};
+ghost use Rattle.fe_state.specs.declared.bounds.TheConstants.{WAITING};
 
 use crate::out::Out;
 use crate::outcome::{Outcome, StrangeBatch};
@@ -24,13 +25,10 @@ use crate::posting::BELLS;
 use crate::tables::Tables;
 use fe_mail::{Books, Connections, Mail, Refusal, ReportText};
 use fe_service::Service;
-use fe_state::{Batch, Entries, Request, State};
+use fe_state::{Batch, Entries, Request, State, WAITING};
 use fe_words::Op;
 use std::alloc::{AllocError, Global};
 use std::marker::Model;
-
-/// How many entries may be pending where one more event has room.
-pub const ROOM: usize = 2048;
 
 /// The state, the sessions' seats and what waits, the connections with their boxes, the entries on their way to the
 /// store, and the books.
@@ -56,8 +54,8 @@ impl Model for Front {
 }
 
 impl Front {
-    /// A front over a state, all of whose entries are durable: each session has a seat, and no connection. It takes the
-    /// memory of all but the boxes and the words of new arrays; the one error is that there is too little.
+    /// A front over a state whose entries are all durable. Each session has a seat and no connection. Only boxes and new
+    /// arrays take memory later. The one error is that memory is short.
     pub fn new(alloc: Global, state: State) -> Result<Front, AllocError>
         ensures { IfOk result (IsFirst state) }
     {
@@ -91,11 +89,11 @@ impl Front {
         self.tables.connect(conn)
     }
 
-    /// Whether at most 2,048 entries are pending, which `attach`, `call`, `settle` and `bye` ask for.
+    /// Whether at most `WAITING` entries are pending. `attach`, `call`, `settle` and `bye` need that.
     pub fn room(&self) -> bool
         ensures { result ≡ has_room self.now }
     {
-        self.tables.service.pending_count() <= ROOM
+        self.tables.service.pending_count() <= WAITING
     }
 
     /// Gives a session to a connection, with an entry of it. The connection leaves the session that it has, and whoever
@@ -140,7 +138,7 @@ impl Front {
         self.tables.settle(conn, floor)
     }
 
-    /// Ends the connection's session, with an entry of it. What waits of it is withdrawn, and it is closing until that
+    /// Closes the connection's session, with an entry, and withdraws its waiting requests. The session is closing until that
     /// entry is posted.
     pub fn bye(&mut self, conn: u64) -> Result<(), Refusal>
         requires room { IsTrue (has_room self.old) }
@@ -151,7 +149,7 @@ impl Front {
         self.tables.bye(conn)
     }
 
-    /// Takes out a waiting request of the connection's session, and tells the connection.
+    /// Withdraws a waiting request of the connection's session, and mails the connection a withdrawal.
     pub fn cancel(&mut self, conn: u64, number: u64) -> Result<(), Refusal>
         ensures cancelled { MatchResult (cancelling self.old conn number)
             (λ session. IsOk result × (self.new ≡ cancelled_by self.old conn session number))
@@ -160,7 +158,7 @@ impl Front {
         self.tables.cancel(conn, number)
     }
 
-    /// Takes a connection away with its box. What waits of its session is withdrawn and counted, 0 to 32.
+    /// Removes a connection with its box, and withdraws its session's waiting requests. Returns how many, 0 to `WINDOW`.
     pub fn gone(&mut self, conn: u64) -> u32
         ensures count { result ≡ departing self.old conn }
         ensures dropped { self.new ≡ dropped self.old conn }
@@ -168,7 +166,7 @@ impl Front {
         self.tables.drop_connection(conn)
     }
 
-    /// Hands all pending entries out as the batch that is to be stored, if there are some and no batch is out.
+    /// Hands out all pending entries as the batch to store, if there are some and no batch is out.
     pub fn cut(&mut self) -> Option<Batch>
         ensures batch { result ≡ next_batch self.old }
         ensures cut { self.new ≡ cut self.old }
@@ -176,9 +174,9 @@ impl Front {
         self.tables.cut()
     }
 
-    /// Takes the batch that is out as stored: the durable mark rises past it, each of its entries is mailed to whoever
-    /// has its session, and a session that it closes leaves. Any other batch is refused and comes back: one while none
-    /// is out, or with another first place or another length.
+    /// Takes the batch that is out as stored. Its entries become durable and are mailed to the connections that have their
+    /// sessions, and a session that it closes leaves. Any other batch is refused and handed back: one while no batch is out,
+    /// or one with another first place or length.
     pub fn post(&mut self, batch: Batch) -> Result<(), StrangeBatch>
         ensures refused { IsErr result ↔ (¬ IsOut self.old.out batch) }
         ensures returned { IfErr result (λ strange. strange.0 ≡ batch) }
@@ -189,7 +187,7 @@ impl Front {
     }
 
     /// As `post`, and rings the bell of each connection whose box the batch changed: it got a mail, or its box was full and
-    /// it is gone. A connection whose bell is not rung has the box that it had.
+    /// the connection was removed. A connection whose bell is not rung has its old box.
     pub fn post_ringing(
         &mut self,
         batch: Batch,
@@ -224,15 +222,15 @@ impl Front {
         self.tables.connections.has_mail(conn)
     }
 
-    /// Mails the text of a report to a connection. A full box drops its connection.
+    /// Mails the text of a report to a connection. A connection whose box is full is removed.
     pub fn mail_text(&mut self, conn: u64, text: ReportText)
         ensures { self.new ≡ mailed self.old conn (mails.Report text) }
     {
         self.tables.mail(conn, Mail::Report(text));
     }
 
-    /// Mails a refusal to a connection. The number is the call's or the cancel's own, the floor or the session asked, and
-    /// 0 for a bye or a report. A full box drops its connection.
+    /// Mails a refusal to a connection. The number is that of the call or cancel, the floor or session asked for, and 0 for a
+    /// bye or a report. A connection whose box is full is removed.
     pub fn mail_refusal(&mut self, conn: u64, number: u64, refusal: Refusal)
         ensures { self.new ≡ mailed self.old conn (mails.Refused number refusal) }
     {
@@ -264,7 +262,7 @@ impl Front {
         self.tables.service.state()
     }
 
-    /// What became of the calls and of the mails.
+    /// The counts of calls and mails, by outcome.
     pub fn books(&self) -> Books
         ensures books { result ≡ self.now.books }
         ensures balance { Balances result (len self.now.service.waiting) (mails_in self.now.connections) }
@@ -282,8 +280,8 @@ impl Front {
         }
     }
 
-    /// The requests of a session that wait, at most 32, in no order that is promised: the number of each, the array and
-    /// the index of its word, and its operation. The one error is that memory is short.
+    /// The waiting requests of a session, at most `WINDOW`, in no particular order: the number of each, the array and
+    /// index of its word, and its operation. The one error is that memory is short.
     pub fn told(
         &self,
         alloc: Global,
@@ -295,15 +293,15 @@ impl Front {
         self.tables.service.told(alloc, session)
     }
 
-    /// How many requests wait, 0 to 2,048.
+    /// How many requests wait, 0 to `WAITING`.
     pub fn waiting_count(&self) -> u32
         ensures count { result ≡ len self.now.service.waiting }
-        ensures few { result ≤ 2048 }
+        ensures few { result ≤ WAITING }
     {
         self.tables.service.waiting_count()
     }
 
-    /// How many requests of a session wait, 0 to 32.
+    /// How many requests of a session wait, 0 to `WINDOW`.
     pub fn count_of(&self, session: u64) -> u32
         ensures { result ≡ count_of self.now.service.waiting session }
     {

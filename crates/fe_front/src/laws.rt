@@ -9,13 +9,13 @@ pub fn steps_are_legal()
     ensures { StepsLead }
 {}
 
-/// An event makes at most 2,049 entries: its own, and one for each request that waits.
+/// An event makes at most `EVENT_ENTRIES` entries: its own, and one for each request that waits.
 pub fn steps_are_few()
     ensures { StepsAreFew }
 {}
 
-/// Books that have room for an event stay unspent through it. It books one call where it is a call, refused or not, one
-/// taken mail where it takes one, and no more mails than it may make, 4,097 at most.
+/// Books with room for an event stay unspent through it. A call books one call, refused or not; taking a mail books one
+/// taken mail; and no event books more mails than it may make, `BATCH_ENTRIES` at most.
 pub fn books_rise()
     ensures { BooksRise }
 {}
@@ -26,7 +26,7 @@ pub fn mails_stay_durable()
     ensures { MailsStayDurable }
 {}
 
-/// No box ever has more than 128 mails. Steps are those of the clauses of `Front`, as above.
+/// No box ever has more than `MAILS` mails. Steps are those of the clauses of `Front`, as above.
 pub fn boxes_stay_short()
     ensures { BoxesStayShort }
 {}

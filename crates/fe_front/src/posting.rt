@@ -6,7 +6,7 @@ ghost use Rattle.fe_front.specs.within.Tables.{front_of, AreSound};
 
 use crate::tables::Tables;
 use fe_mail::{Mail, session_of};
-use fe_state::{Batch, Entry, Request};
+use fe_state::{Batch, Entry};
 
 /// How many bells there are. A connection has the one at the remainder of its number.
 pub const BELLS: u64 = 256;
@@ -20,7 +20,7 @@ fn ring(bells: &mut [bool; BELLS as usize], conn: u64)
 }
 
 impl Tables {
-    /// Whether a batch is as the one that is out.
+    /// Whether a batch begins where the one that is out does, and is as long.
     pub(crate) fn is_out(&self, batch: &Batch) -> bool
         ensures { IsTrue result ↔ IsOut self.now.out batch.now }
     {
@@ -30,7 +30,7 @@ impl Tables {
         }
     }
 
-    /// Mails an entry to whoever has its session, and rings the bell.
+    /// Mails an entry to the connection that has its session, if one does, and rings its bell.
     fn deliver(&mut self, entry: &Entry, place: u64, bells: &mut [bool; BELLS as usize])
         requires sound { AreSound self.old }
         ensures sound { AreSound self.new }
@@ -43,7 +43,7 @@ impl Tables {
         }
     }
 
-    /// Whoever has a session has it no more, and its closing ends.
+    /// Takes a session from the connection that has it, if one does, and ends its closing.
     fn end(&mut self, session: u64)
         requires sound { AreSound self.old }
         ensures sound { AreSound self.new }
@@ -67,7 +67,7 @@ impl Tables {
         }
     }
 
-    /// Posts entries in order, the first of them at the place.
+    /// Posts entries in order. The first one is at the place `first`.
     pub(crate) fn post_all(
         &mut self,
         first: u64,
@@ -80,10 +80,8 @@ impl Tables {
         ensures posted { front_of self.new ≡ posted_all (front_of self.old) entries.now first }
         ensures rings { Rings (front_of self.old) (front_of self.new) bells.old bells.new }
     {
-        let _named: Option<Request> = None;
         for k in 0..entries.len() {
-            let entry = entries[k];
-            self.post_entry(&entry, first + k as u64, bells);
+            self.post_entry(&entries[k], first + k as u64, bells);
         }
     }
 

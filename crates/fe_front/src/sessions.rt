@@ -10,12 +10,7 @@ ghost use Rattle.fe_service.specs.Events.{floor_of, MaySit, HasRoom};
 
 use crate::tables::Tables;
 use fe_mail::{Mail, Refusal};
-
-/// The greatest floor of a session.
-const GREATEST_FLOOR: u64 = 9223372036854775776;
-
-/// How many numbers a session may use from its floor on.
-pub(crate) const WINDOW: u64 = 32;
+use fe_state::{GREATEST_FLOOR, SESSIONS, WINDOW};
 
 impl Tables {
     /// The least usable number of a session, 1 where it is not there.
@@ -28,7 +23,7 @@ impl Tables {
         }
     }
 
-    /// A session, while there is a place for what one event may add.
+    /// The session, while the history has room for the entries of one event.
     fn unspent(&self, session: u64) -> Result<u64, Refusal>
         ensures { result ≡ unspent (front_of self.now) session }
     {
@@ -39,7 +34,7 @@ impl Tables {
         }
     }
 
-    /// The session that a connection may attach, or why it may not.
+    /// The session, if the connection may attach it, or why it may not.
     fn attaching(&self, conn: u64, session: u64) -> Result<u64, Refusal>
         ensures { result ≡ attaching (front_of self.now) conn session }
     {
@@ -47,14 +42,14 @@ impl Tables {
             Err(Refusal::NotAttached)
         } else if self.is_closing(session) {
             Err(Refusal::Closing)
-        } else if self.service.seat(session).is_none() && self.service.seat_count() >= 64 {
+        } else if self.service.seat(session).is_none() && self.service.seat_count() >= SESSIONS {
             Err(Refusal::SessionLimit)
         } else {
             self.unspent(session)
         }
     }
 
-    /// A connection and a session, which have no other, have each other.
+    /// Gives a session to a connection. Neither has another.
     fn join(&mut self, conn: u64, session: u64)
         requires sound { AreSound self.old }
         requires free_connection { session_on self.old.connections conn ≡ None }
@@ -69,7 +64,7 @@ impl Tables {
         self.connections.set_session(conn, Some(session));
     }
 
-    /// A connection attaches a session, or why it may not.
+    /// Attaches a session to a connection, or says why it may not.
     pub(crate) fn attach(&mut self, conn: u64, session: u64) -> Result<(), Refusal>
         requires sound { AreSound self.old }
         requires room { IsTrue (has_room (front_of self.old)) }
@@ -85,7 +80,7 @@ impl Tables {
         Ok(())
     }
 
-    /// Whether a request of the session waits under a number from the floor that it has on and below another.
+    /// Whether a request of the session waits under a number below this floor.
     fn waits_below(&self, session: u64, floor: u64) -> bool
         ensures { result ≡ waits_below self.now.service.waiting session floor }
     {
@@ -98,7 +93,7 @@ impl Tables {
         false
     }
 
-    /// A session whose floor may rise to this one.
+    /// The session, if its floor may rise to this one, or why it may not.
     fn may_settle(&self, session: u64, floor: u64) -> Result<u64, Refusal>
         ensures { result ≡ may_settle (front_of self.now) floor session }
     {
@@ -124,7 +119,7 @@ impl Tables {
         }
     }
 
-    /// The floor of a connection's session rises, or why it may not.
+    /// Raises the floor of a connection's session, or says why it may not.
     pub(crate) fn settle(&mut self, conn: u64, floor: u64) -> Result<(), Refusal>
         requires sound { AreSound self.old }
         requires room { IsTrue (has_room (front_of self.old)) }
@@ -148,7 +143,7 @@ impl Tables {
         }
     }
 
-    /// A connection's session is closed, or why it may not be.
+    /// Closes a connection's session, or says why it may not.
     pub(crate) fn bye(&mut self, conn: u64) -> Result<(), Refusal>
         requires sound { AreSound self.old }
         requires room { IsTrue (has_room (front_of self.old)) }
@@ -179,7 +174,7 @@ impl Tables {
         }
     }
 
-    /// A waiting request of a connection's session is taken out, and the connection is sent a withdrawal; or why it may not be.
+    /// Takes a waiting request of a connection's session out and mails the connection its withdrawal, or says why it may not.
     pub(crate) fn cancel(&mut self, conn: u64, number: u64) -> Result<(), Refusal>
         requires sound { AreSound self.old }
         ensures sound { AreSound self.new }
@@ -193,7 +188,7 @@ impl Tables {
         Ok(())
     }
 
-    /// A request that waits is taken out.
+    /// Takes out a request that waits.
     fn take_out(&mut self, session: u64, number: u64)
         requires sound { AreSound self.old }
         requires waits { IsSome (get self.old.service.waiting (session, number)) }

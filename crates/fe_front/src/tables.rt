@@ -11,10 +11,7 @@ ghost use Rattle.fe_front.specs.within.Tables.{front_of, AreSound};
 use crate::out::Out;
 use fe_mail::{Books, Connections, Mail, Refusal};
 use fe_service::Service;
-use fe_state::{Entries, GREATEST_PLACE};
-
-/// How many entries one event adds at most.
-const EVENT_ENTRIES: u64 = 2049;
+use fe_state::{EVENT_ENTRIES, Entries, GREATEST_PLACE};
 
 /// The state with its seats and what waits, the connections with their boxes, the books, and the batch that is out.
 #[derive(Drop)]
@@ -41,7 +38,7 @@ impl Tables {
     pub(crate) fn is_spent(&self) -> bool
         ensures { result ≡ is_spent (front_of self.now) }
     {
-        self.service.state().place() + EVENT_ENTRIES > GREATEST_PLACE
+        self.service.state().place() + EVENT_ENTRIES as u64 > GREATEST_PLACE
     }
 
     /// The connection that has a session, if one has it.
@@ -85,7 +82,7 @@ impl Tables {
         }
     }
 
-    /// Withdraws what waits of a session, and counts it.
+    /// Withdraws a session's waiting requests. Returns how many there were.
     pub(crate) fn withdraw(&mut self, session: u64) -> u32
         requires sound { AreSound self.old }
         ensures sound { AreSound self.new }
@@ -97,7 +94,7 @@ impl Tables {
         count
     }
 
-    /// A connection and the session that it has let go of each other.
+    /// Takes a connection's session from it.
     pub(crate) fn part(&mut self, conn: u64, session: u64)
         requires sound { AreSound self.old }
         requires has { session_on self.old.connections conn ≡ Some session }
@@ -108,7 +105,7 @@ impl Tables {
         self.connections.set_session(conn, None);
     }
 
-    /// A connection lets go of the session that it has, if it has one.
+    /// Takes a connection's session from it, if it has one.
     pub(crate) fn release(&mut self, conn: u64)
         requires sound { AreSound self.old }
         ensures sound { AreSound self.new }
@@ -119,7 +116,7 @@ impl Tables {
         }
     }
 
-    /// Whoever has a session lets go of it.
+    /// Takes a session from the connection that has it, if one does.
     pub(crate) fn free(&mut self, session: u64)
         requires sound { AreSound self.old }
         ensures sound { AreSound self.new }
@@ -130,7 +127,7 @@ impl Tables {
         }
     }
 
-    /// A connection leaves its session, if it has one; what waits of that is withdrawn and counted.
+    /// Takes a connection's session from it, if it has one, and withdraws its waiting requests. Returns how many.
     pub(crate) fn depart(&mut self, conn: u64) -> u32
         requires sound { AreSound self.old }
         ensures sound { AreSound self.new }
@@ -158,7 +155,7 @@ impl Tables {
         self.books.box_dropped(mails);
     }
 
-    /// A connection is gone, if it was there. What waits of its session is withdrawn and counted.
+    /// Removes a connection, if it is there, and withdraws its session's waiting requests. Returns how many.
     pub(crate) fn drop_connection(&mut self, conn: u64) -> u32
         requires sound { AreSound self.old }
         ensures sound { AreSound self.new }

@@ -10,6 +10,7 @@ use Rattle.fe_seats.specs.declared.seat.Seat.{Seat}
 use Rattle.fe_seats.specs.contracts.seat.Seat.{the_row as seat_row}
 use Rattle.fe_seats.specs.declared.turn.Turn.{Turn}
 use Rattle.fe_seats.specs.contracts.turn.Turn.{the_row as turn_row}
+use Rattle.fe_state.specs.declared.bounds.TheConstants.{SESSIONS, ARRAYS, WINDOW, WAITING}
 
 -- the length of each added array; the seats, by session; the requests that wait, by session and
 -- number; and by node the request for which it stands
@@ -94,14 +95,13 @@ count_of waiting session = len (of_session waiting session)
 abbrev pub without_session : FinMap pair_cmp Waiter → ℕ → FinMap pair_cmp Waiter
 without_session waiting session = retain_keys waiting (λ key. not (key.0 == session))
 
--- what is always true: there are at most 64 seats; each request is of a session that has one, and on
--- a word of an added array; no session has more than 32, so there are at most 2,048; there are at most
--- 64 arrays; and a node stands for a request that waits
+-- what is always true: there are few seats; each request is of a session that has one, and on a word of an added array;
+-- no session has more requests than its window has numbers; there are few arrays; and a node stands for a request that waits
 pub record IsWithinLimits (w : Seating) : Type 0 where
-  pub seats : len w.seats ≤ 64
+  pub seats : len w.seats ≤ SESSIONS
   pub seated : (key : ℕ × ℕ) (waiter : Waiter) → get w.waiting key ≡ Some waiter → IsSome (get w.seats key.0)
   pub words : (key : ℕ × ℕ) (waiter : Waiter) → get w.waiting key ≡ Some waiter → IsWord w.arrays waiter.array waiter.index
-  pub few : (session : ℕ) → count_of w.waiting session ≤ 32
-  pub all : len w.waiting ≤ 2048
-  pub arrays : len w.arrays ≤ 64
+  pub few : (session : ℕ) → count_of w.waiting session ≤ WINDOW
+  pub all : len w.waiting ≤ WAITING
+  pub arrays : len w.arrays ≤ ARRAYS
   pub turns : (node : ℕ) (turn : Turn) → turn_of w node ≡ Some turn → get w.waiting (key_of turn) ≡ Some (waiter_of turn)

@@ -2,22 +2,26 @@ ghost use Rattle.std.specs.Prelude.{◌≡◌, ◌↔◌, ◌<◌, ◌≤◌, So
 ghost use Rattle.std.specs.FinMap as map;
 ghost use Rattle.fe_waits.specs.Waiting.{IsWord, NoneOnWord, NoneOnArray, AreTold, AreToldOnce};
 ghost use Rattle.fe_seats.specs.Seating.{free_seat, with_holder, with_closing, key_of, waiter_of, turn_of, turn_at, count_of, without_session, IsNodeOn, NoneOfSession, IsWithinLimits};
+ghost use Rattle.fe_state.specs.declared.bounds.TheConstants.{SESSIONS, ARRAYS, WINDOW};
 
-use crate::place::{Place, Places, SEATS, slot_of};
+use crate::place::{Place, Places, place_near, slot_of};
 use crate::seat::Seat;
 use crate::slots::{all_slots, owner};
 use crate::turn::Turn;
 use fe_pool::Node;
+use fe_state::SESSIONS;
 use fe_table::Table;
 use fe_waits::Waits;
 use fe_words::Op;
 use std::alloc::{AllocError, Global};
 use std::marker::Model;
 
+/// How many guesses there are of where a session's place is.
+const GUESSES: usize = 256;
+
 /// The seats of the sessions, and the requests that wait, each on a word and in its session.
 ///
-/// Only `new` and `add_array` take memory. A session is found by halving at most 64. A node is good
-/// until the next change.
+/// Only `new` and `add_array` take memory. A node is good until the next change.
 #[derive(Drop)]
 pub struct Seats {
     waits: Waits,
@@ -26,6 +30,8 @@ pub struct Seats {
     owners: Vec<Option<u64>>,
     /// The slots that no session has.
     slots: Vec<u8>,
+    /// The place where a session was found last, in the cell of its number's remainder. Any place is good.
+    guesses: [usize; GUESSES],
 }
 
 impl Model for Seats {
@@ -44,8 +50,7 @@ impl Model for Seats {
 }
 
 impl Seats {
-    /// No arrays, no seats, and nothing waits. It takes the memory of all; the one error is that
-    /// there is too little.
+    /// No arrays, no seats, and nothing waits. It makes all its room here. The one error is that memory is short.
     pub fn new(alloc: Global) -> Result<Seats, AllocError>
         ensures arrays { IfOk result (λ seats. seats.arrays ≡ map.empty) }
         ensures seats { IfOk result (λ seats. seats.seats ≡ map.empty) }
@@ -53,17 +58,18 @@ impl Seats {
     {
         let waits = Waits::new(alloc)?;
         let places = Table::new(alloc)?;
-        let owners = vec![in alloc; None; SEATS]?;
+        let owners = vec![in alloc; None; SESSIONS]?;
         let slots = all_slots(alloc)?;
         Ok(Seats {
             waits,
             places,
             owners,
             slots,
+            guesses: [0; GUESSES],
         })
     }
 
-    /// How many requests wait, 0 to 2,048.
+    /// How many requests wait, 0 to `WAITING`.
     pub fn len(&self) -> u32
         ensures len { result ≡ map.len self.now.waiting }
         ensures limits { IsWithinLimits self.now }
@@ -71,10 +77,10 @@ impl Seats {
         self.waits.len()
     }
 
-    /// How many sessions have a seat, 0 to 64.
+    /// How many sessions have a seat, 0 to `SESSIONS`.
     pub fn seat_count(&self) -> usize
         ensures count { result ≡ map.len self.now.seats }
-        ensures fits { result ≤ 64 }
+        ensures fits { result ≤ SESSIONS }
     {
         self.places.len()
     }
@@ -83,22 +89,27 @@ impl Seats {
     pub fn seat(&self, session: u64) -> Option<Seat>
         ensures { result ≡ map.get self.now.seats session }
     {
-        let place = self.places.get(session)?;
+        let guess = self.guesses[(session % GUESSES as u64) as usize];
+        let place = place_near(&self.places, guess, session)?;
         Some(place.seat)
     }
 
-    /// Looks for a session, so that the look-ups of it that follow take one comparison each, and gives its place in the
-    /// order of the numbers. Nothing is said of the place of one that has no seat.
+    /// Looks for a session and returns its place in the order of the numbers. The look-ups of the session that follow take
+    /// one comparison each. For a session without a seat it returns any place.
     pub fn aim(&mut self, session: u64) -> usize
         ensures { self.new ≡ self.old }
     {
-        self.places.aim(session, 0)
+        let cell = (session % GUESSES as u64) as usize;
+        let guess = self.guesses[cell];
+        let place = self.places.aim(session, guess);
+        self.guesses[cell] = place;
+        place
     }
 
-    /// A session takes a seat, which nobody has yet.
+    /// Gives a new session a seat, which no connection holds yet.
     pub fn sit(&mut self, session: u64)
         requires new { map.get self.old.seats session ≡ None }
-        requires room { map.len self.old.seats < 64 }
+        requires room { map.len self.old.seats < SESSIONS }
         ensures seats { self.new.seats ≡ map.insert self.old.seats session free_seat }
         ensures waiting { self.new.waiting ≡ self.old.waiting }
         ensures arrays { self.new.arrays ≡ self.old.arrays }
@@ -112,7 +123,7 @@ impl Seats {
         self.places.insert(session, Place { slot, seat });
     }
 
-    /// A session without waiting requests leaves its seat.
+    /// Takes the seat of a session that has no waiting request.
     pub fn leave(&mut self, session: u64)
         requires seated { IsSome (map.get self.old.seats session) }
         requires idle { NoneOfSession self.old.waiting session }
@@ -125,7 +136,7 @@ impl Seats {
         self.slots.push(place.slot).unwrap();
     }
 
-    /// A connection has the session from now on, or none.
+    /// Says which connection holds the session from now on, if one does.
     pub fn set_holder(&mut self, session: u64, holder: Option<u64>)
         requires seated { IsSome (map.get self.old.seats session) }
         ensures { self.new ≡ record self.old { seats = with_holder self.old.seats session holder } }
@@ -133,7 +144,7 @@ impl Seats {
         self.places.get_mut(session).seat.holder = holder;
     }
 
-    /// The session is closing from now on.
+    /// Marks the session as closing.
     pub fn set_closing(&mut self, session: u64)
         requires seated { IsSome (map.get self.old.seats session) }
         ensures { self.new ≡ record self.old { seats = with_closing self.old.seats session } }
@@ -141,11 +152,10 @@ impl Seats {
         self.places.get_mut(session).seat.closing = true;
     }
 
-    /// Adds an array of this many words, on which nothing waits. The one error is that memory is
-    /// short.
+    /// Adds an array with `length` words, on which nothing waits. The one error is that memory is short.
     pub fn add_array(&mut self, array: u64, length: u32) -> Result<(), AllocError>
         requires new { map.get self.old.arrays array ≡ None }
-        requires room { map.len self.old.arrays < 64 }
+        requires room { map.len self.old.arrays < ARRAYS }
         ensures ok { IfOk result (λ _. self.new.arrays ≡ map.insert self.old.arrays array length) }
         ensures seats { self.new.seats ≡ self.old.seats }
         ensures waiting { self.new.waiting ≡ self.old.waiting }
@@ -164,11 +174,11 @@ impl Seats {
         self.waits.drop_array(array);
     }
 
-    /// The request of a new number of a session waits from now on, after the others on its word.
+    /// Adds a waiting request under a new number of a session, after the others on its word.
     pub fn add(&mut self, session: u64, number: u64, array: u64, index: u32, op: Op)
         requires seated { IsSome (map.get self.old.seats session) }
         requires new { map.get self.old.waiting (session, number) ≡ None }
-        requires room { count_of self.old.waiting session < 32 }
+        requires room { count_of self.old.waiting session < WINDOW }
         requires word { IsWord self.old.arrays array index }
         ensures added { self.new.waiting
             ≡ map.insert self.old.waiting (session, number) (record { array = array; index = index; op = op }) }
@@ -179,7 +189,7 @@ impl Seats {
         self.waits.add(slot, number, array, index, op);
     }
 
-    /// How many requests of a session wait, 0 to 32. None do where it has no seat.
+    /// How many requests of a session wait, 0 to `WINDOW`. It is 0 for a session without a seat.
     pub fn count_of(&self, session: u64) -> u32
         ensures { result ≡ count_of self.now.waiting session }
     {
@@ -189,7 +199,7 @@ impl Seats {
         }
     }
 
-    /// A node of a request that waits on the word: the one that waits longest.
+    /// A request that waits on the word, if one does.
     pub fn first_on(&self, array: u64, index: u32) -> Option<Node>
         requires word { IsWord self.now.arrays array index }
         ensures on_word { IfSome result (IsNodeOn self.now array index) }
@@ -198,7 +208,7 @@ impl Seats {
         self.waits.first_on(array, index)
     }
 
-    /// The request for which the node stands.
+    /// The request of a node.
     pub fn turn(&self, node: Node) -> Turn
         requires { IsSome (turn_of self.now node) }
         ensures turn { turn_of self.now node ≡ Some result }
@@ -208,7 +218,7 @@ impl Seats {
         Turn::of(owner(&self.owners, row.slot), row)
     }
 
-    /// Takes out the request for which the node stands.
+    /// Takes out the request of a node.
     pub fn finish(&mut self, node: Node) -> Turn
         requires { IsSome (turn_of self.old node) }
         ensures turn { turn_of self.old node ≡ Some result }
@@ -230,8 +240,8 @@ impl Seats {
         Some(Turn::of(session, row))
     }
 
-    /// The requests of a session that wait, at most 32, in no order that is promised: the number of each, the array and
-    /// the index of its word, and its operation. The one error is that memory is short.
+    /// The waiting requests of a session, at most `WINDOW`, in no particular order: the number of each, the array and
+    /// index of its word, and its operation. The one error is that memory is short.
     pub fn told(
         &self,
         alloc: Global,
@@ -258,7 +268,7 @@ impl Seats {
         Some(Turn::of(session, row))
     }
 
-    /// Takes out all requests of a session, and counts them. It keeps its seat.
+    /// Takes out all requests of a session, and returns how many there were. The session keeps its seat.
     pub fn drop_session(&mut self, session: u64) -> u32
         ensures count { result ≡ count_of self.old.waiting session }
         ensures removed { self.new.waiting ≡ without_session self.old.waiting session }

@@ -1,18 +1,17 @@
 ghost use Rattle.std.specs.Prelude.{◌≡◌, ◌≤◌, IsSome, Some, IfOk, vec_capacity};
 ghost use Rattle.fe_seats.specs.within.Inner.{owner_at, slots_below};
+ghost use Rattle.fe_state.specs.declared.bounds.TheConstants.{SESSIONS};
 
+use fe_state::SESSIONS;
 use std::alloc::{AllocError, Global};
 
-/// How many slots there are, and so how many sessions may have a seat.
-pub(crate) const SLOTS: u8 = 64;
-
-// The slots 0 to 63.
+// The slots that sessions may have, from 0 on.
 pub(crate) fn all_slots(alloc: Global) -> Result<Vec<u8>, AllocError>
-    ensures slots { IfOk result (λ slots. slots.items ≡ slots_below 64) }
-    ensures reserved { IfOk result (λ slots. 64 ≤ vec_capacity slots) }
+    ensures slots { IfOk result (λ slots. slots.items ≡ slots_below SESSIONS) }
+    ensures reserved { IfOk result (λ slots. SESSIONS ≤ vec_capacity slots) }
 {
-    let mut slots = Vec::with_capacity(alloc, SLOTS as usize)?;
-    for slot in 0..SLOTS {
+    let mut slots = Vec::with_capacity(alloc, SESSIONS)?;
+    for slot in 0..SESSIONS as u8 {
         slots.push(slot)?;
     }
     Ok(slots)

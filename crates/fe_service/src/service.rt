@@ -9,6 +9,7 @@ ghost use Rattle.fe_state.specs.declared.request.Request.TheVariants as requests
 ghost use Rattle.fe_seats.specs.Seating.{turn_at, count_of, is_closing};
 ghost use Rattle.fe_service.specs.ServiceState.{IsService, is_open};
 ghost use Rattle.fe_service.specs.Events.{IsFree, HasRoom, MaySettle, MaySit, Completes, IsSeated, attached, settled, closed, withdrawn, cancelled, held, left, waited};
+ghost use Rattle.fe_state.specs.declared.bounds.TheConstants.{SESSIONS, WAITING, BATCH_ENTRIES};
 
 use crate::beginning::{add_arrays, seat_sessions};
 use crate::parts::Parts;
@@ -39,8 +40,8 @@ impl Model for Service {
 }
 
 impl Service {
-    /// The service of a state in which nothing waits. It takes the memory of all seats and waiting lists, and of the entries
-    /// that are made; the one error is that there is too little.
+    /// The service of a state in which nothing waits. It makes room for all seats, waiting lists and entries. The one
+    /// error is that memory is short.
     pub fn new(alloc: Global, state: State) -> Result<Service, AllocError>
         ensures state { IfOk result (λ service. service.state ≡ state) }
         ensures seats { IfOk result (λ service. IsSeated state.sessions service.seats) }
@@ -64,7 +65,7 @@ impl Service {
         drop(self)
     }
 
-    /// The state, or what is known of it: which sessions are there, and that nobody who waits may be served.
+    /// The state. No waiting request can be served in it.
     pub fn state(&self) -> &State
         ensures state { result.now ≡ self.now.state }
         ensures service { IsService self.now }
@@ -74,7 +75,7 @@ impl Service {
         &self.parts.state
     }
 
-    /// What a session's seat is, if it has one.
+    /// The seat of a session, if it has one.
     pub fn seat(&self, session: u64) -> Option<Seat>
         ensures { result ≡ get self.now.seats session }
     {
@@ -88,23 +89,23 @@ impl Service {
         self.parts.aim(session, request);
     }
 
-    /// How many sessions have a seat, 0 to 64.
+    /// How many sessions have a seat, 0 to `SESSIONS`.
     pub fn seat_count(&self) -> usize
         ensures count { result ≡ len self.now.seats }
-        ensures fits { result ≤ 64 }
+        ensures fits { result ≤ SESSIONS }
     {
         self.parts.seats.seat_count()
     }
 
-    /// How many requests wait, 0 to 2,048.
+    /// How many requests wait, 0 to `WAITING`.
     pub fn waiting_count(&self) -> u32
         ensures count { result ≡ len self.now.waiting }
-        ensures few { result ≤ 2048 }
+        ensures few { result ≤ WAITING }
     {
         self.parts.seats.len()
     }
 
-    /// How many requests of a session wait, 0 to 32. None do where it has no seat.
+    /// How many requests of a session wait, 0 to `WINDOW`. It is 0 for a session without a seat.
     pub fn count_of(&self, session: u64) -> u32
         ensures { result ≡ count_of self.now.waiting session }
     {
@@ -118,8 +119,8 @@ impl Service {
         self.parts.seats.find(session, number)
     }
 
-    /// The requests of a session that wait, at most 32, in no order that is promised: the number of each, the array and
-    /// the index of its word, and its operation. The one error is that memory is short.
+    /// The waiting requests of a session, at most `WINDOW`, in no particular order: the number of each, the array and
+    /// index of its word, and its operation. The one error is that memory is short.
     pub fn told(
         &self,
         alloc: Global,
@@ -131,15 +132,15 @@ impl Service {
         self.parts.seats.told(alloc, session)
     }
 
-    /// How many entries were made and not yet taken.
+    /// How many entries were made and not yet taken, 0 to `BATCH_ENTRIES`.
     pub fn pending_count(&self) -> usize
         ensures count { result ≡ length self.now.pending }
-        ensures few { result ≤ 4097 }
+        ensures few { result ≤ BATCH_ENTRIES }
     {
         self.parts.pending.as_slice().len()
     }
 
-    /// A connection has a session from now on: an entry that attaches it. A session that is new begins.
+    /// Attaches a session to a connection, with an entry. A new session begins.
     pub fn attach(&mut self, session: u64, conn: u64)
         requires sit { MaySit self.old session }
         requires room { HasRoom self.old }
@@ -148,7 +149,7 @@ impl Service {
         self.parts.attach(session, conn);
     }
 
-    /// A session's floor rises: an entry that settles it.
+    /// Raises a session's floor, with an entry.
     pub fn settle(&mut self, session: u64, floor: u64)
         requires settle { MaySettle self.old session floor }
         requires room { HasRoom self.old }
@@ -157,7 +158,8 @@ impl Service {
         self.parts.settle(session, floor);
     }
 
-    /// A session ends: what waits of it is withdrawn and counted, an entry closes it, and it is closing from now on.
+    /// Closes a session, with an entry, and marks it as closing. Its waiting requests are withdrawn. Returns how many there
+    /// were.
     pub fn close(&mut self, session: u64) -> u32
         requires open { IsSome (get self.old.state.sessions session) }
         requires room { HasRoom self.old }
@@ -167,7 +169,7 @@ impl Service {
         self.parts.close(session)
     }
 
-    /// Withdraws what waits of a session, and counts it.
+    /// Withdraws a session's waiting requests. Returns how many there were.
     pub fn withdraw(&mut self, session: u64) -> u32
         ensures count { result ≡ count_of self.old.waiting session }
         ensures withdrawn { self.new ≡ withdrawn self.old session }
@@ -175,7 +177,7 @@ impl Service {
         self.parts.withdraw(session)
     }
 
-    /// Withdraws the request of a session and a number, if it waits.
+    /// Withdraws the waiting request of a session's number. Returns whether one waited.
     pub fn cancel(&mut self, session: u64, number: u64) -> bool
         ensures waited { result ≡ is_some (get self.old.waiting (session, number)) }
         ensures cancelled { self.new ≡ cancelled self.old session number }
@@ -183,7 +185,7 @@ impl Service {
         self.parts.cancel(session, number)
     }
 
-    /// A connection has the session from now on, or none.
+    /// Says which connection holds the session from now on, if one does.
     pub fn set_holder(&mut self, session: u64, holder: Option<u64>)
         requires { IsSome (get self.old.seats session) }
         ensures { self.new ≡ held self.old session holder }
@@ -191,7 +193,7 @@ impl Service {
         self.parts.set_holder(session, holder);
     }
 
-    /// A session that is closing leaves its seat.
+    /// Takes the seat of a session that is closing.
     pub fn leave(&mut self, session: u64)
         requires { is_closing self.old.seats session ≡ true }
         ensures { self.new ≡ left self.old session }
@@ -199,8 +201,9 @@ impl Service {
         self.parts.leave(session);
     }
 
-    /// A request completes with its reply: its own entry, and those of the requests that are served then. It counts the
-    /// entries, 1 to 2,049. The one error is that memory is short, for the words of a new array; then all is as it was.
+    /// Completes a request with its reply, and serves the waiting requests that this lets through. Returns how many entries
+    /// were made, 1 to `EVENT_ENTRIES`. The one error is that memory is short for the words of a new array; nothing has
+    /// changed then.
     pub fn complete(
         &mut self,
         session: u64,
@@ -221,7 +224,7 @@ impl Service {
         self.parts.complete(session, number, request, answer)
     }
 
-    /// A request waits from now on, which has no reply yet.
+    /// Adds a waiting request, which has no reply yet.
     pub fn wait(&mut self, session: u64, number: u64, array: u64, index: u32, op: Op)
         requires free { IsFree self.old session number }
         requires waits { reply self.old.state (requests.Access array index op false) ≡ None }
@@ -230,7 +233,7 @@ impl Service {
         self.parts.wait(session, number, array, index, op);
     }
 
-    /// Takes the entries that were made, and goes on with others, with an empty list.
+    /// Takes the entries that were made, and goes on with an empty list in their place.
     pub fn take_pending(&mut self, spare: Entries) -> Entries
         requires { spare ≡ [] }
         ensures entries { result ≡ self.old.pending }

@@ -16,9 +16,10 @@ use std::marker::Model;
 
 /// The arrays by id, in order of creation.
 ///
-/// Ids rise, so the table's ascending order is that of creation. The set has the ids in the same order, and finds the
-/// place of one in constant time, where the hint is not that place. When an array comes or goes, the set is cleared and has all ids put in again, since
-/// clearing it keeps its room for certain, and taking one id out does not. `new` and `copied` alone take memory.
+/// Ids rise, so the table's ascending order is that of creation. A look-up compares the id at the hint first, and asks the
+/// set where that is another id. The set has the ids in the same order. When an array comes or goes, the set is cleared
+/// and all ids are put in again: clearing it is certain to keep its room, and taking one id out is not. Only `new` and
+/// `copied` take memory.
 #[derive(Drop)]
 pub struct Arrays {
     ids: IndexSet<u64>,
@@ -96,7 +97,7 @@ impl Arrays {
     pub fn aim(&mut self, id: u64)
         ensures { self.new ≡ self.old }
     {
-        if let Some(place) = self.ids.get_index_of(&id) {
+        if let Some(place) = self.place_of(id) {
             self.hint = place;
         }
     }

@@ -75,21 +75,10 @@ impl Session {
     }
 
     /// What is kept for the number, if anything is. Nothing is kept outside the window.
-    pub fn kept(&self, number: u64) -> Option<Kept>
-        ensures kept { result ≡ map.get self.now.kept number }
+    pub fn kept(&self, number: u64) -> Option<&Kept>
+        ensures kept { option_copied result ≡ map.get self.now.kept number }
         ensures in_window { (n : ℕ) (k : Kept) → map.get self.now.kept n ≡ Some k → IsInWindow self.now.floor n }
         ensures few { map.len self.now.kept ≤ WINDOW }
-    {
-        if self.is_in_window(number) {
-            self.cells[cell_of(number)]
-        } else {
-            None
-        }
-    }
-
-    // What is kept for the number, where it lies.
-    fn kept_here(&self, number: u64) -> Option<&Kept>
-        ensures { option_copied result ≡ map.get self.now.kept number }
     {
         if self.is_in_window(number) {
             self.cells[cell_of(number)].as_ref()
@@ -108,7 +97,7 @@ impl Session {
         ensures none { IfNone result (answers_from self.now from ≡ []) }
     {
         for number in from..self.floor + WINDOW {
-            if let Some(kept) = self.kept_here(number) {
+            if let Some(kept) = self.kept(number) {
                 return Some((number, kept));
             }
         }
@@ -220,7 +209,7 @@ impl Session {
         ensures capacity { vec_capacity dropped.new ≡ vec_capacity dropped.old }
     {
         named::<Request>();
-        if let Some(kept) = self.kept(number) {
+        if let Some(kept) = self.kept(number).copied() {
             self.forget(number);
             dropped.push_reserved(Dropped { number, kept });
         }

@@ -1,4 +1,4 @@
-ghost use Rattle.std.specs.Prelude.{◌≡◌, ℕ, ◌+◌, ◌-◌, ◌^◌, ◌<◌, ◌≤◌, ◌↔◌, length, map, slice_get, None, IfOk, OnOk, OnErr, IsOk, IsSome, IsSomeAnd, IsTrue};
+ghost use Rattle.std.specs.Prelude.{◌≡◌, ℕ, ◌+◌, ◌-◌, ◌^◌, ◌<◌, ◌≤◌, ◌↔◌, length, map, slice_get, None, IfOk, OnOk, OnErr, IsOk, IsSome, IsSomeAnd, IsTrue, option_copied};
 ghost use Rattle.std.specs.Option.{option_map};
 ghost use Rattle.std.specs.FinMap.{get, keys, entries, len, empty, insert};
 ghost use Rattle.fe_state.specs.Change.{MayCome, restored, CanRestore, shown};
@@ -211,8 +211,8 @@ impl State {
     }
 
     /// What is kept for a number of a session.
-    pub fn kept(&self, session: u64, number: u64) -> Option<Kept>
-        ensures { result ≡ kept_in (get self.now.sessions session) number }
+    pub fn kept(&self, session: u64, number: u64) -> Option<&Kept>
+        ensures { option_copied result ≡ kept_in (get self.now.sessions session) number }
     {
         self.sessions.get(session)?.kept(number)
     }

@@ -11,6 +11,7 @@ use Rattle.fe_seats.specs.declared.place.Place.{Place}
 use Rattle.fe_seats.specs.declared.seat.Seat.{Seat}
 use Rattle.fe_seats.specs.declared.turn.Turn.{Turn}
 use Rattle.fe_seats.specs.Seating.{Seating}
+use Rattle.fe_state.specs.declared.bounds.TheConstants.{SESSIONS}
 
 -- the session that has a slot, if one has it
 abbrev pub owner_at : List (Option ℕ) → ℕ → Option ℕ
@@ -51,9 +52,9 @@ unfoldable pub slots_below : ℕ → List ℕ
 slots_below zero = []
 slots_below (suc n) = slots_below n ++ n ∷ []
 
--- the free slots: each is below 64, has no owner, and is on the list once
+-- the free slots: each is a slot, has no owner, and is on the list once
 pub record AreFree (owners : List (Option ℕ)) (slots : List ℕ) : Type 0 where
-  pub below : (i slot : ℕ) → slice_get slots i ≡ Some slot → slot < 64
+  pub below : (i slot : ℕ) → slice_get slots i ≡ Some slot → slot < SESSIONS
   pub vacant : (i slot : ℕ) → slice_get slots i ≡ Some slot → owner_at owners slot ≡ None
   pub once : (i j slot : ℕ) → slice_get slots i ≡ Some slot → slice_get slots j ≡ Some slot → i ≡ j
 
@@ -61,11 +62,11 @@ pub record AreFree (owners : List (Option ℕ)) (slots : List ℕ) : Type 0 wher
 -- which so much memory is there: places and owners say the same, a slot is free or has a place, and
 -- requests wait in slots that have an owner
 pub record AreSeats (waits : Waiting) (places : FinMap nat_cmp Place) (owners : List (Option ℕ)) (slots : List ℕ) (capacity : ℕ) : Type 0 where
-  pub sized : length owners ≡ 64
+  pub sized : length owners ≡ SESSIONS
   pub agree : (session slot : ℕ) → (slot_in places session ≡ Some slot) ↔ (owner_at owners slot ≡ Some session)
   pub free : AreFree owners slots
-  pub counted : length slots + len places ≡ 64
-  pub reserved : 64 ≤ capacity
+  pub counted : length slots + len places ≡ SESSIONS
+  pub reserved : SESSIONS ≤ capacity
   pub owned : (key : ℕ × ℕ) (waiter : Waiter) → get waits.members key ≡ Some waiter → IsSome (owner_at owners key.0)
 
 -- what a contract sees of them

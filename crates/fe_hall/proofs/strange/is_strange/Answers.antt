@@ -1,4 +1,5 @@
-use Rattle.std.proofs.Common.{◌≡◌, map, sym, ◌∙◌, refl, arith}
+use Rattle.std.proofs.Common.{◌≡◌, map, sym, ap, ◌∙◌, refl, arith}
+use Rattle.std.specs.Option.{option_copied}
 use Rattle.std.proofs.lemmas.Bool.{OnTrue_at, OnFalse_at}
 use Rattle.fe_hall.specs.Receipts.{IsStrange}
 use Rattle.fe_hall.proofs.BorneOut.{decided, borne_out}
@@ -17,13 +18,13 @@ returns-then-receipt-place-clause-strange c = (
 )
 
 pub returns-then-kept-receipt-clause-strange : goal.returns-then-kept-receipt-clause-strange
-returns-then-kept-receipt-clause-strange c = (λ _. IsStrange.EarlierKept c.in-Some.kept (sym c.kept.ensures ∙ c.in-Some.is) c.if-kept-receipt.true, λ _. refl)
+returns-then-kept-receipt-clause-strange c = (λ _. IsStrange.EarlierKept c.in-Some.kept.now (sym c.kept.ensures ∙ ap option_copied c.in-Some.is) c.if-kept-receipt.true, λ _. refl)
 
 pub returns-clause-strange : goal.returns-clause-strange
 returns-clause-strange c =
     let r = c.args.receipt.now in
-    let k = c.in-Some.kept in
-    let keeps = sym c.kept.ensures ∙ c.in-Some.is in
+    let k = c.in-Some.kept.now in
+    let keeps = sym c.kept.ensures ∙ ap option_copied c.in-Some.is in
     let at_place : k.place ≡ r.place = omega (arith, c.if-kept-receipt.false, c.if-kept-receipt-2.false) in
     decided c.args.state.now (map (λ v. v.items) c.args.sent.now) r c.is_missed.result
     (λ e. let m = OnTrue_at e c.is_missed.ensures.missed in IsStrange.NeverSent k keeps at_place m.0 m.1)

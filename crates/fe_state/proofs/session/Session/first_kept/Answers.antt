@@ -7,11 +7,11 @@ use Rattle.fe_state.proofs.session.Session.first_kept.Goals as goal
 
 pub returns-in-Some-clause-first : goal.returns-in-Some-clause-first
 returns-in-Some-clause-first c =
-    ap entries c.loop-number.invariant ∙ from_present c.args.self.now.kept c.loop-number.number _ (sym c.in-Some.ensures)
+    ap entries c.loop-number.invariant ∙ from_present c.args.self.now.kept c.loop-number.number _ (sym c.in-Some.ensures.kept)
 
 pub loop-number-preserved : goal.loop-number-preserved
 loop-number-preserved c =
-    c.loop-number.invariant ∙ from_absent c.args.self.now.kept c.loop-number.number (sym c.in_default.ensures)
+    c.loop-number.invariant ∙ from_absent c.args.self.now.kept c.loop-number.number (sym c.in_default.ensures.kept)
 
 pub returns-clause-none : goal.returns-clause-none
 returns-clause-none c =
