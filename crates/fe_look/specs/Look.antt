@@ -32,7 +32,7 @@ pub record ShowsSome (before after : Option (List ℕ)) : Type 0 where
   pub state : ServerState
   pub written : Appends before after (state_text state)
 
--- no more than a front of the text of some state is written
+-- no more than the start of some state's text is written
 pub record ShowsFront (before after : Option (List ℕ)) : Type 0 where
   pub state : ServerState
   pub count : ℕ

@@ -1,12 +1,12 @@
 use fe_store::OpenFault;
 use fe_text::StreamFault;
 
-/// Why a store is not shown, or not to the end.
+/// Why a store was not shown, or only in part.
 #[derive(Clone, Copy, PartialEq, Eq)]
 pub enum LookFault {
-    /// It is not opened, so nothing is written.
+    /// The store was not opened, and nothing was written.
     Store(OpenFault),
-    /// The writer failed, or there is no memory for the text.
+    /// The writer failed, or memory was short for the text.
     Stream(StreamFault),
 }
 

@@ -1,4 +1,4 @@
-//! A look at a store: the text of the state that it stands for.
+//! A look at a store: the text of the state in it.
 #![tactic(auto)]
 
 mod fault;

@@ -41,7 +41,7 @@ fn show<W: Write>(alloc: Global, state: &State, writer: &mut W) -> Result<(), Lo
     }
 }
 
-/// Opens the store on a disk, and writes what is in it. The disk is synced and read, and comes back.
+/// Opens the store on a disk, and writes its text. The disk is only synced and read, and is returned.
 pub fn look_at<D: Disk, W: Write>(
     alloc: Global,
     disk: D,
@@ -50,16 +50,16 @@ pub fn look_at<D: Disk, W: Write>(
     // What is written is the text of the state that the disk stands for.
     ensures shows { D.honest disk
         → OnOk result.0 (Shows (D.seen disk) (W.contents writer.old) (W.contents writer.new)) }
-    // A reported fault is the store's, and a valid store is refused only if the device fails or memory runs out.
+    // A reported fault is true of the store, and a valid store is refused only if the device fails or memory is short.
     ensures told { D.honest disk → (why : OpenFault) → IsErrOf result.0 (fault.Store why)
         → TellsImage why (D.seen disk) }
     ensures refused { D.honest disk → (s : ServerState) → StandsFor (D.seen disk) s → (why : OpenFault)
         → IsErrOf result.0 (fault.Store why)
         → (why ≡ store.Device) ⊎ (why ≡ store.Memory) }
-    // No stop leaves what could not be left before, and what is read stays the same.
+    // A crash leaves nothing that it couldn't leave before, and reads give the same bytes.
     ensures reads { D.honest disk → OnlyReads D.seen D.may_leave D.moment D.left_since disk result.1 }
 
-    // Of any disk, what is written is the text of a state, or at a fault a front of it; where no store is opened, nothing is.
+    // On any disk: what is written is the text of a state, or after a fault the start of one. Without a store, nothing is.
     ensures written { OnOk result.0 (ShowsSome (W.contents writer.old) (W.contents writer.new)) }
     ensures front { ShowsFront (W.contents writer.old) (W.contents writer.new) }
     ensures silent { (why : OpenFault) → IsErrOf result.0 (fault.Store why)
@@ -78,17 +78,18 @@ pub fn look_at<D: Disk, W: Write>(
     }
 }
 
-/// Copies the store in a file into memory, and writes what is in it: its place, and a line for each array and each session. The file
-/// is synced and read alone, and a server may have it meanwhile. Of a store it tells `Device` where there is no such file, it
-/// can't be read or a checkpoint begins in each of many readings, `Size` where it has another size, and `Unformatted` and `Damaged`
-/// where it holds no state.
+/// Copies the store in a file into memory, and writes its text: its place, and a line for each array and each session. The
+/// file is only synced and read, so a server may use it at the same time.
+///
+/// `Device` if there is no such file, it can't be read, or a checkpoint begins during each of 100 readings. `Size` if the file
+/// doesn't have the size of a store. `Unformatted` or `Damaged` if it holds no state.
 pub fn look<R: Files<File = File>, W: Write>(
     rt: &R,
     alloc: Global,
     path: &str,
     writer: &mut W,
 ) -> Result<(), LookFault>
-    // What is written is the text of a state, or at a fault a front of it; where no store is opened, nothing is.
+    // What is written is the text of a state, or after a fault the start of one. Without a store, nothing is.
     ensures written { OnOk result (ShowsSome (W.contents writer.old) (W.contents writer.new)) }
     ensures front { ShowsFront (W.contents writer.old) (W.contents writer.new) }
     ensures silent { (why : OpenFault) → IsErrOf result (fault.Store why)

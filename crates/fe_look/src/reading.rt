@@ -1,31 +1,21 @@
-//! A copy of a store that a server may write meanwhile (`docs/store.md`, "A copy while the store is written").
+//! Copies a store that a server may be writing (`docs/store.md`, "A copy while the store is written").
 
 ghost use Rattle.std.specs.Prelude.{◌≡◌, ◌+◌, ◌<◌, ◌≤◌, ℕ, length, IfOk, IfSome, IsErrOf};
+ghost use Rattle.fe_journal.specs.Layout.{area_bytes, device_bytes};
 ghost use Rattle.fe_store.specs.declared.fault.OpenFault.TheVariants as fault;
 
 use fe_disk::{DeviceFault, Disk, MemoryDisk};
+use fe_journal::{AREA_BYTES, DEVICE_BYTES, header_of, image_of};
 use fe_store::OpenFault;
 use std::alloc::Global;
 
-/// The bytes of a store, and of a slot (`docs/formats.md`, "Device").
-const STORE: usize = 4_202_496;
-
-const SLOT: usize = 2_101_248;
-
-/// Where in a slot its gate, its image and its journal area are.
-const GATE: usize = 4_095;
-
-const IMAGE: usize = 4_096;
-
-const AREA: usize = 1_052_672;
-
-/// The bytes of a journal area.
-const AREA_BYTES: usize = 1_048_576;
+/// Where a slot's journal area begins in it. The area ends the slot (`docs/formats.md`, "Device").
+const AREA_BEGIN: usize = DEVICE_BYTES / 2 - AREA_BYTES;
 
 /// The bytes of a header that are read, besides its gate.
 const FIELDS: usize = 20;
 
-/// How often a store is read, where a checkpoint begins each time.
+/// The most readings of a store: one more each time that a checkpoint begins.
 const TRIES: u64 = 100;
 
 /// What the header of a slot says.
@@ -41,15 +31,15 @@ impl Header {
         self.gate == 1 && (magic == b"FEMEMST1".as_slice() || magic == b"FEMEMST2".as_slice())
     }
 
-    // Its generation is that of the other, or a greater one.
+    // Whether its generation is that of the other, or a greater one.
     fn is_at_least(&self, other: &Header) -> bool {
         self.fields[8..16] >= other.fields[8..16]
     }
 }
 
-/// A copy of the store on a disk, as a stop at some moment since the call began may leave it, with the slot that counted then alone.
-/// All that it holds is on the device. `Unformatted` where no slot counts, `Device` also where a checkpoint begins in each of many
-/// readings.
+/// A copy of the store on a disk, as a crash at some moment since the call began may leave it, with only the slot that counted
+/// then. All that it holds is synced. `Unformatted` if no slot counts. `Device` if the disk fails, or a checkpoint begins during
+/// each of 100 readings.
 pub(crate) fn copy_of<D: Disk>(alloc: Global, disk: &mut D) -> Result<MemoryDisk, OpenFault>
     ensures sized { (found : ℕ) → IsErrOf result (fault.Size found) → ⊥ }
 {
@@ -76,7 +66,7 @@ fn counting<D: Disk>(disk: &mut D) -> Result<Option<(usize, Header)>, DeviceFaul
     ensures { IfOk result (λ found. IfSome found (λ f. f.0 < 2)) }
 {
     let first = read_header(disk, 0)?;
-    let second = read_header(disk, SLOT)?;
+    let second = read_header(disk, 1)?;
     if second.is_valid() && !(first.is_valid() && first.is_at_least(&second)) {
         Ok(Some((1, second)))
     } else if first.is_valid() {
@@ -86,14 +76,14 @@ fn counting<D: Disk>(disk: &mut D) -> Result<Option<(usize, Header)>, DeviceFaul
     }
 }
 
-// The header at this place. The gate is read after the fields.
-fn read_header<D: Disk>(disk: &mut D, at: usize) -> Result<Header, DeviceFault>
-    requires { at ≤ 2101248 }
+// The header of a slot. The gate, just before the image, is read after the fields.
+fn read_header<D: Disk>(disk: &mut D, slot: usize) -> Result<Header, DeviceFault>
+    requires { slot < 2 }
 {
     let mut fields = [0; FIELDS];
-    read(disk, at, &mut fields)?;
+    read(disk, header_of(slot), &mut fields)?;
     let mut gate = [0];
-    read(disk, at + GATE, &mut gate)?;
+    read(disk, image_of(slot) - 1, &mut gate)?;
     Ok(Header {
         fields,
         gate: gate[0],
@@ -111,17 +101,17 @@ fn slot_in<D: Disk>(
     requires { slot < 2 }
     ensures sized { (found : ℕ) → IsErrOf result (fault.Size found) → ⊥ }
 {
-    let mut bytes = vec![in alloc; 0; STORE]?;
-    let start = SLOT * slot;
-    let area = start + AREA;
-    read_part(disk, bytes.as_mut_slice(), start + IMAGE, AREA - IMAGE)?;
+    let mut bytes = vec![in alloc; 0; DEVICE_BYTES]?;
+    let image = image_of(slot);
+    let area = header_of(slot) + AREA_BEGIN;
+    read_part(disk, bytes.as_mut_slice(), image, area - image)?;
     let end = end_of_groups(disk, area)?;
     read_part(disk, bytes.as_mut_slice(), area, AREA_BYTES)?;
-    put_header(bytes.as_mut_slice(), start, &header.fields);
+    put_header(bytes.as_mut_slice(), slot, &header.fields);
     if let Some(end) = end {
         put(bytes.as_mut_slice(), area + end, 0);
     }
-    if read_header(disk, start)?.fields == header.fields {
+    if read_header(disk, slot)?.fields == header.fields {
         Ok(Some(bytes))
     } else {
         Ok(None)
@@ -149,19 +139,21 @@ fn put(bytes: &mut [u8], at: usize, byte: u8)
 }
 
 // Writes the fields of a slot's header, and its open gate.
-fn put_header(bytes: &mut [u8], start: usize, fields: &[u8; FIELDS])
-    requires { start + 4096 ≤ length bytes.old }
+fn put_header(bytes: &mut [u8], slot: usize, fields: &[u8; FIELDS])
+    requires slot { slot < 2 }
+    requires store { length bytes.old ≡ device_bytes }
     ensures { length bytes.new ≡ length bytes.old }
 {
+    let start = header_of(slot);
     bytes[start..start + FIELDS].copy_from_slice(fields);
-    put(bytes, start + GATE, 1);
+    put(bytes, image_of(slot) - 1, 1);
 }
 
 // The place in a journal area of the gate that ends its groups, which was not open. Each gate is read before what follows
 // it. `None` where a length is none that fits.
 fn end_of_groups<D: Disk>(disk: &mut D, area: usize) -> Result<Option<usize>, DeviceFault>
-    requires { area ≤ 3153920 }
-    ensures { IfOk result (λ found. IfSome found (λ end. end < 1048576)) }
+    requires { area + area_bytes ≤ device_bytes }
+    ensures { IfOk result (λ found. IfSome found (λ end. end < area_bytes)) }
 {
     let mut at = 0;
     for _k in 0..AREA_BYTES {

@@ -1,4 +1,4 @@
--- What the entries of a message leave of a front.
+-- A front after the entries that a message made.
 use Rattle.std.specs.Prelude.{◌≡◌, ℕ, true, List, ◌++◌}
 use Rattle.fe_state.specs.History.{AreLegal}
 use Rattle.fe_state.specs.State.{after_all}

@@ -1,4 +1,4 @@
--- What a connection is written: the frames of its mails.
+-- What is written to a connection: the frames of its mails.
 use Rattle.std.specs.Prelude.{ℕ, List}
 use Rattle.std.specs.List.{flat_map}
 use Rattle.fe_mail.specs.Refusal.{code_of}
@@ -8,7 +8,7 @@ use Rattle.fe_wire.specs.Spelling.{reply_spelling}
 use Rattle.fe_wire.specs.declared.server_message.ServerMessage.{ServerMessage}
 use Rattle.fe_wire.specs.declared.server_message.ServerMessage.TheVariants as server
 
--- the reply that tells a mail, without the session and the place of an answer
+-- the reply for a mail, without an answer's session and place
 abbrev pub reply_of : Mail → ServerMessage
 reply_of (mail.Welcome session floor) = server.Welcome session floor
 reply_of (mail.Answer session number answer place) = server.Answer number answer
@@ -18,6 +18,6 @@ reply_of (mail.Settled floor) = server.Settled floor
 reply_of (mail.Goodbye session) = server.Goodbye session
 reply_of (mail.Report text) = server.Report text
 
--- the bytes that tell mails, in their order
+-- the frames of mails, in their order
 abbrev pub spelled : List Mail → List ℕ
 spelled mails = flat_map (λ m. reply_spelling (reply_of m)) mails

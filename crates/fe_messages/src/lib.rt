@@ -1,4 +1,4 @@
-//! What a connection's bytes mean to the front: a message is an event of it or is refused, and a mail is a reply with its frame.
+//! Between a connection and the front: a message becomes an event of the front or is refused, and a mail becomes a reply's frame.
 #![tactic(auto)]
 
 mod reply;

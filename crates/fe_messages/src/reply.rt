@@ -7,7 +7,7 @@ use fe_wire::{ServerMessage, put_reply};
 use std::alloc::AllocError;
 use std::marker::Model;
 
-/// The reply that tells a mail.
+/// What a client gets of a mail.
 #[derive(Drop)]
 pub struct Reply {
     message: ServerMessage,
@@ -25,7 +25,7 @@ impl Model for Reply {
 }
 
 impl Reply {
-    /// It leaves out an answer's session and place.
+    /// The reply for a mail. An answer's session and place are left out.
     pub fn of(mail: Mail) -> Reply
         ensures { result ≡ reply_of mail }
     {
@@ -44,8 +44,8 @@ impl Reply {
         Reply { message }
     }
 
-    /// Appends its frame. `AllocError` where the spare room doesn't hold it and there is no memory for more; then nothing
-    /// is appended.
+    /// Appends the reply's frame. `AllocError` if the frame exceeds the spare capacity and memory is short; then nothing is
+    /// appended.
     pub fn put(&self, out: &mut Vec<u8>) -> Result<(), AllocError>
         ensures ok { OnOk result (out.new.items ≡ out.old.items ++ reply_spelling self.now) }
         ensures err { OnErr result (out.new.items ≡ out.old.items) }

@@ -1,4 +1,4 @@
-//! Messages go to the front.
+//! Hands messages to the front.
 
 ghost use Rattle.std.specs.Prelude.{◌≡◌, List, IsTrue};
 ghost use Rattle.fe_state.specs.declared.entry.Entry.{Entry};
@@ -13,7 +13,7 @@ use fe_report::report;
 use fe_wire::ClientMessage;
 use std::alloc::Global;
 
-/// Gives a message of a connection to the front, and mails its refusal if it is refused.
+/// Hands a connection's message to the front. If it is refused, the connection gets a mail that says why.
 pub fn take_message(alloc: Global, front: &mut Front, conn: u64, message: ClientMessage)
     requires room { IsTrue (has_room front.old) }
     ensures taken { (es : List Entry) × Takes front.old conn message es front.new × Enters front.old es front.new }
@@ -50,7 +50,7 @@ pub fn take_message(alloc: Global, front: &mut Front, conn: u64, message: Client
     }
 }
 
-/// Mails the report of what waits.
+/// Mails the report, or `NoMemory` if there is no memory for it.
 fn mail_report(alloc: Global, front: &mut Front, conn: u64)
     ensures taken { (es : List Entry) × Takes front.old conn Message.Report es front.new
         × Enters front.old es front.new }

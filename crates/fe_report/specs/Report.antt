@@ -22,7 +22,7 @@ Spot = (ℕ × ℕ) × (ℕ × ℕ)
 abbrev pub spot_cmp : Spot → Spot → Ordering
 spot_cmp a b = ordering_then (pair_cmp a.0 b.0) (pair_cmp a.1 b.1)
 
--- where one that waits under a session and number does so, and its operation
+-- the row of a waiting request, given its session and number: where it waits, and its operation
 abbrev pub spot_of : (ℕ × ℕ) × Waiter → Spot × Op
 spot_of e = (((e.1.array, e.1.index), e.0), e.1.op)
 
@@ -30,15 +30,15 @@ spot_of e = (((e.1.array, e.1.index), e.0), e.1.op)
 abbrev pub by_word : Waiters → FinMap spot_cmp Op
 by_word waiting = from_entries (map spot_of (entries waiting))
 
--- how many requests wait of each session of which some do
+-- how many requests of each session wait, for the sessions that have any
 abbrev pub by_session : Waiters → FinMap nat_cmp ℕ
 by_session waiting = from_entries (map (λ e. (e.0.0, count_of waiting e.0.0)) (entries waiting))
 
--- of the sessions that are attached, those of which nothing waits
+-- the attached sessions that have no waiting request
 abbrev pub idle : Waiters → FinMap nat_cmp Seat → FinMap nat_cmp Seat
 idle waiting attached = retain_keys attached (λ session. count_of waiting session == 0)
 
--- whether a session is attached, and something waits of each one that is
+-- whether a session is attached, and each attached session has a waiting request
 abbrev pub do_all_wait : Waiters → FinMap nat_cmp Seat → Bool
 do_all_wait waiting attached = nat_lt 0 (len attached) && (len (idle waiting attached) == 0)
 
@@ -68,8 +68,8 @@ lines_of waiting attached =
     ++ (flat_map session_line (entries (by_session waiting))
     ++ all_wait_line (do_all_wait waiting attached))
 
--- The report of what waits, where these seats are of the sessions that are attached: how many requests wait and, where
--- some do, a line for each by word, one for each session of which some wait, and whether all who could go on wait.
+-- The report, given what waits and the seats of the attached sessions: how many requests wait and, if any do, a line for
+-- each of them by word, a line for each session that has any, and whether every attached session waits.
 abbrev pub report_text : Waiters → FinMap nat_cmp Seat → List ℕ
 report_text waiting attached =
     count_line (len waiting) ++ (if len waiting == 0 then [] else lines_of waiting attached)

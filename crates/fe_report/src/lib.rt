@@ -1,4 +1,4 @@
-//! The report: what waits in a front, line by line.
+//! The report: a text that says what waits in a front.
 #![tactic(auto)]
 
 mod reporting;

@@ -6,16 +6,16 @@ use crate::text::{put_all_wait, put_count, put_sessions, put_words};
 use fe_front::Front;
 use std::alloc::{AllocError, Global};
 
-/// How many bytes the line of a request has at most.
+/// The most bytes that a request's line has.
 pub(crate) const WORD_LINE: usize = 108;
 
-/// How many bytes all other lines have at most.
+/// The most bytes that all other lines have together.
 const OTHER_LINES: usize = 2976;
 
-/// The report of what waits in a front, 1 to 262,144 bytes. The one error is that memory is short.
+/// The report of what waits in a front, 1 to 262,144 bytes long. `AllocError` if memory is short.
 ///
-/// It goes over the sessions and along the list of each, and looks at no word. The memory of the text is taken at once, and
-/// what it has to spare is given back.
+/// It walks each session's waiting list once, and looks at no word. It allocates room for the longest text first, and gives
+/// back what the text doesn't use.
 pub fn report(alloc: Global, front: &Front) -> Result<String, AllocError>
     ensures text { IfOk result
         (λ text. string_bytes text ≡ report_text front.now.service.waiting (attached_seats front.now)) }

@@ -1,6 +1,7 @@
 ghost use Rattle.std.specs.Prelude.{◌≡◌, ◌≤◌, IfOk, OnOk, vec_len};
 ghost use Rattle.std.specs.BTreeMap.{btree_map_len};
 ghost use Rattle.std.specs.FinMap.{entries};
+ghost use Rattle.fe_state.specs.declared.bounds.TheConstants.{SESSIONS, WAITING};
 ghost use Rattle.fe_report.specs.Report.{by_word, by_session, do_all_wait, attached_seats};
 ghost use Rattle.fe_report.specs.within.Rows.{IsAdded};
 
@@ -9,10 +10,10 @@ use fe_words::Op;
 use std::alloc::{AllocError, Global};
 use std::collections::BTreeMap;
 
-/// Where a request waits: the array and the index of its word, then its session and its number.
+/// Where a request waits: the array and index of its word, then its session and number.
 pub(crate) type Spot = ((u64, u32), (u64, u64));
 
-/// Adds a row for each request of a session that waits.
+/// Adds a row for each waiting request of a session.
 fn add_session(
     alloc: Global,
     front: &Front,
@@ -29,10 +30,10 @@ fn add_session(
     Ok(())
 }
 
-/// Where each request waits, and its operation, in the order of the lines.
+/// A row for each waiting request, where it waits and its operation, in the order of the lines.
 pub(crate) fn rows_by_word(alloc: Global, front: &Front) -> Result<Vec<(Spot, Op)>, AllocError>
     ensures rows { IfOk result (λ rows. rows.items ≡ entries (by_word front.now.service.waiting)) }
-    ensures few { IfOk result (λ rows. vec_len rows ≤ 2048) }
+    ensures few { IfOk result (λ rows. vec_len rows ≤ WAITING) }
 {
     let state = front.state();
     let mut rows = Vec::with_capacity(alloc, front.waiting_count() as usize)?;
@@ -44,13 +45,13 @@ pub(crate) fn rows_by_word(alloc: Global, front: &Front) -> Result<Vec<(Spot, Op
     Ok(rows)
 }
 
-/// For each session with waiting requests, how many wait.
+/// How many requests of each session wait, for the sessions that have any.
 pub(crate) fn rows_by_session(
     alloc: Global,
     front: &Front,
 ) -> Result<BTreeMap<u64, u32>, AllocError>
     ensures rows { IfOk result (λ rows. rows.entries ≡ entries (by_session front.now.service.waiting)) }
-    ensures few { IfOk result (λ rows. btree_map_len rows ≤ 64) }
+    ensures few { IfOk result (λ rows. btree_map_len rows ≤ SESSIONS) }
 {
     let state = front.state();
     let mut rows = BTreeMap::new(alloc);
@@ -64,7 +65,7 @@ pub(crate) fn rows_by_session(
     Ok(rows)
 }
 
-/// Whether a session is attached, and something waits of each one that is.
+/// Whether a session is attached, and each attached session has a waiting request.
 pub(crate) fn do_all_wait(front: &Front) -> bool
     ensures { result ≡ do_all_wait front.now.service.waiting (attached_seats front.now) }
 {

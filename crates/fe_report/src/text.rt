@@ -23,7 +23,7 @@ pub(crate) fn put_count(text: &mut String, count: u32) -> Result<(), AllocError>
     write!(text, "waiting {count}\n")
 }
 
-/// Writes a piece of a line so that it ends at `end`, and gives where it starts.
+/// Writes a piece of a line so that it ends at `end`, and returns where it starts.
 fn put_piece(line: &mut [u8], piece: &str, end: usize) -> usize
     requires room { length piece.now ≤ end }
     requires in_bounds { end ≤ length line.old }
@@ -35,7 +35,7 @@ fn put_piece(line: &mut [u8], piece: &str, end: usize) -> usize
     start
 }
 
-/// Writes the second part of a request's line, up to the line's end: its session, its number and its operation.
+/// Writes the second part of a request's line, at the end of `line`: its session, number and operation.
 fn put_caller(line: &mut [u8], session: u64, number: u64, op: Op) -> usize
     requires whole { length line.old ≡ 108 }
     ensures room { 36 ≤ result }
@@ -67,7 +67,7 @@ fn put_place(line: &mut [u8], array: u64, index: u32, end: usize) -> usize
     put_piece(line, "word ", at)
 }
 
-/// Writes the line of a request. It is made from its end, so that the text grows once.
+/// Writes the line of a request. The line is built from its end, so the text grows only once.
 fn put_word(
     text: &mut String,
     array: u64,
@@ -83,7 +83,7 @@ fn put_word(
     let mut line = [0; WORD_LINE];
     let caller = put_caller(&mut line, session, number, op);
     let start = put_place(&mut line, array, index, caller);
-    // It is ASCII. To look at each byte again costs a third of a report.
+    // The bytes are ASCII. To check each of them again costs a third of a report.
     let line = unsafe { str::from_utf8_unchecked(&line[start..]) };
     text.push_str(line)
 }
@@ -123,7 +123,7 @@ pub(crate) fn put_sessions(
     Ok(())
 }
 
-/// Writes whether all wait.
+/// Writes whether every attached session waits.
 pub(crate) fn put_all_wait(text: &mut String, all: bool) -> Result<(), AllocError>
     ensures line { OnOk result (string_bytes text.new ≡ string_bytes text.old ++ all_wait_line all) }
     ensures few { OnOk result (string_len text.new ≤ string_len text.old + 13) }

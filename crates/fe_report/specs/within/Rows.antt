@@ -12,11 +12,11 @@ pub record ArePart {K X : Type 0} {R : K → K → Ordering} (m : FinMap R X) (e
   pub sorted : T (is_sorted R es)
   pub sound : (q : K) (x : X) → find R q es ≡ Some x → get m q ≡ Some x
 
--- the row of a request of the session, where this is told of it
+-- the row of a session's request, from what the front says of it
 abbrev pub row_of : ℕ → ℕ × (ℕ × ℕ × Op) → Spot × Op
 row_of session t = (((t.1.0, t.1.1), (session, t.0)), t.1.2)
 
--- a row came for each request of the session that waits
+-- a row was added for each waiting request of the session
 pub record IsAdded (waiting : Waiters) (session : ℕ) (old new : List (Spot × Op)) : Type 0 where
   pub told : List (ℕ × (ℕ × ℕ × Op))
   pub tells : AreTold waiting session told
