@@ -1,14 +1,13 @@
-ghost use Rattle.std.specs.Prelude.{◌≡◌, ◌⊎◌, ◌↔◌, IfOk, IfErr, IsErrAnd, IsErrOf};
-ghost use Rattle.fe_disk.specs.Disk.{LeavesJust, Rises};
-ghost use Rattle.fe_disk.specs.Outcome.{Runs, told};
-ghost use Rattle.fe_journal.specs.Contents.{Contents, Holds};
-ghost use Rattle.fe_journal.specs.Damage.{TellsFound, IsUnformatted};
+ghost use Rattle.std.specs.Prelude.{◌≡◌, ◌⊎◌, IfOk, IfErr, IsErrAnd};
+ghost use Rattle.fe_disk.specs.Disk.{LeavesJust};
+ghost use Rattle.fe_disk.specs.Outcome.{told};
+ghost use Rattle.fe_journal.specs.Damage.{IsUnformatted};
 ghost use Rattle.fe_journal.specs.Layout.{device_bytes};
 ghost use Rattle.fe_journal.specs.Journal.{IsReady};
 ghost use Rattle.fe_journal.specs.Steps.{OnlyReads};
 ghost use Rattle.fe_journal.specs.Store.{IsStore, IsWhole};
-ghost use Rattle.fe_journal.specs.Found.{IsFound, AreListed, disk_after};
-ghost use Rattle.fe_journal.specs.declared.fault.StoreFault.TheVariants.{Unformatted, Device, NoMemory};
+ghost use Rattle.fe_journal.specs.Found.{IsFound, IsReason, AreListed, AsksToOpen, disk_after};
+ghost use Rattle.fe_journal.specs.declared.fault.StoreFault.TheVariants.{Unformatted, Device};
 
 use crate::layout::area_of;
 use crate::store::{Store, read_store};
@@ -33,15 +32,12 @@ impl<D: Disk> Journal<D> {
     /// its image's length, the lengths of its groups (`docs/formats.md`, "Device").
     pub fn find(alloc: Global, disk: D) -> Result<Found<D>, (StoreFault, D)>
         ensures found { D.honest disk → IfOk result (IsFound D.seen D.may_leave (D.seen disk)) }
-        ensures refused { D.honest disk → IfErr result (λ e. TellsFound e.0 (D.seen disk)) }
+        // A reported fault is the store's. One that holds contents is refused only for its device or for memory.
+        ensures refused { D.honest disk → IfErr result (λ e. IsReason (D.seen disk) e.0) }
 
         // An unformatted store is reported as such, however much memory there is.
         ensures unformatted { D.honest disk → IsUnformatted (D.seen disk)
             → IsErrAnd result (λ e. (e.0 ≡ Unformatted) ⊎ (e.0 ≡ Device)) }
-
-        // A store that holds contents is refused only for its device or for memory.
-        ensures holds { D.honest disk → (c : Contents) → Holds c (D.seen disk)
-            → IfErr result (λ e. (e.0 ≡ Device) ⊎ (e.0 ≡ NoMemory)) }
 
         // No stop leaves what could not be left before, and what is read stays the same.
         ensures reads { D.honest disk → OnlyReads D.seen D.may_leave D.moment D.left_since disk (disk_after result) }
@@ -49,8 +45,7 @@ impl<D: Disk> Journal<D> {
         // Over any disk: a journal with no slot begun that has not failed.
         ensures ready { IfOk result (λ found. IsReady found.journal) }
         ensures listed { IfOk result AreListed }
-        ensures fault { IsErrOf (told result) Device ↔ Rises (D.failures disk) (D.failures (disk_after result)) }
-        ensures device { Runs D.size D.failures D.calls D.honest 4 0 1 Device (told result) disk (disk_after result) }
+        ensures device { AsksToOpen D.size D.failures D.calls D.honest Device (told result) disk (disk_after result) }
         ensures sized { IfOk result (λ found. D.size disk ≡ device_bytes) }
     {
         let mut disk = disk;

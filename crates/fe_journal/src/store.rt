@@ -1,10 +1,11 @@
 // A store as it is read from its device.
-ghost use Rattle.std.specs.Prelude.{◌≡◌, ◌⊎◌, ◌↔◌, ◌+◌, ◌≤◌, ◌<◌, length, Some, IfSome, IfOk, IfErr, IsErrOf, OnOk, vec_len};
-ghost use Rattle.fe_disk.specs.Disk.{LeavesJust, Rises, bytes_at};
+ghost use Rattle.std.specs.Prelude.{◌≡◌, ◌⊎◌, ◌+◌, ◌≤◌, ◌<◌, length, Some, IfSome, IfOk, IfErr, OnOk, vec_len};
+ghost use Rattle.fe_disk.specs.Disk.{LeavesJust, bytes_at};
 ghost use Rattle.fe_disk.specs.Outcome.{Asks, Runs};
 ghost use Rattle.fe_journal.specs.Layout.{device_bytes, header_bytes, area_bytes, header_of};
 ghost use Rattle.fe_format.specs.Layout.{IsImageLength};
 ghost use Rattle.fe_journal.specs.Damage.{TellsFound};
+ghost use Rattle.fe_journal.specs.Found.{AsksToOpen};
 ghost use Rattle.fe_journal.specs.Reading.{IsHeader, HeaderFault, GroupFault, EndsAt};
 ghost use Rattle.fe_journal.specs.Steps.{OnlyReads};
 ghost use Rattle.fe_journal.specs.Store.{CountsAs, IsSlotRead, AreParts, IsSound, IsStore, IsWhole};
@@ -43,8 +44,7 @@ pub fn read_store<D: Disk>(alloc: Global, disk: &mut D) -> Result<Store, StoreFa
 
     ensures whole { IfOk result IsWhole }
     ensures sized { OnOk result (D.size disk.new ≡ device_bytes) }
-    ensures fault { IsErrOf result Device ↔ Rises (D.failures disk.old) (D.failures disk.new) }
-    ensures device { Runs D.size D.failures D.calls D.honest 4 0 1 Device result disk.old disk.new }
+    ensures device { AsksToOpen D.size D.failures D.calls D.honest Device result disk.old disk.new }
 {
     disk.sync()?;
     if disk.size() != DEVICE_BYTES {

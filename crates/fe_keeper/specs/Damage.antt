@@ -7,7 +7,7 @@ use Rattle.fe_journal.specs.Layout.{device_bytes, header_of, image_of, area_of}
 use Rattle.fe_journal.specs.Contents.{Contents, Holds}
 use Rattle.fe_journal.specs.Damage as journal
 use Rattle.fe_replica.specs.Replaying.{Replays, IsFirstBad}
-use Rattle.fe_keeper.specs.Stands.{greatest_generation}
+use Rattle.fe_keeper.specs.Stands.{StandsFor, greatest_generation}
 use Rattle.fe_keeper.specs.declared.fault.Fault.{Fault}
 use Rattle.fe_keeper.specs.declared.fault.Fault.TheVariants.{Device, Failed, NoMemory, Mismatch, Damaged, Unformatted}
 
@@ -49,3 +49,9 @@ TellsStore Device image = Unit {0}
 TellsStore NoMemory image = journal.IsUnformatted image → ⊥
 TellsStore Failed image = Unit {0}
 TellsStore (Mismatch place) image = Unit {0}
+
+-- Why the store of an image is not opened: what the fault says of the image holds, and one that stands for a state is refused only if the device fails or
+-- memory runs out.
+pub record IsReason (image : List ℕ) (fault : Fault) : Type 0 where
+  pub tells : TellsStore fault image
+  pub valid : (s : ServerState) → StandsFor image s → (fault ≡ Device) ⊎ (fault ≡ NoMemory)
