@@ -24,8 +24,8 @@ const EMPTY_IMAGE: [u8; 24] = [
 ];
 
 impl<D: Disk> Journal<D> {
-    /// Makes a new store of format 2 on the device, whatever was there. Nothing is promised of a device
-    /// whose formatting was stopped or failed: it is formatted again.
+    /// Makes a new store of format 2 on the device, whatever was there. If formatting stops or fails, nothing is
+    /// promised about the device, and it has to be formatted again.
     pub fn format(alloc: Global, disk: D) -> Result<Journal<D>, (StoreFault, D)>
         ensures formatted { D.honest disk
             → IfOk result (λ journal. Keeps D.seen D.may_leave journal (first_contents Two) None) }
@@ -38,7 +38,7 @@ impl<D: Disk> Journal<D> {
         Journal::format_in(alloc, Format::Two, disk)
     }
 
-    /// The same, in a format of choice.
+    /// The same, in this format.
     pub fn format_in(alloc: Global, format: Format, disk: D) -> Result<Journal<D>, (StoreFault, D)>
         ensures formatted { D.honest disk
             → IfOk result (λ journal. Keeps D.seen D.may_leave journal (first_contents format) None) }

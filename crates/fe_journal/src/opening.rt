@@ -15,8 +15,8 @@ use crate::{Groups, Journal, StoreFault};
 use fe_disk::Disk;
 use std::alloc::Global;
 
-/// An opened store: the journal after its groups, the bytes of its image, and its groups from the
-/// first on.
+/// An opened store: its journal, which goes on after the groups, the bytes of its image, and a cursor before the
+/// first group.
 #[derive(Drop)]
 pub struct Found<D: Disk> {
     pub journal: Journal<D>,
@@ -25,8 +25,8 @@ pub struct Found<D: Disk> {
 }
 
 impl<D: Disk> Journal<D> {
-    /// Opens a store: a sync, and then only reads. It takes some three megabytes, of which the journal
-    /// keeps one.
+    /// Opens a store: a sync, and then only reads. It takes about three megabytes. The journal keeps one of
+    /// them.
     ///
     /// The fault of a damaged store is the first thing wrong in the slot that counts: its generation,
     /// its image's length, the lengths of its groups (`docs/formats.md`, "Device").

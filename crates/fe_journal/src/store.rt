@@ -35,7 +35,7 @@ pub struct Store {
     pub parts: Parts,
 }
 
-/// Syncs, and then only reads.
+/// Reads a store, after a sync.
 pub fn read_store<D: Disk>(alloc: Global, disk: &mut D) -> Result<Store, StoreFault>
     ensures store { D.honest disk.old → IfOk result (IsStore (D.seen disk.old)) }
     ensures faults { D.honest disk.old → IfErr result (λ fault. TellsFound fault (D.seen disk.old)) }
@@ -111,7 +111,7 @@ fn read_header<D: Disk>(
     Ok(header_in(bytes))
 }
 
-// The slot that counts, and its header. It takes no memory, so that a store is known to be unformatted without any.
+// The slot that counts, and its header. It takes no memory: an unformatted store is reported as such even if there is none.
 fn read_counting<D: Disk>(disk: &mut D) -> Result<Option<(usize, Header)>, DeviceFault>
     requires device { D.size disk.old ≡ device_bytes }
     ensures counts { D.honest disk.old → IfOk result (CountsAs (D.seen disk.old)) }
@@ -165,7 +165,7 @@ fn read_bytes<D: Disk>(
     Ok(bytes)
 }
 
-// Where the groups of a slot's journal area end, of which the lengths of all are tested.
+// Where the groups of a slot's journal area end. The length of each group is tested.
 fn groups_end(slot: usize, area: &[u8], format: Format) -> Result<usize, StoreFault>
     requires is_slot { slot < 2 }
     requires area { length area.now ≡ area_bytes }

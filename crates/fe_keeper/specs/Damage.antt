@@ -40,8 +40,8 @@ pub data IsDamagedAt (image : List ℕ) (offset : ℕ) : Type 0 where
   InSlot : length image ≡ device_bytes → journal.IsDamagedAt image offset → IsDamagedAt image offset
   InContents : (c : Contents) → Holds c image → IsWrongAt c offset → IsDamagedAt image offset
 
--- What a fault of opening says of the image that the disk reads: it is unformatted; it is damaged first at this offset; memory
--- was wanted, and it is not unformatted. The others say nothing of it.
+-- What a fault of opening says of the image that the disk reads: it is unformatted; it is damaged first at this offset; or memory
+-- ran out, and it is not unformatted. The other faults say nothing of it.
 abbrev pub TellsStore : Fault → List ℕ → Type 0
 TellsStore Unformatted image = journal.IsUnformatted image
 TellsStore (Damaged offset) image = IsDamagedAt image offset

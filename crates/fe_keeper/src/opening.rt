@@ -26,7 +26,8 @@ use std::alloc::{AllocError, Global};
 const DEVICE_BYTES: usize = 4_202_496;
 
 impl<D: Disk> Keeper<D> {
-    /// Opens a store: a sync, and then only reads. The keeper has the state that the disk stands for.
+    /// Opens a store: a sync, and then only reads. The keeper has the state that the disk stands for. It takes about
+    /// three megabytes and the memory of the state.
     ///
     /// The fault of a damaged store is the first thing wrong in the slot that counts: its generation, its
     /// image's length, the lengths of its groups, its image, its generation against the image's place, and then
@@ -67,8 +68,8 @@ impl<D: Disk> Keeper<D> {
         }
     }
 
-    /// Makes a new store of format 2 on the device, whatever was there. Nothing is promised of a device whose
-    /// formatting was stopped or failed: it is formatted again.
+    /// Makes a new store of format 2 on the device, whatever was there. If formatting stops or fails, nothing is
+    /// promised about the device, and it has to be formatted again.
     pub fn format(alloc: Global, disk: D) -> Result<Keeper<D>, (Fault, D)>
         ensures formatted { D.honest disk
             → IfOk result (λ keeper. EachStandsFor D.may_leave keeper.store.disk first_state) }

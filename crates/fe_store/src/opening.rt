@@ -16,7 +16,7 @@ use fe_disk::Disk;
 use fe_keeper::Keeper;
 use std::alloc::Global;
 
-/// Opens the store on a disk, which is synced and then only read. Only a file can have the fault `Size`.
+/// Opens the store on a disk: a sync, and then only reads. It never fails with `Size`.
 pub fn open_existing<D: Disk>(alloc: Global, disk: D) -> Result<Keeper<D>, (OpenFault, D)>
     // What the disk reads stands for the keeper's state, and so does each image that a stop may leave.
     ensures opened { D.honest disk → IfOk result (IsOpenedFrom D.may_leave (D.seen disk)) }
@@ -36,7 +36,7 @@ pub fn open_existing<D: Disk>(alloc: Global, disk: D) -> Result<Keeper<D>, (Open
     }
 }
 
-/// Opens the store on a disk. One that is unformatted is formatted where that is asked for, and else refused.
+/// Opens the store on a disk. An unformatted store is formatted if `format` is set, and refused if not.
 pub fn open_on<D: Disk>(alloc: Global, disk: D, format: bool) -> Result<Keeper<D>, (OpenFault, D)>
     // The keeper has the state that the disk stands for, or that of a new store if there was none and one was asked for.
     ensures opened { D.honest disk → IfOk result (IsOpenedAs D.may_leave (D.seen disk) format) }
