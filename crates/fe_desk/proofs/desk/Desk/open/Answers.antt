@@ -2,7 +2,7 @@ use Rattle.std.proofs.Common.{◌≡◌, ◌⊎◌, false, inl, inr, ⊎_elim, a
 use Rattle.std.proofs.lemmas.Result.{IfOk-weaker, IfErr-weaker}
 use Rattle.fe_journal.specs.Steps.{OnlyReads}
 use Rattle.fe_keeper.specs.Keeper.{KeeperState}
-use Rattle.fe_keeper.specs.Stands.{EachStandsFor}
+use Rattle.fe_keeper.specs.Stands.{StandsFor, EachStandsFor}
 use Rattle.fe_desk.specs.Crash.{disk_of}
 use Rattle.fe_desk.specs.Messages.{told_as}
 use Rattle.fe_keeper.specs.declared.fault.Fault.TheVariants as keeper
@@ -11,6 +11,13 @@ use Rattle.fe_desk.specs.declared.fault.DeskFault.TheVariants.{Store, NoMemory}
 use Rattle.fe_desk.specs.Opened.{TellsOpening}
 use Rattle.fe_desk.proofs.Openings.{disk_is, device_told, tells_opening, short_opening}
 use Rattle.fe_desk.proofs.desk.Desk.open.Goals as goal
+
+pub returns-in-Ok-clause-opened : goal.returns-in-Ok-clause-opened
+returns-in-Ok-clause-opened g c = λ honest.
+    let k = c.in-Ok.keeper in
+    let seen = g.D.Disk.seen c.args.disk in
+    IfOk-weaker c.desk_over.result (λ desk. desk.keeper ≡ k) (λ desk. StandsFor seen desk.keeper.state)
+    (λ desk is. subst (λ (x : KeeperState g.row.D.Denot). StandsFor seen x.state) (sym is) (c.in-Ok.ensures.opened honest).state) c.desk_over.ensures.keeper
 
 pub returns-in-Ok-clause-stands : goal.returns-in-Ok-clause-stands
 returns-in-Ok-clause-stands g c = λ honest.
