@@ -45,7 +45,7 @@ repeated step (suc n) x = step x followed_by repeated step n
 
 -- ---- fields
 
--- the next bytes, as many as are wanted
+-- the next n bytes
 unfoldable pub row : ℕ → List ℕ → Result (List ℕ × List ℕ) ℕ
 row n bytes = if nat_lt (length bytes) n then Err 0 else Ok (take n bytes, drop n bytes)
 

@@ -14,7 +14,7 @@ use Rattle.fe_format.specs.Layout.{name_bytes, record_bytes, group_records}
 use Rattle.fe_format.specs.declared.format.Format.{Format}
 use Rattle.fe_format.specs.declared.format.Format.TheVariants.{One, Two}
 
--- the first eight bytes, of which the last two are unused
+-- the first eight bytes; the last two of them are unused
 abbrev pub codes_field : ℕ → ℕ → ℕ → ℕ → ℕ → ℕ → List ℕ
 codes_field kind request answer count tag flag = kind ∷ request ∷ answer ∷ count ∷ tag ∷ flag ∷ 0 ∷ 0 ∷ []
 

@@ -57,7 +57,7 @@ fn are_zero(cells: &[u8]) -> bool
     cells.iter().all(|cell| *cell == 0)
 }
 
-/// The name in a row, if it is plain and is followed by zeros.
+/// The name in a row, if it is plain and zeros follow it.
 fn name_in(len: usize, cells: &[u8]) -> Option<Name>
     requires { len ≤ length cells.now }
     ensures { result ≡ (if is_name_row len cells.now then Some (take len cells.now) else None) }
@@ -230,7 +230,7 @@ fn next_array<'a>(
     Ok((id, rest))
 }
 
-/// Loads as many arrays as is said, and gives the last one's id.
+/// Loads this many arrays, and returns the id of the last one.
 pub fn read_arrays<'a>(
     format: Format,
     count: u32,

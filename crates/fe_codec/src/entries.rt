@@ -15,8 +15,8 @@ use std::alloc::AllocError;
 /// Numbers and floors are below this.
 const NUMBER_LIMIT: u64 = 9223372036854775808;
 
-/// Appends the record of an entry, whose number or floor is below 2^63. `AllocError` where the
-/// spare room doesn't hold it and there is no memory for more; then nothing is appended.
+/// Appends the record of an entry, whose number or floor is below 2^63. `AllocError` if the spare room
+/// doesn't hold it and memory runs out. Then nothing is appended.
 pub fn put_entry(format: Format, entry: &Entry, out: &mut Vec<u8>) -> Result<(), AllocError>
     requires { CanPut format entry.now }
     ensures ok { OnOk result (out.new.items ≡ out.old.items ++ entry_spelling format entry.now) }
@@ -61,7 +61,7 @@ fn is_record(format: Format, entry: &Entry, bytes: &[u8]) -> bool
     is_numbered(entry) && is_of_format(format, entry) && record_of(format, entry).bytes() == bytes
 }
 
-/// The entry whose record the bytes are, or `None` where they are no entry's.
+/// The entry whose record the bytes are, or `None` if they are no entry's record.
 #[tactic(auto, unfolding(crate::specs::Reading::record_entry))]
 pub fn read_entry(format: Format, bytes: &[u8]) -> Option<Entry>
     // What is read is spelled so.

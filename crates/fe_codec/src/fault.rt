@@ -3,7 +3,7 @@ use std::alloc::AllocError;
 /// Why no state was read from an image.
 #[derive(Clone, Copy, PartialEq, Eq)]
 pub enum ImageFault {
-    /// The image is wrong, first at this offset (`docs/formats.md`, "Image").
+    /// The image is wrong, first at this offset in bytes (`docs/formats.md`, "Image").
     Damaged { offset: usize },
     /// There was no memory.
     NoMemory,

@@ -12,7 +12,7 @@ use crate::entries::{put_entry, read_entry};
 use fe_state::Entry;
 use std::alloc::{AllocError, Global};
 
-/// Appends the record of an entry, for which there is room.
+/// Appends the record of an entry. There is room for it.
 fn append_entry(format: Format, entry: &Entry, out: &mut Vec<u8>)
     requires can { CanPut format entry.now }
     requires room { vec_len out.old + record_bytes format ≤ vec_capacity out.old }
@@ -24,7 +24,7 @@ fn append_entry(format: Format, entry: &Entry, out: &mut Vec<u8>)
     let _ = put_entry(format, entry, out);
 }
 
-/// Appends the records of entries, for which there is room.
+/// Appends the records of entries. There is room for them.
 fn append_entries(format: Format, entries: &[Entry], out: &mut Vec<u8>)
     requires each { AllByRecursion (CanPut format) entries.now }
     requires room { vec_len out.old + length entries.now * record_bytes format ≤ vec_capacity out.old }
@@ -37,8 +37,8 @@ fn append_entries(format: Format, entries: &[Entry], out: &mut Vec<u8>)
     }
 }
 
-/// Appends the records of entries, one after another. `AllocError` if the spare room doesn't
-/// hold them and there is no memory for more; then nothing is appended.
+/// Appends the records of entries, one after another. `AllocError` if the spare room doesn't hold them and
+/// memory runs out. Then nothing is appended.
 pub fn put_group(format: Format, entries: &[Entry], out: &mut Vec<u8>) -> Result<(), AllocError>
     requires each { AllByRecursion (CanPut format) entries.now }
     requires most { length entries.now ≤ group_records format }
@@ -63,7 +63,7 @@ fn is_group_size(format: Format, size: usize) -> bool
     size % record == 0 && record <= size && size <= format.group_records() * record
 }
 
-/// The entry whose record the first bytes are, and the bytes after it.
+/// The entry whose record comes first, and the bytes after the record.
 fn next_entry(format: Format, bytes: &[u8]) -> Option<(Entry, &[u8])>
     requires { record_bytes format ≤ length bytes.now }
     ensures found { IfSome result (λ x. FitsRecord format x.0 × (bytes.now ≡ entry_spelling format x.0 ++ x.1.now)) }
@@ -75,7 +75,7 @@ fn next_entry(format: Format, bytes: &[u8]) -> Option<(Entry, &[u8])>
     Some((entry, behind))
 }
 
-/// The entries of bytes that are as many as a group's.
+/// The entries in the bytes, which have the length of a group.
 fn read_entries(
     alloc: Global,
     format: Format,
@@ -101,8 +101,8 @@ fn read_entries(
     Ok(Some(entries))
 }
 
-/// The entries whose records the bytes are, one after another, or `None` if they are no group's:
-/// 1 to `group_records` records of the format. `AllocError` where there is no memory for the entries.
+/// The entries of a group: 1 to `group_records` records of the format, one after another. `None` if the bytes
+/// are no group, and `AllocError` if memory runs out.
 pub fn read_group(
     alloc: Global,
     format: Format,
@@ -113,7 +113,7 @@ pub fn read_group(
     // What is spelled so is read, so that `None` comes only outside the grammar.
     ensures only { (entries : List Step) → IsGroupOf format entries bytes.now
         → IfOk result (λ read. option_map (λ v. v.items) read ≡ Some entries) }
-    // Memory is wanted only where a group may have this length.
+    // It takes memory only if a group may have this length.
     ensures memory { OnErr result (IsGroupSize format (length bytes.now)) }
 {
     if is_group_size(format, bytes.len()) {

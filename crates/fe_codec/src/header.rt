@@ -18,7 +18,7 @@ const ARRAY_LIMIT: u32 = ARRAYS as u32 + 1;
 /// There are fewer sessions than this.
 const SESSION_LIMIT: u32 = SESSIONS as u32 + 1;
 
-/// The first fields of an image: its place, the next id, and how many arrays and sessions follow.
+/// The first fields of an image: its place, its next array id, and how many arrays and sessions follow.
 #[derive(Clone, Copy)]
 pub struct Header {
     pub place: u64,
@@ -27,7 +27,7 @@ pub struct Header {
     pub sessions: u32,
 }
 
-/// The next bytes, and those after them.
+/// The next bytes, and the bytes after them.
 #[tactic(auto, unfolding(crate::specs::FirstFault::row))]
 pub fn row(count: usize, bytes: &[u8]) -> Result<(&[u8], &[u8]), Fault>
     ensures given { Gives (λ x. (x.0.now, x.1.now)) result (row count bytes.now) }

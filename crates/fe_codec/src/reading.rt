@@ -49,9 +49,9 @@ fn image_of(alloc: Global, format: Format, bytes: &[u8]) -> Result<State, ImageF
     }
 }
 
-/// The state whose image the bytes are, `Damaged` with the offset of the first fault where they are
-/// no image (`docs/formats.md`, "Image"), or `NoMemory` where there is none for the state or the
-/// words of an array.
+/// The state whose image the bytes are. `Damaged` with the offset of the first fault, in bytes, if they are no
+/// image (`docs/formats.md`, "Image"), and `NoMemory` if memory runs out for the state or the words of an
+/// array.
 pub fn read_image(alloc: Global, format: Format, bytes: &[u8]) -> Result<State, ImageFault>
     // What is read is spelled so.
     ensures found { IfOk result (λ state. FitsImage format state × (bytes.now ≡ image_spelling format state)) }
@@ -60,7 +60,7 @@ pub fn read_image(alloc: Global, format: Format, bytes: &[u8]) -> Result<State, 
         → ImageGives result (Ok state) }
     // Which state it is, and which fault.
     ensures exact { ImageGives result (image_at format bytes.now) }
-    // A fault is told within the image, or at its end.
+    // The offset of a fault lies within the image, or at its end.
     ensures within { (offset : ℕ) → result ≡ Err (ImageFault.Damaged offset) → offset ≤ length bytes.now }
     // Memory is taken only where the first four fields are right.
     ensures memory { result ≡ Err ImageFault.NoMemory → IsOk (header_at bytes.now) }

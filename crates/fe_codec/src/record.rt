@@ -82,7 +82,7 @@ fn put_request(fields: &mut Record, format: Format, request: &Request)
     }
 }
 
-/// An entry that has nothing after the number or the floor.
+/// The record of an entry that has no field after the number or the floor.
 fn short_record(format: Format, kind: u8, session: u64, number: u64) -> Record
     ensures bytes { result ≡ short_spelling format kind session number }
     ensures length { length result ≡ record_bytes format }
@@ -96,7 +96,7 @@ fn short_record(format: Format, kind: u8, session: u64, number: u64) -> Record
     record
 }
 
-/// An entry of a request that finished.
+/// The record of a request that finished.
 fn finished_record(
     format: Format,
     session: u64,
@@ -120,7 +120,7 @@ fn finished_record(
     record
 }
 
-/// The record of an entry whose names, if it has one, are no longer than a row of the format.
+/// The record of an entry. If it has a name, that is no longer than a row of the format.
 pub fn record_of(format: Format, entry: &Entry) -> Record
     requires { HasRoom format entry.now }
     ensures bytes { result ≡ entry_spelling format entry.now }

@@ -89,7 +89,7 @@ fn kept_at(
     }
 }
 
-/// Loads the next answer that a session keeps, and gives its number.
+/// Loads the next answer that a session keeps, and returns its number.
 #[tactic(auto, unfolding(crate::specs::FirstFault::next_kept))]
 fn next_kept<'a>(
     format: Format,
@@ -115,7 +115,7 @@ fn next_kept<'a>(
     }
 }
 
-/// Loads as many answers as is said, and gives the last one's number.
+/// Loads this many answers, and returns the number of the last one.
 fn load_window<'a>(
     format: Format,
     session: u64,
@@ -177,7 +177,7 @@ fn next_session<'a>(
     Ok((session, rest))
 }
 
-/// Loads as many sessions as is said, and gives the last one's number.
+/// Loads this many sessions, and returns the number of the last one.
 pub fn read_sessions<'a>(
     format: Format,
     count: u32,

@@ -126,8 +126,8 @@ fn put_state(format: Format, state: &State, out: &mut Vec<u8>) -> Result<(), All
     put_sessions(format, state, out)
 }
 
-/// Appends the image of a state. `AllocError` where the spare room doesn't hold it and there is no
-/// memory for more; then nothing is appended.
+/// Appends the image of a state. `AllocError` if the spare room doesn't hold it and memory runs out. Then
+/// nothing is appended.
 pub fn put_image(format: Format, state: &State, out: &mut Vec<u8>) -> Result<(), AllocError>
     requires { StateOfFormat format state.now }
     ensures ok { OnOk result (out.new.items ≡ out.old.items ++ image_spelling format state.now) }

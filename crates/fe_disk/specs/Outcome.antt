@@ -23,7 +23,7 @@ pub record AsksAtMost {D T E : Type 0} (size failures : D → ℕ) (calls : D �
   pub honesty : honest new ↔ honest old
   pub same_size : size new ≡ size old
 
--- A function with other faults beside `device`, for which the count of faults stays. At most this many calls were made.
+-- The same, for a function with other faults beside `device`. Those leave the count of faults as it is.
 pub record Runs {D T E : Type 0} (size failures : D → ℕ) (calls : D → Calls) (honest : D → Type 0) (reads writes syncs : ℕ) (device : E) (result : Result T E) (old new : D) : Type 0 where
   pub fault : IsErrOf result device → Rises (failures old) (failures new)
   pub still : (IsErrOf result device → ⊥) → failures new ≡ failures old

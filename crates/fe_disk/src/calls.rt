@@ -1,7 +1,7 @@
 //! How many calls of each kind were made of a device.
 
-/// The reads, writes and syncs that were made. A disk that counts them fails a call of a kind of which it
-/// has counted `u64::MAX`.
+/// How many reads, writes and syncs were made. A disk that counts them fails the next call of a kind once its
+/// count of that kind is `u64::MAX`.
 #[derive(Clone, Copy, PartialEq, Eq)]
 pub struct Calls {
     pub reads: u64,
@@ -10,7 +10,7 @@ pub struct Calls {
 }
 
 impl Calls {
-    /// None was made yet.
+    /// No calls yet.
     pub const NONE: Calls = Calls {
         reads: 0,
         writes: 0,

@@ -4,44 +4,45 @@ ghost use Rattle.fe_disk.specs.Disk.{IsImage, bytes_at, after_write, IsTorn, Fol
 ghost use Rattle.fe_disk.specs.Outcome.{Asks};
 ghost use Rattle.fe_disk.specs.declared.calls.Calls.{Calls};
 
-/// The device did not do what it was asked to. It says no more than that.
+/// A device call failed. It carries no reason.
 #[derive(Clone, Copy, PartialEq, Eq)]
 pub struct DeviceFault;
 
 /// A disk of a fixed size, in bytes, that may stop at any moment.
 ///
-/// Each device call (`read_at`, `write_at`, `sync`) answers a fault exactly where the count of
-/// `failures` rose in that call. The other facts have the premise `honest`, and each call keeps it.
+/// Each device call (`read_at`, `write_at`, `sync`) returns a fault exactly when the count of
+/// `failures` rises in that call. The facts about bytes and stops hold only of an `honest` disk, and a
+/// call never changes whether the disk is honest.
 pub trait Disk {
     /// How many bytes the disk has. It never changes.
     ghost size: { Self → ℕ };
 
-    /// How many device calls have failed. At the top of a `u64` it stays.
+    /// How many device calls have failed. The count stays at `u64::MAX` once it is there.
     ghost failures: { Self → ℕ };
 
-    /// How many reads, writes and syncs were made of it.
+    /// How many reads, writes and syncs were made.
     ghost calls: { Self → Calls };
 
-    /// The disk does what this model says. It is the premise of every fact about bytes and stops.
+    /// The disk does what this model says. Every fact about bytes and stops assumes it.
     ghost honest: { Self → Type 0 };
 
-    /// What a read gives: all the bytes, in order.
+    /// What a read of the whole disk gives: all its bytes, in order.
     ghost seen: { Self → List ℕ };
 
     /// The images that a stop at this moment may leave.
     ghost may_leave: { Self → List ℕ → Type 0 };
 
-    /// The moment, a number that doesn't fall.
+    /// The time now, a number that never falls.
     ghost moment: { Self → ℕ };
 
-    /// The images that a stop at some moment from that one on may have left, within a call or between two.
+    /// The images that a stop since the given moment may have left, within a call or between two calls.
     ghost left_since: { Self → ℕ → List ℕ → Type 0 };
 
-    /// The number of bytes.
+    /// The size in bytes.
     fn size(&self) -> usize
         ensures { result ≡ size self.now };
 
-    /// How many device calls have failed. At `u64::MAX` it stays, and each call is a fault.
+    /// How many device calls have failed. At `u64::MAX` the count stays, and every call fails.
     fn failures(&self) -> u64
         ensures { result ≡ failures self.now };
 
@@ -58,7 +59,7 @@ pub trait Disk {
         ensures device { Asks size failures calls honest 1 0 0 result self.old self.new };
 
     /// Writes the bytes from `at` on. Until a sync succeeds, a stop may leave any bytes in their place.
-    /// A write that fails counts as written: a read may give anything in its range, and a stop leave anything there.
+    /// A write that fails may have written: in its range a read may give anything, and a stop may leave anything.
     fn write_at(&mut self, at: usize, bytes: &[u8]) -> Result<(), DeviceFault>
         requires { at + length bytes.now ≤ size self.old }
 
@@ -69,7 +70,7 @@ pub trait Disk {
         ensures time { honest self.old → Elapses moment left_since may_leave self.old self.new }
         ensures device { Asks size failures calls honest 0 1 0 result self.old self.new };
 
-    /// Puts on the disk all that was written. A sync that fails counts for nothing.
+    /// Makes all earlier writes durable. A sync that fails makes nothing durable.
     fn sync(&mut self) -> Result<(), DeviceFault>
         // From a sync that succeeds until the next write, a stop leaves what a read gives.
         ensures durable { honest self.old → OnOk result (LeavesJust (seen self.new) (may_leave self.new)) }
@@ -78,21 +79,21 @@ pub trait Disk {
         ensures time { honest self.old → Elapses moment left_since may_leave self.old self.new }
         ensures device { Asks size failures calls honest 0 0 1 result self.old self.new };
 
-    /// A read gives bytes, as many as the disk has.
+    /// A read of the whole disk gives as many bytes as the disk has.
     ghost seen_is_image: { (disk : Self) → honest disk → IsImage (size disk) (seen disk) };
 
-    /// So does each image that a stop may have left.
+    /// Each image that a stop may have left has as many bytes too.
     ghost left_is_image: { (disk : Self) (t : ℕ) (image : List ℕ) → honest disk
         → left_since disk t image → IsImage (size disk) image };
 
-    /// The disk as it reads is one of the images that a stop now may leave.
+    /// A stop now may leave the disk as it reads.
     ghost seen_may_stay: { (disk : Self) → honest disk → may_leave disk (seen disk) };
 
-    /// This moment is one of those since an earlier one.
+    /// What a stop now may leave, a stop since an earlier moment may have left.
     ghost counts_now: { (disk : Self) (t : ℕ) (image : List ℕ) → honest disk
         → t ≤ moment disk → may_leave disk image → left_since disk t image };
 
-    /// Since this moment there is no other.
+    /// A stop since now may have left only what a stop now may leave.
     ghost only_now: { (disk : Self) (image : List ℕ) → honest disk
         → left_since disk (moment disk) image → may_leave disk image };
 }

@@ -1,9 +1,9 @@
-//! A policy by which a disk fails one call and goes on, so that what holds after a fault can be tried.
+//! A policy that fails one call of a disk and passes all others on, for tests of what holds after a fault.
 ghost use Rattle.std.specs.Prelude.{◌≡◌, ◌≢◌, Some};
 
 use crate::{Asked, Policy};
 
-/// Passes this many device calls on, not the next one, and each one after.
+/// Passes this many device calls on, fails the next one, and passes on every call after it.
 #[derive(Drop)]
 pub struct FailOnce {
     calls_before: Option<u64>,
@@ -12,7 +12,7 @@ pub struct FailOnce {
 impl FailOnce {
     ghost use Rattle.fe_disk.specs.FailOnce.{calls_before};
 
-    /// Passes this many calls before the one that fails.
+    /// A policy that passes this many calls on before the one that fails.
     pub fn new(calls: u64) -> FailOnce
         ensures { calls_before result ≡ Some calls }
     {

@@ -4,7 +4,7 @@ ghost use Rattle.fe_disk.specs.Disk.{Rises};
 
 use crate::DeviceFault;
 
-/// Counts a fault. At the top of a `u64` the count stays.
+/// Counts a fault. The count stays at `u64::MAX` once it is there.
 pub fn fault(failures: &mut u64) -> DeviceFault
     ensures value { failures.new ≡ min (failures.old + 1) (2 ^ 64 - 1) }
     ensures fault { Rises failures.old failures.new }
@@ -14,7 +14,7 @@ pub fn fault(failures: &mut u64) -> DeviceFault
     DeviceFault
 }
 
-/// Counts a fault where the outcome is one.
+/// Counts a fault if the outcome is one.
 pub fn count<E: Drop>(failures: &mut u64, outcome: Result<(), E>) -> Result<(), DeviceFault>
     requires { failures.old < 2 ^ 64 - 1 }
     ensures same { IsErr result ↔ IsErr outcome }

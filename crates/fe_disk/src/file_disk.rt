@@ -20,21 +20,21 @@ const PIECE: usize = 4096;
 /// The descriptors below this are the standard streams.
 const STREAMS: i32 = 3;
 
-/// The mode of a file that is made: its owner alone may read and write it.
+/// The mode of a new file: only its owner may read and write it.
 const MODE: u32 = 0o600;
 
-/// A disk over a file of a fixed size. Each read and write is made at its offset, with no buffer
-/// between, and a sync puts the file's bytes on its device.
+/// A disk over a file of a fixed size. Each read and write goes straight to the file at its offset, without a
+/// buffer, and a sync puts the file's bytes on its device.
 ///
 /// The first sync that succeeds also makes the system forget what it holds of the file in memory, so that later reads come
-/// from the device: after a sync that failed, in this process or an earlier one, Linux takes pages for written that are not on
-/// the device, and would give their bytes to whoever reads the file until it needs the memory.
+/// from the device. After a sync that failed, in this process or an earlier one, Linux treats pages as written that are not on
+/// the device, and would give their bytes to every reader until it needs the memory.
 ///
-/// A disk that writes has an advisory lock of its file for as long as it lives, and is the only one that writes it meanwhile. Its
-/// syncs succeed only where, after them, the file still has its size and the path by which it was opened: what is written into a
+/// A disk that writes holds an advisory lock on its file for as long as it lives, so no other disk writes the file meanwhile. A
+/// sync succeeds only if the file afterwards still has its size and the path by which it was opened: what is written into a
 /// file that was cut, renamed, replaced or removed is lost.
 ///
-/// Nothing is claimed of what a file gives or keeps, so it is not honest.
+/// Nothing is claimed about what a file gives or keeps, so it is not honest.
 #[derive(Drop)]
 pub struct FileDisk {
     file: File,
@@ -49,8 +49,8 @@ pub struct FileDisk {
 impl FileDisk {
     ghost use Rattle.fe_disk.specs.FileDisk.{file_size, fault_count};
 
-    /// Makes a file of this many zero bytes, which only its owner may read and write, and syncs it and its folder. Where a file has
-    /// the path already it refuses and leaves that as it is. Where a later step is refused the file stays, maybe of another size.
+    /// Makes a file of this many zero bytes, which only its owner may read and write, and syncs it and its folder. If a file has
+    /// the path already, it stays as it is and the call fails. If a later step fails, the new file stays, maybe with another size.
     pub fn create<R: Files<File = File>>(
         rt: &R,
         path: &str,
@@ -66,7 +66,7 @@ impl FileDisk {
         }
     }
 
-    /// The disk over the file at the path, which has this many bytes.
+    /// The disk over the file at this path, which must have this many bytes. It locks the file.
     pub fn at<R: Files<File = File>>(rt: &R, path: &str, size: usize) -> Result<FileDisk, FileFault>
         ensures size { IfOk result (λ disk. file_size disk ≡ size) }
         ensures failures { IfOk result (λ disk. fault_count disk ≡ 0) }
@@ -78,8 +78,8 @@ impl FileDisk {
         }
     }
 
-    /// The disk over the file at the path, which has this size, for reading only: the file need
-    /// not be writable, and each write is a fault. It has no lock: others may read and write the file meanwhile.
+    /// The disk over the file at this path, which must have this many bytes, for reading only. The file need not
+    /// be writable, and every write fails. It takes no lock: others may read and write the file meanwhile.
     pub fn read_only<R: Files<File = File>>(
         rt: &R,
         path: &str,

@@ -5,6 +5,6 @@ pub enum FileFault {
     Missing,
     /// The file has this size in bytes, and not the one asked for.
     WrongSize { found: u64 },
-    /// The system refused a call, or another disk has the file, in this process or another.
+    /// The system refused a call, or another disk, in this process or another, has the file locked.
     Device,
 }

@@ -1,9 +1,9 @@
-//! A policy by which a disk fails from some call on, so that each call of a run can be the one at which it stops.
+//! A policy that fails every call of a disk from some call on, for tests that stop a run at each of its calls.
 ghost use Rattle.std.specs.Prelude.{◌≡◌, ◌<◌};
 
 use crate::{Asked, Policy};
 
-/// Passes this many device calls on, and none after.
+/// Passes this many device calls on, and fails every call after them.
 #[derive(Drop)]
 pub struct Fuse {
     calls_left: u64,
@@ -12,7 +12,7 @@ pub struct Fuse {
 impl Fuse {
     ghost use Rattle.fe_disk.specs.Fuse.{calls_left};
 
-    /// A fuse that passes this many calls.
+    /// A fuse that passes this many calls on.
     pub fn new(calls: u64) -> Fuse
         ensures { calls_left result ≡ calls }
     {

@@ -1,13 +1,14 @@
-//! A disk that passes calls on to another, as a policy says, and fails those that it doesn't pass on.
+//! A disk that passes on to another disk the calls that a policy lets through, and fails the others.
 ghost use Rattle.std.specs.Prelude.{◌≡◌, ◌↔◌, ◌-◌, ◌^◌, ◌<◌, IsTrue};
 
 use crate::faults::{count, fault};
 use crate::{Asked, DeviceFault, Disk, Policy};
 
-/// A disk of which the policy passes some calls on, and that fails each other one without touching the disk.
+/// A disk under a policy. The policy passes some calls on to the disk; every other call fails, and the disk
+/// is left alone.
 ///
-/// What a read gives and what a stop may leave are the disk's, so a call that isn't passed on changes no
-/// byte and syncs none. Its count of faults starts with the disk's; at `u64::MAX` it fails each call.
+/// What a read gives and what a stop may leave are those of the disk, so a call that isn't passed on changes no
+/// byte and syncs none. The count of faults starts with the disk's. At `u64::MAX` every call fails.
 #[derive(Drop)]
 pub struct Guarded<D, P> {
     inner: D,
@@ -45,7 +46,7 @@ impl<D: Disk, P: Policy> Guarded<D, P> {
 impl<D: Disk, P: Policy + Drop> Guarded<D, P> {
     ghost use Rattle.fe_disk.specs.Guarded.{disk_of};
 
-    /// The disk, as the calls that were passed on left it.
+    /// The disk below, as the calls that were passed on left it.
     pub fn into_inner(self) -> D
         ensures { result ≡ disk_of self }
     {

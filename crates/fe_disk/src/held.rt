@@ -1,4 +1,4 @@
-//! A policy by which another thread holds the syncs of a disk back, so that what comes between a write and its sync can be tried.
+//! A policy that lets another thread hold the syncs of a disk back, for tests of what happens between a write and its sync.
 ghost use Rattle.std.specs.Prelude.{⊤};
 
 use crate::hold::Hold;
@@ -6,7 +6,7 @@ use crate::{Asked, Policy};
 use std::alloc::Global;
 use std::sync::{Arc, Wait};
 
-/// Passes each call on, a sync once its `Hold` lets it. A sync that isn't let go doesn't return.
+/// Passes every call on. A sync waits until its `Hold` lets it go, and doesn't return before that.
 #[derive(Drop)]
 pub struct Held<R> {
     rt: R,

@@ -1,4 +1,4 @@
-//! What holds the syncs of a `Held` back until another thread lets them go.
+//! Holds the syncs of a `Held` back until another thread lets them go.
 use std::sync::{Condvar, Mutex, Wait};
 
 #[derive(Clone, Copy, PartialEq, Eq)]
@@ -11,7 +11,7 @@ enum Stage {
     Holding,
 }
 
-/// Holds the syncs of a disk back from `hold` until `let_go`. Threads share it.
+/// Holds the syncs of a disk back between `hold` and `let_go`. Threads share it.
 #[derive(Drop)]
 pub struct Hold {
     stage: Mutex<Stage>,
@@ -27,7 +27,7 @@ impl Hold {
         }
     }
 
-    /// From now on each sync waits.
+    /// Makes every sync wait from now on.
     pub fn hold(&self, rt: &impl Wait) {
         let mut stage = self.stage.lock(rt);
         if *stage == Stage::Free {
@@ -40,7 +40,7 @@ impl Hold {
         *self.stage.lock(rt) == Stage::Holding
     }
 
-    /// Lets each sync go that waits, and those to come.
+    /// Lets waiting and later syncs go.
     pub fn let_go(&self, rt: &impl Wait) {
         *self.stage.lock(rt) = Stage::Free;
         self.freed.notify_all();

@@ -1,4 +1,4 @@
-//! A disk that says whatever it was told to, so that a store can be tried over any bytes.
+//! A disk that always reads the same bytes, for tests of a store over any bytes.
 ghost use Rattle.std.specs.Prelude.{◌≡◌, ◌⊎◌, ◌+◌, ◌-◌, ◌^◌, ◌≤◌, length, IsErr, OnOk};
 ghost use Rattle.fe_disk.specs.Disk.{bytes_at};
 ghost use Rattle.fe_disk.specs.Outcome.{Asks};
@@ -6,8 +6,8 @@ ghost use Rattle.fe_disk.specs.Outcome.{Asks};
 use crate::faults::fault;
 use crate::{Calls, DeviceFault, Disk};
 
-/// A disk that reads what a list of bytes says, whatever was written. No call of it fails before a count
-/// of its calls is at the top of a `u64`, and nothing is claimed of what a stop leaves: it is not honest.
+/// A disk whose reads give a fixed list of bytes, whatever was written. A call fails only once its count of
+/// calls is at `u64::MAX`. Nothing is claimed about what a stop leaves, so it is not honest.
 #[derive(Drop)]
 pub struct Liar {
     bytes: Vec<u8>,
@@ -19,7 +19,7 @@ impl Liar {
     ghost use Rattle.fe_disk.specs.Liar.{told, calls_of};
     ghost use Rattle.fe_disk.specs.Calls.{none};
 
-    /// A disk of as many bytes as the list has.
+    /// A disk as long as the list.
     pub fn new(bytes: Vec<u8>) -> Liar
         ensures told { told result ≡ bytes.items }
         ensures calls { calls_of result ≡ none }

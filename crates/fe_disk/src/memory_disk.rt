@@ -1,4 +1,4 @@
-//! A disk in memory that keeps the record of its calls, so that each stop it allows can be made.
+//! A disk in memory that records its calls, so that a test can make every stop that the record allows.
 ghost use Rattle.std.specs.Prelude.{◌≡◌, ◌⊎◌, ◌+◌, ◌-◌, ◌^◌, ◌≤◌, ◌↔◌, length, IfOk, IsErr, OnOk, OnErr};
 ghost use Rattle.fe_disk.specs.Disk.{bytes_at, after_write, IsTorn, Follows, AddsNone, LeavesJust, Elapses, Rises};
 ghost use Rattle.fe_disk.specs.Outcome.{Asks};
@@ -14,16 +14,16 @@ use std::marker::Model;
 /// What a stop does to the ranges that were written since the last sync that succeeded.
 #[derive(Clone, Copy, PartialEq, Eq)]
 pub enum Torn {
-    /// They are as written.
+    /// The ranges are as written.
     Kept,
-    /// They are as they were at that sync.
+    /// The ranges are as they were at that sync.
     Lost,
-    /// Each of their bytes is this one.
+    /// Every byte of the ranges is this one.
     Byte(u8),
 }
 
-/// A disk in memory. It records each write and sync that succeeds and forgets none, so its record
-/// grows without end. Where the record finds no memory, the call fails before anything of it is done.
+/// A disk in memory. It records every write and sync that succeeds and forgets none, so the record
+/// grows without end. A call that finds no memory for the record fails and does nothing.
 #[derive(Drop)]
 pub struct MemoryDisk {
     alloc: Global,
@@ -61,7 +61,7 @@ impl MemoryDisk {
         })
     }
 
-    /// A disk of these bytes, with no calls and no faults. It has room for the record of a call, which takes no memory then.
+    /// A disk with these bytes, no calls and no faults. It has room for the record of one call, which then takes no memory.
     pub fn over(alloc: Global, bytes: Vec<u8>) -> Result<MemoryDisk, AllocError>
         ensures image { IfOk result (λ disk. disk.image ≡ bytes.items) }
         ensures fresh { IfOk result IsFresh }
@@ -77,8 +77,8 @@ impl MemoryDisk {
         })
     }
 
-    /// The disk that a stop at this moment leaves, with this done to the ranges that were written
-    /// since the last sync that succeeded. It is a disk of its own, with no calls and no faults.
+    /// The disk that a stop now leaves if this happens to the ranges that were written since the last sync
+    /// that succeeded. It is a new disk, with no calls and no faults.
     pub fn stopped(&self, torn: Torn) -> Result<MemoryDisk, AllocError>
         ensures left { IfOk result (λ disk. IsLeftBy torn self.now.image self.now.events disk.image) }
 

@@ -1,4 +1,4 @@
-//! Names of files, which are given and taken so that a stop leaves each name or does not.
+//! Names of files. A stop leaves a name there or not, and nothing in between.
 
 use std::fs::File;
 use std::io::ErrorKind;
@@ -6,8 +6,8 @@ use std::path::Path;
 use std::rt::Files;
 use std::{fs, io};
 
-/// Gives the file at a path a second name, and syncs the folder of that. `false` where a file has that name already, which stays
-/// as it is.
+/// Gives the file at a path a second name, and syncs the folder of the new name. `false` if a file has that name already; that
+/// file stays as it is.
 pub fn add_name<R: Files<File = File>>(rt: &R, path: &str, name: &str) -> io::Result<bool> {
     match fs::hard_link(rt, path, name) {
         Ok(()) => {
@@ -19,13 +19,13 @@ pub fn add_name<R: Files<File = File>>(rt: &R, path: &str, name: &str) -> io::Re
     }
 }
 
-/// Takes a name from its file, and syncs its folder.
+/// Removes a name of a file, and syncs its folder.
 pub fn remove_name<R: Files<File = File>>(rt: &R, name: &str) -> io::Result<()> {
     fs::remove_file(rt, name)?;
     sync_folder(rt, name)
 }
 
-/// Puts on the device which names the folder of this path has.
+/// Syncs the folder of this path, so that its names are on the device.
 pub(crate) fn sync_folder<R: Files<File = File>>(rt: &R, path: &str) -> io::Result<()> {
     File::open(rt, folder_of(path))?.sync_all()
 }

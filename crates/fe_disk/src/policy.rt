@@ -1,7 +1,7 @@
-//! Which calls of a disk are passed on.
+//! Which calls a disk passes on.
 ghost use Rattle.std.specs.Prelude.{◌≡◌, ◌↔◌, IsTrue};
 
-/// What a device is asked to do.
+/// A kind of device call.
 #[derive(Clone, Copy, PartialEq, Eq)]
 pub enum Asked {
     Read,
@@ -11,13 +11,13 @@ pub enum Asked {
 
 /// Which calls a `Guarded` disk passes on to its disk, and when.
 pub trait Policy {
-    /// It passes the next call on.
+    /// The policy passes the next call on.
     ghost passes: { Self → Type 0 };
 
-    /// What it is after a call.
+    /// The policy after a call.
     ghost next: { Self → Self };
 
-    /// Counts a call, and tells whether it is passed on.
+    /// Counts a call. Whether to pass it on.
     fn admit(&mut self, asked: Asked) -> bool
         ensures passes { IsTrue result ↔ passes self.old }
         ensures next { self.new ≡ next self.old };

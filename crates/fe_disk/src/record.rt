@@ -15,7 +15,7 @@ pub enum Call {
     Synced,
 }
 
-/// Records a write of this many bytes, with those that are there now.
+/// Records a write of this many bytes, with the bytes that it replaces.
 pub fn record_write(
     alloc: Global,
     calls: &mut Vec<Call>,
@@ -42,7 +42,7 @@ pub fn record_sync(calls: &mut Vec<Call>) -> Result<(), AllocError>
     Ok(())
 }
 
-/// Puts the bytes in the place of those from `at` on.
+/// Replaces the bytes from `at` on.
 pub fn replace(image: &mut [u8], at: usize, bytes: &[u8])
     requires { at + length bytes.now ≤ length image.old }
     ensures { image.new ≡ after_write image.old at bytes.now }
@@ -77,7 +77,7 @@ fn tear(torn: Torn, calls: &[Call], image: &mut [u8])
     }
 }
 
-/// A copy of the image, with that done to the ranges written since the last sync.
+/// A copy of the image after a stop that does this to the ranges written since the last sync.
 pub fn torn_copy(
     alloc: Global,
     torn: Torn,

@@ -13,8 +13,8 @@ const FOLDER: &[u8; 14] = b"/proc/self/fd/";
 /// A path padded with zeros. The C library needs the last one.
 type CPath = [u8; PATH_MAX];
 
-/// The path that the system has for an open file: another one once the file or a folder above it was renamed, and one that ends
-/// in ` (deleted)` once the name was taken away. Only zeros where the system has no `/proc`.
+/// The path that the system has for an open file. It changes when the file or a folder above it is renamed, and ends in
+/// ` (deleted)` once the name is removed. Only zeros if the system has no `/proc`.
 pub(crate) fn path_of(file: &File) -> CPath {
     let link = link_of(file);
     let mut path = [0; PATH_MAX];

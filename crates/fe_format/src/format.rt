@@ -1,11 +1,11 @@
 ghost use Rattle.std.specs.Prelude.{◌≡◌, ◌+◌, ◌≤◌, ◌↔◌, IsTrue};
 ghost use Rattle.fe_format.specs.Layout.{magic_of, name_bytes, record_bytes, group_records, longest_payload, longest_image, IsPayloadLength, IsImageLength};
 
-/// The format of a store, kept in each of its slots: its magic, how entries and images are spelled, and
-/// how long groups and images may be (`docs/formats.md`). New stores have format 2.
+/// The format of a store. It says how entries and images are spelled, and how long groups and images may be
+/// (`docs/formats.md`). Each slot has its own. New stores have format 2.
 #[derive(Clone, Copy, PartialEq, Eq)]
 pub enum Format {
-    /// Names of up to 16 bytes, and no request that must not wait.
+    /// Names of up to 16 bytes, and every request may wait.
     One,
     /// Names of up to 32 bytes.
     Two,

@@ -10,6 +10,8 @@ use Rattle.fe_journal.specs.Groups.{end_of}
 use Rattle.fe_journal.specs.Contents.{Contents, Holds, HoldsEither}
 use Rattle.fe_journal.specs.Journal.{JournalState, Draft, IsDraft, IsLeft, Keeps, IsCatchUp, catch_up_groups, new_draft, with_slice, finished}
 use Rattle.fe_journal.specs.Steps.{header_fields, area_start, IsLeftInCommit, IsLeftInBeginning, IsHeaderTorn, IsBegun, after_commit}
+use Rattle.fe_journal.specs.within.Fields.{state_of}
+use Rattle.fe_journal.specs.declared.journal.Journal.TheInside.{Inside}
 use Rattle.fe_format.specs.declared.format.Format.{Format}
 use Rattle.fe_journal.specs.declared.begun.Begun.{Begun}
 use Rattle.fe_journal.proofs.Bytes.{SameBytes, same_bytes_at, torn_same, written_same, joined_same, known_same}
@@ -193,3 +195,61 @@ module _ {D : Type 0} (moment : D → ℕ) (left_since : D → ℕ → List ℕ 
       where
         draft_is : (e : Draft) → Some (new_draft format generation image_length) ≡ Some e → new_draft format generation image_length ≡ e
         draft_is e is = cc
+
+-- ---- the same of the journal's own fields, which its callers see as j
+
+module _ {D : Type 0} (moment : D → ℕ) (left_since : D → ℕ → List ℕ → Type 0) (seen : D → List ℕ) (may_leave : D → List ℕ → Type 0) (honest : D → Type 0) (inside : Inside D) (j : JournalState D)
+    (same : state_of inside ≡ j) (stays : honest inside.disk → may_leave inside.disk (seen inside.disk)) where
+  module _ (catch_up bytes : List ℕ) (at gate : ℕ) (at_is : at ≡ area_of (1 - inside.slot)) (gate_is : gate ≡ gate_of (1 - inside.slot)) (bytes_are : bytes ≡ area_start catch_up)
+      (ready : ForSome j.begun (λ b. (b.written ≡ b.image_length) × IsCatchUp b.format catch_up)) where
+    ready_inside : ForSome inside.begun (λ b. (b.written ≡ b.image_length) × IsCatchUp b.format catch_up)
+    ready_inside = subst (λ (s : JournalState D). ForSome s.begun (λ b. (b.written ≡ b.image_length) × IsCatchUp b.format catch_up)) (sym same) ready
+
+    pub finish_run : (new : D) → (honest inside.disk → LeavesOnly moment left_since inside.disk new (IsLeftInCommit (may_leave inside.disk) (seen inside.disk) at bytes gate))
+        → honest j.disk → (c : Contents) (d : Draft) → Keeps seen may_leave j c (Some d) → LeavesOnly moment left_since j.disk new (HoldsEither c (finished c d catch_up))
+    finish_run new run =
+        subst (λ (s : JournalState D). honest s.disk → (c : Contents) (d : Draft) → Keeps seen may_leave s c (Some d) → LeavesOnly moment left_since s.disk new (HoldsEither c (finished c d catch_up))) same
+        (λ is c d keeps. finish_moments moment left_since seen may_leave (state_of inside) c d catch_up bytes at gate keeps (stays is) at_is gate_is bytes_are ready_inside new (run is))
+
+    pub finish_kept : (new : D) (b : Begun) (used : ℕ) → inside.begun ≡ Some b → used ≡ end_of (catch_up_groups catch_up) → (honest inside.disk → seen new ≡ after_commit (seen inside.disk) at bytes gate) → (honest inside.disk → LeavesJust (seen new) (may_leave new))
+        → honest j.disk → (c : Contents) (d : Draft) → Keeps seen may_leave j c (Some d)
+        → Keeps seen may_leave (record { disk = new; slot = 1 - inside.slot; format = b.format; generation = b.generation; used = used; begun = None; has_failed = inside.has_failed }) (finished c d catch_up) None
+    finish_kept new b used begun end committed just =
+        subst (λ (s : JournalState D). honest s.disk → (c : Contents) (d : Draft) → Keeps seen may_leave s c (Some d)
+        → Keeps seen may_leave (record { disk = new; slot = 1 - inside.slot; format = b.format; generation = b.generation; used = used; begun = None; has_failed = inside.has_failed }) (finished c d catch_up) None) same
+        (λ is c d keeps. finish_keeps moment left_since seen may_leave (state_of inside) c d catch_up bytes at gate keeps (stays is) at_is gate_is bytes_are ready_inside new b used inside.has_failed begun end (committed is) (just is))
+
+  module _ (slice : List ℕ) (at : ℕ) (b : Begun) (begun : inside.begun ≡ Some b) (at_is : at ≡ image_of (1 - inside.slot) + b.written) (fits : b.written + length slice ≤ b.image_length) where
+    pub write_run : (new : D) → (honest inside.disk → (image : List ℕ) → left_since inside.disk (moment inside.disk) image → may_leave inside.disk image)
+        → (honest inside.disk → Follows (IsTorn at (length slice)) (may_leave inside.disk) (may_leave new)) → (honest inside.disk → Elapses moment left_since may_leave inside.disk new)
+        → honest j.disk → (c : Contents) (d : Draft) → Keeps seen may_leave j c (Some d) → LeavesOnly moment left_since j.disk new (Holds c)
+    write_run new only_now follows time =
+        subst (λ (s : JournalState D). honest s.disk → (c : Contents) (d : Draft) → Keeps seen may_leave s c (Some d) → LeavesOnly moment left_since s.disk new (Holds c)) same
+        (λ is c d keeps. write_moments moment left_since seen may_leave (state_of inside) c d slice at b keeps (stays is) begun at_is fits new (only_now is) (follows is) (time is))
+
+    pub write_kept : (new : D) → (honest inside.disk → Follows (IsTorn at (length slice)) (may_leave inside.disk) (may_leave new)) → (honest inside.disk → seen new ≡ after_write (seen inside.disk) at slice)
+        → honest j.disk → (c : Contents) (d : Draft) → Keeps seen may_leave j c (Some d)
+        → Keeps seen may_leave (record (state_of inside) { disk = new; begun = Some (record b { written = b.written + length slice }) }) c (Some (with_slice d slice))
+    write_kept new follows wrote =
+        subst (λ (s : JournalState D). honest s.disk → (c : Contents) (d : Draft) → Keeps seen may_leave s c (Some d)
+        → Keeps seen may_leave (record (state_of inside) { disk = new; begun = Some (record b { written = b.written + length slice }) }) c (Some (with_slice d slice))) same
+        (λ is c d keeps. write_keeps moment left_since seen may_leave (state_of inside) c d slice at b keeps (stays is) begun at_is fits new inside.has_failed (follows is) (wrote is))
+
+  module _ (format : Format) (generation image_length slot : ℕ) (slot_is : slot ≡ 1 - inside.slot) (next : generation ≡ j.generation + 1) (small : generation < 256 ^ 8) (allowed : IsImageLength format image_length) where
+    next_inside : generation ≡ inside.generation + 1
+    next_inside = next ∙ ap (λ (s : JournalState D). s.generation + 1) (sym same)
+
+    pub begin_run : (new : D) → (honest inside.disk → LeavesJust (seen inside.disk) (may_leave inside.disk) → LeavesOnly moment left_since inside.disk new (IsLeftInBeginning (seen inside.disk) slot))
+        → honest j.disk → (c : Contents) → Keeps seen may_leave j c None → LeavesOnly moment left_since j.disk new (Holds c)
+    begin_run new run =
+        subst (λ (s : JournalState D). honest s.disk → (c : Contents) → Keeps seen may_leave s c None → LeavesOnly moment left_since s.disk new (Holds c)) same
+        (λ is c keeps. begin_moments moment left_since seen may_leave (state_of inside) c format generation image_length slot keeps (stays is) slot_is next_inside small allowed new (run is (keeps.settled refl)))
+
+    pub begin_kept : (new : D) → (honest inside.disk → LeavesJust (seen inside.disk) (may_leave inside.disk) → (image : List ℕ) → may_leave new image → IsHeaderTorn (seen inside.disk) slot image)
+        → (honest inside.disk → IsBegun (seen inside.disk) slot (header_fields format generation image_length) (seen new))
+        → honest j.disk → (c : Contents) → Keeps seen may_leave j c None
+        → Keeps seen may_leave (record (state_of inside) { disk = new; begun = Some (record { format = format; generation = generation; image_length = image_length; written = 0 }) }) c (Some (new_draft format generation image_length))
+    begin_kept new lefts begun =
+        subst (λ (s : JournalState D). honest s.disk → (c : Contents) → Keeps seen may_leave s c None
+        → Keeps seen may_leave (record (state_of inside) { disk = new; begun = Some (record { format = format; generation = generation; image_length = image_length; written = 0 }) }) c (Some (new_draft format generation image_length))) same
+        (λ is c keeps. begin_keeps moment left_since seen may_leave (state_of inside) c format generation image_length slot keeps (stays is) slot_is next_inside small allowed new inside.has_failed (lefts is (keeps.settled refl)) (begun is))

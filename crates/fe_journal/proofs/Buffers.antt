@@ -21,6 +21,12 @@ buffer_tail new payload m room staged size =
     let tail = same_part all 1 m 1 1 (omega arith) refl refl in
     same_bytes_at tail ∙ bytes_whole (behind_gate payload) m (omega arith)
 
+-- the bytes of a group after its gate, read from a buffer that was lent whole
+pub group_read : (lent new items payload : List ℕ) (len count : ℕ) → lent ≡ take len (new ++ drop (length new) items) → length new ≡ len → 6 + length payload ≤ length new → take (6 + length payload) new ≡ 1 ∷ behind_gate payload
+    → count ≡ 6 + length payload → take (count - 1) (drop 1 lent) ≡ behind_gate payload
+group_read lent new items payload len count is long room staged size =
+    ap (λ (l : List ℕ). take (count - 1) (drop 1 l)) (is ∙ buffer_whole new items len long) ∙ buffer_tail new payload (count - 1) room staged (omega arith)
+
 -- a piece written after a front
 pub front_written : (bytes front piece : List ℕ) (at : ℕ) → length front ≡ at → at + length piece ≤ length bytes → take at bytes ≡ front → take (at + length piece) (after_write bytes at piece) ≡ front ++ piece
 front_written bytes front piece at long room is =

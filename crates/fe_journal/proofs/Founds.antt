@@ -1,8 +1,10 @@
 -- What a store that was read makes of its journal.
-use Rattle.std.proofs.Common.{◌≡◌, ◌⊎◌, inl, inr, [], ◌∷◌, ℕ, ◌+◌, ◌-◌, ◌<◌, ◌≤◌, false, List, length, None, sym, ◌∙◌, ap, subst, refl, arith}
+use Rattle.std.proofs.Common.{◌≡◌, ◌⊎◌, inl, inr, [], ◌∷◌, ℕ, ◌+◌, ◌-◌, ◌<◌, ◌≤◌, false, List, length, None, Result, sym, ◌∙◌, ap, subst, refl, arith}
+use Rattle.std.specs.Prelude.{IsErrOf}
 use Rattle.std.proofs.lemmas.Bool.{cases_lt, cases_eq}
 use Rattle.std.proofs.lemmas.Option.{none-some}
 use Rattle.fe_disk.specs.Disk.{LeavesJust, bytes_at}
+use Rattle.fe_disk.specs.declared.calls.Calls.{Calls}
 use Rattle.fe_disk.proofs.Images.{length-bytes_at}
 use Rattle.fe_journal.specs.Layout.{header_of, image_of, area_of, device_bytes, number_at, IsOpen, IsShut}
 use Rattle.fe_format.specs.Layout.{magic_of, IsImageLength}
@@ -10,7 +12,7 @@ use Rattle.fe_journal.specs.Groups.{IsGroup, StandFrom, HoldsGroups, Fits, end_o
 use Rattle.fe_journal.specs.Contents.{Contents, Holds, IsValidAs, Counts, generation_at, image_length_at}
 use Rattle.fe_journal.specs.Cursor.{Cursor, Lists}
 use Rattle.fe_journal.specs.Damage.{TellsFound, IsUnformatted, IsDamagedAt, NoGeneration, OddImage, OddGroup}
-use Rattle.fe_journal.specs.Found.{IsFound}
+use Rattle.fe_journal.specs.Found.{IsFound, AsksToOpen}
 use Rattle.fe_journal.specs.Journal.{JournalState, IsLeft, Keeps}
 use Rattle.fe_journal.specs.Store.{IsStore, IsWhole}
 use Rattle.fe_format.specs.declared.format.Format.{Format}
@@ -175,6 +177,20 @@ module _ (c : Contents) (image : List ℕ) (holds : Holds c image) where
   refused_only (Damaged offset) told = absurd (undamaged offset told.1)
   refused_only Device told = inl refl
   refused_only NoMemory told = inr refl
+
+-- ---- the disk of a store that is opened
+
+-- the fault is passed on, as another layer's maybe
+pub opens_as : {D T U E F : Type 0} (size failures : D → ℕ) (calls : D → Calls) (honest : D → Type 0) (below : E) (device : F) (first : Result T E) (result : Result U F) (old new : D)
+    → AsksToOpen size failures calls honest below first old new → (IsErrOf result device → IsErrOf first below) → (IsErrOf first below → IsErrOf result device) → AsksToOpen size failures calls honest device result old new
+opens_as size failures calls honest below device first result old new asks back forth =
+    record {
+      fault = (λ is. asks.fault.0 (back is), λ rises. forth (asks.fault.1 rises));
+      still = λ none. asks.still (λ is. none (forth is));
+      most = asks.most;
+      honesty = asks.honesty;
+      same_size = asks.same_size;
+    }
 
 -- ---- what is reported of a store that is unformatted
 

@@ -1,5 +1,5 @@
 -- What the calls of a journal keep, from what each step left.
-use Rattle.std.proofs.Common.{◌≡◌, ℕ, ◌+◌, Bool, List, length, Option, sym, ◌∙◌, subst, refl, arith}
+use Rattle.std.proofs.Common.{◌≡◌, ℕ, ◌+◌, Bool, List, length, Option, sym, ◌∙◌, ap, subst, refl, arith}
 use Rattle.fe_disk.specs.Disk.{LeavesJust, LeavesOnly}
 use Rattle.fe_disk.proofs.Moments.{started, weaker}
 use Rattle.fe_journal.specs.Layout.{header_of, gate_of, image_of, area_of, other_than}
@@ -7,6 +7,8 @@ use Rattle.fe_journal.specs.Groups.{Fits, end_of, behind_gate}
 use Rattle.fe_journal.specs.Contents.{Contents, Holds, HoldsEither, with_group}
 use Rattle.fe_journal.specs.Journal.{JournalState, Draft, IsDraft, IsLeft, Keeps}
 use Rattle.fe_journal.specs.Steps.{IsLeftInCommit, after_commit}
+use Rattle.fe_journal.specs.within.Fields.{state_of}
+use Rattle.fe_journal.specs.declared.journal.Journal.TheInside.{Inside}
 use Rattle.fe_format.specs.declared.format.Format.{Format}
 use Rattle.fe_journal.proofs.Bytes.{same_part, same_byte}
 use Rattle.fe_journal.proofs.Frames.{draft_same, end_of-more, image_short}
@@ -60,3 +62,25 @@ module _ {D : Type 0} (moment : D → ℕ) (left_since : D → ℕ → List ℕ 
               );
           settled = λ _. just;
         }
+
+  -- the same of the journal's own fields, which its callers see as j
+  module _ (honest : D → Type 0) (inside : Inside D) (j : JournalState D) (payload bytes : List ℕ) (area : ℕ) (same : state_of inside ≡ j) (stays : honest inside.disk → may_leave inside.disk (seen inside.disk))
+      (area_is : area ≡ area_of inside.slot) (fits : Fits j.format j.used (length payload)) (bytes_are : bytes ≡ behind_gate payload) where
+    fits_inside : Fits inside.format inside.used (length payload)
+    fits_inside = subst (λ (s : JournalState D). Fits s.format s.used (length payload)) (sym same) fits
+
+    gate_inside : area + inside.used ≡ area_of inside.slot + inside.used
+    gate_inside = ap (λ (k : ℕ). k + inside.used) area_is
+
+    pub append_run : (new : D) → (honest inside.disk → LeavesOnly moment left_since inside.disk new (IsLeftInCommit (may_leave inside.disk) (seen inside.disk) (area + inside.used + 1) bytes (area + inside.used)))
+        → honest j.disk → (c : Contents) (draft : Option Draft) → Keeps seen may_leave j c draft → LeavesOnly moment left_since j.disk new (HoldsEither c (with_group c payload))
+    append_run new run =
+        subst (λ (s : JournalState D). honest s.disk → (c : Contents) (draft : Option Draft) → Keeps seen may_leave s c draft → LeavesOnly moment left_since s.disk new (HoldsEither c (with_group c payload))) same
+        (λ is c draft keeps. append_moments (state_of inside) c draft payload bytes (area + inside.used) keeps (stays is) gate_inside fits_inside bytes_are new (run is))
+
+    pub append_kept : (new : D) → (honest inside.disk → seen new ≡ after_commit (seen inside.disk) (area + inside.used + 1) bytes (area + inside.used)) → (honest inside.disk → LeavesJust (seen new) (may_leave new))
+        → honest j.disk → (c : Contents) (draft : Option Draft) → Keeps seen may_leave j c draft
+        → Keeps seen may_leave (record (state_of inside) { disk = new; used = inside.used + (5 + length payload) }) (with_group c payload) draft
+    append_kept new committed just =
+        subst (λ (s : JournalState D). honest s.disk → (c : Contents) (draft : Option Draft) → Keeps seen may_leave s c draft → Keeps seen may_leave (record (state_of inside) { disk = new; used = inside.used + (5 + length payload) }) (with_group c payload) draft) same
+        (λ is c draft keeps. append_keeps (state_of inside) c draft payload bytes (area + inside.used) keeps (stays is) gate_inside fits_inside bytes_are new inside.has_failed (inside.used + (5 + length payload)) refl (committed is) (just is))

@@ -25,7 +25,7 @@ pub data IsDamagedAt (image : List ℕ) (offset : ℕ) : Type 0 where
       → offset ≡ area_of slot + end_of groups → IsDamagedAt image offset
 
 -- What a fault of opening says of the image that the disk reads: it is unformatted; it has a store's size, and is damaged
--- first at this offset; memory was wanted, and it is not unformatted. A fault of the device says nothing.
+-- first at this offset; or memory ran out, and it is not unformatted. A fault of the device says nothing.
 abbrev pub TellsFound : StoreFault → List ℕ → Type 0
 TellsFound Unformatted image = IsUnformatted image
 TellsFound (Damaged offset) image = (length image ≡ device_bytes) × IsDamagedAt image offset

@@ -1,12 +1,16 @@
 -- What opening and formatting give.
-use Rattle.std.specs.Prelude.{◌≡◌, ℕ, List, None, Result, Ok, Err}
+use Rattle.std.specs.Prelude.{◌≡◌, ◌⊎◌, ◌↔◌, ℕ, List, None, Result, Ok, Err, IsErrOf}
+use Rattle.fe_disk.specs.Disk.{Rises, MakesAtMost}
+use Rattle.fe_disk.specs.declared.calls.Calls.{Calls}
 use Rattle.fe_journal.specs.Layout.{area_of}
 use Rattle.fe_journal.specs.Contents.{Contents, Holds}
 use Rattle.fe_journal.specs.Cursor.{Lists}
 use Rattle.fe_journal.specs.Groups.{end_of}
 use Rattle.fe_journal.specs.Journal.{Keeps}
+use Rattle.fe_journal.specs.Damage.{TellsFound}
 use Rattle.fe_journal.specs.declared.opening.Found.{Found}
 use Rattle.fe_journal.specs.declared.fault.StoreFault.{StoreFault}
+use Rattle.fe_journal.specs.declared.fault.StoreFault.TheVariants.{Device, NoMemory}
 
 -- What was found are the contents of the image that the disk reads: a journal that keeps them, the bytes of their image,
 -- and a cursor before the first of their groups.
@@ -24,6 +28,20 @@ pub record AreListed {D : Type 0} (found : Found D) : Type 0 where
   pub groups : List (List ℕ)
   pub lists : Lists found.groups groups
   pub used_is : found.journal.used ≡ end_of groups
+
+-- Why the store of an image is not opened: what the fault says of the image holds, and one that holds contents is refused only if the device fails or memory
+-- runs out.
+pub record IsReason (image : List ℕ) (fault : StoreFault) : Type 0 where
+  pub tells : TellsFound fault image
+  pub valid : (c : Contents) → Holds c image → (fault ≡ Device) ⊎ (fault ≡ NoMemory)
+
+-- What opening does to a disk besides what it reads: a sync and four reads at most. The fault is `device` exactly where a call of the disk failed.
+pub record AsksToOpen {D T E : Type 0} (size failures : D → ℕ) (calls : D → Calls) (honest : D → Type 0) (device : E) (result : Result T E) (old new : D) : Type 0 where
+  pub fault : IsErrOf result device ↔ Rises (failures old) (failures new)
+  pub still : (IsErrOf result device → ⊥) → failures new ≡ failures old
+  pub most : MakesAtMost 4 0 1 (calls old) (calls new)
+  pub honesty : honest new ↔ honest old
+  pub same_size : size new ≡ size old
 
 -- the disk, after it was opened or not
 abbrev pub disk_after : {D : Type 0} → Result (Found D) (StoreFault × D) → D

@@ -2,8 +2,8 @@ ghost use Rattle.std.specs.Prelude.{◌≡◌, IfOk, vec_len};
 
 use std::alloc::{AllocError, Global};
 
-/// A buffer of this many bytes. A contract knows only its length: a contract that spelled out an
-/// area's zeros would be as long as the area.
+/// A buffer of this many zeros. The contract gives its length alone, since a clause about its zeros would be as
+/// long as the buffer.
 pub fn buffer_of(alloc: Global, length: usize) -> Result<Vec<u8>, AllocError>
     ensures { IfOk result (λ buffer. vec_len buffer ≡ length) }
 {

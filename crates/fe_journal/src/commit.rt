@@ -1,4 +1,4 @@
-// The two orders of writing on which all crash promises rest.
+// The two orders of writing that every crash promise rests on.
 ghost use Rattle.std.specs.Prelude.{◌≡◌, ◌+◌, ◌≤◌, [], ◌∷◌, length, OnOk};
 ghost use Rattle.fe_disk.specs.Disk.{IsTorn, LeavesJust, LeavesOnly, after_write};
 ghost use Rattle.fe_disk.specs.Outcome.{Asks, AsksAtMost};
@@ -46,8 +46,8 @@ fn open_gate<D: Disk>(disk: &mut D, gate: usize) -> Result<(), DeviceFault>
     disk.sync()
 }
 
-/// Closes the gate where it is open, and leaves a closed one as it is: a torn write over a closed
-/// gate could open it. A read, and two device calls where it is open.
+/// Closes the gate if it is open. A closed gate is not written, since a torn write could open it. One read, and two
+/// more device calls if the gate is open.
 pub fn shut<D: Disk>(disk: &mut D, gate: usize) -> Result<(), DeviceFault>
     requires gate_fits { gate + 1 ≤ D.size disk.old }
 

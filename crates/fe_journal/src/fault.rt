@@ -4,22 +4,22 @@ use std::alloc::AllocError;
 /// Why a store was not opened or formatted.
 #[derive(Clone, Copy, PartialEq, Eq)]
 pub enum StoreFault {
-    /// The device has another size than a store, or no slot of it is valid.
+    /// The device doesn't have the size of a store, or neither slot is valid.
     Unformatted,
-    /// The slot that counts is wrong at this offset of the device.
+    /// The slot that counts is wrong at this offset of the device, in bytes.
     Damaged { offset: usize },
-    /// A call of the device failed.
+    /// A device call failed.
     Device,
     /// There was no memory.
     NoMemory,
 }
 
-/// Why a call of a journal did nothing, or not all.
+/// Why a call of a journal failed.
 #[derive(Clone, Copy, PartialEq, Eq)]
 pub enum JournalFault {
-    /// A call of the device failed in this call. The store has to be opened again.
+    /// A device call failed. The store has to be opened again.
     Device,
-    /// A call of the device failed in an earlier call. This one did nothing.
+    /// A device call failed earlier, and this call did nothing.
     Failed,
 }
 

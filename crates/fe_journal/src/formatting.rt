@@ -7,6 +7,7 @@ ghost use Rattle.fe_journal.specs.Contents.{Holds, first_contents};
 ghost use Rattle.fe_journal.specs.Formatting.{Formats, disk_left};
 ghost use Rattle.fe_journal.specs.Steps.{IsCleared, IsFirst};
 ghost use Rattle.fe_format.specs.declared.format.Format.TheVariants.{Two};
+ghost use Rattle.fe_journal.specs.declared.fault.StoreFault.TheVariants.{Unformatted, Device, NoMemory};
 
 use crate::buffer::buffer_of;
 use crate::commit::commit;
@@ -23,27 +24,29 @@ const EMPTY_IMAGE: [u8; 24] = [
 ];
 
 impl<D: Disk> Journal<D> {
-    /// Makes a new store of format 2 on the device, whatever was there. Nothing is promised of a device
-    /// whose formatting was stopped or failed: it is formatted again.
+    /// Makes a new store of format 2 on the device, whatever was there. If formatting stops or fails, nothing is
+    /// promised about the device, and it has to be formatted again.
     pub fn format(alloc: Global, disk: D) -> Result<Journal<D>, (StoreFault, D)>
         ensures formatted { D.honest disk
             → IfOk result (λ journal. Keeps D.seen D.may_leave journal (first_contents Two) None) }
 
         // Over any disk: a journal that is at the beginning.
         ensures value { IfOk result (λ journal. journal ≡ new_journal Two journal.disk) }
-        ensures ends { Formats D.size D.failures D.calls D.honest (told result) disk (disk_left result) }
+        ensures ends { Formats D.size D.failures D.calls D.honest Unformatted Device NoMemory (told result) disk
+            (disk_left result) }
     {
         Journal::format_in(alloc, Format::Two, disk)
     }
 
-    /// The same, in a format of choice.
+    /// The same, in this format.
     pub fn format_in(alloc: Global, format: Format, disk: D) -> Result<Journal<D>, (StoreFault, D)>
         ensures formatted { D.honest disk
             → IfOk result (λ journal. Keeps D.seen D.may_leave journal (first_contents format) None) }
 
         // Over any disk: a journal that is at the beginning.
         ensures value { IfOk result (λ journal. journal ≡ new_journal format journal.disk) }
-        ensures ends { Formats D.size D.failures D.calls D.honest (told result) disk (disk_left result) }
+        ensures ends { Formats D.size D.failures D.calls D.honest Unformatted Device NoMemory (told result) disk
+            (disk_left result) }
     {
         let mut disk = disk;
         match write_store(alloc, format, &mut disk) {
@@ -59,7 +62,7 @@ fn write_store<D: Disk>(alloc: Global, format: Format, disk: &mut D) -> Result<V
     ensures settled { D.honest disk.old → OnOk result (LeavesJust (D.seen disk.new) (D.may_leave disk.new)) }
     ensures buffer { IfOk result (λ buffer. vec_len buffer ≡ area_bytes) }
     ensures sized { OnOk result (D.size disk.new ≡ device_bytes) }
-    ensures ends { Formats D.size D.failures D.calls D.honest result disk.old disk.new }
+    ensures ends { Formats D.size D.failures D.calls D.honest Unformatted Device NoMemory result disk.old disk.new }
 {
     if disk.size() != DEVICE_BYTES {
         return Err(StoreFault::Unformatted);

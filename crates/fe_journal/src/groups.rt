@@ -5,7 +5,7 @@ ghost use Rattle.fe_journal.specs.Cursor.{Lists};
 use byteorder::{BigEndian, ByteOrder};
 use std::marker::Model;
 
-/// The open groups of a store, read one after the other out of the bytes of its journal area.
+/// A cursor over the open groups in the bytes of a journal area.
 #[derive(Drop)]
 pub struct Groups {
     bytes: Vec<u8>,
@@ -57,7 +57,7 @@ impl Groups {
         Some(&self.bytes[begin..begin + length])
     }
 
-    /// Where the payload of the next group begins on the device, in bytes.
+    /// The offset on the device where the payload of the next group begins, in bytes.
     pub fn offset(&self) -> usize
         ensures value { result ≡ self.now.start + self.now.at + 5 }
         ensures within { result < device_bytes + area_bytes + 5 }

@@ -14,7 +14,7 @@ pub struct Header {
     pub image_length: u32,
 }
 
-/// The header in the bytes of a slot's header area, where the slot is valid.
+/// The header in the bytes of a slot's header area, if the slot is valid.
 pub fn header_in(bytes: &[u8]) -> Option<Header>
     requires { length bytes.now ≡ header_bytes }
     ensures { IsHeader bytes.now 0 result }
@@ -43,7 +43,7 @@ fn format_of(magic: u64) -> Option<Format>
     None
 }
 
-/// The slot that counts, of slots with these headers.
+/// Which slot counts, if the slots have these headers.
 pub fn counting(first: Option<Header>, second: Option<Header>) -> Option<(usize, Header)>
     ensures { IsCounting first second result }
 {

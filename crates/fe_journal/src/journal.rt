@@ -17,11 +17,11 @@ use crate::{Format, JournalFault};
 use fe_disk::Disk;
 use std::marker::Model;
 
-/// The journal of an opened store: groups are appended after the image of the slot that counts, and
-/// the other slot is made ready in pieces, to take its place.
+/// The journal of an opened store. Groups are appended after the image of the slot that counts, while the
+/// other slot is written in pieces until it takes over.
 ///
-/// After a fault of the device each call answers `Failed` and makes no device call; what holds is
-/// found by opening the store again. No call takes memory.
+/// After a fault of the device every call returns `Failed` and makes no device call. Opening the store again
+/// tells what was stored. No call takes memory.
 #[derive(Drop)]
 pub struct Journal<D: Disk> {
     disk: D,
@@ -82,7 +82,7 @@ impl<D: Disk> Journal<D> {
         }
     }
 
-    /// The offset in the journal area of the closed gate after the groups.
+    /// The offset in the journal area of the closed gate after the groups, in bytes.
     pub fn used(&self) -> u32
         ensures { result ≡ self.now.used }
     {
@@ -118,7 +118,7 @@ impl<D: Disk> Journal<D> {
         self.slot
     }
 
-    /// Whether a call of the device failed, so that each further call answers `Failed`.
+    /// Whether a device call failed. Then every call returns `Failed`.
     pub fn has_failed(&self) -> bool
         ensures { result ≡ self.now.has_failed }
     {
@@ -173,8 +173,8 @@ impl<D: Disk> Journal<D> {
         Ok(())
     }
 
-    /// Begins the slot that does not count: closes its gate, if that is open, and writes its header's
-    /// fields. At most three device calls besides a read.
+    /// Begins the slot that does not count: closes its gate if that is open, and writes the fields of its
+    /// header. One read, and at most three more device calls.
     pub fn slot_close(
         &mut self,
         format: Format,
@@ -258,8 +258,8 @@ impl<D: Disk> Journal<D> {
         Ok(())
     }
 
-    /// Finishes the slot begun, whose image is whole: what came since its beginning goes into its
-    /// journal area as one group, and its gate is opened. From then on it counts. Four device calls.
+    /// Finishes the slot begun, whose image is whole. What came since it was begun goes into its journal
+    /// area as one group, and then its gate is opened. From then on the slot counts. Four device calls.
     pub fn slot_finish(&mut self, catch_up: &[u8]) -> Result<(), JournalFault>
         requires begun { ForSome self.old.begun (λ b. (b.written ≡ b.image_length) × IsCatchUp b.format catch_up.now) }
         requires has_begun { IsSome self.old.begun }

@@ -1,22 +1,22 @@
 ghost use Rattle.std.specs.Prelude.{◌≡◌, ◌<◌};
 ghost use Rattle.fe_journal.specs.Layout.{header_of, gate_of, image_of, area_of};
 
-/// The bytes of a slot's header area, whose last one is the gate (`docs/formats.md`, "Device").
+/// How many bytes the header area of a slot has. The last of them is the gate (`docs/formats.md`, "Device").
 pub const HEADER_BYTES: usize = 4_096;
 
-/// Where a slot's journal area begins in it, after the header and the place of the image.
+/// Where the journal area begins in a slot, after the header and the room for the image.
 const AREA_BEGIN: usize = 1_052_672;
 
-/// The bytes of a slot's journal area.
+/// How many bytes the journal area of a slot has.
 pub const AREA_BYTES: usize = 1_048_576;
 
-/// The bytes of a slot.
+/// How many bytes a slot has.
 const SLOT_BYTES: usize = AREA_BEGIN + AREA_BYTES;
 
-/// The bytes of a device.
+/// How many bytes a device has.
 pub const DEVICE_BYTES: usize = 2 * SLOT_BYTES;
 
-/// The longest payload in an empty journal area, with its frame and one more gate.
+/// The longest payload, in bytes, that fits into an empty journal area with its frame and one more gate.
 pub const LONGEST_PAYLOAD: u32 = AREA_BYTES as u32 - 6;
 
 /// The longest slice of an image, in bytes, that is written at a time.

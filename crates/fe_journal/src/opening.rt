@@ -1,14 +1,13 @@
-ghost use Rattle.std.specs.Prelude.{◌≡◌, ◌⊎◌, ◌↔◌, IfOk, IfErr, IsErrAnd, IsErrOf};
-ghost use Rattle.fe_disk.specs.Disk.{LeavesJust, Rises};
-ghost use Rattle.fe_disk.specs.Outcome.{Runs, told};
-ghost use Rattle.fe_journal.specs.Contents.{Contents, Holds};
-ghost use Rattle.fe_journal.specs.Damage.{TellsFound, IsUnformatted};
+ghost use Rattle.std.specs.Prelude.{◌≡◌, ◌⊎◌, IfOk, IfErr, IsErrAnd};
+ghost use Rattle.fe_disk.specs.Disk.{LeavesJust};
+ghost use Rattle.fe_disk.specs.Outcome.{told};
+ghost use Rattle.fe_journal.specs.Damage.{IsUnformatted};
 ghost use Rattle.fe_journal.specs.Layout.{device_bytes};
 ghost use Rattle.fe_journal.specs.Journal.{IsReady};
 ghost use Rattle.fe_journal.specs.Steps.{OnlyReads};
 ghost use Rattle.fe_journal.specs.Store.{IsStore, IsWhole};
-ghost use Rattle.fe_journal.specs.Found.{IsFound, AreListed, disk_after};
-ghost use Rattle.fe_journal.specs.declared.fault.StoreFault.TheVariants.{Unformatted, Device, NoMemory};
+ghost use Rattle.fe_journal.specs.Found.{IsFound, IsReason, AreListed, AsksToOpen, disk_after};
+ghost use Rattle.fe_journal.specs.declared.fault.StoreFault.TheVariants.{Unformatted, Device};
 
 use crate::layout::area_of;
 use crate::store::{Store, read_store};
@@ -16,8 +15,8 @@ use crate::{Groups, Journal, StoreFault};
 use fe_disk::Disk;
 use std::alloc::Global;
 
-/// An opened store: the journal after its groups, the bytes of its image, and its groups from the
-/// first on.
+/// An opened store: its journal, which goes on after the groups, the bytes of its image, and a cursor before the
+/// first group.
 #[derive(Drop)]
 pub struct Found<D: Disk> {
     pub journal: Journal<D>,
@@ -26,22 +25,19 @@ pub struct Found<D: Disk> {
 }
 
 impl<D: Disk> Journal<D> {
-    /// Opens a store: a sync, and then only reads. It takes some three megabytes, of which the journal
-    /// keeps one.
+    /// Opens a store: a sync, and then only reads. It takes about three megabytes. The journal keeps one of
+    /// them.
     ///
     /// The fault of a damaged store is the first thing wrong in the slot that counts: its generation,
     /// its image's length, the lengths of its groups (`docs/formats.md`, "Device").
     pub fn find(alloc: Global, disk: D) -> Result<Found<D>, (StoreFault, D)>
         ensures found { D.honest disk → IfOk result (IsFound D.seen D.may_leave (D.seen disk)) }
-        ensures refused { D.honest disk → IfErr result (λ e. TellsFound e.0 (D.seen disk)) }
+        // A reported fault is the store's. One that holds contents is refused only for its device or for memory.
+        ensures refused { D.honest disk → IfErr result (λ e. IsReason (D.seen disk) e.0) }
 
         // An unformatted store is reported as such, however much memory there is.
         ensures unformatted { D.honest disk → IsUnformatted (D.seen disk)
             → IsErrAnd result (λ e. (e.0 ≡ Unformatted) ⊎ (e.0 ≡ Device)) }
-
-        // A store that holds contents is refused only for its device or for memory.
-        ensures holds { D.honest disk → (c : Contents) → Holds c (D.seen disk)
-            → IfErr result (λ e. (e.0 ≡ Device) ⊎ (e.0 ≡ NoMemory)) }
 
         // No stop leaves what could not be left before, and what is read stays the same.
         ensures reads { D.honest disk → OnlyReads D.seen D.may_leave D.moment D.left_since disk (disk_after result) }
@@ -49,8 +45,7 @@ impl<D: Disk> Journal<D> {
         // Over any disk: a journal with no slot begun that has not failed.
         ensures ready { IfOk result (λ found. IsReady found.journal) }
         ensures listed { IfOk result AreListed }
-        ensures fault { IsErrOf (told result) Device ↔ Rises (D.failures disk) (D.failures (disk_after result)) }
-        ensures device { Runs D.size D.failures D.calls D.honest 4 0 1 Device (told result) disk (disk_after result) }
+        ensures device { AsksToOpen D.size D.failures D.calls D.honest Device (told result) disk (disk_after result) }
         ensures sized { IfOk result (λ found. D.size disk ≡ device_bytes) }
     {
         let mut disk = disk;

@@ -11,7 +11,7 @@ use crate::layout::{gate_of, header_of};
 use crate::spelling::header_fields;
 use fe_disk::{DeviceFault, Disk};
 
-/// Closes the slot's gate, if it is open, and then writes the header's fields.
+/// Closes the slot's gate if it is open, and then writes the fields of its header.
 pub fn begin_slot<D: Disk>(
     disk: &mut D,
     slot: usize,

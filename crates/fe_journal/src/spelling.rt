@@ -38,8 +38,8 @@ fn replace(buffer: &mut [u8], at: usize, piece: &[u8])
     buffer[at..at + piece.len()].copy_from_slice(piece);
 }
 
-/// Puts an open gate, the payload's length, the payload and a closed gate into the buffer, and tells
-/// how many bytes they are.
+/// Puts an open gate, the payload's length, the payload and a closed gate into the buffer. How many bytes that
+/// is.
 pub fn put_group(buffer: &mut [u8], payload: &[u8]) -> usize
     requires room { 6 + length payload.now ≤ length buffer.old }
     requires short { length payload.now < 2 ^ 32 }
@@ -54,8 +54,8 @@ pub fn put_group(buffer: &mut [u8], payload: &[u8]) -> usize
     end + 1
 }
 
-/// Puts the beginning of a new journal area into the buffer: the catch-up as a group, or a closed
-/// gate where there is none. Tells how many bytes it is.
+/// Puts the beginning of a new journal area into the buffer: the catch-up as a group, or a closed gate if there
+/// is none. How many bytes that is.
 pub fn put_area_start(buffer: &mut [u8], catch_up: &[u8]) -> usize
     requires room { 6 + length catch_up.now ≤ length buffer.old }
     requires short { length catch_up.now < 2 ^ 32 }

@@ -1,10 +1,11 @@
 // A store as it is read from its device.
-ghost use Rattle.std.specs.Prelude.{◌≡◌, ◌⊎◌, ◌↔◌, ◌+◌, ◌≤◌, ◌<◌, length, Some, IfSome, IfOk, IfErr, IsErrOf, OnOk, vec_len};
-ghost use Rattle.fe_disk.specs.Disk.{LeavesJust, Rises, bytes_at};
+ghost use Rattle.std.specs.Prelude.{◌≡◌, ◌⊎◌, ◌+◌, ◌≤◌, ◌<◌, length, Some, IfSome, IfOk, IfErr, OnOk, vec_len};
+ghost use Rattle.fe_disk.specs.Disk.{LeavesJust, bytes_at};
 ghost use Rattle.fe_disk.specs.Outcome.{Asks, Runs};
 ghost use Rattle.fe_journal.specs.Layout.{device_bytes, header_bytes, area_bytes, header_of};
 ghost use Rattle.fe_format.specs.Layout.{IsImageLength};
 ghost use Rattle.fe_journal.specs.Damage.{TellsFound};
+ghost use Rattle.fe_journal.specs.Found.{AsksToOpen};
 ghost use Rattle.fe_journal.specs.Reading.{IsHeader, HeaderFault, GroupFault, EndsAt};
 ghost use Rattle.fe_journal.specs.Steps.{OnlyReads};
 ghost use Rattle.fe_journal.specs.Store.{CountsAs, IsSlotRead, AreParts, IsSound, IsStore, IsWhole};
@@ -34,7 +35,7 @@ pub struct Store {
     pub parts: Parts,
 }
 
-/// Syncs, and then only reads.
+/// Reads a store, after a sync.
 pub fn read_store<D: Disk>(alloc: Global, disk: &mut D) -> Result<Store, StoreFault>
     ensures store { D.honest disk.old → IfOk result (IsStore (D.seen disk.old)) }
     ensures faults { D.honest disk.old → IfErr result (λ fault. TellsFound fault (D.seen disk.old)) }
@@ -43,8 +44,7 @@ pub fn read_store<D: Disk>(alloc: Global, disk: &mut D) -> Result<Store, StoreFa
 
     ensures whole { IfOk result IsWhole }
     ensures sized { OnOk result (D.size disk.new ≡ device_bytes) }
-    ensures fault { IsErrOf result Device ↔ Rises (D.failures disk.old) (D.failures disk.new) }
-    ensures device { Runs D.size D.failures D.calls D.honest 4 0 1 Device result disk.old disk.new }
+    ensures device { AsksToOpen D.size D.failures D.calls D.honest Device result disk.old disk.new }
 {
     disk.sync()?;
     if disk.size() != DEVICE_BYTES {
@@ -111,7 +111,7 @@ fn read_header<D: Disk>(
     Ok(header_in(bytes))
 }
 
-// The slot that counts, and its header. It takes no memory, so that a store is known to be unformatted without any.
+// The slot that counts, and its header. It takes no memory: an unformatted store is reported as such even if there is none.
 fn read_counting<D: Disk>(disk: &mut D) -> Result<Option<(usize, Header)>, DeviceFault>
     requires device { D.size disk.old ≡ device_bytes }
     ensures counts { D.honest disk.old → IfOk result (CountsAs (D.seen disk.old)) }
@@ -165,7 +165,7 @@ fn read_bytes<D: Disk>(
     Ok(bytes)
 }
 
-// Where the groups of a slot's journal area end, of which the lengths of all are tested.
+// Where the groups of a slot's journal area end. The length of each group is tested.
 fn groups_end(slot: usize, area: &[u8], format: Format) -> Result<usize, StoreFault>
     requires is_slot { slot < 2 }
     requires area { length area.now ≡ area_bytes }

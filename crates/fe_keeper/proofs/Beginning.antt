@@ -1,5 +1,11 @@
--- A new store stands for the first state.
-use Rattle.std.proofs.Common.{◌≡◌, ℕ, List, [], ◌∷◌, length, refl, sym, ◌∙◌, subst, arith}
+-- A new store stands for the first state, and what formatting does to its disk.
+use Rattle.std.proofs.Common.{◌≡◌, ◌⊎◌, inl, inr, ℕ, List, [], ◌∷◌, length, Result, Err, refl, sym, ◌∙◌, subst, arith}
+use Rattle.fe_disk.specs.declared.calls.Calls.{Calls}
+use Rattle.fe_journal.specs.Formatting.{Formats}
+use Rattle.fe_journal.specs.declared.fault.StoreFault.{StoreFault}
+use Rattle.fe_journal.specs.declared.fault.StoreFault.TheVariants as store
+use Rattle.fe_keeper.specs.within.Faults.{fault_of_store}
+use Rattle.fe_keeper.specs.declared.fault.Fault.TheVariants.{Device, NoMemory, Unformatted}
 use Rattle.std.specs.List.{AllByRecursion}
 use Rattle.std.specs.Ordering.{nat_cmp}
 use Rattle.std.specs.FinMap.{empty, entries, len-empty, len-entries}
@@ -11,6 +17,49 @@ use Rattle.fe_codec.specs.Image.{image_spelling, ArrayOfFormat, SessionOfFormat,
 use Rattle.fe_format.specs.declared.format.Format.TheVariants.{Two}
 use Rattle.fe_journal.specs.Contents.{empty_image, first_contents}
 use Rattle.fe_keeper.specs.Stands.{Stands}
+
+-- what formatting did to the disk, as a keeper tells its fault
+pub formats_as : {D T U : Type 0} (size failures : D → ℕ) (calls : D → Calls) (honest : D → Type 0) (fault : StoreFault) (old new : D)
+    → Formats {T = T} size failures calls honest store.Unformatted store.Device store.NoMemory (Err fault) old new → Formats {T = U} size failures calls honest Unformatted Device NoMemory (Err (fault_of_store fault)) old new
+formats_as size failures calls honest store.Unformatted old new h = record {
+  wrong_size = (λ _. h.wrong_size.0 refl, λ _. refl);
+  faults = inr (inl refl);
+  fault = λ is. cc;
+  untouched = λ _. h.untouched (λ is. cc);
+  still = tt;
+  made = tt;
+  most = h.most;
+  honesty = h.honesty;
+  same_size = h.same_size;
+}
+formats_as size failures calls honest store.Device old new h = record {
+  wrong_size = (λ is. cc, λ odd. let e = h.wrong_size.1 odd in cc);
+  faults = inl refl;
+  fault = λ _. h.fault refl;
+  untouched = λ other. absurd (other refl);
+  still = tt;
+  made = tt;
+  most = h.most;
+  honesty = h.honesty;
+  same_size = h.same_size;
+}
+formats_as size failures calls honest store.NoMemory old new h = record {
+  wrong_size = (λ is. cc, λ odd. let e = h.wrong_size.1 odd in cc);
+  faults = inr (inr refl);
+  fault = λ is. cc;
+  untouched = λ _. h.untouched (λ is. cc);
+  still = tt;
+  made = tt;
+  most = h.most;
+  honesty = h.honesty;
+  same_size = h.same_size;
+}
+formats_as size failures calls honest (store.Damaged offset) old new h = absurd (never h.faults)
+  where
+    never : (store.Damaged offset ≡ store.Device) ⊎ ((store.Damaged offset ≡ store.Unformatted) ⊎ (store.Damaged offset ≡ store.NoMemory)) → ⊥
+    never (inl is) = cc
+    never (inr (inl is)) = cc
+    never (inr (inr is)) = cc
 
 none_long : {X : Type 0} (es : List X) → length es ≡ 0 → es ≡ []
 none_long [] e = refl

@@ -1,5 +1,5 @@
 -- What is reported of a store that stands for no state.
-use Rattle.std.proofs.Common.{◌≡◌, ◌⊎◌, inl, inr, ℕ, ◌+◌, ◌≤◌, List, Result, Ok, Err, sym, ◌∙◌, ap, subst, arith}
+use Rattle.std.proofs.Common.{◌≡◌, ◌⊎◌, inl, inr, ℕ, ◌+◌, ◌≤◌, List, Result, Ok, Err, refl, sym, ◌∙◌, ap, subst, arith}
 use Rattle.fe_state.specs.State.{ServerState}
 use Rattle.fe_state.specs.History.{IsHistory}
 use Rattle.fe_codec.specs.FirstFault.{image_at}
@@ -18,7 +18,7 @@ use Rattle.fe_keeper.specs.Damage.{IsWrongIn, IsWrongAt, IsDamagedAt, TellsStore
 use Rattle.fe_keeper.specs.within.Faults.{fault_of_store}
 use Rattle.fe_keeper.specs.Laws.{AreToldApart}
 use Rattle.fe_keeper.specs.declared.fault.Fault.{Fault}
-use Rattle.fe_keeper.specs.declared.fault.Fault.TheVariants.{Device, Damaged, Unformatted}
+use Rattle.fe_keeper.specs.declared.fault.Fault.TheVariants.{Device, NoMemory, Damaged, Unformatted}
 use Rattle.fe_keeper.proofs.Going.{none_bad}
 use Rattle.fe_keeper.proofs.Openings.{stands_by}
 
@@ -30,6 +30,23 @@ tells_found image store.Unformatted told = told
 tells_found image (store.Damaged offset) told = InSlot told.0 told.1
 tells_found image store.Device told = told
 tells_found image store.NoMemory told = told
+
+-- only the device or memory
+pub passed_on : (fault : StoreFault) → (fault ≡ store.Device) ⊎ (fault ≡ store.NoMemory) → (fault_of_store fault ≡ Device) ⊎ (fault_of_store fault ≡ NoMemory)
+passed_on fault (inl is) = inl (ap fault_of_store is)
+passed_on fault (inr is) = inr (ap fault_of_store is)
+
+-- a slot is not refused for the device
+pub slot_fault : (fault : Fault) → IsSlotFault fault → fault ≡ Device → ⊥
+slot_fault fault (inl memory) is = cc
+slot_fault fault (inr (offset, damaged)) is = cc
+
+-- a fault of the device and no other is passed on as one
+pub device_back : (fault : StoreFault) → fault_of_store fault ≡ Device → fault ≡ store.Device
+device_back store.Device is = refl
+device_back store.NoMemory is = cc
+device_back store.Unformatted is = cc
+device_back (store.Damaged offset) is = cc
 
 pub told_found : (fault : StoreFault) → (fault ≡ store.Unformatted) ⊎ (fault ≡ store.Device) → (fault_of_store fault ≡ Unformatted) ⊎ (fault_of_store fault ≡ Device)
 told_found fault (inl is) = inl (ap fault_of_store is)

@@ -1,5 +1,5 @@
 -- A batch that is taken, and the moments of calls that leave the state as it is.
-use Rattle.std.proofs.Common.{◌≡◌, inl, ℕ, List, refl, sym, ap, subst, ◌∙◌}
+use Rattle.std.proofs.Common.{◌≡◌, ◌↔◌, inl, ℕ, List, refl, sym, ap, subst, ◌∙◌}
 use Rattle.std.specs.Prelude.{Result, Ok, Err, IfErr, OnErr, IsErrAnd, IsErrOf}
 use Rattle.fe_disk.specs.Disk.{LeavesOnly}
 use Rattle.fe_disk.proofs.Moments.{started, joined, weaker}
@@ -14,8 +14,9 @@ use Rattle.fe_keeper.specs.declared.fault.Fault.TheVariants.{NoMemory, Mismatch}
 use Rattle.fe_keeper.specs.Stands.{StandsFor, StandsForEither, EachStandsFor}
 use Rattle.fe_journal.specs.declared.fault.JournalFault.{JournalFault}
 use Rattle.fe_keeper.specs.Keeper.{KeeperState}
-use Rattle.fe_keeper.specs.within.Ends.{Leads}
-use Rattle.fe_keeper.specs.within.Parts.{kept_of}
+use Rattle.fe_keeper.specs.Ends.{Rests}
+use Rattle.fe_keeper.specs.within.Ends.{Carries, Leads}
+use Rattle.fe_keeper.specs.within.Parts.{IsKept, kept_of}
 use Rattle.fe_keeper.specs.within.Upholds.{Upholds, store_of}
 use Rattle.fe_keeper.specs.declared.store.Store.{Store}
 use Rattle.fe_keeper.specs.declared.parts.Parts.{Parts}
@@ -63,6 +64,14 @@ module _ {D : Type 0} (moment : D → ℕ) (left_since : D → ℕ → List ℕ 
   pub none_left : (store : Store D) (s : ServerState) → ((image : List ℕ) → left_since store.journal.disk (moment store.journal.disk) image → may_leave store.journal.disk image) → Upholds seen may_leave store s
       → LeavesOnly moment left_since store.journal.disk store.journal.disk (λ image. StandsFor image s)
   none_left store s only_now u = started moment left_since store.journal.disk (λ image. StandsFor image s) (λ image left. each_stands store s u image (only_now image left))
+
+  -- a call of the store that carries the state over leaves the keeper's state as it is
+  pub carries_rest : {T : Type 0} (honest : D → Type 0) (result : Result T JournalFault) (parts : Parts D) (new : Store D) (old : KeeperState D) → IsKept honest seen may_leave parts → kept_of parts ≡ old
+      → (honest parts.store.journal.disk → Upholds seen may_leave parts.store parts.state → Carries moment left_since seen may_leave result parts.store new parts.state)
+      → (honest new.journal.disk ↔ honest parts.store.journal.disk) → Rests honest moment left_since old (record { state = parts.state; store = store_of new })
+  carries_rest honest result parts new old kept same carries honesty =
+      subst (λ (k : KeeperState D). Rests honest moment left_since k (record { state = parts.state; store = store_of new })) same
+      (record { state = refl; any_moment = λ h works. (carries h (kept.upheld h works)).any_moment; honesty = honesty })
 
   -- a state that stays is one of the two
   pub stays : (old new : D) (s : ServerState) (entries : List Entry) → LeavesOnly moment left_since old new (λ image. StandsFor image s) → LeavesOnly moment left_since old new (StandsForEither s (after_all s entries))

@@ -7,7 +7,7 @@ use Rattle.fe_journal.specs.Layout.{device_bytes, header_of, image_of, area_of}
 use Rattle.fe_journal.specs.Contents.{Contents, Holds}
 use Rattle.fe_journal.specs.Damage as journal
 use Rattle.fe_replica.specs.Replaying.{Replays, IsFirstBad}
-use Rattle.fe_keeper.specs.Stands.{greatest_generation}
+use Rattle.fe_keeper.specs.Stands.{StandsFor, greatest_generation}
 use Rattle.fe_keeper.specs.declared.fault.Fault.{Fault}
 use Rattle.fe_keeper.specs.declared.fault.Fault.TheVariants.{Device, Failed, NoMemory, Mismatch, Damaged, Unformatted}
 
@@ -40,8 +40,8 @@ pub data IsDamagedAt (image : List ℕ) (offset : ℕ) : Type 0 where
   InSlot : length image ≡ device_bytes → journal.IsDamagedAt image offset → IsDamagedAt image offset
   InContents : (c : Contents) → Holds c image → IsWrongAt c offset → IsDamagedAt image offset
 
--- What a fault of opening says of the image that the disk reads: it is unformatted; it is damaged first at this offset; memory
--- was wanted, and it is not unformatted. The others say nothing of it.
+-- What a fault of opening says of the image that the disk reads: it is unformatted; it is damaged first at this offset; or memory
+-- ran out, and it is not unformatted. The other faults say nothing of it.
 abbrev pub TellsStore : Fault → List ℕ → Type 0
 TellsStore Unformatted image = journal.IsUnformatted image
 TellsStore (Damaged offset) image = IsDamagedAt image offset
@@ -49,3 +49,9 @@ TellsStore Device image = Unit {0}
 TellsStore NoMemory image = journal.IsUnformatted image → ⊥
 TellsStore Failed image = Unit {0}
 TellsStore (Mismatch place) image = Unit {0}
+
+-- Why the store of an image is not opened: what the fault says of the image holds, and one that stands for a state is refused only if the device fails or
+-- memory runs out.
+pub record IsReason (image : List ℕ) (fault : Fault) : Type 0 where
+  pub tells : TellsStore fault image
+  pub valid : (s : ServerState) → StandsFor image s → (fault ≡ Device) ⊎ (fault ≡ NoMemory)

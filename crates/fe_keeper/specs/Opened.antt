@@ -8,7 +8,7 @@ use Rattle.fe_journal.specs.Groups.{end_of}
 use Rattle.fe_journal.specs.Cursor.{Cursor, Lists}
 use Rattle.fe_journal.specs.Journal.{JournalState, Keeps}
 use Rattle.fe_replica.specs.Replaying.{Replays}
-use Rattle.fe_keeper.specs.Stands.{Stands, greatest_generation}
+use Rattle.fe_keeper.specs.Stands.{Stands, StandsFor, EachStandsFor, greatest_generation}
 use Rattle.fe_keeper.specs.Keeper.{KeeperState, StoreState}
 use Rattle.fe_keeper.specs.declared.fault.Fault.{Fault}
 use Rattle.fe_keeper.specs.declared.fault.Fault.TheVariants.{Device, NoMemory, Damaged, Unformatted}
@@ -46,6 +46,17 @@ pub record IsStoreIn {D : Type 0} (image : List ℕ) (store : StoreState D) : Ty
   pub holds : Holds contents image
   pub format_is : store.format ≡ contents.format
   pub used_is : store.used ≡ end_of contents.groups
+
+-- The image stands for the keeper's state, and so does each image that a stop may leave. The store is that of the slot that counts in the image.
+pub record IsOpenedFrom {D : Type 0} (may_leave : D → List ℕ → Type 0) (image : List ℕ) (keeper : KeeperState D) : Type 0 where
+  pub state : StandsFor image keeper.state
+  pub durable : EachStandsFor may_leave keeper.store.disk keeper.state
+  pub store : IsStoreIn image keeper.store
+
+-- The device works, and no checkpoint is under way.
+pub record IsReady {D : Type 0} (keeper : KeeperState D) : Type 0 where
+  pub works : keeper.store.has_failed ≡ false
+  pub none_under_way : keeper.store.checkpoint ≡ None
 
 -- ---- what a slot holds, whatever disk it was read from
 

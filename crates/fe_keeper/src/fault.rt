@@ -2,20 +2,20 @@ use fe_journal::{JournalFault, StoreFault};
 use fe_replica::Refused;
 use std::alloc::AllocError;
 
-/// Why a call of a keeper did nothing, or not all.
+/// Why a call of a keeper failed.
 #[derive(Clone, Copy, PartialEq, Eq)]
 pub enum Fault {
-    /// A call of the device failed in this call. The store has to be opened again.
+    /// A device call failed. The store has to be opened again.
     Device,
-    /// A call of the device failed in an earlier call. This one did nothing.
+    /// A device call failed earlier, and this call did nothing.
     Failed,
-    /// There was no memory.
+    /// Memory ran out.
     NoMemory,
     /// The batch does not continue the history, first at this place.
     Mismatch { place: u64 },
-    /// The slot that counts is wrong at this offset of the device (`docs/formats.md`, "Device").
+    /// The slot that counts is wrong at this offset of the device, in bytes (`docs/formats.md`, "Device").
     Damaged { offset: usize },
-    /// The device has another size than a store, or no slot of it is valid.
+    /// The device doesn't have the size of a store, or neither slot is valid.
     Unformatted,
 }
 

@@ -23,8 +23,8 @@ use std::marker::Model;
 /// The keeper of a store: a replica of the state, and the journal in which each batch is stored before
 /// it is answered.
 ///
-/// After a fault of the device each call answers `Failed` and makes no device call; what holds is found
-/// by opening the store again.
+/// After a fault of the device every call returns `Failed` and makes no device call. Opening the store again
+/// tells what was stored.
 #[derive(Drop)]
 pub struct Keeper<D: Disk> {
     parts: Parts<D>,
@@ -71,10 +71,10 @@ impl<D: Disk> Keeper<D> {
         &self.parts.state
     }
 
-    /// Appends a batch: from then on it is stored. The batch comes back unchanged.
+    /// Appends a batch and stores it. The batch comes back unchanged.
     ///
-    /// A batch that does not fit has the checkpoint under way finished first, and if it still does not fit,
-    /// a whole one made.
+    /// If the batch doesn't fit, the checkpoint under way is finished first. If it still doesn't fit, a whole
+    /// checkpoint is made.
     pub fn append(&mut self, batch: Batch) -> Result<Batch, (Fault, Batch)>
         // A stop at any moment leaves the replica before, or it with the whole batch.
         ensures any_moment { StopsLeave D.honest D.moment D.left_since self.old self.new
@@ -95,9 +95,9 @@ impl<D: Disk> Keeper<D> {
         }
     }
 
-    /// Begins a checkpoint, which is written in slices while batches go on. `false` where one is under way
-    /// already, or where no entry came since the image of the slot that counts, which is of format 2. It
-    /// takes the memory of the image, and that of a group of 13,107 entries.
+    /// Begins a checkpoint, which is written in slices between batches. `false` if one is under way already, or
+    /// if the slot that counts is of format 2 and no entry came since its image. It takes memory for the image
+    /// and for a group of 13,107 entries.
     pub fn checkpoint_begin(&mut self) -> Result<bool, Fault>
         ensures rests { Rests D.honest D.moment D.left_since self.old self.new }
         ensures durable { IsDurable D.honest D.may_leave self.new }
@@ -118,8 +118,8 @@ impl<D: Disk> Keeper<D> {
         Ok(true)
     }
 
-    /// Writes the next slice, at most 65,536 bytes, of the checkpoint under way. Whether slices are left
-    /// then; `false` also where none is under way. It takes no memory.
+    /// Writes the next slice of the checkpoint under way, at most 65,536 bytes. Whether slices are left after
+    /// it; `false` also if no checkpoint is under way. It takes no memory.
     pub fn checkpoint_step(&mut self) -> Result<bool, Fault>
         ensures rests { Rests D.honest D.moment D.left_since self.old self.new }
         ensures durable { IsDurable D.honest D.may_leave self.new }
@@ -141,8 +141,8 @@ impl<D: Disk> Keeper<D> {
         Ok(more)
     }
 
-    /// Finishes the checkpoint under way: its slices left, the entries since its beginning as one group, and
-    /// the gate. `false` where none is under way. It takes no memory.
+    /// Finishes the checkpoint under way: writes the slices that are left and the entries since it was begun as
+    /// one group, and opens the gate. `false` if none is under way. It takes no memory.
     pub fn checkpoint_finish(&mut self) -> Result<bool, Fault>
         ensures rests { Rests D.honest D.moment D.left_since self.old self.new }
         ensures durable { IsDurable D.honest D.may_leave self.new }
@@ -165,7 +165,7 @@ impl<D: Disk> Keeper<D> {
         Ok(true)
     }
 
-    /// Whether a call of the device failed. Then each call answers `Failed`.
+    /// Whether a device call failed. Then every call returns `Failed`.
     pub fn has_failed(&self) -> bool
         ensures { result ≡ self.now.store.has_failed }
     {

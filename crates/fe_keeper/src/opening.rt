@@ -1,15 +1,17 @@
-ghost use Rattle.std.specs.Prelude.{◌≡◌, ◌≢◌, ◌⊎◌, ◌↔◌, ℕ, false, IfOk, IfErr, IsErrAnd};
-ghost use Rattle.fe_disk.specs.Disk.{Rises, MakesAtMost, MakesJust};
-ghost use Rattle.fe_state.specs.State.{ServerState, first_state};
+ghost use Rattle.std.specs.Prelude.{◌≡◌, ◌⊎◌, IfOk, IfErr, IsErrAnd};
+ghost use Rattle.fe_disk.specs.Outcome.{told};
+ghost use Rattle.fe_state.specs.State.{first_state};
 ghost use Rattle.fe_journal.specs.Damage.{IsUnformatted};
+ghost use Rattle.fe_journal.specs.Found.{AsksToOpen};
+ghost use Rattle.fe_journal.specs.Formatting.{Formats};
 ghost use Rattle.fe_journal.specs.Steps.{OnlyReads};
 ghost use Rattle.fe_journal.specs.Layout.{device_bytes};
-ghost use Rattle.fe_keeper.specs.Stands.{StandsFor, EachStandsFor};
+ghost use Rattle.fe_keeper.specs.Stands.{EachStandsFor};
 ghost use Rattle.fe_keeper.specs.Keeper.{first_store};
-ghost use Rattle.fe_keeper.specs.Opened.{disk_after, IsOpenFault, IsStoreIn};
-ghost use Rattle.fe_keeper.specs.Damage.{TellsStore};
+ghost use Rattle.fe_keeper.specs.Opened.{disk_after, IsOpenFault, IsOpenedFrom, IsReady};
+ghost use Rattle.fe_keeper.specs.Damage.{IsReason};
 ghost use Rattle.fe_keeper.specs.within.Rooms.{AreRooms};
-ghost use Rattle.fe_keeper.specs.declared.fault.Fault.TheVariants.{Device, NoMemory, Damaged, Unformatted};
+ghost use Rattle.fe_keeper.specs.declared.fault.Fault.TheVariants.{Device, NoMemory, Unformatted};
 
 use crate::Fault;
 use crate::assembling::{Rooms, keeper_over, keeper_with_room};
@@ -24,39 +26,27 @@ use std::alloc::{AllocError, Global};
 const DEVICE_BYTES: usize = 4_202_496;
 
 impl<D: Disk> Keeper<D> {
-    /// Opens a store: a sync, and then only reads. The keeper has the state that the disk stands for.
+    /// Opens a store: a sync, and then only reads. The keeper has the state that the disk stands for. It takes about
+    /// three megabytes and the memory of the state.
     ///
     /// The fault of a damaged store is the first thing wrong in the slot that counts: its generation, its
     /// image's length, the lengths of its groups, its image, its generation against the image's place, and then
     /// its records (`docs/formats.md`, "Device").
     pub fn open(alloc: Global, disk: D) -> Result<Keeper<D>, (Fault, D)>
         // What the disk reads stands for the keeper's state, and so does each image that a stop may leave.
-        ensures opened { D.honest disk → IfOk result (λ keeper. StandsFor (D.seen disk) keeper.state) }
-        ensures stands { D.honest disk
-            → IfOk result (λ keeper. EachStandsFor D.may_leave keeper.store.disk keeper.state) }
-        // A valid store is refused only if the device fails or memory runs out.
-        ensures refused { D.honest disk → (s : ServerState) → StandsFor (D.seen disk) s
-            → IfErr result (λ e. (e.0 ≡ Device) ⊎ (e.0 ≡ NoMemory)) }
-        // A reported fault is the store's, and an unformatted store is reported as such, however much memory there is.
-        ensures told { D.honest disk → IfErr result (λ e. TellsStore e.0 (D.seen disk)) }
+        ensures opened { D.honest disk → IfOk result (IsOpenedFrom D.may_leave (D.seen disk)) }
+        // A reported fault is the store's. A valid store is refused only if the device fails or memory runs out.
+        ensures refused { D.honest disk → IfErr result (λ e. IsReason (D.seen disk) e.0) }
+        // An unformatted store is reported as such, however much memory there is.
         ensures unformatted { D.honest disk → IsUnformatted (D.seen disk)
             → IsErrAnd result (λ e. (e.0 ≡ Unformatted) ⊎ (e.0 ≡ Device)) }
         // No stop leaves what could not be left before, and what is read stays the same.
         ensures reads { D.honest disk → OnlyReads D.seen D.may_leave D.moment D.left_since disk (disk_after result) }
 
-        // The store is that of the slot that counts on the disk: its format, and the bytes of its open groups.
-        ensures store { D.honest disk → IfOk result (λ keeper. IsStoreIn (D.seen disk) keeper.store) }
-
-        ensures works { IfOk result (λ keeper. keeper.store.has_failed ≡ false) }
-        ensures none_under_way { IfOk result (λ keeper. keeper.store.checkpoint ≡ None) }
-        ensures device { IfErr result (λ e. (e.0 ≡ Device) ↔ Rises (D.failures disk) (D.failures e.1)) }
+        // Of any disk.
+        ensures ready { IfOk result IsReady }
         ensures faults { IfErr result (λ e. IsOpenFault e.0) }
-        ensures still { IfOk result (λ keeper. D.failures keeper.store.disk ≡ D.failures disk) }
-        // Nor was it a call of a device whose count stays as it is at its top.
-        ensures calm { IfOk result (λ keeper. Rises (D.failures disk) (D.failures keeper.store.disk) → ⊥) }
-        ensures calls { MakesAtMost 4 0 1 (D.calls disk) (D.calls (disk_after result)) }
-        ensures honesty { D.honest (disk_after result) ↔ D.honest disk }
-        ensures size { D.size (disk_after result) ≡ D.size disk }
+        ensures device { AsksToOpen D.size D.failures D.calls D.honest Device (told result) disk (disk_after result) }
         ensures sized { IfOk result (λ keeper. D.size disk ≡ device_bytes) }
     {
         let Found {
@@ -78,23 +68,16 @@ impl<D: Disk> Keeper<D> {
         }
     }
 
-    /// Makes a new store of format 2 on the device, whatever was there. Nothing is promised of a device whose
-    /// formatting was stopped or failed: it is formatted again.
+    /// Makes a new store of format 2 on the device, whatever was there. If formatting stops or fails, nothing is
+    /// promised about the device, and it has to be formatted again.
     pub fn format(alloc: Global, disk: D) -> Result<Keeper<D>, (Fault, D)>
         ensures formatted { D.honest disk
             → IfOk result (λ keeper. EachStandsFor D.may_leave keeper.store.disk first_state) }
         ensures state { IfOk result (λ keeper. keeper.state ≡ first_state) }
         ensures store { IfOk result (λ keeper. keeper.store ≡ first_store keeper.store.disk) }
         ensures sized { IfOk result (λ keeper. D.size disk ≡ device_bytes) }
-        ensures still { IfOk result (λ keeper. D.failures keeper.store.disk ≡ D.failures disk) }
-        ensures unformatted { IfErr result (λ e. (e.0 ≡ Unformatted) ↔ (D.size disk ≢ device_bytes)) }
-        ensures device { IfErr result (λ e. e.0 ≡ Device → Rises (D.failures disk) (D.failures e.1)) }
-        ensures untouched { IfErr result (λ e. e.0 ≢ Device → e.1 ≡ disk) }
-        ensures faults { IfErr result (λ e. (e.0 ≡ Device) ⊎ ((e.0 ≡ Unformatted) ⊎ (e.0 ≡ NoMemory))) }
-        ensures made { IfOk result (λ keeper. MakesJust 0 6 3 (D.calls disk) (D.calls keeper.store.disk)) }
-        ensures calls { MakesAtMost 0 6 3 (D.calls disk) (D.calls (disk_after result)) }
-        ensures honesty { D.honest (disk_after result) ↔ D.honest disk }
-        ensures size { D.size (disk_after result) ≡ D.size disk }
+        ensures ends { Formats D.size D.failures D.calls D.honest Unformatted Device NoMemory (told result) disk
+            (disk_after result) }
     {
         if disk.size() != DEVICE_BYTES {
             return Err((Fault::Unformatted, disk));

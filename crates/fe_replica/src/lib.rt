@@ -1,5 +1,5 @@
-//! A copy of the server's state that follows what is stored: a batch is taken with a way back, and the
-//! payload of a stored group is gone through entry by entry.
+//! A copy of the server's state that follows the store. A batch can be taken back, and a stored group is
+//! replayed entry by entry.
 #![tactic(auto)]
 
 mod replaying;

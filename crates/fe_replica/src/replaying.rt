@@ -8,16 +8,16 @@ ghost use Rattle.fe_replica.specs.declared.replaying.Fault.TheVariants as fault;
 use fe_codec::{Format, read_entry};
 use fe_state::{Entry, State};
 
-/// Why a stored group was not gone through to its end.
+/// Why a stored group was not replayed to its end.
 #[derive(Clone, Copy, PartialEq, Eq)]
 pub enum ReplayFault {
-    /// The record at this offset of the payload is no entry's, or its entry may not come next.
+    /// The record at this offset of the payload, in bytes, is no entry's, or its entry may not come next.
     Damaged { offset: usize },
     /// There was no memory for the words of a new array.
     NoMemory,
 }
 
-/// Why the first record of what is left was not gone through.
+/// Why the first record was not replayed.
 #[derive(Clone, Copy, PartialEq, Eq)]
 enum Fault {
     /// It is no entry's, or its entry may not come next.
@@ -26,8 +26,8 @@ enum Fault {
     NoMemory,
 }
 
-/// Carries out the entries of a stored group, one by one. It takes memory for the words of new
-/// arrays alone. After a fault the state is of no more use.
+/// Carries out the entries of a stored group, one by one. It takes memory only for the words of new arrays.
+/// After a fault the state is useless.
 pub fn replay(format: Format, payload: &[u8], state: &mut State) -> Result<(), ReplayFault>
     ensures ok { OnOk result (Replays format payload.now state.old state.new) }
     ensures damaged { (offset : ℕ) → result ≡ Err (Damaged offset) → IsFirstBad format payload.now state.old offset }
@@ -48,7 +48,7 @@ pub fn replay(format: Format, payload: &[u8], state: &mut State) -> Result<(), R
     Ok(())
 }
 
-/// Carries out the entry whose record the first bytes are, and gives the bytes after it.
+/// Carries out the entry whose record comes first, and returns the bytes after the record.
 fn replay_one<'a>(format: Format, bytes: &'a [u8], state: &mut State) -> Result<&'a [u8], Fault>
     ensures ok { IfOk result (λ behind. Steps format bytes.now state.old behind.now state.new) }
     ensures bad { result ≡ Err fault.Bad → NoneFollows format bytes.now state.old }
@@ -67,7 +67,7 @@ fn replay_one<'a>(format: Format, bytes: &'a [u8], state: &mut State) -> Result<
     }
 }
 
-/// The entry whose record the first bytes are, and the bytes after it.
+/// The entry whose record comes first, and the bytes after the record.
 fn next_entry(format: Format, bytes: &[u8]) -> Option<(Entry, &[u8])>
     ensures found { IfSome result (λ x. FitsRecord format x.0 × (bytes.now ≡ entry_spelling format x.0 ++ x.1.now)) }
     ensures only { (entry : Step) (more : List ℕ) → FitsRecord format entry

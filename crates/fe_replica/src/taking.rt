@@ -16,7 +16,7 @@ pub enum Refused {
 }
 
 /// Carries out entries that continue the history of the state, the first of them at the place `first`.
-/// The log then leads back to the state before. Where they are refused, state and log are as before.
+/// Then the log leads back to the state before. If the entries are refused, state and log stay as they were.
 pub fn take(
     state: &mut State,
     log: &mut UndoLog,

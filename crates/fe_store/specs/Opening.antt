@@ -4,7 +4,7 @@ use Rattle.fe_state.specs.State.{ServerState, first_state}
 use Rattle.fe_journal.specs.Damage.{IsUnformatted}
 use Rattle.fe_keeper.specs.Damage.{IsDamagedAt}
 use Rattle.fe_keeper.specs.Keeper.{KeeperState}
-use Rattle.fe_keeper.specs.Stands.{StandsFor}
+use Rattle.fe_keeper.specs.Stands.{StandsFor, EachStandsFor}
 use Rattle.fe_store.specs.declared.fault.OpenFault.{OpenFault}
 use Rattle.fe_store.specs.declared.fault.OpenFault.TheVariants as fault
 
@@ -15,6 +15,11 @@ IsToFormat image format = IsUnformatted image × (format ≡ true)
 -- The image stands for the state; or a new store is made on it, with the first state.
 abbrev pub Opens : List ℕ → Bool → ServerState → Type 0
 Opens image format s = StandsFor image s ⊎ (IsToFormat image format × (s ≡ first_state))
+
+-- The same of the keeper's state, for which each image that a stop may leave stands.
+pub record IsOpenedAs {D : Type 0} (may_leave : D → List ℕ → Type 0) (image : List ℕ) (format : Bool) (keeper : KeeperState D) : Type 0 where
+  pub state : Opens image format keeper.state
+  pub durable : EachStandsFor may_leave keeper.store.disk keeper.state
 
 -- the disk of the keeper, or the one that came back
 abbrev pub disk_after : {D : Type 0} → Result (KeeperState D) (OpenFault × D) → D
@@ -27,3 +32,9 @@ abbrev pub TellsImage : OpenFault → List ℕ → Type 0
 TellsImage fault.Unformatted image = IsUnformatted image
 TellsImage (fault.Damaged offset) image = IsDamagedAt image offset
 TellsImage other image = Unit {0}
+
+-- Why the store of an image is not opened: what the fault says of the image holds, and one that stands for a state is refused only if the device fails or
+-- memory runs out.
+pub record IsReason (image : List ℕ) (why : OpenFault) : Type 0 where
+  pub tells : TellsImage why image
+  pub valid : (s : ServerState) → StandsFor image s → (why ≡ fault.Device) ⊎ (why ≡ fault.Memory)

@@ -1,7 +1,7 @@
 //! The files next to a store: `PATH.new`, which is being made, and `PATH.before-format`, the bytes that a formatting replaced.
 //!
-//! Whoever makes `PATH.new` or removes it has the lock of the file, and has seen that the name leads to it. So two that start at
-//! once never remove or name what the other makes.
+//! A server names or removes `PATH.new` only while it has the lock of that file and has seen that the name leads to it. So two
+//! servers that start at once never remove or name each other's file.
 
 ghost use Rattle.std.specs.Prelude.{◌≡◌, ◌⊎◌, length, IfOk, IfErr};
 ghost use Rattle.fe_disk.specs.FileDisk.{file_size};
@@ -24,8 +24,8 @@ const NEW: &str = ".new";
 
 const KEPT: &str = ".before-format";
 
-/// Makes a new store that appears under the path whole or not at all: it is formatted under a temporary name in the same folder, and then given the
-/// path. Where a file has the path by then, that stays as it is.
+/// Makes a new store. It is formatted under a temporary name in the same folder and then gets the path, so it appears there whole or not at
+/// all. If a file has the path by then, that file stays as it is.
 pub(crate) fn make<R: Files<File = File>>(
     rt: &R,
     alloc: Global,
@@ -50,8 +50,8 @@ pub(crate) fn make<R: Files<File = File>>(
     }
 }
 
-/// Formatting an unformatted store loses nothing: its bytes are kept in a file next to it, unless they are
-/// zeros and what formatting writes, or kept there already. A file that is there and has others stays, and is a fault.
+/// Keeps the bytes of an unformatted store in a file next to it, so that formatting loses nothing. Bytes that are zero, that
+/// formatting writes, or that are kept there already need no file. If a file with other bytes is there, it stays and the call fails.
 pub(crate) fn keep<R: Files<File = File>>(
     rt: &R,
     alloc: Global,
@@ -77,15 +77,15 @@ pub(crate) fn keep<R: Files<File = File>>(
     }
 }
 
-/// Removes `PATH.new` where it is what a start that was broken off left: a second name of the store or of the bytes that were kept,
-/// or a file of its own, which is not locked and holds only bytes that may be overwritten. Any other file stays.
+/// Removes the `PATH.new` that a start left when it was cut off: a second name of the store or of the kept bytes, or a file of its
+/// own that is not locked and holds only bytes that may be overwritten. Any other file stays.
 pub(crate) fn tidy<R: Files<File = File>>(rt: &R, alloc: Global, path: &str) {
     if let Ok(new) = beside(alloc, path, NEW) {
         let _ = clear(rt, alloc, path, new.as_str(), &[]);
     }
 }
 
-/// The same; where one is there that stays, it is a fault. `others` are bytes that are kept elsewhere.
+/// The same, but fails if a file stays. `others` are bytes that are kept elsewhere.
 fn clear<R: Files<File = File>>(
     rt: &R,
     alloc: Global,
@@ -159,7 +159,7 @@ fn copy<R: Files<File = File>>(
     }
 }
 
-/// Whether a file keeps these bytes, apart from those that may be overwritten.
+/// Fails unless the file keeps these bytes, apart from bytes that may be overwritten.
 fn compare<R: Files<File = File>>(
     rt: &R,
     alloc: Global,
@@ -191,7 +191,7 @@ fn made<R: Files<File = File>>(rt: &R, new: &str) -> Result<FileDisk, OpenFault>
     }
 }
 
-/// Gives the file the name in place of the new one. `false` where a file has that name already; then this one has none.
+/// Gives the file its last name, and removes its `PATH.new` in any case. `false` if a file has the name already; then this one has none left.
 fn renamed<R: Files<File = File>>(rt: &R, new: &str, name: &str) -> io::Result<bool> {
     let given = add_name(rt, new, name);
     remove_name(rt, new)?;

@@ -9,15 +9,15 @@ use std::alloc::AllocError;
 /// Why a store is not opened.
 #[derive(Clone, Copy, PartialEq, Eq)]
 pub enum OpenFault {
-    /// There is no file of the store, another program has it, or its device failed.
+    /// The store has no file, another program has it, or its device failed.
     Device,
-    /// There is no memory.
+    /// Memory ran out.
     Memory,
-    /// The store's file has this size, which no store has.
+    /// The store's file has this size in bytes, which is not the size of a store.
     Size(u64),
-    /// No slot of the store is valid.
+    /// Neither slot of the store is valid.
     Unformatted,
-    /// The slot of the store that counts is wrong at this offset (`docs/formats.md`, "Device").
+    /// The slot that counts is wrong at this offset of the device, in bytes (`docs/formats.md`, "Device").
     Damaged(usize),
 }
 

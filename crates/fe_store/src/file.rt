@@ -18,9 +18,9 @@ use std::rt::Files;
 /// How many bytes a store has (`docs/formats.md`, "Device").
 pub(crate) const STORE: usize = 4_202_496;
 
-/// Opens the store in a file. Where `format` is set, a file that is missing is made, and a store that is unformatted is formatted,
-/// once its bytes are kept in `PATH.before-format`. `Device` where there is no such file, another program has it or it can't be
-/// read, made or kept, `Size` where it has another size, `Unformatted` and `Damaged` where it holds no state.
+/// Opens the store in a file. With `format`, a missing file is made, and an unformatted store is formatted once its bytes are kept
+/// in `PATH.before-format`. Errors: `Device` if there is no such file, another program has it or it can't be read, made or kept;
+/// `Size` if it has another size; `Unformatted` or `Damaged` if it holds no state; `Memory` if memory runs out.
 pub fn open_store<R: Files<File = File>>(
     rt: &R,
     alloc: Global,
@@ -62,7 +62,7 @@ fn formatted<R: Files<File = File>>(
     }
 }
 
-/// The disk over the file of a store, which is made where it is missing and that is asked for.
+/// The disk over the file of a store. With `format`, a missing file is made.
 fn disk_at<R: Files<File = File>>(
     rt: &R,
     alloc: Global,
@@ -82,8 +82,8 @@ fn disk_at<R: Files<File = File>>(
     }
 }
 
-/// The disk over the file of a store, to be read alone: the file need not be writable, each write is a fault, and others may write
-/// the file meanwhile. `Device` where there is no such file or it can't be read, and `Size` where it has another size.
+/// The disk over the file of a store, for reading only. The file need not be writable, every write fails, and others may write the
+/// file meanwhile. `Device` if there is no such file or it can't be read, and `Size` if it has another size.
 pub fn disk_to_read<R: Files<File = File>>(rt: &R, path: &str) -> Result<FileDisk, OpenFault>
     ensures size { IfOk result (λ disk. file_size disk ≡ device_bytes) }
     ensures wrong_size { (found : ℕ) → IsErrOf result (fault.Size found) → found ≢ device_bytes }

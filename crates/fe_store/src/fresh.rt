@@ -19,8 +19,8 @@ fn fresh_byte(at: usize) -> u8 {
     }
 }
 
-/// Whether nothing is lost with these bytes of a store: each is zero, or the byte that formatting writes there, or kept in the
-/// others at the same place.
+/// Whether these bytes of a store may be overwritten: each is zero, is what formatting writes there, or is kept in `others` at the
+/// same place.
 pub(crate) fn is_spare(bytes: &[u8], others: &[u8]) -> bool {
     for (at, byte) in bytes.iter().enumerate() {
         if *byte != 0 && *byte != fresh_byte(at) && others.get(at) != Some(byte) {

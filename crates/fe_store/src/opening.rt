@@ -1,12 +1,14 @@
 //! The store on a disk is opened, or made.
 
-ghost use Rattle.std.specs.Prelude.{◌≡◌, ◌≢◌, ◌⊎◌, ◌↔◌, ℕ, false, IfOk, IfErr, None};
-ghost use Rattle.fe_disk.specs.Disk.{Rises};
-ghost use Rattle.fe_state.specs.State.{ServerState, first_state};
+ghost use Rattle.std.specs.Prelude.{◌≡◌, ◌≢◌, ◌⊎◌, ◌↔◌, ℕ, false, IfOk, IfErr};
+ghost use Rattle.fe_disk.specs.Outcome.{told};
+ghost use Rattle.fe_state.specs.State.{first_state};
+ghost use Rattle.fe_journal.specs.Found.{AsksToOpen};
 ghost use Rattle.fe_journal.specs.Layout.{device_bytes};
 ghost use Rattle.fe_journal.specs.Steps.{OnlyReads};
-ghost use Rattle.fe_keeper.specs.Stands.{StandsFor, EachStandsFor};
-ghost use Rattle.fe_store.specs.Opening.{IsToFormat, Opens, TellsImage, disk_after};
+ghost use Rattle.fe_keeper.specs.Opened.{IsOpenedFrom, IsReady};
+ghost use Rattle.fe_keeper.specs.Stands.{EachStandsFor};
+ghost use Rattle.fe_store.specs.Opening.{IsToFormat, IsReason, IsOpenedAs, disk_after};
 ghost use Rattle.fe_store.specs.declared.fault.OpenFault.TheVariants as fault;
 
 use crate::fault::{OpenFault, told_as};
@@ -14,25 +16,19 @@ use fe_disk::Disk;
 use fe_keeper::Keeper;
 use std::alloc::Global;
 
-/// Opens the store on a disk, which is synced and then only read. Only a file can have the fault `Size`.
+/// Opens the store on a disk: a sync, and then only reads. It never fails with `Size`.
 pub fn open_existing<D: Disk>(alloc: Global, disk: D) -> Result<Keeper<D>, (OpenFault, D)>
-    // The keeper has the state that the disk stands for, and so does each image that a stop may leave.
-    ensures opened { D.honest disk → IfOk result (λ keeper. StandsFor (D.seen disk) keeper.state) }
-    ensures stands { D.honest disk → IfOk result (λ keeper. EachStandsFor D.may_leave keeper.store.disk keeper.state) }
-    // A valid store is refused only if the device fails or memory runs out, and a reported fault is the store's.
-    ensures refused { D.honest disk → (s : ServerState) → StandsFor (D.seen disk) s
-        → IfErr result (λ e. (e.0 ≡ fault.Device) ⊎ (e.0 ≡ fault.Memory)) }
-    ensures told { D.honest disk → IfErr result (λ e. TellsImage e.0 (D.seen disk)) }
+    // What the disk reads stands for the keeper's state, and so does each image that a stop may leave.
+    ensures opened { D.honest disk → IfOk result (IsOpenedFrom D.may_leave (D.seen disk)) }
+    // A reported fault is the store's. A valid store is refused only if the device fails or memory runs out.
+    ensures refused { D.honest disk → IfErr result (λ e. IsReason (D.seen disk) e.0) }
     // No stop leaves what could not be left before, and what is read stays the same.
     ensures reads { D.honest disk → OnlyReads D.seen D.may_leave D.moment D.left_since disk (disk_after result) }
 
-    ensures works { IfOk result (λ keeper. keeper.store.has_failed ≡ false) }
-    ensures none_under_way { IfOk result (λ keeper. keeper.store.checkpoint ≡ None) }
-    ensures device { IfErr result (λ e. (e.0 ≡ fault.Device) ↔ Rises (D.failures disk) (D.failures e.1)) }
-    ensures calm { IfOk result (λ keeper. Rises (D.failures disk) (D.failures keeper.store.disk) → ⊥) }
+    ensures ready { IfOk result IsReady }
+    ensures device { AsksToOpen D.size D.failures D.calls D.honest fault.Device (told result) disk
+        (disk_after result) }
     ensures sized { IfErr result (λ e. (found : ℕ) → e.0 ≢ fault.Size found) }
-    ensures honesty { D.honest (disk_after result) ↔ D.honest disk }
-    ensures size { D.size (disk_after result) ≡ D.size disk }
 {
     match Keeper::open(alloc, disk) {
         Ok(keeper) => Ok(keeper),
@@ -40,22 +36,17 @@ pub fn open_existing<D: Disk>(alloc: Global, disk: D) -> Result<Keeper<D>, (Open
     }
 }
 
-/// Opens the store on a disk. One that is unformatted is formatted where that is asked for, and else refused.
+/// Opens the store on a disk. An unformatted store is formatted if `format` is set, and refused if not.
 pub fn open_on<D: Disk>(alloc: Global, disk: D, format: bool) -> Result<Keeper<D>, (OpenFault, D)>
-    // The keeper has the state that the disk stands for, or that of a new store if there was none and one was asked for;
-    // and so does each image that a stop may leave.
-    ensures opened { D.honest disk → IfOk result (λ keeper. Opens (D.seen disk) format keeper.state) }
-    ensures stands { D.honest disk → IfOk result (λ keeper. EachStandsFor D.may_leave keeper.store.disk keeper.state) }
-    // A valid store is refused only if the device fails or memory runs out, and a reported fault is the store's.
-    ensures refused { D.honest disk → (s : ServerState) → StandsFor (D.seen disk) s
-        → IfErr result (λ e. (e.0 ≡ fault.Device) ⊎ (e.0 ≡ fault.Memory)) }
-    ensures told { D.honest disk → IfErr result (λ e. TellsImage e.0 (D.seen disk)) }
+    // The keeper has the state that the disk stands for, or that of a new store if there was none and one was asked for.
+    ensures opened { D.honest disk → IfOk result (IsOpenedAs D.may_leave (D.seen disk) format) }
+    // A reported fault is the store's. A valid store is refused only if the device fails or memory runs out.
+    ensures refused { D.honest disk → IfErr result (λ e. IsReason (D.seen disk) e.0) }
     // Where no store is made, no stop leaves what could not be left before, and what is read stays the same.
     ensures reads { D.honest disk → (IsToFormat (D.seen disk) format → ⊥)
         → OnlyReads D.seen D.may_leave D.moment D.left_since disk (disk_after result) }
 
-    ensures works { IfOk result (λ keeper. keeper.store.has_failed ≡ false) }
-    ensures none_under_way { IfOk result (λ keeper. keeper.store.checkpoint ≡ None) }
+    ensures ready { IfOk result IsReady }
     ensures sized { IfErr result (λ e. (found : ℕ) → e.0 ≢ fault.Size found) }
     // A disk of a store's size is reported as unformatted only if no format was asked for.
     ensures unformatted { D.size disk ≡ device_bytes → IfErr result (λ e. e.0 ≡ fault.Unformatted → format ≡ false) }
@@ -72,8 +63,7 @@ pub fn open_on<D: Disk>(alloc: Global, disk: D, format: bool) -> Result<Keeper<D
 fn made_on<D: Disk>(alloc: Global, disk: D) -> Result<Keeper<D>, (OpenFault, D)>
     ensures state { IfOk result (λ keeper. keeper.state ≡ first_state) }
     ensures stands { D.honest disk → IfOk result (λ keeper. EachStandsFor D.may_leave keeper.store.disk keeper.state) }
-    ensures works { IfOk result (λ keeper. keeper.store.has_failed ≡ false) }
-    ensures none_under_way { IfOk result (λ keeper. keeper.store.checkpoint ≡ None) }
+    ensures ready { IfOk result IsReady }
     ensures faults { IfErr result (λ e. (e.0 ≡ fault.Device) ⊎ ((e.0 ≡ fault.Memory) ⊎ (e.0 ≡ fault.Unformatted))) }
     ensures unformatted { IfErr result (λ e. e.0 ≡ fault.Unformatted → D.size disk ≢ device_bytes) }
     ensures honesty { D.honest (disk_after result) ↔ D.honest disk }

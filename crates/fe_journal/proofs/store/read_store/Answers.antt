@@ -34,10 +34,8 @@ returns-clause-settled g c = λ honest.
     let now : LeavesJust (g.D.Disk.seen c.read_synced.new.disk) (g.D.Disk.may_leave c.read_synced.new.disk) = λ image left. just image (reads.adds_none image left) ∙ sym reads.same in
     IfOk-weaker c.read_synced.result IsWhole (λ _. LeavesJust (g.D.Disk.seen c.read_synced.new.disk) (g.D.Disk.may_leave c.read_synced.new.disk)) (λ _ _. now) c.read_synced.ensures.whole
 
-pub returns-clause-fault : goal.returns-clause-fault
-returns-clause-fault g c =
-    counted c.read_synced.result (g.D.Disk.failures c.args.disk.now) (g.D.Disk.failures c.sync.new.self) (g.D.Disk.failures c.read_synced.new.disk) c.in_ok-sync.ensures.device.still (λ rises. let e = c.in_ok-sync.ensures.device.fault.1 rises in cc) c.read_synced.ensures.device.fault c.read_synced.ensures.device.still
-
 pub returns-clause-device : goal.returns-clause-device
 returns-clause-device g c =
-    after_sync g.D.Disk.size g.D.Disk.failures g.D.Disk.calls g.D.Disk.honest Device tt c.read_synced.result c.args.disk.now c.sync.new.self c.read_synced.new.disk c.in_ok-sync.ensures.device c.read_synced.ensures.device
+    let fault = counted c.read_synced.result (g.D.Disk.failures c.args.disk.now) (g.D.Disk.failures c.sync.new.self) (g.D.Disk.failures c.read_synced.new.disk) c.in_ok-sync.ensures.device.still (λ rises. let e = c.in_ok-sync.ensures.device.fault.1 rises in cc) c.read_synced.ensures.device.fault c.read_synced.ensures.device.still in
+    let run = after_sync g.D.Disk.size g.D.Disk.failures g.D.Disk.calls g.D.Disk.honest Device tt c.read_synced.result c.args.disk.now c.sync.new.self c.read_synced.new.disk c.in_ok-sync.ensures.device c.read_synced.ensures.device in
+    record { fault = fault; still = run.still; most = run.most; honesty = run.honesty; same_size = run.same_size }

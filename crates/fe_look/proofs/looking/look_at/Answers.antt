@@ -14,7 +14,7 @@ returns-in-Ok-clause-shows g c honest =
     on_ok_weaker c.show-shown.result
     (λ w. record {
       state = c.in-Ok.keeper.state;
-      stands = c.in-Ok.ensures.opened honest;
+      stands = (c.in-Ok.ensures.opened honest).state;
       written = subst (λ (s : ServerState). Appends (g.W.Write.contents c.args.writer.now) (g.W.Write.contents c.show-shown.new.writer) (state_text s)) c.state.ensures.state w;
     })
     c.show-shown.ensures.ok
@@ -37,12 +37,12 @@ returns-in-Ok-clause-front g c = record { state = c.state.result.now; count = c.
 pub returns-in-Err-clause-told : goal.returns-in-Err-clause-told
 returns-in-Err-clause-told g c honest why is =
     let same : c.in-Err.fault ≡ why = cc is in
-    subst (λ (f : OpenFault). TellsImage f (g.D.Disk.seen c.args.disk)) same (c.in-Err.ensures.told honest)
+    subst (λ (f : OpenFault). TellsImage f (g.D.Disk.seen c.args.disk)) same (c.in-Err.ensures.refused honest).tells
 
 pub returns-in-Err-clause-refused : goal.returns-in-Err-clause-refused
 returns-in-Err-clause-refused g c honest s stands why is =
     let same : c.in-Err.fault ≡ why = cc is in
-    subst (λ (f : OpenFault). (f ≡ store.Device) ⊎ (f ≡ store.Memory)) same (c.in-Err.ensures.refused honest s stands)
+    subst (λ (f : OpenFault). (f ≡ store.Device) ⊎ (f ≡ store.Memory)) same ((c.in-Err.ensures.refused honest).valid s stands)
 
 pub returns-in-Err-clause-front : goal.returns-in-Err-clause-front
 returns-in-Err-clause-front g c = shows_nothing (g.W.Write.contents c.args.writer.now)

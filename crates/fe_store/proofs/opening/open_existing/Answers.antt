@@ -1,8 +1,11 @@
-use Rattle.std.proofs.Common.{◌≡◌, ◌⊎◌, inl, inr, subst}
+use Rattle.std.proofs.Common.{◌≡◌, ◌⊎◌, ℕ, List, Err, inl, inr, sym, ap, subst, refl}
+use Rattle.fe_journal.proofs.Founds.{opens_as}
 use Rattle.fe_keeper.specs.declared.fault.Fault as keeper
 use Rattle.fe_keeper.specs.declared.fault.Fault.TheVariants as store
 use Rattle.fe_store.specs.declared.fault.OpenFault.{OpenFault}
 use Rattle.fe_store.specs.declared.fault.OpenFault.TheVariants as fault
+use Rattle.fe_keeper.specs.Damage.{TellsStore}
+use Rattle.fe_store.specs.Opening.{TellsImage}
 use Rattle.fe_store.specs.within.Faults.{IsToldAs}
 use Rattle.fe_store.proofs.opening.open_existing.Goals as goal
 
@@ -11,5 +14,35 @@ told : (end : keeper.Fault) (answer : OpenFault) → IsToldAs end answer → (en
 told end answer is (inl device) = inl (subst (λ (e : keeper.Fault). IsToldAs e answer) device is)
 told end answer is (inr short) = inr (subst (λ (e : keeper.Fault). IsToldAs e answer) short is)
 
+-- the same is said of the image
+tells : (end : keeper.Fault) (answer : OpenFault) (image : List ℕ) → IsToldAs end answer → TellsStore end image → TellsImage answer image
+tells store.Device answer image is says = subst (λ (f : OpenFault). TellsImage f image) (sym is) tt
+tells store.NoMemory answer image is says = subst (λ (f : OpenFault). TellsImage f image) (sym is) tt
+tells (store.Damaged offset) answer image is says = subst (λ (f : OpenFault). TellsImage f image) (sym is) says
+tells store.Unformatted answer image is says = subst (λ (f : OpenFault). TellsImage f image) (sym is) says
+tells store.Failed answer image is says = absurd is
+tells (store.Mismatch place) answer image is says = absurd is
+
+-- the device is reported exactly where it failed
+device_of : (end : keeper.Fault) (answer : OpenFault) → IsToldAs end answer → answer ≡ fault.Device → end ≡ store.Device
+device_of store.Device answer is device = refl
+device_of store.NoMemory answer is device = cc
+device_of (store.Damaged offset) answer is device = cc
+device_of store.Unformatted answer is device = cc
+device_of store.Failed answer is device = absurd is
+device_of (store.Mismatch place) answer is device = absurd is
+
 pub returns-in-Err-clause-refused : goal.returns-in-Err-clause-refused
-returns-in-Err-clause-refused g c honest s stands = told _ _ c.told_as.ensures (c.in-Err.ensures.refused honest s stands)
+returns-in-Err-clause-refused g c honest =
+    let reason = c.in-Err.ensures.refused honest in
+    record { tells = tells _ _ _ c.told_as.ensures reason.tells; valid = λ s stands. told _ _ c.told_as.ensures (reason.valid s stands) }
+
+pub returns-in-Err-clause-device : goal.returns-in-Err-clause-device
+returns-in-Err-clause-device g c =
+    opens_as g.D.Disk.size g.D.Disk.failures g.D.Disk.calls g.D.Disk.honest store.Device fault.Device _ _ c.args.disk c.in-Err.disk c.in-Err.ensures.device
+    (λ is. ap (λ (f : keeper.Fault). Err f) (device_of _ _ c.told_as.ensures (cc is)))
+    (λ is. let same : c.in-Err.fault ≡ store.Device = cc is in ap (λ (f : OpenFault). Err f) (subst (λ (e : keeper.Fault). IsToldAs e c.told_as.result) same c.told_as.ensures))
+
+pub returns-in-Ok-clause-device : goal.returns-in-Ok-clause-device
+returns-in-Ok-clause-device g c =
+    opens_as g.D.Disk.size g.D.Disk.failures g.D.Disk.calls g.D.Disk.honest store.Device fault.Device _ _ c.args.disk c.in-Ok.keeper.store.disk c.in-Ok.ensures.device (λ is. cc) (λ is. cc)

@@ -12,4 +12,4 @@ is_unformatted end image is told = subst (λ (e : OpenFault). TellsImage e image
 pub returns-in-Err-Unformatted-default-clause-reads : goal.returns-in-Err-Unformatted-default-clause-reads
 returns-in-Err-Unformatted-default-clause-reads g c honest none =
     let is : c.in-Err-Unformatted-default.field-0-0 ≡ fault.Unformatted = search rules in
-    absurd (none (is_unformatted _ _ is (c.in-Err-Unformatted-default.ensures.told honest), c.if-format.true))
+    absurd (none (is_unformatted _ _ is (c.in-Err-Unformatted-default.ensures.refused honest).tells, c.if-format.true))

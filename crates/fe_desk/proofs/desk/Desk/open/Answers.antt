@@ -2,7 +2,7 @@ use Rattle.std.proofs.Common.{◌≡◌, ◌⊎◌, false, inl, inr, ⊎_elim, a
 use Rattle.std.proofs.lemmas.Result.{IfOk-weaker, IfErr-weaker}
 use Rattle.fe_journal.specs.Steps.{OnlyReads}
 use Rattle.fe_keeper.specs.Keeper.{KeeperState}
-use Rattle.fe_keeper.specs.Stands.{EachStandsFor}
+use Rattle.fe_keeper.specs.Stands.{StandsFor, EachStandsFor}
 use Rattle.fe_desk.specs.Crash.{disk_of}
 use Rattle.fe_desk.specs.Messages.{told_as}
 use Rattle.fe_keeper.specs.declared.fault.Fault.TheVariants as keeper
@@ -12,11 +12,18 @@ use Rattle.fe_desk.specs.Opened.{TellsOpening}
 use Rattle.fe_desk.proofs.Openings.{disk_is, device_told, tells_opening, short_opening}
 use Rattle.fe_desk.proofs.desk.Desk.open.Goals as goal
 
+pub returns-in-Ok-clause-opened : goal.returns-in-Ok-clause-opened
+returns-in-Ok-clause-opened g c = λ honest.
+    let k = c.in-Ok.keeper in
+    let seen = g.D.Disk.seen c.args.disk in
+    IfOk-weaker c.desk_over.result (λ desk. desk.keeper ≡ k) (λ desk. StandsFor seen desk.keeper.state)
+    (λ desk is. subst (λ (x : KeeperState g.row.D.Denot). StandsFor seen x.state) (sym is) (c.in-Ok.ensures.opened honest).state) c.desk_over.ensures.keeper
+
 pub returns-in-Ok-clause-stands : goal.returns-in-Ok-clause-stands
 returns-in-Ok-clause-stands g c = λ honest.
     let k = c.in-Ok.keeper in
     IfOk-weaker c.desk_over.result (λ desk. desk.keeper ≡ k) (λ desk. EachStandsFor g.D.Disk.may_leave (disk_of desk) desk.keeper.state)
-    (λ desk is. subst (λ (x : KeeperState g.row.D.Denot). EachStandsFor g.D.Disk.may_leave x.store.disk x.state) (sym is) (c.in-Ok.ensures.stands honest)) c.desk_over.ensures.keeper
+    (λ desk is. subst (λ (x : KeeperState g.row.D.Denot). EachStandsFor g.D.Disk.may_leave x.store.disk x.state) (sym is) (c.in-Ok.ensures.opened honest).durable) c.desk_over.ensures.keeper
 
 pub returns-in-Ok-clause-reads : goal.returns-in-Ok-clause-reads
 returns-in-Ok-clause-reads g c = λ honest.
@@ -26,7 +33,7 @@ returns-in-Ok-clause-reads g c = λ honest.
 
 pub returns-in-Ok-clause-device : goal.returns-in-Ok-clause-device
 returns-in-Ok-clause-device g c =
-    device_told c.desk_over.result c.in-Ok.keeper g.D.Disk.failures (g.D.Disk.failures c.args.disk) c.in-Ok.ensures.calm c.desk_over.ensures.fault c.desk_over.ensures.disk
+    device_told c.desk_over.result c.in-Ok.keeper g.D.Disk.failures (g.D.Disk.failures c.args.disk) (λ rises. let e = c.in-Ok.ensures.device.fault.1 rises in cc) c.desk_over.ensures.fault c.desk_over.ensures.disk
 
 pub returns-in-Ok-clause-refused : goal.returns-in-Ok-clause-refused
 returns-in-Ok-clause-refused g c = λ honest s stands.
@@ -34,7 +41,7 @@ returns-in-Ok-clause-refused g c = λ honest s stands.
 
 pub returns-in-Err-clause-refused : goal.returns-in-Err-clause-refused
 returns-in-Err-clause-refused g c = λ honest s stands.
-    ⊎_elim (λ e. inl (c.told.ensures ∙ ap (λ f. told_as f false) e)) (λ e. inr (c.told.ensures ∙ ap (λ f. told_as f false) e)) (c.in-Err.ensures.refused honest s stands)
+    ⊎_elim (λ e. inl (c.told.ensures ∙ ap (λ f. told_as f false) e)) (λ e. inr (c.told.ensures ∙ ap (λ f. told_as f false) e)) ((c.in-Err.ensures.refused honest).valid s stands)
 
 pub returns-in-Ok-clause-told : goal.returns-in-Ok-clause-told
 returns-in-Ok-clause-told g c = λ honest.
@@ -46,7 +53,7 @@ returns-in-Ok-clause-unformatted g c = λ honest odd. absurd (c.in-Ok.ensures.un
 pub returns-in-Err-clause-told : goal.returns-in-Err-clause-told
 returns-in-Err-clause-told g c = λ honest.
     let seen = g.D.Disk.seen c.args.disk in
-    subst (λ (f : DeskFault). TellsOpening f seen) (sym c.told.ensures) (tells_opening seen c.in-Err.fault (c.in-Err.ensures.told honest))
+    subst (λ (f : DeskFault). TellsOpening f seen) (sym c.told.ensures) (tells_opening seen c.in-Err.fault (c.in-Err.ensures.refused honest).tells)
 
 pub returns-in-Err-clause-unformatted : goal.returns-in-Err-clause-unformatted
 returns-in-Err-clause-unformatted g c = λ honest odd.

@@ -1,12 +1,9 @@
 use Rattle.std.proofs.Common.{ℕ, List, Ok, sym, subst}
-use Rattle.fe_disk.specs.Disk.{Rises}
-use Rattle.fe_disk.specs.Outcome.{Runs}
-use Rattle.fe_disk.proofs.Outcomes.{runs_as}
-use Rattle.fe_journal.specs.Found.{IsFound}
+use Rattle.fe_journal.specs.Found.{IsFound, AsksToOpen}
 use Rattle.fe_journal.specs.Steps.{OnlyReads}
 use Rattle.fe_journal.specs.Store.{IsStore}
 use Rattle.fe_journal.specs.declared.fault.StoreFault.TheVariants.{Device}
-use Rattle.fe_journal.proofs.Founds.{formatted, refused_only, unformatted_only}
+use Rattle.fe_journal.proofs.Founds.{formatted, opens_as, refused_only, unformatted_only}
 use Rattle.fe_journal.proofs.journal.Journal.find.Goals as goal
 
 pub returns-in-Ok-clause-found : goal.returns-in-Ok-clause-found
@@ -16,10 +13,9 @@ returns-in-Ok-clause-found g c = λ honest.
     subst (λ (l : List ℕ). IsFound g.D.Disk.seen g.D.Disk.may_leave l c.found_in.result) same (c.found_in.ensures.found (c.read_store.ensures.device.honesty.1 honest) store (c.in-Ok.ensures.settled honest))
 
 pub returns-in-Err-clause-refused : goal.returns-in-Err-clause-refused
-returns-in-Err-clause-refused g c = λ honest. c.in-Err.ensures.faults honest
-
-pub returns-in-Err-clause-holds : goal.returns-in-Err-clause-holds
-returns-in-Err-clause-holds g c = λ honest contents holds. refused_only contents (g.D.Disk.seen c.args.disk) holds c.in-Err.fault (c.in-Err.ensures.faults honest)
+returns-in-Err-clause-refused g c = λ honest.
+    let tells = c.in-Err.ensures.faults honest in
+    record { tells = tells; valid = λ contents holds. refused_only contents (g.D.Disk.seen c.args.disk) holds c.in-Err.fault tells }
 
 pub returns-in-Ok-clause-reads : goal.returns-in-Ok-clause-reads
 returns-in-Ok-clause-reads g c = λ honest.
@@ -38,19 +34,10 @@ returns-in-Ok-clause-unformatted g c = λ honest odd.
     let found = subst (λ (l : List ℕ). IsFound g.D.Disk.seen g.D.Disk.may_leave l c.found_in.result) same (c.found_in.ensures.found (c.read_store.ensures.device.honesty.1 honest) store (c.in-Ok.ensures.settled honest)) in
     absurd (formatted found.contents (g.D.Disk.seen c.args.disk) found.holds odd)
 
-pub returns-in-Err-clause-fault : goal.returns-in-Err-clause-fault
-returns-in-Err-clause-fault g c = let fault = c.in-Err.ensures.fault in (λ is. fault.0 (cc), λ rises. let e = fault.1 rises in cc)
-
-pub returns-in-Ok-clause-fault : goal.returns-in-Ok-clause-fault
-returns-in-Ok-clause-fault g c = (
-  λ is. cc,
-  λ rises. let e = c.in-Ok.ensures.fault.1 (subst (λ (d : g.row.D.Denot). Rises (g.D.Disk.failures c.args.disk) (g.D.Disk.failures d)) c.found_in.ensures.disk rises) in cc,
-)
-
 pub returns-in-Err-clause-device : goal.returns-in-Err-clause-device
-returns-in-Err-clause-device g c = runs_as g.D.Disk.size g.D.Disk.failures g.D.Disk.calls g.D.Disk.honest 4 0 1 Device _ _ c.args.disk c.read_store.new.disk c.in-Err.ensures.device (λ e. cc) (λ e. cc)
+returns-in-Err-clause-device g c = opens_as g.D.Disk.size g.D.Disk.failures g.D.Disk.calls g.D.Disk.honest Device Device _ _ c.args.disk c.read_store.new.disk c.in-Err.ensures.device (λ e. cc) (λ e. cc)
 
 pub returns-in-Ok-clause-device : goal.returns-in-Ok-clause-device
 returns-in-Ok-clause-device g c =
-    subst (λ (d : g.row.D.Denot). Runs g.D.Disk.size g.D.Disk.failures g.D.Disk.calls g.D.Disk.honest 4 0 1 Device (Ok c.found_in.result) c.args.disk d) (sym c.found_in.ensures.disk)
-    (runs_as g.D.Disk.size g.D.Disk.failures g.D.Disk.calls g.D.Disk.honest 4 0 1 Device _ _ c.args.disk c.read_store.new.disk c.in-Ok.ensures.device (λ e. cc) (λ e. cc))
+    subst (λ (d : g.row.D.Denot). AsksToOpen g.D.Disk.size g.D.Disk.failures g.D.Disk.calls g.D.Disk.honest Device (Ok c.found_in.result) c.args.disk d) (sym c.found_in.ensures.disk)
+    (opens_as g.D.Disk.size g.D.Disk.failures g.D.Disk.calls g.D.Disk.honest Device Device _ _ c.args.disk c.read_store.new.disk c.in-Ok.ensures.device (λ e. cc) (λ e. cc))

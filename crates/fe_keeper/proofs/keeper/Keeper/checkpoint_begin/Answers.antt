@@ -1,10 +1,8 @@
 use Rattle.std.proofs.Common.{◌≡◌, ◌∙◌, IsTrue, refl, sym, ap, subst, rules}
 use Rattle.std.specs.Prelude.{false}
-use Rattle.fe_disk.specs.Disk.{LeavesOnly}
 use Rattle.fe_journal.specs.declared.fault.JournalFault.{JournalFault}
 use Rattle.fe_keeper.specs.Ends.{Works, Breaks, Refuses, Fails, ForDeviceAndMemory}
 use Rattle.fe_keeper.specs.Keeper.{KeeperState, can_begin}
-use Rattle.fe_keeper.specs.Stands.{StandsFor}
 use Rattle.fe_keeper.specs.within.Faults.{fault_of_journal}
 use Rattle.fe_keeper.specs.within.Parts.{kept_of}
 use Rattle.fe_keeper.specs.within.Upholds.{store_of}
@@ -12,7 +10,7 @@ use Rattle.fe_keeper.specs.declared.fault.Fault.{Fault}
 use Rattle.fe_keeper.specs.declared.parts.Parts.{Parts}
 use Rattle.fe_keeper.specs.declared.store.Store.{Store}
 use Rattle.fe_keeper.proofs.Ends.{told, device_fails, memory_fails, breaks_as, must_be}
-use Rattle.fe_keeper.proofs.Taking.{each_stands}
+use Rattle.fe_keeper.proofs.Taking.{each_stands, carries_rest}
 use Rattle.fe_keeper.proofs.keeper.Keeper.checkpoint_begin.Goals as goal
 
 pub returns-in_err-begin-clause-ends : goal.returns-in_err-begin-clause-ends
@@ -42,22 +40,14 @@ returns-in_err-checkpoint-clause-ends g c =
     (memory_fails g.D.Disk.failures Cause fault old old c.in_err-checkpoint.ensures.memory cause none)
 
 pub returns-in_err-begin-clause-rests : goal.returns-in_err-begin-clause-rests
-returns-in_err-begin-clause-rests g c = record {
-  state = search rules;
-  any_moment =
-      subst (λ (s : KeeperState g.row.D.Denot). g.D.Disk.honest s.store.disk → s.store.has_failed ≡ false → LeavesOnly g.D.Disk.moment g.D.Disk.left_since s.store.disk c.begin.new.self.journal.disk (λ image. StandsFor image s.state))
-      c.self.view_is (λ honest works. (c.begin.ensures.carries honest c.self.inside.parts.state (c.self.invariant.upheld honest works) c.in_ok-checkpoint.ensures.image).any_moment);
-  honesty = search rules;
-}
+returns-in_err-begin-clause-rests g c =
+    carries_rest g.D.Disk.moment g.D.Disk.left_since g.D.Disk.seen g.D.Disk.may_leave g.D.Disk.honest c.begin.result c.self.inside.parts c.begin.new.self c.args.self.now c.self.invariant c.self.view_is
+    (λ honest kept. c.begin.ensures.carries honest c.self.inside.parts.state kept c.in_ok-checkpoint.ensures.image) c.begin.ensures.ends.honesty
 
 pub returns-clause-rests : goal.returns-clause-rests
-returns-clause-rests g c = record {
-  state = search rules;
-  any_moment =
-      subst (λ (s : KeeperState g.row.D.Denot). g.D.Disk.honest s.store.disk → s.store.has_failed ≡ false → LeavesOnly g.D.Disk.moment g.D.Disk.left_since s.store.disk c.begin.new.self.journal.disk (λ image. StandsFor image s.state))
-      c.self.view_is (λ honest works. (c.begin.ensures.carries honest c.self.inside.parts.state (c.self.invariant.upheld honest works) c.in_ok-checkpoint.ensures.image).any_moment);
-  honesty = search rules;
-}
+returns-clause-rests g c =
+    carries_rest g.D.Disk.moment g.D.Disk.left_since g.D.Disk.seen g.D.Disk.may_leave g.D.Disk.honest c.begin.result c.self.inside.parts c.begin.new.self c.args.self.now c.self.invariant c.self.view_is
+    (λ honest kept. c.begin.ensures.carries honest c.self.inside.parts.state kept c.in_ok-checkpoint.ensures.image) c.begin.ensures.ends.honesty
 
 pub returns-clause-durable : goal.returns-clause-durable
 returns-clause-durable g c = λ honest works.

@@ -1,11 +1,14 @@
-use Rattle.std.proofs.Common.{sym, subst}
+use Rattle.std.proofs.Common.{Err, sym, subst}
 use Rattle.fe_state.specs.State.{ServerState, first_state}
 use Rattle.fe_format.specs.declared.format.Format.TheVariants.{Two}
 use Rattle.fe_journal.specs.Contents.{first_contents}
+use Rattle.fe_journal.specs.Formatting.{Formats}
 use Rattle.fe_keeper.specs.Keeper.{KeeperState}
 use Rattle.fe_keeper.specs.Stands.{Stands, EachStandsFor}
 use Rattle.fe_keeper.specs.Opened.{KeepsState}
-use Rattle.fe_keeper.proofs.Beginning.{first_stands}
+use Rattle.fe_keeper.specs.declared.fault.Fault.{Fault}
+use Rattle.fe_keeper.specs.declared.fault.Fault.TheVariants.{Device, NoMemory, Unformatted}
+use Rattle.fe_keeper.proofs.Beginning.{first_stands, formats_as}
 use Rattle.fe_keeper.proofs.Openings.{each_stands}
 use Rattle.fe_keeper.proofs.keeper.Keeper.format.Goals as goal
 
@@ -25,3 +28,8 @@ returns-in-Ok-format-clause-formatted g c = λ honest.
     } in
     let each = each_stands g.D.Disk.seen g.D.Disk.may_leave c.in-Ok-format.journal first_state kept in
     subst (λ (k : KeeperState g.row.D.Denot). EachStandsFor g.D.Disk.may_leave k.store.disk first_state) (sym c.keeper_over.ensures) each
+
+pub returns-in-Err-format-clause-ends : goal.returns-in-Err-format-clause-ends
+returns-in-Err-format-clause-ends g c =
+    subst (λ (f : Fault). Formats g.D.Disk.size g.D.Disk.failures g.D.Disk.calls g.D.Disk.honest Unformatted Device NoMemory (Err f) c.args.disk c.in-Err-format.disk) (sym c.from.ensures)
+    (formats_as g.D.Disk.size g.D.Disk.failures g.D.Disk.calls g.D.Disk.honest c.in-Err-format.fault c.args.disk c.in-Err-format.disk c.in-Err-format.ensures.ends)
