@@ -103,7 +103,7 @@ module _ {D : Type 0} (begun : ServerState) (asked : ℕ → List ℕ) where
     lacks_hold false (step.Connect conn) old new asks lacks h = subst (λ (d : DeskState D). HoldsAt begun asked d.standing) (sym lacks.1) h
     lacks_hold false (step.Bytes conn piece) old new asks lacks h = elim lacks.0 [
       | inl stops ↦ before_holds begun asked below old.standing conn new.standing stops h
-      | inr stops ↦ unread_holds begun asked below old.standing conn new.standing stops h
+      | inr stops ↦ unread_holds begun asked below old.standing conn new.standing stops.unread h
     ]
     lacks_hold true (step.Bytes conn piece) old new asks lacks h = behind_holds begun asked below old.standing conn piece.items new.standing asks lacks.0 h
     lacks_hold false step.Append old new asks lacks h = subst (λ (d : DeskState D). HoldsAt begun asked d.standing) (sym lacks.1) h

@@ -1,6 +1,6 @@
 -- How a step at fault ends, from what its parts did.
 use Rattle.std.proofs.Common.{◌≡◌, ◌⊎◌, inl, inr, ℕ, Vec, Global, Bool, true, false, List, sym, ap, subst, ◌∙◌}
-use Rattle.std.specs.Prelude.{MatchBool, Result, Ok, Err, IsErrOf, IfErr}
+use Rattle.std.specs.Prelude.{Result, Ok, Err, IsErrOf, IfErr}
 use Rattle.fe_keeper.specs.Keeper.{KeeperState}
 use Rattle.fe_desk.specs.declared.fault.DeskFault.{DeskFault}
 use Rattle.fe_desk.specs.declared.fault.DeskFault.TheVariants as desk
@@ -8,7 +8,7 @@ use Rattle.fe_desk.specs.declared.step.Step.{Step}
 use Rattle.fe_desk.specs.declared.step.Step.TheVariants as step
 use Rattle.fe_desk.specs.Standing.{Standing, discharged}
 use Rattle.fe_desk.specs.Writing.{WritesSome}
-use Rattle.fe_desk.specs.Stopping.{StopsBefore, StopsUnread, StopsBehind}
+use Rattle.fe_desk.specs.Stopping.{StopsShort}
 use Rattle.fe_desk.specs.Crash.{DeskState, IsFine, TellsStep}
 use Rattle.fe_desk.specs.Checks.{StoresMore}
 use Rattle.fe_desk.specs.Ends.{discharged_desk, Lacks, FindsNoMemory, TearsBytes, Breaks}
@@ -22,12 +22,12 @@ pub breaks_at : {D : Type 0} (x y : Step) (a b : DeskState D) → x ≡ y → Br
 breaks_at x y a b is breaks = subst (λ (z : Step). Breaks z a b) (sym is) breaks
 
 pub lacks_bytes : {D : Type 0} (fed : Bool) (x : Step) (conn : ℕ) (piece : Vec ℕ Global) (slice : List ℕ) (a b : DeskState D) → x ≡ step.Bytes conn piece → slice ≡ piece.items
-    → MatchBool fed (StopsBehind a.standing conn slice b.standing) (StopsBefore a.standing conn b.standing ⊎ StopsUnread a.standing conn b.standing) → StoresMore a b → Lacks fed x a b
+    → StopsShort fed a.standing conn slice b.standing → StoresMore a b → Lacks fed x a b
 lacks_bytes fed x conn piece slice a b is same stops grows = subst (λ (z : Step). Lacks fed z a b) (sym is) (by fed stops)
   where
-    by : (f : Bool) → MatchBool f (StopsBehind a.standing conn slice b.standing) (StopsBefore a.standing conn b.standing ⊎ StopsUnread a.standing conn b.standing) → Lacks f (step.Bytes conn piece) a b
-    by true h = (subst (λ (xs : List ℕ). StopsBehind a.standing conn xs b.standing) same h, grows)
-    by false h = (h, grows)
+    by : (f : Bool) → StopsShort f a.standing conn slice b.standing → Lacks f (step.Bytes conn piece) a b
+    by true h = (subst (λ (xs : List ℕ). StopsShort true a.standing conn xs b.standing) same h, grows)
+    by false h = (subst (λ (xs : List ℕ). StopsShort false a.standing conn xs b.standing) same h, grows)
 
 pub breaks_bytes : {D : Type 0} (x : Step) (conn : ℕ) (piece : Vec ℕ Global) (slice : List ℕ) (a b : DeskState D) → x ≡ step.Bytes conn piece → slice ≡ piece.items
     → TearsBytes a.standing conn slice b → Breaks x a b

@@ -3,7 +3,7 @@ use Rattle.std.proofs.Common.{◌≡◌, ◌≢◌, ◌⊎◌, inl, inr, ℕ, �
 use Rattle.std.specs.Prelude.{is_some, slice_set, IsErrOf, OnOk, IfErr}
 use Rattle.std.specs.Option.{option_map}
 use Rattle.std.proofs.lemmas.Option.{same_Some}
-use Rattle.fe_wire.specs.Stream.{Decoding}
+use Rattle.fe_wire.specs.Stream.{Decoding, CompletesMessage}
 use Rattle.fe_wire.specs.declared.client_message.ClientMessage.{ClientMessage}
 use Rattle.fe_keeper.specs.Keeper.{KeeperState}
 use Rattle.fe_keeper.specs.declared.fault.Fault.{Fault}
@@ -17,7 +17,7 @@ use Rattle.fe_desk.specs.Storing.{is_making}
 use Rattle.fe_desk.specs.Taking.{TakesAll}
 use Rattle.fe_desk.specs.Steps.{find, on_client, with_left, with_decoder, gone, after_frame, Reads, TakesPiece, TakesFrom, TakesBytes}
 use Rattle.fe_desk.specs.Messages.{left_of, outputs, told_as, read_by, EndsWith, ReadsNone, ReadsPiece}
-use Rattle.fe_desk.specs.Stopping.{TakesFirst, StopsBefore, StopsUnread, StopsBehind}
+use Rattle.fe_desk.specs.Stopping.{TakesFirst, StopsBefore, StopsBehind, StopsShort}
 use Rattle.fe_desk.specs.within.Places.{IsFirstAt}
 use Rattle.fe_desk.specs.Crash.{DeskState, Advances, IsFine, TellsCall, TellsStep}
 use Rattle.fe_desk.specs.Checks.{StoresMore}
@@ -201,7 +201,7 @@ module _ {D : Type 0} (honest : D → Type 0) (may_leave : D → List ℕ → Ty
     pub fine : OnOk result (IsFine failures old new)
     pub fault : IfErr result (TellsStep failures old new)
     pub written : IsErrOf result desk.Unwritten → ⊥
-    pub stops : (fed : Bool) → IsErrOf result (desk.NoMemory fed) → MatchBool fed (StopsBehind old.standing conn piece new.standing) (StopsBefore old.standing conn new.standing ⊎ StopsUnread old.standing conn new.standing)
+    pub stops : (fed : Bool) → IsErrOf result (desk.NoMemory fed) → StopsShort fed old.standing conn piece new.standing
     pub torn : IsErrOf result (desk.Store keeper.Device) → TearsBytes old.standing conn piece new
     pub grows : new.keeper.store.has_failed ≡ false → StoresMore old new
 
@@ -251,10 +251,10 @@ module _ {D : Type 0} (honest : D → Type 0) (may_leave : D → List ℕ → Ty
         grows = left.grows;
       }
     where
-      stopped : (fed : Bool) → (fault ≡ keeper.NoMemory) × (false ≡ fed) → MatchBool fed (StopsBehind a.standing conn piece b.standing) (StopsBefore a.standing conn b.standing ⊎ StopsUnread a.standing conn b.standing)
+      stopped : (fed : Bool) → (fault ≡ keeper.NoMemory) × (false ≡ fed) → StopsShort fed a.standing conn piece b.standing
       stopped fed is =
           let asked : ◌≡◌ {A = Result (Unit {0}) Fault} (Err fault) (Err keeper.NoMemory) = ap (λ (f : Fault). Err f) is.0 in
-          subst (λ (x : Bool). MatchBool x (StopsBehind a.standing conn piece b.standing) (StopsBefore a.standing conn b.standing ⊎ StopsUnread a.standing conn b.standing)) is.1 (inl (left.stops asked))
+          subst (λ (x : Bool). StopsShort x a.standing conn piece b.standing) is.1 (inl (left.stops asked))
 
       tore : fault ≡ keeper.Device → TearsBytes a.standing conn piece b
       tore is =
@@ -304,10 +304,17 @@ module _ {D : Type 0} (honest : D → Type 0) (may_leave : D → List ℕ → Ty
       ap (λ (cs : List Client). left_among (find conn cs)) (takes_all-keeps (with_left a.standing conn []) conn (left_of a.standing conn) b.standing left.taken)
       ∙ left_emptied conn a.standing.clients
 
+  -- the port of the client has read what the client had
+  pub port_reads : (conn at : ℕ) (a b : DeskState D) (c : Client) (ports : List Port) (p : Port) → IsHere a.standing conn c → TookLeft conn at a (Ok tt) b → b.standing.clients ≡ map client_of ports
+      → IsFirstAt (map client_of ports) conn at → p ≡ get_or ports at p → p.decoder ≡ c.decoder
+  port_reads conn at a b c ports p here left clients place is =
+      ap (λ (d : Client). d.decoder)
+      (same_here b.standing conn (client_of p) (relieved (left_of b.standing conn) c) (port_is_here b.standing ports conn at p clients place is) (here_left conn at a b (Ok tt) c left here))
+
   -- they were taken, and the piece was not read
   pub bytes_unread : (conn at : ℕ) (piece : List ℕ) (a b : DeskState D) (c : Client) → IsHere a.standing conn c → TookLeft conn at a (Ok tt) b → is_connected b.standing.front conn ≡ true
-      → TookBytes conn piece a (Err (desk.NoMemory false)) b
-  bytes_unread conn at piece a b c here left on =
+      → CompletesMessage c.decoder piece → TookBytes conn piece a (Err (desk.NoMemory false)) b
+  bytes_unread conn at piece a b c here left on completes =
       record {
         desk_is = left.desk_is;
         taken = tt;
@@ -320,8 +327,8 @@ module _ {D : Type 0} (honest : D → Type 0) (may_leave : D → List ℕ → Ty
         fault = left.fine;
         written = λ e. told_otherwise keeper.NoMemory false (same_err e);
         stops = λ fed e.
-            subst (λ (x : Bool). MatchBool x (StopsBehind a.standing conn piece b.standing) (StopsBefore a.standing conn b.standing ⊎ StopsUnread a.standing conn b.standing)) (told_memory keeper.NoMemory false fed (same_err e)).1
-            (inr (record { leftovers = left.taken; there = on }));
+            subst (λ (x : Bool). StopsShort x a.standing conn piece b.standing) (told_memory keeper.NoMemory false fed (same_err e)).1
+            (inr (record { unread = record { leftovers = left.taken; there = on }; before = c.decoder; was = ap (option_map (λ (d : Client). d.decoder)) here.found; completes = completes }));
         torn = λ e. cc;
         grows = left.grows;
       }
@@ -460,10 +467,10 @@ module _ {D : Type 0} (honest : D → Type 0) (may_leave : D → List ℕ → Ty
             (subst (λ (ms : List ClientMessage). TakesFirst (with_left m.standing conn []) conn ms v) (fed_left conn piece b m fed) h);
       }
 
-      stopped : (other : Bool) → (fault ≡ keeper.NoMemory) × (true ≡ other) → MatchBool other (StopsBehind a.standing conn piece n.standing) (StopsBefore a.standing conn n.standing ⊎ StopsUnread a.standing conn n.standing)
+      stopped : (other : Bool) → (fault ≡ keeper.NoMemory) × (true ≡ other) → StopsShort other a.standing conn piece n.standing
       stopped other is =
           let asked : ◌≡◌ {A = Result (Unit {0}) Fault} (Err fault) (Err keeper.NoMemory) = ap (λ (f : Fault). Err f) is.0 in
-          subst (λ (x : Bool). MatchBool x (StopsBehind a.standing conn piece n.standing) (StopsBefore a.standing conn n.standing ⊎ StopsUnread a.standing conn n.standing)) is.1 (behind n.standing (rest.stops asked))
+          subst (λ (x : Bool). StopsShort x a.standing conn piece n.standing) is.1 (behind n.standing (rest.stops asked))
 
       tore : fault ≡ keeper.Device → TearsBytes a.standing conn piece n
       tore is =

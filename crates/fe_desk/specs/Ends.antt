@@ -6,7 +6,7 @@ use Rattle.fe_desk.specs.declared.step.Step.{Step}
 use Rattle.fe_desk.specs.declared.step.Step.TheVariants as step
 use Rattle.fe_desk.specs.Standing.{Standing, discharged}
 use Rattle.fe_desk.specs.Writing.{WritesSome}
-use Rattle.fe_desk.specs.Stopping.{HasCut, StopsBefore, StopsUnread, StopsBehind}
+use Rattle.fe_desk.specs.Stopping.{HasCut, StopsBefore, StopsBehind, StopsShort}
 use Rattle.fe_desk.specs.Crash.{DeskState}
 use Rattle.fe_desk.specs.Checks.{StoresMore}
 
@@ -28,9 +28,8 @@ discharged_desk d = record d { standing = discharged d.standing }
 -- (`fed`), and what that stored is all that was done to the store. Other steps take no memory.
 abbrev pub Lacks : {D : Type 0} → Bool → Step → DeskState D → DeskState D → Type 0
 Lacks false (step.Connect conn) old new = (is_connected old.standing.front conn ≡ false) × (new ≡ old)
-Lacks false (step.Bytes conn piece) old new =
-    (StopsBefore old.standing conn new.standing ⊎ StopsUnread old.standing conn new.standing) × StoresMore old new
-Lacks true (step.Bytes conn piece) old new = StopsBehind old.standing conn piece.items new.standing × StoresMore old new
+Lacks false (step.Bytes conn piece) old new = StopsShort false old.standing conn piece.items new.standing × StoresMore old new
+Lacks true (step.Bytes conn piece) old new = StopsShort true old.standing conn piece.items new.standing × StoresMore old new
 Lacks false step.Append old new = HasCut old.standing × (new ≡ old)
 Lacks false step.CheckBegin old new = IsTrue (can_begin old.keeper.store) × (new ≡ old)
 Lacks fed other old new = ⊥
@@ -47,7 +46,7 @@ pub record Tears {D : Type 0} (last : Standing) (new : DeskState D) : Type 0 whe
   pub standing : new.standing ≡ record last { groups = last.groups ++ at_hand.batch.entries ∷ [] }
   pub synced : new.synced ≡ length last.groups
 
--- It failed with a step's bytes: of the connection's messages the first were taken, and the next had no room for want of the batch.
+-- It failed with a step's bytes: the first of the connection's messages were taken, and the next found no room, since the batch was not stored.
 pub record TearsBytes {D : Type 0} (s : Standing) (conn : ℕ) (piece : List ℕ) (new : DeskState D) : Type 0 where
   pub last : Standing
   pub stops : StopsBefore s conn last ⊎ StopsBehind s conn piece last

@@ -1,8 +1,8 @@
 -- How far a piece of a connection's stream comes where a batch found no memory, or the device failed it.
-use Rattle.std.specs.Prelude.{◌≡◌, ◌⊎◌, ℕ, true, false, List, [], ◌∷◌, ◌++◌, Some}
+use Rattle.std.specs.Prelude.{◌≡◌, ◌⊎◌, ℕ, Bool, true, false, List, [], ◌∷◌, ◌++◌, Some}
 use Rattle.fe_state.specs.declared.batch.Batch.{Batch}
 use Rattle.fe_front.specs.Front.{is_connected, has_room}
-use Rattle.fe_wire.specs.Stream.{Decoding}
+use Rattle.fe_wire.specs.Stream.{Decoding, CompletesMessage}
 use Rattle.fe_wire.specs.declared.client_message.ClientMessage.{ClientMessage}
 use Rattle.fe_desk.specs.declared.handed.Handed.TheVariants as handed
 use Rattle.fe_desk.specs.Standing.{Standing}
@@ -28,7 +28,7 @@ MayBegin s conn t = (t ≡ s) ⊎ (t ≡ room_begun s conn)
 abbrev pub StopsMaking : Standing → ℕ → Standing → Type 0
 StopsMaking s conn t = ((is_making s conn ≡ true) × (t ≡ s)) ⊎ ((has_room s.front ≡ false) × MayBegin (begun_room s conn) conn t)
 
--- The first of a connection's messages are taken. The next has no room, for want of the batch at hand: it did nothing, and it
+-- The first of a connection's messages are taken. The next has no room, since the batch at hand is not stored: it did nothing, and it
 -- and those after it are left.
 pub record TakesFirst (s : Standing) (conn : ℕ) (messages : List ClientMessage) (t : Standing) : Type 0 where
   pub taken : List ClientMessage
@@ -51,6 +51,13 @@ pub record StopsUnread (s : Standing) (conn : ℕ) (t : Standing) : Type 0 where
   pub leftovers : TakesAll (with_left s conn []) conn (left_of s conn) t
   pub there : is_connected t.front conn ≡ true
 
+-- the piece completes a message, for which there is no memory: none of it is read
+pub record StopsUnfed (s : Standing) (conn : ℕ) (piece : List ℕ) (t : Standing) : Type 0 where
+  pub unread : StopsUnread s conn t
+  pub before : Decoding
+  pub was : read_by s conn ≡ Some before
+  pub completes : CompletesMessage before piece
+
 -- the piece is read then, and of the messages that it completes the first are taken
 pub record StopsBehind (s : Standing) (conn : ℕ) (piece : List ℕ) (t : Standing) : Type 0 where
   pub mid : Standing
@@ -61,3 +68,8 @@ pub record StopsBehind (s : Standing) (conn : ℕ) (piece : List ℕ) (t : Stand
   pub was : read_by s conn ≡ Some before
   pub reads : Reads before decoder piece more
   pub first : TakesFirst (with_decoder mid conn decoder) conn more t
+
+-- where bytes stop when memory is short: after their piece was read (`fed`), or before
+abbrev pub StopsShort : Bool → Standing → ℕ → List ℕ → Standing → Type 0
+StopsShort true s conn piece t = StopsBehind s conn piece t
+StopsShort false s conn piece t = StopsBefore s conn t ⊎ StopsUnfed s conn piece t

@@ -25,7 +25,7 @@ use std::marker::Model;
 
 /// The front, its connections' streams, and the keeper of a store.
 ///
-/// Mails are written at a step's end, or before the next step acts where memory was short for them, so each answer that was
+/// Mails are written at the end of a step, or if memory was short, at the beginning of the next one. So each answer that is
 /// written was synced before.
 #[derive(Drop)]
 pub struct Desk<D: Disk> {

@@ -6,9 +6,10 @@ pub enum DeskFault {
     /// The store is at fault. Of a step: `Device` where the device failed in it, and `Failed` in each step after that, until the
     /// store is opened again. Of opening and formatting: `Device`, `Unformatted` and `Damaged`, as `fe_keeper` tells them.
     Store(Fault),
-    /// There was no memory. What the step did before stays done, and the step may be given again: as it was, or with an
-    /// empty piece where its bytes were taken (`fed`).
+    /// Memory ran out while a store was opened or formatted; or in a step, for mails that are owed, a connection, a batch, a
+    /// message that the piece completes, or the beginning of a checkpoint. What the step did before stays done. The step may be
+    /// given again: as it was, or with an empty piece if its bytes were read (`fed`).
     NoMemory { fed: bool },
-    /// The step took effect. There was no memory for some of its mails, which the next step writes first.
+    /// The step took effect, but memory ran out for some of its mails. The next step writes them first.
     Unwritten,
 }

@@ -1,6 +1,6 @@
 //! Bytes of a connection, and the messages in them.
 
-ghost use Rattle.std.specs.Prelude.{◌≡◌, ◌<◌, ◌⊎◌, Bool, false, true, List, [], ◌∷◌, length, map, if◌then◌else◌, IfErr, OnOk, IsErrOf, IsTrue, MatchBool};
+ghost use Rattle.std.specs.Prelude.{◌≡◌, ◌<◌, Bool, false, true, List, [], ◌∷◌, length, map, if◌then◌else◌, IfErr, OnOk, IsErrOf, IsTrue, MatchBool};
 ghost use Rattle.fe_front.specs.Front.{has_room};
 ghost use Rattle.fe_keeper.specs.declared.fault.Fault.TheVariants as keeper;
 ghost use Rattle.fe_desk.specs.declared.fault.DeskFault.TheVariants as fault;
@@ -10,7 +10,7 @@ ghost use Rattle.fe_desk.specs.Steps.{find, with_left, TakesBytes};
 ghost use Rattle.fe_desk.specs.within.Places.{IsFirstAt};
 ghost use Rattle.fe_desk.specs.Messages.{left_of, outputs, told_as, TakesNext, EndsWith, ReadsNone, ReadsPiece};
 ghost use Rattle.fe_desk.specs.Crash.{Advances, IsFine, TellsCall, TellsStep};
-ghost use Rattle.fe_desk.specs.Stopping.{StopsBefore, StopsUnread, StopsBehind};
+ghost use Rattle.fe_desk.specs.Stopping.{StopsBefore, StopsShort};
 ghost use Rattle.fe_desk.specs.Checks.{StoresMore};
 ghost use Rattle.fe_desk.specs.Ends.{Tears, TearsBytes};
 ghost use Rattle.fe_desk.specs.within.Desk.{client_of, desk_of, standing_of, IsDesk};
@@ -46,8 +46,7 @@ impl<D: Disk> Parts<D> {
         ensures fine { OnOk result (IsFine D.failures (desk_of self.old) (desk_of self.new)) }
         ensures fault { IfErr result (TellsStep D.failures (desk_of self.old) (desk_of self.new)) }
         ensures stops { (fed : Bool) → IsErrOf result (fault.NoMemory fed)
-            → MatchBool fed (StopsBehind (standing_of self.old) conn piece.now (standing_of self.new))
-            (StopsBefore (standing_of self.old) conn (standing_of self.new) ⊎ StopsUnread (standing_of self.old) conn (standing_of self.new)) }
+            → StopsShort fed (standing_of self.old) conn piece.now (standing_of self.new) }
         ensures torn { IsErrOf result (fault.Store keeper.Device)
             → TearsBytes (standing_of self.old) conn piece.now (desk_of self.new) }
         ensures grows { self.new.keeper.store.has_failed ≡ false → StoresMore (desk_of self.old) (desk_of self.new) }

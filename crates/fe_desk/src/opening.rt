@@ -54,7 +54,7 @@ impl<D: Disk> Desk<D> {
         }
     }
 
-    /// Makes a new store of format 2 on the device, whatever was there. Where memory is short the device may be formatted already.
+    /// Makes a new store of format 2 on the device, whatever was there. If memory is short, the device may be formatted already.
     pub fn format(alloc: Global, disk: D) -> Result<Desk<D>, (DeskFault, D)>
         ensures formatted { D.honest disk → IfOk result (λ desk. EachStandsFor D.may_leave (disk_of desk) first_state) }
         ensures first { IfOk result
@@ -66,7 +66,7 @@ impl<D: Disk> Desk<D> {
         ensures unformatted { IfErr result (λ e. (e.0 ≡ Store keeper.Unformatted) ↔ (D.size disk ≢ device_bytes)) }
         ensures works { IfOk result (λ desk. desk.keeper.store.has_failed ≡ false) }
         ensures device { IfErr result (λ e. e.0 ≡ Store keeper.Device → Rises (D.failures disk) (D.failures e.1)) }
-        // Another fault is told where no call of the device failed.
+        // Another fault means that no call of the device failed.
         ensures still { IfOk result (λ desk. D.failures (disk_of desk) ≡ D.failures disk) }
         ensures calm { IfErr result (λ e. e.0 ≢ Store keeper.Device → D.failures e.1 ≡ D.failures disk) }
         ensures faults { IfErr result

@@ -5,6 +5,7 @@ ghost use Rattle.std.specs.Option.{option_map_or};
 ghost use Rattle.fe_mail.specs.Connections.{mails_on};
 ghost use Rattle.fe_front.specs.Steps.{taken};
 ghost use Rattle.fe_wire.specs.Spelling.{reply_spelling};
+ghost use Rattle.fe_wire.specs.Stream.{CompletesMessage};
 ghost use Rattle.fe_desk.specs.Mails.{emptied_box};
 ghost use Rattle.fe_desk.specs.Standing.{told};
 ghost use Rattle.fe_desk.specs.Steps.{BeginsStream, Reads, new_client};
@@ -82,6 +83,7 @@ impl Port {
             ≡ record (client_of self.old) { decoder = self.new.decoder; left = (client_of self.new).left }) }
         ensures bad { IfOk result (λ bad. bad ≡ self.new.decoder.is_bad) }
         ensures err { OnErr result (client_of self.new ≡ client_of self.old) }
+        ensures memory { OnErr result (CompletesMessage self.old.decoder piece.now) }
     {
         let fed = self.decoder.feed(alloc, piece)?;
         let bad = fed.fault.is_some();

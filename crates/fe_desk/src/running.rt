@@ -25,9 +25,9 @@ pub struct Ran<D: Disk> {
     pub fault: Option<(u64, DeskFault)>,
 }
 
-/// Opens a store and takes the steps, in order, as far as to a fault.
+/// Opens a store and takes the steps in order, up to the first fault.
 pub fn run<D: Disk>(alloc: Global, disk: D, steps: &[Step]) -> Ran<D>
-    // The run ends at the opening, at a step, or whole: what was done, what is told, and whether the device failed.
+    // The run ends at the opening, at a step, or whole: what it did, what it reports, and whether the device failed.
     ensures ran { IsRunOf D.honest D.seen D.failures disk steps.now result }
     // A stop at any moment leaves a prefix of the history, which begins with the state that was there.
     ensures history { D.honest disk → (s : ServerState) → EachStandsFor D.may_leave disk s
@@ -58,7 +58,7 @@ pub fn run<D: Disk>(alloc: Global, disk: D, steps: &[Step]) -> Ran<D>
     Ran { trace, disk, fault }
 }
 
-/// Takes the steps as far as to a fault.
+/// Takes the steps up to the first fault.
 fn take_steps<D: Disk>(desk: &mut Desk<D>, steps: &[Step]) -> Option<(u64, DeskFault)>
     requires works { desk.old.keeper.store.has_failed ≡ false }
     requires stands { D.honest (disk_of desk.old) → (begun : ServerState) → IsFrom begun desk.old → (image : List ℕ)

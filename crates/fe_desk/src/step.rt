@@ -1,7 +1,7 @@
 ghost use Rattle.std.specs.Prelude.{◌≡◌};
 ghost use Rattle.fe_desk.specs.Quiet.{mails_nothing};
 
-/// A step of a desk. One that has nothing to act on does nothing, but that mails which are owed are written first.
+/// A step of a desk. A step with nothing to act on only writes the mails that are owed.
 #[derive(Drop)]
 pub enum Step {
     /// A connection comes, with a stream of its own.

@@ -176,3 +176,7 @@ pub record Ended (writer : StreamFault → Type 0) (end : ScheduleFault) (input 
   pub text : List ℕ
   pub prints : Prints lines ((text ++ kept) ++ more)
   pub written : Appends before now text
+
+-- A run ended at a fault within these bytes, whatever comes after them.
+abbrev pub EndedIn : (StreamFault → Type 0) → ScheduleFault → List ℕ → Option (List ℕ) → Option (List ℕ) → List ℕ → Type 0
+EndedIn writer end read before now kept = (others : List ℕ) → Ended writer end (read ++ others) before now kept

@@ -5,7 +5,7 @@ ghost use Rattle.fe_text.specs.Line.{parsed, LineFits};
 ghost use Rattle.fe_schedules.specs.Runs.{SaysLine};
 ghost use Rattle.fe_schedules.specs.Schedule.{holds_after};
 
-use fe_state::Request;
+use fe_state::{Request, named};
 use fe_text::{Line, parse};
 use fe_wire::ClientMessage;
 
@@ -15,7 +15,8 @@ pub(crate) fn line_in(bytes: &[u8]) -> Option<Option<Line>>
     ensures said { IfSome result (SaysLine bytes.now) }
     ensures fits { IfSome result (λ line. IfSome line LineFits) }
 {
-    let _named: (Option<Request>, Option<ClientMessage>) = (None, None);
+    named::<Request>();
+    named::<ClientMessage>();
     if bytes.is_empty() {
         return Some(None);
     }

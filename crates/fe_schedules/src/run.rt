@@ -7,7 +7,7 @@ ghost use Rattle.fe_text.specs.Line.{LineFits};
 ghost use Rattle.fe_text.specs.Lines.{HasNoFeed};
 ghost use Rattle.fe_schedules.specs.Fault.{TellsDisk, TellsOfDisk, TellsDiskOrWriter};
 ghost use Rattle.fe_schedules.specs.Schedule.{IsStart, Stage};
-ghost use Rattle.fe_schedules.specs.Runs.{IsRun, IsAt, RanLine, RanBytes, SaysLine, IsStray, IsFaultOf, IsTooLong, SoFar, Whole, Ended, last_disk};
+ghost use Rattle.fe_schedules.specs.Runs.{IsRun, IsAt, RanLine, RanBytes, SaysLine, IsStray, IsFaultOf, IsTooLong, SoFar, Whole, Ended, EndedIn, last_disk};
 
 use crate::fault::{MachineFault, ScheduleFault};
 use crate::line::{holds_after, line_in};
@@ -15,7 +15,7 @@ use crate::machine::Machine;
 use crate::streams::Sink;
 use crate::told::Told;
 use fe_disk::MemoryDisk;
-use fe_state::Request;
+use fe_state::{Request, named};
 use fe_text::{LONGEST, Line, first_line};
 use fe_wire::ClientMessage;
 use std::alloc::Global;
@@ -84,7 +84,7 @@ impl Run {
         ensures disk { IfErr result (TellsDiskOrWriter (last_disk self.new.machine) (W.has_failed writer.new)) }
         ensures taken { (read : List ℕ) (before : Option (List ℕ)) → SoFar read before (W.contents writer.old) self.old
             → MatchResult result (λ _. SoFar (read ++ piece.now) before (W.contents writer.new) self.new)
-            (λ end. (others : List ℕ) → Ended (W.has_failed writer.new) end ((read ++ piece.now) ++ others) before (W.contents writer.new) []) }
+            (λ end. EndedIn (W.has_failed writer.new) end (read ++ piece.now) before (W.contents writer.new) []) }
     {
         let ended = self.run_lines(piece, writer);
         writer.write_whole(&mut self.text)?;
@@ -98,6 +98,7 @@ impl Run {
         ensures ended { (read : List ℕ) (before : Option (List ℕ)) → SoFar read before (W.contents writer.old) self.old
             → MatchResult result (λ _. Whole read before (W.contents writer.new) [])
             (λ end. Ended (W.has_failed writer.new) end read before (W.contents writer.new) []) }
+        ensures handed { OnOk result (W.is_handed_on writer.new) }
     {
         let ended = self.end_last();
         writer.write_whole(&mut self.text)?;
@@ -111,7 +112,8 @@ impl Run {
         ensures disk { IfErr result (TellsDiskOrWriter (last_disk self.new.machine) (W.has_failed writer.new)) }
         ensures taken { (read : List ℕ) (before : Option (List ℕ)) → SoFar read before (W.contents writer.old) self.old
             → MatchResult result (λ _. SoFar (read ++ piece.now) before (W.contents writer.new) self.new)
-            (λ end. (others : List ℕ) → Ended (W.has_failed writer.new) end ((read ++ piece.now) ++ others) before (W.contents writer.new) (string_bytes self.new.text)) }
+            (λ end. EndedIn (W.has_failed writer.new) end (read ++ piece.now) before (W.contents writer.new)
+            (string_bytes self.new.text)) }
     {
         let mut rest = piece;
         while let Some((line, behind)) = first_line(rest) {
@@ -129,7 +131,8 @@ impl Run {
         ensures taken { (read : List ℕ) (before : Option (List ℕ)) → SoFar read before (W.contents writer.old) self.old
             → HasNoFeed bytes.now
             → MatchResult result (λ _. SoFar (read ++ (bytes.now ++ 10 ∷ [])) before (W.contents writer.new) self.new)
-            (λ end. (others : List ℕ) → Ended (W.has_failed writer.new) end ((read ++ (bytes.now ++ 10 ∷ [])) ++ others) before (W.contents writer.new) (string_bytes self.new.text)) }
+            (λ end. EndedIn (W.has_failed writer.new) end (read ++ (bytes.now ++ 10 ∷ [])) before (W.contents writer.new)
+            (string_bytes self.new.text)) }
     {
         self.end_line(bytes)?;
         if self.text.len() < FULL {
@@ -138,7 +141,7 @@ impl Run {
         Ok(writer.write_whole(&mut self.text)?)
     }
 
-    /// Adds to the line that has not come whole, for which there is room. It is outside the syntax where it is too long.
+    /// Adds to the line that has not come whole, for which there is room. A line that is too long is outside the syntax.
     fn begin_line(&mut self, bytes: &[u8]) -> Result<(), ScheduleFault>
         requires { IsRun self.old }
         ensures run { OnOk result (IsRun self.new) }
@@ -177,10 +180,11 @@ impl Run {
         ensures ran { OnOk result (RanBytes self.old (self.old.begun.items ++ bytes.now) self.new) }
         ensures text { OnErr result (string_bytes self.new.text ≡ string_bytes self.old.text) }
         ensures disk { IfErr result (TellsOfDisk (last_disk self.new.machine)) }
-        // A line outside the syntax is told by its number, and another fault is of one that says something.
+        // A line outside the syntax ends with its number, and another fault is of a line that says something.
         ensures err { IfErr result (IsFaultOf (self.old.lines + 1) (self.old.begun.items ++ bytes.now)) }
     {
-        let _named: (Option<Request>, Option<ClientMessage>) = (None, None);
+        named::<Request>();
+        named::<ClientMessage>();
         if self.lines == u64::MAX - 1 {
             return Err(ScheduleFault::Input);
         }
@@ -202,7 +206,8 @@ impl Run {
         ensures fits { IfOk result (λ line. IfSome line LineFits) }
         ensures err { IfErr result (IsStray (self.old.lines + 1) (self.old.begun.items ++ bytes.now)) }
     {
-        let _named: (Option<Request>, Option<ClientMessage>) = (None, None);
+        named::<Request>();
+        named::<ClientMessage>();
         let stray = ScheduleFault::Line(self.lines + 1);
         if self.begun.is_empty() {
             return line_in(bytes).ok_or(stray);

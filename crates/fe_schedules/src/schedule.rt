@@ -14,10 +14,12 @@ use fe_disk::MemoryDisk;
 use fe_text::{PIECE, READS, buffer};
 use std::alloc::Global;
 
-/// Makes a new store on the disk, runs the lines that the reader gives, and writes what the replies to them say. What the lines of
-/// one read print is written before the next read. `Line` at the first line outside the syntax, counted from 1 with the empty lines,
-/// which say nothing. `Input` where the reader or the writer fails, or was called 2^40 times. What earlier lines printed is written
-/// then. The disk comes back as it was at the end, or in its place that of a store that a `stop` could not open again.
+/// Makes a new store on the disk, runs the lines of the reader, and prints their replies to the writer. What the lines of one
+/// read print is written before the next read.
+///
+/// `Line` is the number of the first line outside the syntax, counted from 1; empty lines count, and do nothing. `Input` means
+/// that the reader or the writer failed, or was called 2^40 times. At a fault, what earlier lines print is written, unless the
+/// writer failed. The disk comes back as the run left it. If a `stop` could not open the store again, it is that store's disk.
 pub fn run_schedule<R: Source, W: Sink>(
     alloc: Global,
     disk: MemoryDisk,
@@ -27,13 +29,15 @@ pub fn run_schedule<R: Source, W: Sink>(
     requires size { length disk.image ≡ device_bytes }
     requires honest { IsHonest disk }
     requires calm { disk.failures ≡ 0 }
-    // Every line of the input ran, and what is written is what they print.
+    // Every line of the input ran, what is written is what they print, and it is handed on.
     ensures ok { OnOk result.0 (RunsAll (R.remaining reader.old) (W.contents writer.old) (W.contents writer.new)) }
-    // At a fault lines at the front of the input ran. What ended them is told, and what they print is written unless the writer failed.
+    ensures handed { OnOk result.0 (W.is_handed_on writer.new) }
+    // At a fault lines at the front of the input ran. The fault is what ended them, and what they print is written, unless the
+    // writer failed.
     ensures fault { IfErr result.0
         (λ end. RunsUntil (ReaderFails R.has_failed R.was_read reader.old reader.new) (W.has_failed writer.new)
         (reader.new ≡ reader.old) end (R.remaining reader.old) (W.contents writer.old) (W.contents writer.new)) }
-    // The device is told exactly where a call of the disk failed, unless the writer failed as well.
+    // The fault is `Device` exactly where a call of the disk failed, unless the writer failed as well.
     ensures disk { IfErr result.0 (TellsDiskOrWriter result.1 (W.has_failed writer.new)) }
 {
     let mut piece = match buffer(alloc, PIECE) {
@@ -61,6 +65,7 @@ fn run_all<R: Source, W: Sink>(
     requires none_kept { string_bytes run.old.text ≡ [] }
     requires room { 0 < length piece.old }
     ensures ok { OnOk result (RunsAll (R.remaining reader.old) (W.contents writer.old) (W.contents writer.new)) }
+    ensures handed { OnOk result (W.is_handed_on writer.new) }
     ensures disk { IfErr result (TellsDiskOrWriter (last_disk run.new.machine) (W.has_failed writer.new)) }
     ensures fault { IfErr result
         (λ end. RunsUntil (ReaderFails R.has_failed R.was_read reader.old reader.new) (W.has_failed writer.new)

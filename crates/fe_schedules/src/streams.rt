@@ -47,8 +47,11 @@ pub trait Sink {
     /// The bytes that it holds, where they are known.
     ghost contents: { Self → Option (List ℕ) };
 
-    /// A text was not written whole: a write of it failed or took no byte, or 2^40 writes were not enough. Or a flush failed.
+    /// A text was not written whole: a write failed or took no byte, or 2^40 writes were not enough. Or a flush failed.
     ghost has_failed: { Self → Fault → Type 0 };
+
+    /// All that was written is handed on.
+    ghost is_handed_on: { Self → Type 0 };
 
     /// Writes the text, and empties it. Where the writer fails, a front of it is written.
     fn write_whole(&mut self, text: &mut String) -> Result<(), StreamFault>
@@ -62,6 +65,7 @@ pub trait Sink {
     /// Hands on what is written.
     fn hand_on(&mut self) -> Result<(), StreamFault>
         ensures keeps { Keeps (contents self.old) (contents self.new) }
+        ensures handed { OnOk result (is_handed_on self.new) }
         ensures fails { IfErr result (has_failed self.new) };
 }
 
@@ -71,6 +75,8 @@ impl<W: Write> Sink for W {
     ghost contents = { W.contents };
 
     ghost has_failed = { λ _ _. ⊤ };
+
+    ghost is_handed_on = { λ _. ⊤ };
 
     fn write_whole(&mut self, text: &mut String) -> Result<(), StreamFault> {
         write_out(text, self)

@@ -1,12 +1,13 @@
 use Rattle.std.proofs.Common.{◌≡◌, map, Bool, true, false, refl, sym, ap, ◌∙◌, subst, List, Result, Err, slice_set}
 use Rattle.fe_keeper.specs.declared.fault.Fault.{Fault}
+use Rattle.fe_wire.specs.Stream.{Decoding, CompletesMessage}
 use Rattle.fe_desk.specs.declared.fault.DeskFault.{DeskFault}
 use Rattle.fe_desk.specs.declared.fault.DeskFault.TheVariants as fault
 use Rattle.fe_desk.specs.Standing.{Client, Standing}
 use Rattle.fe_desk.specs.Steps.{after_frame}
 use Rattle.fe_desk.specs.within.Desk.{client_of, desk_of}
 use Rattle.fe_desk.proofs.Leftovers.{left_here, port_changed}
-use Rattle.fe_desk.proofs.Pieces.{TookLeft, TookBytes, here_at, all_taken, port_same, fed_by, fed_place, desk_reads, reading, gone_groups, bytes_unknown, bytes_left, bytes_off, bytes_unread, bytes_more, bytes_all}
+use Rattle.fe_desk.proofs.Pieces.{TookLeft, TookBytes, here_at, all_taken, port_same, fed_by, fed_place, desk_reads, reading, gone_groups, bytes_unknown, bytes_left, bytes_off, port_reads, bytes_unread, bytes_more, bytes_all}
 use Rattle.fe_desk.proofs.parts.Parts.bytes.Goals as goal
 
 pub returns-in_default-clause-advances : goal.returns-in_default-clause-advances
@@ -59,7 +60,9 @@ returns-in_default-feed g c =
     let left = subst (λ (r : Result (Unit {0}) Fault). TookLeft honest may_leave moment since failures conn c.in-Some.at a r b) c.in_default-take_left.is left_any in
     let ports = c.take_left.new.self.trace.ports.items in let p = c.index_mut.result.now in
     let same = port_same ports conn c.in-Some.at p c.feed.new.self c.take_left.ensures.place c.index_mut.ensures.value c.in_default-feed.ensures.err in
-    let made = subst (λ (cs : List Client). TookBytes honest may_leave moment since failures conn piece a (Err (fault.NoMemory false)) (record b { standing = record b.standing { clients = cs } })) (sym same) (bytes_unread honest may_leave moment since failures conn c.in-Some.at piece a b client here left (sym c.connected.ensures ∙ c.if-not-connected.false)) in
+    let completes : CompletesMessage client.decoder piece = subst (λ (d : Decoding). CompletesMessage d piece)
+    (port_reads honest may_leave moment since failures conn c.in-Some.at a b client ports p here left refl c.take_left.ensures.place c.index_mut.ensures.value) c.in_default-feed.ensures.memory in
+    let made = subst (λ (cs : List Client). TookBytes honest may_leave moment since failures conn piece a (Err (fault.NoMemory false)) (record b { standing = record b.standing { clients = cs } })) (sym same) (bytes_unread honest may_leave moment since failures conn c.in-Some.at piece a b client here left (sym c.connected.ensures ∙ c.if-not-connected.false) completes) in
     record { desk = made.desk_is; taken = made.taken; again = made.again; fed = made.fed; owes = made.owes; outputs = made.outputs_are; advances = made.advances; fine = made.fine; fault = made.fault; written = made.written; stops = made.stops; torn = made.torn; grows = made.grows }
 
 pub take_left-requires-2-clause-desk : goal.take_left-requires-2-clause-desk
