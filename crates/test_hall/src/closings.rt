@@ -13,7 +13,7 @@ use fe_hall::{
     Unconnected, close,
 };
 use fe_keeper::Keeper;
-use fe_state::{Answer, Request};
+use fe_state::{Answer, Request, named};
 use fe_wire::ClientMessage;
 use fe_words::Op;
 use std::alloc::{AllocError, Global};
@@ -77,8 +77,7 @@ const CASES: [Case; 4] = [
 ];
 
 fn messages(alloc: Global, said: &[Say]) -> Result<Vec<ClientMessage>, AllocError> {
-    // The type is named because a message contains it (`docs/DECISIONS.md`, "Toolchain").
-    let _named: Option<Request> = None;
+    named::<Request>();
     let mut messages = Vec::new(alloc);
     for say in said {
         if let Some(message) = message_of(*say) {
