@@ -9,7 +9,7 @@ use std::sync::ledger::{Book, Share};
 
 /// The seat of a connection's read side: contracts see the connection's number, and what the side did.
 ///
-/// Only the hall changes it, in the hold in which it serves the side: who has the book may.
+/// Only the hall changes it, and only in a hold, since each change needs the book, which is under the lock.
 #[derive(Drop)]
 pub struct CallSeat<C: Tally> {
     share: Share<C>,
@@ -73,7 +73,7 @@ impl<C: Tally> CallSeat<C> {
         self.taken < u64::MAX
     }
 
-    /// A message is taken, and its calls are booked here and in the book.
+    /// A message is taken. Its calls are counted here and in the book.
     pub(crate) fn take(&mut self, book: &mut Book<C>, message: &ClientMessage)
         requires { IsTrue (nat_lt self.old.taken (2 ^ 64 - 1)) }
         ensures seat { self.new ≡ message_taken self.old message.now }

@@ -16,6 +16,6 @@ pub enum ReadEnd {
     Stopped,
     /// A book of the hall is full.
     Spent,
-    /// There was no memory for the messages that came, for the next one in the list, or for the bytes of the first read.
+    /// There was no memory for the messages that came, for one more in the list, or for the buffer of the reads.
     NoMemory,
 }

@@ -18,6 +18,7 @@ use crate::standing::Standing;
 use crate::store_seat::StoreSeat;
 use crate::taking::Taking;
 use crate::tally::Tally;
+use crate::turn::{Turn, Turned};
 use fe_disk::Disk;
 use fe_front::{BELLS, Front, Mail, StrangeBatch};
 use fe_keeper::Keeper;
@@ -27,18 +28,19 @@ use std::alloc::{AllocError, Global};
 use std::sync::ledger::Blank;
 use std::sync::{Condvar, Wait};
 
-/// A front for many threads. A hold of its lock makes one event of it.
+/// A front that many threads share. A hold of its lock makes at most one event.
 ///
-/// It is generic in the names of its two ledgers, of the calls and of the mails that were taken.
+/// `C` and `M` name its two ledgers, of the calls and of the mails that were taken.
 #[derive(Drop)]
 pub struct Hall<C: Tally, M: Tally> {
     lock: Lock<C, M>,
-    /// The word of its history, and the history's beginning.
+    turn: Turn,
+    /// The word of its history, and that history as it began.
     chronicle: Chronicle<M>,
     begun: History<M>,
-    /// Rung where entries are pending, and where the hall is stopped.
+    /// Rung when entries are pending, and when the hall is stopped.
     work: Condvar,
-    /// Rung where room came for an event, and where the hall is stopped.
+    /// Rung when there is room for an event again, and when the hall is stopped.
     room: Condvar,
     /// Rung for the sides of a connection, by its number's remainder.
     bells: Vec<Condvar>,
@@ -46,8 +48,8 @@ pub struct Hall<C: Tally, M: Tally> {
 }
 
 impl<C: Tally, M: Tally> Hall<C, M> {
-    /// A hall round a front that is as `Front::new` gave it, and the seat of its committing side. The blanks are the ledgers', of
-    /// 2^62 + 1 parts each.
+    /// A hall around a front that is as `Front::new` gave it, and the seat of its committing side. The blanks make its ledgers, of
+    /// 2^62 + 1 parts each. Where there is no memory the front comes back.
     pub fn new(
         alloc: Global,
         front: Front,
@@ -71,6 +73,7 @@ impl<C: Tally, M: Tally> Hall<C, M> {
                 let (seen, stored) = (begun.again(), begun.again());
                 let hall = Hall {
                     lock: Lock::new(Shared::new(alloc, front, calls, mails, seen, mark)),
+                    turn: Turn::new(),
                     chronicle,
                     begun,
                     work: Condvar::new(),
@@ -86,7 +89,7 @@ impl<C: Tally, M: Tally> Hall<C, M> {
         }
     }
 
-    /// Makes a connection, and gives the seats of its two sides.
+    /// Makes a connection with this number, and returns the seats of its two sides.
     pub fn connect<R: Wait>(
         &self,
         rt: &R,
@@ -98,7 +101,7 @@ impl<C: Tally, M: Tally> Hall<C, M> {
         self.lock.enter(rt).connect(conn)
     }
 
-    /// Tells all sides to end. What is pending is still stored.
+    /// Tells all sides to end. Entries that are pending are still stored.
     pub fn stop<R: Wait>(&self, rt: &R) {
         self.lock.enter(rt).stop();
         self.work.notify_all();
@@ -108,13 +111,14 @@ impl<C: Tally, M: Tally> Hall<C, M> {
         }
     }
 
-    /// Takes a message of a connection, once there is room for it; or tells its seat why not.
+    /// Handles a message once there is room for it, or records in the seat why it does not.
     pub(crate) fn handle<R: Wait>(
         &self,
         rt: &R,
         alloc: Global,
         message: &ClientMessage,
         seat: &mut CallSeat<C>,
+        turned: &mut Turned<'_>,
     ) -> Standing
         ensures { seat.new ≡ message_answered seat.old message.now result }
     {
@@ -130,13 +134,14 @@ impl<C: Tally, M: Tally> Hall<C, M> {
                 }
                 return standing;
             }
+            turned.end();
             hold = hold.wait(rt, &self.room);
         }
         unreachable!()
     }
 
-    /// Waits until the write side of a connection has written all that it took and the box is empty, or the connection is over. It does
-    /// not wait where there is no memory for that.
+    /// Waits until the box is empty and the write side has written all that it took, or the connection is gone, or the hall is stopped.
+    /// It does not wait where there is no memory to note that it does.
     pub(crate) fn await_rest<R: Wait>(&self, rt: &R, seat: &CallSeat<C>) {
         let conn = seat.conn();
         let mut hold = self.lock.enter(rt);
@@ -155,8 +160,8 @@ impl<C: Tally, M: Tally> Hall<C, M> {
         unreachable!()
     }
 
-    /// Waits until all that comes of the messages of a connection was taken for it, but for what waits; it is gone then. No message of
-    /// it comes any more. Where the hall is stopped it is left to its write side, which takes what is in the box.
+    /// Waits until the write side has taken what comes of the connection's messages, except what waits, and makes the connection gone.
+    /// No more messages of it come. If the hall is stopped, its write side goes on, and takes what is in the box.
     pub(crate) fn drain<R: Wait>(&self, rt: &R, seat: &mut CallSeat<C>)
         ensures untaken { TookNoMessage seat.old seat.new }
         ensures departed { HasDeparted seat.new }
@@ -176,7 +181,7 @@ impl<C: Tally, M: Tally> Hall<C, M> {
         self.ring(conn);
     }
 
-    /// The read side of a connection makes it gone, if it still is there.
+    /// The read side makes its connection gone, if that is still there.
     pub(crate) fn leave_by_reader<R: Wait>(&self, rt: &R, seat: &mut CallSeat<C>)
         ensures { seat.new ≡ record seat.old { departed = true } }
     {
@@ -184,7 +189,7 @@ impl<C: Tally, M: Tally> Hall<C, M> {
         self.ring(seat.conn());
     }
 
-    /// The write side of a connection makes it gone, if it still is there.
+    /// The write side makes its connection gone, if that is still there.
     pub(crate) fn leave_by_writer<R: Wait>(&self, rt: &R, seat: &mut MailSeat<M>)
         ensures { seat.new ≡ record seat.old { departed = true } }
     {
@@ -192,12 +197,13 @@ impl<C: Tally, M: Tally> Hall<C, M> {
         self.ring(seat.conn());
     }
 
-    /// Waits for a mail of a connection and takes it; or tells its seat why none comes. An answer is told in the history then.
+    /// Waits for a mail in the box and takes it, or records in the seat why none comes. An answer is added to the history.
     pub(crate) fn take_mail<R: Wait>(
         &self,
         rt: &R,
         seat: &mut MailSeat<M>,
         history: &mut History<M>,
+        turned: &mut Turned<'_>,
     ) -> Taking
         ensures seat { seat.new ≡ taking_answered seat.old result }
         ensures this { IsPrefix history.old history.new }
@@ -218,12 +224,25 @@ impl<C: Tally, M: Tally> Hall<C, M> {
             if hold.unwatch(conn) {
                 self.ring(conn);
             }
+            turned.end();
             hold = hold.wait(rt, &self.bells[(conn % BELLS) as usize]);
         }
         unreachable!()
     }
 
-    /// Waits for entries, and cuts them; or says that the hall is stopped and nothing is left to store.
+    /// Waits for the turn, if the side has several events to make.
+    pub(crate) fn take_turn<'a, R: Wait>(
+        &'a self,
+        rt: &R,
+        turned: &mut Turned<'a>,
+        has_several: bool,
+    ) {
+        if has_several {
+            turned.take(rt, &self.turn);
+        }
+    }
+
+    /// Waits for entries and cuts them, or says that the hall is stopped and nothing is left to store.
     pub(crate) fn next_batch<R: Wait>(&self, rt: &R) -> Cutting {
         let mut hold = self.lock.enter(rt);
         for _ in rt.forever() {
@@ -235,7 +254,7 @@ impl<C: Tally, M: Tally> Hall<C, M> {
         unreachable!()
     }
 
-    /// Posts the batch that the keeper has stored last, and rings for whoever has mail. `None` where a book is full.
+    /// Posts the batch that the keeper stored last, and rings for each connection with mail. `None` if a book is full.
     pub(crate) fn post<D: Disk, R: Wait>(
         &self,
         rt: &R,
@@ -264,7 +283,7 @@ impl<C: Tally, M: Tally> Hall<C, M> {
         Some(outcome)
     }
 
-    /// Notes the group that a keeper has just stored (`StoreSeat::note`).
+    /// Adds the group that a keeper has just stored to the history (`StoreSeat::note`).
     pub(crate) fn note<D: Disk>(&self, keeper: &Keeper<D>, seat: &mut StoreSeat<M>) -> bool
         ensures this { IsPrefix seat.old seat.new }
         ensures noted { IsTrue result
@@ -274,12 +293,12 @@ impl<C: Tally, M: Tally> Hall<C, M> {
         seat.note(&self.chronicle, keeper)
     }
 
-    /// The beginning of its history.
+    /// Its history as it began.
     pub fn history(&self) -> History<M> {
         self.begun.again()
     }
 
-    /// No receipts yet.
+    /// Receipts of this hall, none yet.
     pub fn no_receipts(&self, alloc: Global) -> Receipts<M>
         ensures { result.items ≡ [] }
     {
@@ -291,7 +310,7 @@ impl<C: Tally, M: Tally> Hall<C, M> {
         self.bells[(conn % BELLS) as usize].notify_all();
     }
 
-    /// What lies under the lock, and the word of the history, once no thread has the hall.
+    /// What is under the lock, and the word of the history, once no thread uses the hall.
     pub(crate) fn into_shared(self) -> (Shared<C, M>, Chronicle<M>) {
         let Hall {
             lock,

@@ -1,4 +1,4 @@
-//! The two directions of a connection, and what each message passes first.
+//! The two directions of a connection, and the gate that each message passes first.
 
 ghost use Rattle.std.specs.Prelude.{◌≡◌, ◌≤◌, ◌++◌, [], ℕ, List, length, take, IfOk, OnOk, OnErr};
 
@@ -17,7 +17,7 @@ pub trait ReadHalf {
     /// The bytes that were read.
     ghost told: { Self → List ℕ };
 
-    /// Reads some bytes into the front of the buffer, and says how many; none where the stream has ended.
+    /// Reads some bytes into the front of the buffer, and returns how many; 0 if the stream has ended.
     fn read(&mut self, buffer: &mut [u8]) -> Result<usize, LineFault>
         ensures fits { IfOk result (λ n. n ≤ length buffer.old) }
         ensures tells { tells self.old → tells self.new }
@@ -33,7 +33,7 @@ pub trait WriteHalf {
     /// The bytes that it got.
     ghost got: { Self → List ℕ };
 
-    /// Writes some bytes from the front, and says how many; none where it takes no more.
+    /// Writes some bytes from the front, and returns how many; 0 if it takes no more.
     fn write(&mut self, bytes: &[u8]) -> Result<usize, LineFault>
         ensures fits { IfOk result (λ n. n ≤ length bytes.now) }
         ensures tells { tells self.old → tells self.new }
@@ -41,17 +41,27 @@ pub trait WriteHalf {
         ensures err { tells self.old → OnErr result (got self.new ≡ got self.old) };
 }
 
-/// What a message passes before it is handled; it may let it wait.
+/// What each message of a read side passes before it is handled.
 pub trait Gate {
+    /// Returns once a message of this connection may be handled.
     fn pass<R: Wait>(&self, rt: &R, conn: u64);
+
+    /// Lets a message through that need not wait, in place of `pass`; `false` leaves it to `pass`.
+    fn passes_at_once(&self, _conn: u64) -> bool {
+        false
+    }
 }
 
-/// A gate that lets each message through.
+/// A gate that lets each message through at once.
 #[derive(Clone, Copy)]
 pub struct Open;
 
 impl Gate for Open {
     fn pass<R: Wait>(&self, _rt: &R, _conn: u64) {}
+
+    fn passes_at_once(&self, _conn: u64) -> bool {
+        true
+    }
 }
 
 /// Bytes in memory that are read in pieces.

@@ -1,4 +1,4 @@
-//! A hold of a hall's lock, in which one event of the front is made at most.
+//! A hold of a hall's lock, in which at most one event of the front is made.
 
 ghost use Rattle.std.specs.Sync.Mutex.{mutex_guard_value as under};
 ghost use Rattle.std.specs.Prelude.{◌≡◌, ◌≢◌, ◌+◌, ◌≤◌, ◌↔◌, ℕ, List, [], true, false, Ok, Err, Some, None, IsTrue, IsErr, IfOk, OnOk, OnErr, MatchOption, length};
@@ -33,7 +33,7 @@ use std::sync::{Condvar, Mutex, MutexGuard, Wait};
 /// How often a thread tries to take the lock before it sleeps: a hold is shorter than a sleep and a wake-up.
 const LOOKS: u64 = 100;
 
-/// The lock of a hall. What lies under it is reached through its holds alone.
+/// The lock of a hall. Only a hold reaches what is under it.
 #[derive(Drop)]
 pub(crate) struct Lock<C: Tally, M: Tally> {
     shared: Mutex<Shared<C, M>>,
@@ -74,7 +74,7 @@ impl<C: Tally, M: Tally> Lock<C, M> {
         self.shared.lock(rt)
     }
 
-    /// What lies under the lock, once no thread has it.
+    /// What is under the lock, once no thread uses it.
     pub(crate) fn into_shared(self) -> Shared<C, M> {
         let Lock { shared } = self;
         shared.into_inner()
@@ -82,7 +82,7 @@ impl<C: Tally, M: Tally> Lock<C, M> {
 }
 
 impl<'a, C: Tally, M: Tally> Hold<'a, C, M> {
-    /// Lets the lock go until a bell is rung, and takes it again, for one event.
+    /// Releases the lock until a bell is rung, and takes it again, for one event.
     pub(crate) fn wait<R: Wait>(self, rt: &R, bell: &Condvar) -> Hold<'a, C, M>
         ensures { result.used ≡ false }
     {
@@ -93,7 +93,7 @@ impl<'a, C: Tally, M: Tally> Hold<'a, C, M> {
         }
     }
 
-    /// Lets the lock go.
+    /// Releases the lock.
     pub(crate) fn end(self) {
         let Hold { shared, used: _ } = self;
         MutexGuard::unlock(shared);
@@ -113,7 +113,7 @@ impl<'a, C: Tally, M: Tally> Hold<'a, C, M> {
         self.shared.connect(conn)
     }
 
-    /// The event of a message, where there is room for it (`Shared::handle`).
+    /// The event of a message, if there is room for it (`Shared::handle`).
     pub(crate) fn handle(
         &mut self,
         alloc: Global,
@@ -169,7 +169,7 @@ impl<'a, C: Tally, M: Tally> Hold<'a, C, M> {
         self.shared.leave_by_writer(seat);
     }
 
-    /// The event that a read side makes its connection gone, but where the hall is stopped (`Shared::depart`).
+    /// The event that a read side makes its connection gone, unless the hall is stopped (`Shared::depart`).
     pub(crate) fn depart(&mut self, seat: &mut CallSeat<C>)
         requires fresh { self.old.used ≡ false }
         ensures used { self.new.used ≡ true }
@@ -219,7 +219,7 @@ impl<'a, C: Tally, M: Tally> Hold<'a, C, M> {
         self.shared.post(batch, keeper, seat, wakes)
     }
 
-    /// The hall is stopped. It is no event of the front, but its hold makes none.
+    /// Stops the hall. This is no event of the front, and the hold makes none after it.
     pub(crate) fn stop(&mut self)
         requires fresh { self.old.used ≡ false }
         ensures used { self.new.used ≡ true }
@@ -230,7 +230,7 @@ impl<'a, C: Tally, M: Tally> Hold<'a, C, M> {
         self.shared.stop();
     }
 
-    /// Notes that the read side of a connection waits for its box, or no more: no events of the front.
+    /// Notes that the read side of a connection waits for its box. This and `unwatch` are no events of the front.
     pub(crate) fn watch(&mut self, conn: u64) -> bool
         ensures same { self.new.used ≡ self.old.used }
         ensures front { (under self.new.shared).front ≡ (under self.old.shared).front }
@@ -250,7 +250,7 @@ impl<'a, C: Tally, M: Tally> Hold<'a, C, M> {
         self.shared.is_watched(conn)
     }
 
-    /// Whether a connection is told nothing any more (`Shared::is_over`).
+    /// Whether a connection gets nothing more (`Shared::is_over`).
     pub(crate) fn is_over(&self, conn: u64) -> bool {
         self.shared.is_over(conn)
     }
@@ -265,7 +265,7 @@ impl<'a, C: Tally, M: Tally> Hold<'a, C, M> {
         self.shared.is_drained(conn, place)
     }
 
-    /// What was stored, as far as it is posted (`Shared::mark`).
+    /// How far what was stored is posted (`Shared::mark`).
     pub(crate) fn mark(&self, history: &mut History<M>) -> u64
         ensures this { IsPrefix history.old history.new }
         ensures mark { result ≤ mark_of history.new }

@@ -27,6 +27,7 @@ mod store_seat;
 mod strange;
 mod taking;
 mod tally;
+mod turn;
 mod write_end;
 mod writing;
 

@@ -8,7 +8,7 @@ use std::sync::ledger::{Book, Share};
 
 /// The seat of a connection's write side: contracts see the connection's number, and what the side did.
 ///
-/// Only the hall changes it, in the hold in which it serves the side: who has the book may.
+/// Only the hall changes it, and only in a hold, since each change needs the book, which is under the lock.
 #[derive(Drop)]
 pub struct MailSeat<M: Tally> {
     share: Share<M>,
@@ -68,7 +68,7 @@ impl<M: Tally> MailSeat<M> {
         self.more
     }
 
-    /// A mail is taken, and booked here and in the book; `more`: others are in the box.
+    /// A mail is taken. It is counted here and in the book. `more`: others are in the box.
     pub(crate) fn take(&mut self, book: &mut Book<M>, more: bool)
         ensures seat { self.new ≡ mail_taken self.old more }
         ensures book { book.new.total ≡ book.old.total + 1 }

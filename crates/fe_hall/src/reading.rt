@@ -11,6 +11,7 @@ use crate::hall::Hall;
 use crate::halves::{Gate, ReadHalf};
 use crate::standing::Standing;
 use crate::tally::Tally;
+use crate::turn::Turned;
 use fe_wire::{ClientMessage, Decoder, Version};
 use std::alloc::Global;
 use std::sync::Wait;
@@ -21,8 +22,8 @@ const PIECE_BYTES: usize = 8192;
 /// How many messages the list of a side has at most.
 const LISTED: usize = 1024;
 
-/// Serves the direction from the client of a connection, until it ends. Each message goes through the gate, outside the lock,
-/// and then to the hall, which may let it wait for room. `turns` bounds the reads; where it is absent nothing does.
+/// Serves the direction from the client of a connection, until it ends. Each message passes the gate, outside the lock, and goes
+/// to the hall, where it may wait for room. `turns` is how many reads are made at most; `None` sets no bound.
 ///
 /// It gives the seat back, with the first 1,024 attaches and calls that were handled. At `Closed` and `Turns` it waits until the
 /// write side has taken what comes of the messages that were handled, except what waits. Every end makes the connection gone,
@@ -36,12 +37,12 @@ pub fn read_side<C: Tally, M: Tally, H: ReadHalf, G: Gate, R: Wait>(
     gate: &G,
     turns: Option<u64>,
 ) -> (CallSeat<C>, Vec<ClientMessage>, ReadEnd)
-    // A half that tells its bytes, and has told none: what was handled is the front of its stream.
+    // If the half tells its bytes, and has told none yet, what was handled is the front of its stream.
     ensures handled { H.tells half.old → H.told half.old ≡ []
         → HandlesStream (H.told half.new) seat result.0 result.1.items result.2 }
     ensures tells { H.tells half.old → H.tells half.new }
     ensures turns { result.2 ≡ ReadEnd.Turns → IsSome turns }
-    // Where the side ends since its connection is gone, the hall is stopped or a book is full, the hall told it so.
+    // A side ends as `Gone`, `Stopped` or `Spent` only if that was the hall's last answer to it.
     ensures told { IsTold result.2 result.0.standing }
     ensures departed { result.2 ≢ ReadEnd.Stopped → HasDeparted result.0 }
 {
@@ -170,8 +171,11 @@ impl<C: Tally> Reading<C> {
         ensures told { IfSome result (λ end. IsTold end self.new.seat.standing) }
         ensures decoder { self.new.decoder ≡ self.old.decoder }
     {
+        let mut turned = Turned::none();
         for message in messages {
-            if let Some(end) = self.take(rt, hall, gate, message) {
+            // A message that had to wait gave it up.
+            hall.take_turn(rt, &mut turned, messages.len() > 1);
+            if let Some(end) = self.take(rt, hall, gate, message, &mut turned) {
                 return Some(end);
             }
         }
@@ -185,6 +189,7 @@ impl<C: Tally> Reading<C> {
         hall: &Hall<C, M>,
         gate: &G,
         message: &ClientMessage,
+        turned: &mut Turned<'_>,
     ) -> Option<ReadEnd>
         ensures seat { IfNone result (self.new.seat ≡ message_taken self.old.seat message.now) }
         ensures listed { IfNone result (self.new.listed.items ≡ listed_with self.old.listed.items message.now) }
@@ -198,12 +203,16 @@ impl<C: Tally> Reading<C> {
         if lists && self.listed.reserve(1).is_err() {
             return Some(ReadEnd::NoMemory);
         }
-        gate.pass(rt, self.seat.conn());
+        if !gate.passes_at_once(self.seat.conn()) {
+            turned.end();
+            gate.pass(rt, self.seat.conn());
+        }
         // A report may be long, and a client may ask for many and read none.
         if matches!(message, ClientMessage::Report) {
+            turned.end();
             hall.await_rest(rt, &self.seat);
         }
-        let standing = hall.handle(rt, self.alloc, message, &mut self.seat);
+        let standing = hall.handle(rt, self.alloc, message, &mut self.seat, turned);
         if let Some(end) = end_of(standing) {
             return Some(end);
         }
@@ -214,7 +223,7 @@ impl<C: Tally> Reading<C> {
     }
 }
 
-/// Makes the connection gone whose read side ended so; where its stream ended or its reads are used up, once it is drained.
+/// A read side that ended so makes its connection gone, at `Closed` and `Turns` once it is drained.
 fn depart<C: Tally, M: Tally, R: Wait>(
     rt: &R,
     hall: &Hall<C, M>,

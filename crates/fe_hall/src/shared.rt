@@ -1,4 +1,4 @@
-//! What lies under the lock of a hall: the front, with a ledger of its calls and one of the mails that were taken.
+//! What is under the lock of a hall: the front, with a ledger of its calls and one of the mails that were taken.
 
 ghost use Rattle.std.specs.Prelude.{◌≡◌, ◌≢◌, ◌+◌, ◌-◌, ◌^◌, ◌≤◌, ◌⊎◌, ◌↔◌, ℕ, List, [], true, false, Ok, Err, Some, None, IsTrue, IsErr, IfOk, IfErr, OnOk, OnErr, IfSome, MatchOption, slice_get, length, nat_lt};
 ghost use Rattle.std.specs.FinMap.{get};
@@ -48,7 +48,7 @@ pub(crate) struct Shared<C: Tally, M: Tally> {
     mails: Book<M>,
     spare_calls: Share<C>,
     spare_mails: Share<M>,
-    /// What was stored, as far as it is posted, and the place before which all entries are.
+    /// What was stored, as far as it is posted; all entries before the mark are.
     history: History<M>,
     mark: u64,
     /// How many connections were made.
@@ -67,13 +67,13 @@ pub(crate) struct Shared<C: Tally, M: Tally> {
         × (M.all ≡ most_connections + 1) },
 }
 
-/// That a hall is stopped and all that was made in it is durable. Only a cut makes one.
+/// Shows that a hall is stopped and that all that was made in it is durable. Only a cut makes one.
 #[derive(Clone, Copy)]
 pub(crate) struct AllDurable {
     place: u64,
 }
 
-/// That a batch was posted. Only a post makes one.
+/// Shows that a batch was posted. Only a post makes one.
 #[derive(Clone, Copy)]
 pub(crate) struct Posted {
     /// The place after its entries.
@@ -183,7 +183,7 @@ impl<C: Tally, M: Tally> Shared<C, M> {
         take_message(alloc, &mut self.front, conn, message);
     }
 
-    /// Takes a message of a connection if there is room for it; otherwise does nothing and returns `None`. Its seat records the answer.
+    /// Handles a message, or records in its seat why not. If there is no room for it, does nothing and returns `None`.
     pub(crate) fn handle(
         &mut self,
         alloc: Global,
@@ -241,7 +241,7 @@ impl<C: Tally, M: Tally> Shared<C, M> {
         self.is_watched(conn) || self.watched.push(conn).is_ok()
     }
 
-    /// It is noted no more. Whether it was.
+    /// The read side of a connection waits no more. Whether it was noted as waiting.
     pub(crate) fn unwatch(&mut self, conn: u64) -> bool
         ensures front { self.new.front ≡ self.old.front }
         ensures still { self.new.stopped ≡ self.old.stopped }
@@ -290,7 +290,7 @@ impl<C: Tally, M: Tally> Shared<C, M> {
         self.front.books().mails
     }
 
-    /// Takes the first mail out of a connection's box, or tells its seat why none comes. `None`: the side waits for one.
+    /// Takes the first mail out of a connection's box, or records in its seat why none comes. `None`: one may come.
     pub(crate) fn take_mail(&mut self, seat: &mut MailSeat<M>) -> Option<Taking>
         ensures takes { TakesMail self.old.front self.old.stopped seat.old.conn result self.new.front }
         ensures seat { MatchOption result (seat.new ≡ seat.old) (λ taking. seat.new ≡ taking_answered seat.old taking) }
@@ -308,7 +308,7 @@ impl<C: Tally, M: Tally> Shared<C, M> {
         }
     }
 
-    /// What was stored, as far as it is posted: all entries before the place.
+    /// The place before which all entries are stored and posted. The history gets to know of them.
     pub(crate) fn mark(&self, history: &mut History<M>) -> u64
         ensures this { IsPrefix history.old history.new }
         ensures mark { result ≤ mark_of history.new }
@@ -317,7 +317,7 @@ impl<C: Tally, M: Tally> Shared<C, M> {
         self.mark
     }
 
-    /// Why no mail comes any more for a connection whose box is empty. `None` where one may.
+    /// Why no mail comes any more for a connection whose box is empty. `None`: one may come.
     fn end_of_mails(&self, seat: &mut MailSeat<M>) -> Option<Taking>
         ensures ends { Ends self.now.front self.now.stopped seat.old.conn result }
         ensures seat { MatchOption result (seat.new ≡ seat.old) (λ taking. seat.new ≡ taking_answered seat.old taking) }
@@ -379,7 +379,7 @@ impl<C: Tally, M: Tally> Shared<C, M> {
         self.leave_by_reader(seat);
     }
 
-    /// Hands all pending entries out, if there are some and no batch is out. `None` where entries are waited for.
+    /// Hands all pending entries out, if there are some and no batch is out. `None`: there may be some later.
     pub(crate) fn cut(&mut self) -> Option<Cutting>
         ensures { Cuts self.old.front self.old.stopped result self.new.front }
     {
@@ -401,8 +401,8 @@ impl<C: Tally, M: Tally> Shared<C, M> {
         self.front.books().mails <= MOST - count
     }
 
-    /// Takes the batch that is out, and that the keeper stored last, as stored, and mails its entries. Marks the bells of the
-    /// connections whose boxes it changes.
+    /// The batch that is out, which the keeper stored last, is durable now: mails its entries, and marks the bells of the connections
+    /// whose boxes change.
     pub(crate) fn post<D: Disk>(
         &mut self,
         batch: Batch,

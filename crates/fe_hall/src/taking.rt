@@ -1,6 +1,6 @@
 use fe_front::Mail;
 
-/// What came of a look into a connection's box.
+/// What a look into a connection's box found.
 #[derive(Drop)]
 pub(crate) enum Taking {
     /// A mail was taken, and whether more are in the box.

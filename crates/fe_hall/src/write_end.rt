@@ -1,4 +1,4 @@
-/// Why a write side ended. Its connection is gone then, but where it was stopped.
+/// Why a write side ended. Its connection is gone then, except at `Stopped`.
 #[derive(Clone, Copy, PartialEq, Eq)]
 pub enum WriteEnd {
     /// The connection was not there any more.

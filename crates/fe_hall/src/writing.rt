@@ -1,4 +1,4 @@
-//! The write side of a connection: the mails of its box are spelled to its client, in their order.
+//! The write side of a connection: the mails of its box go to its client as frames, in their order.
 
 ghost use Rattle.std.specs.Prelude.{◌≡◌, ◌≢◌, ◌⊎◌, true, Some, ◌<◌, ◌≤◌, ◌∷◌, ◌++◌, [], ℕ, List, length, take, vec_len, vec_capacity, OnOk, OnErr, IfOk, IfErr, IfNone, IfSome, MatchOption};
 ghost use Rattle.fe_mail.specs.declared.mail.Mail.{Mail as Told};
@@ -17,6 +17,7 @@ use crate::receipt::Receipt;
 use crate::receipts::Receipts;
 use crate::taking::Taking;
 use crate::tally::Tally;
+use crate::turn::Turned;
 use crate::write_end::WriteEnd;
 use fe_front::Mail;
 use fe_messages::Reply;
@@ -29,8 +30,8 @@ const BATCH_BYTES: usize = 65536;
 /// How many receipts a side keeps at most.
 const KEPT: usize = 1024;
 
-/// Serves the direction to the client of a connection, until it ends. It waits for mail, takes all of it out of the box, and
-/// makes one write of what it spelled outside the lock, before it takes more than some 64 KiB.
+/// Serves the direction to the client of a connection, until it ends. It waits for mail, takes all of it out of the box, or enough
+/// for some 64 KiB of frames, and makes one write of these, outside the lock.
 ///
 /// It gives the seat back, with the receipts of the first 1,024 answers that it took. Every end but `Stopped` makes the
 /// connection gone.
@@ -41,13 +42,13 @@ pub fn write_side<C: Tally, M: Tally, H: WriteHalf, R: Wait>(
     seat: MailSeat<M>,
     half: &mut H,
 ) -> (MailSeat<M>, Receipts<M>, WriteEnd)
-    // The mails that were taken: seat and receipts tell them, a half that tells its bytes got their spelling, and the history has each
-    // answer among them, after the group of its entry.
+    // Of the mails that were taken: the seat counts them, the receipts are of the first answers among them, a half that tells its
+    // bytes got their frames, and the history has each answer, after the group of its entry.
     ensures wrote { (mails : List Told) × AreTaken seat result.0 result.1.items mails
         × (H.tells half.old → IsWritten (H.got half.old) mails result.2 (H.got half.new))
         × AreTold mails result.1.history }
     ensures tells { H.tells half.old → H.tells half.new }
-    // Where the side ends since its connection is gone, the hall is stopped or a book is full, the hall told it so.
+    // A side ends as `Gone`, `Stopped` or `Spent` only if that was the hall's last answer to it.
     ensures told { IsTold result.2 result.0.standing }
     ensures departed { result.2 ≢ WriteEnd.Stopped → result.0.departed ≡ true }
 {
@@ -140,18 +141,25 @@ impl<M: Tally> Writing<M> {
         ensures this { IsPrefix self.old.history self.new.history }
         ensures told { IfErr result (λ end. IsTold end self.new.seat.standing) }
     {
+        let mut turned = Turned::none();
         let mut more = true;
         for _ in rt.forever() {
             if !more || self.frames.len() >= BATCH_BYTES {
                 return Ok(());
             }
-            more = self.take_mail(rt, hall)?;
+            more = self.take_mail(rt, hall, &mut turned)?;
+            hall.take_turn(rt, &mut turned, more);
         }
         unreachable!()
     }
 
     /// Waits for a mail, takes it, keeps its receipt, and spells it. Whether more are in the box.
-    fn take_mail<C: Tally, R: Wait>(&mut self, rt: &R, hall: &Hall<C, M>) -> Result<bool, WriteEnd>
+    fn take_mail<C: Tally, R: Wait>(
+        &mut self,
+        rt: &R,
+        hall: &Hall<C, M>,
+        turned: &mut Turned<'_>,
+    ) -> Result<bool, WriteEnd>
         // It may wait, so nothing that was taken is left to write, or more mails are in the box.
         requires { (self.old.frames.items ≡ []) ⊎ (self.old.seat.more ≡ true) }
         ensures took { (mails : List Told)
@@ -165,7 +173,7 @@ impl<M: Tally> Writing<M> {
         if self.make_room().is_err() {
             return Err(WriteEnd::NoMemory);
         }
-        let (mail, more) = mail_in(hall.take_mail(rt, &mut self.seat, &mut self.history))?;
+        let (mail, more) = mail_in(hall.take_mail(rt, &mut self.seat, &mut self.history, turned))?;
         self.keep_receipt(&mail);
         match Reply::of(mail).put(&mut self.frames) {
             Ok(()) => Ok(more),
@@ -220,7 +228,7 @@ fn mail_in(taking: Taking) -> Result<(Mail, bool), WriteEnd>
     }
 }
 
-/// Makes the connection gone whose write side ended so.
+/// A write side that ended so makes its connection gone.
 fn depart<C: Tally, M: Tally, R: Wait>(
     rt: &R,
     hall: &Hall<C, M>,
@@ -237,7 +245,7 @@ fn depart<C: Tally, M: Tally, R: Wait>(
     }
 }
 
-/// Writes all of these bytes; in one write, where the half takes them so.
+/// Writes all of these bytes, in one write if the half takes them at once.
 fn write_whole<H: WriteHalf>(half: &mut H, bytes: &[u8]) -> Result<(), LineFault>
     ensures tells { H.tells half.old → H.tells half.new }
     ensures ok { H.tells half.old → OnOk result (H.got half.new ≡ H.got half.old ++ bytes.now) }
