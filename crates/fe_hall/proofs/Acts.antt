@@ -10,7 +10,7 @@ use Rattle.std.specs.List.{filter_map, cons_option}
 use Rattle.std.specs.Prelude.{zero, suc, take, slice_get, Option, Some, None, IfSome, Result, Ok, Err, if◌then◌else◌, is_ok}
 use Rattle.fe_mail.specs.declared.mail.Mail.{Mail}
 use Rattle.fe_hall.specs.Writes.{receipt_of}
-use Rattle.fe_hall.specs.Acts.{GoesOn, IsLegal, mark_from, mark_of, stores_in, StandsIn, EachTold, WasTold, AreTold}
+use Rattle.fe_hall.specs.Acts.{GoesOn, HasMore, IsLegal, mark_from, mark_of, stores_in, StandsIn, EachTold, WasTold, AreTold}
 
 told_goes : (mark : ℕ) (log : List Act) (r : Receipt) → GoesOn mark log → r.place < mark_from mark log → GoesOn mark (log ++ Told r ∷ [])
 told_goes mark [] r legal below = (below, tt)
@@ -110,6 +110,14 @@ stores_same xs ys p same =
     empty : (s : List (ℕ × ℕ)) → length s ≡ 0 → s ≡ []
     empty [] none = refl
     empty (x ∷ s) none = absurd (omega arith)
+
+-- with another number of groups the whole has more than the beginning
+pub stores_more : (xs ys : List Act) → IsPrefix xs ys → (length (stores_in ys) ≡ length (stores_in xs) → ⊥) → HasMore (stores_in xs) (stores_in ys)
+stores_more xs ys p other = by (stores_in p.0) (sym (stores_append xs p.0) ∙ ap stores_in p.1)
+  where
+    by : (rest : List (ℕ × ℕ)) → stores_in xs ++ rest ≡ stores_in ys → HasMore (stores_in xs) (stores_in ys)
+    by [] is = absurd (other (ap length (sym is ∙ append-nil (stores_in xs))))
+    by (s ∷ rest) is = (s, rest, sym is)
 
 -- ---- answers that were told
 

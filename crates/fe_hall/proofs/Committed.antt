@@ -275,8 +275,8 @@ module _ {D : Type 0} (honest : D → Type 0) (moment : D → ℕ) (left_since :
   -- a side that went on may end
   pub ended_noted : (a b : KeeperState D) (end : Option CommitEnd) (x y : List Act) (c : Commits honest moment left_since a b None) → AreNoted moment c.appends None x y
       → (all : Commits honest moment left_since a b end) × AreNoted moment all.appends end x y
-  ended_noted a b end x y c (p, inr strange) = absurd (cc strange)
-  ended_noted a b end x y c (p, inl notes) = (
+  ended_noted a b end x y c (p, n, is, inr strange) = absurd (cc (strange.0))
+  ended_noted a b end x y c (p, n, is, inl notes) = (
     record {
       groups = c.groups;
       history = c.history;
@@ -287,7 +287,7 @@ module _ {D : Type 0} (honest : D → Type 0) (moment : D → ℕ) (left_since :
       are_appends = c.are_appends;
       any_moment = c.any_moment;
     },
-    (p, inl notes),
+    (p, n, is, inl notes),
   )
 
 -- ---- the checkpoint beside

@@ -10,7 +10,7 @@ use Rattle.fe_hall.specs.declared.commit_end.CommitEnd.TheVariants.{Strange}
 use Rattle.fe_hall.specs.declared.taking.Taking.{Taking}
 use Rattle.fe_hall.specs.declared.taking.Taking.TheVariants as taking
 use Rattle.fe_hall.specs.Acts.{IsLegal, mark_of, stores_in}
-use Rattle.fe_hall.specs.Commits.{Append, AreNoted, noted}
+use Rattle.fe_hall.specs.Commits.{Append, AreNoted, AreNotes, noted}
 use Rattle.fe_hall.specs.Rules.{ComesAfter, told_as}
 use Rattle.fe_hall.specs.Seats.{WriteSeat, taking_answered}
 use Rattle.fe_hall.proofs.Acts.{mark_stored, prefix_self, prefix_trans, stores_append, stores_same}
@@ -27,20 +27,37 @@ note_marks old new place moment legal c = subst (λ (acts : List Act). place ≤
 module _ {D : Type 0} (moment : D → ℕ) where
   -- nothing was stored
   pub none_noted : (appends : List (Append D)) (end : Option CommitEnd) (acts : List Act) → appends ≡ [] → AreNoted moment appends end acts acts
-  none_noted appends end acts none = (
-    prefix_self acts,
-    inl (sym (append-nil (stores_in acts)) ∙ ap (λ (s : List (Append D)). stores_in acts ++ map (noted moment) s) (sym none)),
-  )
+  none_noted appends end acts none = (prefix_self acts, [], sym (append-nil (stores_in acts)), inl (ap (λ (s : List (Append D)). map (noted moment) s) (sym none)))
+
+  -- a group was stored and noted
+  pub one_noted : (append : Append D) (end : Option CommitEnd) (a b : List Act) → IsPrefix a b → stores_in b ≡ stores_in a ++ noted moment append ∷ [] → AreNoted moment (append ∷ []) end a b
+  one_noted append end a b p is = (p, noted moment append ∷ [], is, inl refl)
+
+  -- a group was stored and not noted, which is strange
+  pub one_unnoted : (append : Append D) (a b : List Act) → b ≡ a → AreNoted moment (append ∷ []) (Some Strange) a b
+  one_unnoted append a b same =
+      (subst (λ (h : List Act). IsPrefix a h) (sym same) (prefix_self a), [], ap stores_in same ∙ sym (append-nil (stores_in a)), inr (refl, noted moment append, refl))
+
+  -- notes after notes
+  both_notes : (first second : List (Append D)) (end : Option CommitEnd) (n m : List (ℕ × ℕ)) → AreNotes moment first None n → AreNotes moment second end m → AreNotes moment (first ++ second) end (n ++ m)
+  both_notes first second end n m (inr strange) two = absurd (cc (strange.0))
+  both_notes first second end n m (inl one) (inl two) =
+      inl (ap (λ (s : List (ℕ × ℕ)). s ++ m) one ∙ ap (λ (s : List (ℕ × ℕ)). map (noted moment) first ++ s) two ∙ sym (map-append (noted moment) first second))
+  both_notes first second end n m (inl one) (inr (strange, last, two)) =
+      inr (
+        strange,
+        last,
+        append_assoc n m (last ∷ []) ∙ ap (λ (s : List (ℕ × ℕ)). s ++ (m ++ last ∷ [])) one ∙ ap (λ (s : List (ℕ × ℕ)). map (noted moment) first ++ s) two
+            ∙ sym (map-append (noted moment) first second),
+      )
 
   -- one after the other
   pub both_noted : (first second : List (Append D)) (end : Option CommitEnd) (a b c : List Act) → AreNoted moment first None a b → AreNoted moment second end b c → AreNoted moment (first ++ second) end a c
-  both_noted first second end a b c (p, inr strange) two = absurd (cc strange)
-  both_noted first second end a b c (p, inl one) (q, inr strange) = (prefix_trans a b c p q, inr strange)
-  both_noted first second end a b c (p, inl one) (q, inl two) = (
+  both_noted first second end a b c (p, n, one, are) (q, m, two, also) = (
     prefix_trans a b c p q,
-    inl
-        (two ∙ ap (λ (s : List (ℕ × ℕ)). s ++ map (noted moment) second) one ∙ append_assoc (stores_in a) (map (noted moment) first) (map (noted moment) second)
-        ∙ ap (λ (s : List (ℕ × ℕ)). stores_in a ++ s) (sym (map-append (noted moment) first second))),
+    n ++ m,
+    two ∙ ap (λ (s : List (ℕ × ℕ)). s ++ m) one ∙ append_assoc (stores_in a) n m,
+    both_notes first second end n m are also,
   )
 
   -- a batch was stored, and then nothing

@@ -1,5 +1,5 @@
 -- What happened in a hall, in one order: groups were stored, and answers were told.
-use Rattle.std.specs.Prelude.{◌≡◌, ℕ, ◌<◌, ◌≤◌, max, List, [], ◌∷◌, ◌++◌, length, slice_get, Option, Some, None, IfSome}
+use Rattle.std.specs.Prelude.{◌≡◌, ℕ, ◌<◌, ◌≤◌, max, Bool, List, [], ◌∷◌, ◌++◌, length, slice_get, Option, Some, None, IfSome, MatchBool}
 use mathlib.Core.List.{IsPrefix}
 use Rattle.fe_mail.specs.declared.mail.Mail.{Mail}
 use Rattle.fe_hall.specs.declared.receipt.Receipt.{Receipt}
@@ -23,7 +23,7 @@ mark_from mark (Began place ∷ acts) = mark_from mark acts
 mark_from mark (Stored place moment ∷ acts) = mark_from (max mark place) acts
 mark_from mark (Told r ∷ acts) = mark_from mark acts
 
--- the entry of each answer that is told lies below the mark of what was stored before
+-- an answer is told only when its entry lies below the mark of what was stored before
 abbrev pub GoesOn : ℕ → List Act → Type 0
 GoesOn mark [] = Unit {0}
 GoesOn mark (Began place ∷ acts) = ⊥
@@ -73,3 +73,21 @@ TakingTold taking.Spent acts = Unit {0}
 pub record Receipts : Type 0 where
   pub items : List Receipt
   pub history : List Act
+
+-- there are more of these than of those, which come first
+abbrev pub HasMore : List (ℕ × ℕ) → List (ℕ × ℕ) → Type 0
+HasMore stores all = (other : ℕ × ℕ) × (others : List (ℕ × ℕ)) × (all ≡ stores ++ other ∷ others)
+
+-- What a hall leaves: receipts, the history, and whether the hall's committing side noted every group in it.
+pub record Account : Type 0 where
+  pub receipts : List Receipt
+  pub history : List Act
+  pub own : Bool
+
+-- The account has these receipts, and its history goes on from that of the committing side and from what the write sides saw.
+pub record IsAccountOf (seat : List Act) (receipts : List Receipt) (seen : List Act) (account : Account) : Type 0 where
+  pub same_receipts : account.receipts ≡ receipts
+  pub this : IsPrefix seat account.history
+  pub that : IsPrefix seen account.history
+  pub legal : IsLegal account.history
+  pub own : MatchBool account.own (stores_in account.history ≡ stores_in seat) (HasMore (stores_in seat) (stores_in account.history))

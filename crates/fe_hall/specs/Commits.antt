@@ -63,9 +63,14 @@ pub record Commits {D : Type 0} (honest : D → Type 0) (moment : D → ℕ) (le
 abbrev pub noted : {D : Type 0} → (D → ℕ) → Append D → ℕ × ℕ
 noted moment append = (append.after.state.place, moment append.after.store.disk)
 
--- The history notes these appends in their order, and none besides. Only where something is strange the last may be missing.
+-- What was noted of these appends, in their order: all of them, except the last where something is strange.
+abbrev pub AreNotes : {D : Type 0} → (D → ℕ) → List (Append D) → Option CommitEnd → List (ℕ × ℕ) → Type 0
+AreNotes moment appends end notes = (notes ≡ map (noted moment) appends) ⊎ ((end ≡ Some Strange) × (last : ℕ × ℕ) × (notes ++ last ∷ [] ≡ map (noted moment) appends))
+
+-- The history notes these appends in their order, and none besides.
 abbrev pub AreNoted : {D : Type 0} → (D → ℕ) → List (Append D) → Option CommitEnd → List Act → List Act → Type 0
-AreNoted moment appends end before after = IsPrefix before after × ((stores_in after ≡ stores_in before ++ map (noted moment) appends) ⊎ (end ≡ Some Strange))
+AreNoted moment appends end before after =
+    IsPrefix before after × (notes : List (ℕ × ℕ)) × (stores_in after ≡ stores_in before ++ notes) × AreNotes moment appends end notes
 
 -- ---- ends
 

@@ -1,16 +1,16 @@
 //! A hall is closed: its books are compared with the seats, and the receipts with what is stored and what was sent.
 
-ghost use Rattle.std.specs.Prelude.{◌≡◌, ◌≢◌, ◌↔◌, ℕ, false, map, All, Any, Err, IfOk, IsErr};
+ghost use Rattle.std.specs.Prelude.{◌≡◌, ◌≢◌, ◌↔◌, ℕ, false, map, All, Any, Err, IfOk, IfErr, IsErr};
 ghost use Rattle.fe_mail.specs.Books.{AddUp};
-ghost use mathlib.Core.List.{IsPrefix};
-ghost use Rattle.fe_hall.specs.Acts.{EachTold, IsLegal, stores_in};
+ghost use Rattle.fe_hall.specs.Acts.{IsAccountOf};
+ghost use Rattle.fe_hall.specs.Audits.{account_left};
 ghost use Rattle.fe_hall.specs.Receipts.{IsBorneOut, IsFirstStrange, IsStrange};
 ghost use Rattle.fe_hall.specs.declared.closing.Unclosed.TheVariants.{SeatMissing, StrangeReceipt};
 
-use crate::act::Act;
+use crate::account::Account;
 use crate::call_seats::CallSeats;
 use crate::hall::Hall;
-use crate::history::{History, Law};
+use crate::history::History;
 use crate::mail_seats::MailSeats;
 use crate::receipt::Receipt;
 use crate::store_seat::StoreSeat;
@@ -21,7 +21,6 @@ use fe_front::Books;
 use fe_keeper::Keeper;
 use fe_state::State;
 use fe_wire::ClientMessage;
-use logbook::Seen;
 use std::marker::Model;
 
 /// What a hall leaves: its books, and the keeper.
@@ -46,14 +45,12 @@ pub enum Unclosed {
 pub struct Audit {
     books: Books,
     sent: Vec<Vec<ClientMessage>>,
-    receipts: Vec<Receipt>,
-    history: Seen<Act, u64, Law>,
+    account: Account,
 }
 
 impl Model for Audit {
     ghost use Rattle.std.specs.Prelude.{◌≡◌, false, map};
     ghost use Rattle.fe_mail.specs.Books.{AddUp};
-    ghost use Rattle.fe_hall.specs.Acts.{IsLegal};
     ghost use Rattle.fe_hall.specs.Audits.{Audited};
 
     ghost Value = { Audited };
@@ -61,11 +58,11 @@ impl Model for Audit {
     ghost view = { λ a. record {
       books = a.books;
       sent = map (λ v. v.items) a.sent.items;
-      receipts = a.receipts.items;
-      history = a.history.log;
+      receipts = a.account.receipts;
+      history = a.account.history;
     } };
 
-    ghost invariant = { λ a. AddUp a.books × (a.books.spent ≡ false) × IsLegal a.history.log };
+    ghost invariant = { λ a. AddUp a.books × (a.books.spent ≡ false) };
 }
 
 impl Audit {
@@ -81,8 +78,24 @@ impl Audit {
     pub fn receipts(&self) -> &[Receipt]
         ensures { result.now ≡ self.now.receipts }
     {
-        self.receipts.as_slice()
+        self.account.receipts()
     }
+}
+
+/// The account of a hall that no thread has any more and that is not closed.
+pub fn account_of<C: Tally, M: Tally>(
+    hall: Hall<C, M>,
+    seat: StoreSeat<M>,
+    receipts: Vec<Receipt>,
+    history: History<M>,
+) -> Account
+    ensures { IsAccountOf seat receipts.items history result }
+{
+    let (shared, chronicle) = hall.into_shared();
+    drop(shared);
+    let account = Account::of(&chronicle, seat, receipts, history);
+    drop(chronicle);
+    account
 }
 
 /// Closes a hall that no thread has any more, with the seats of all its connections: the calls that were booked are those that
@@ -90,7 +103,7 @@ impl Audit {
 ///
 /// `state` is what is stored. `sent` are the lists of the read sides: of each connection the first 1,024 attaches and calls. It
 /// takes no memory. A receipt is compared with all that the state keeps, at most 2,048 answers; one whose answer is still kept
-/// also with the lists, until one is found that has its call.
+/// also with the lists, until one is found that has its call. Where the hall is not closed its account comes back.
 pub fn settle<C: Tally, M: Tally>(
     hall: Hall<C, M>,
     calls: CallSeats<C>,
@@ -100,7 +113,7 @@ pub fn settle<C: Tally, M: Tally>(
     history: History<M>,
     seat: StoreSeat<M>,
     state: &State,
-) -> Result<Audit, Unclosed>
+) -> Result<Audit, (Unclosed, Account)>
     requires calls { C.all ≡ C.parts }
     requires mails { M.all ≡ M.parts }
     ensures calls { IfOk result (λ audit. audit.books.calls ≡ calls.amount) }
@@ -108,48 +121,37 @@ pub fn settle<C: Tally, M: Tally>(
     ensures add_up { IfOk result (λ audit. AddUp audit.books) }
     ensures unspent { IfOk result (λ audit. audit.books.spent ≡ false) }
     ensures sent { IfOk result (λ audit. audit.sent ≡ map (λ v. v.items) sent.items) }
-    ensures receipts { IfOk result (λ audit. audit.receipts ≡ receipts.items) }
-    // The history goes on from that of the committing side and from the other one, with no other groups than the side noted.
-    ensures this { IfOk result (λ audit. IsPrefix seat audit.history) }
-    ensures stores { IfOk result (λ audit. stores_in audit.history ≡ stores_in seat) }
-    ensures legal { IfOk result (λ audit. IsLegal audit.history) }
-    ensures told { EachTold receipts.items history → IfOk result (λ audit. EachTold audit.receipts audit.history) }
+    // The receipts are these. The history goes on from that of the committing side and from the other one, with no other groups than
+    // the side noted.
+    ensures leaves { IsAccountOf seat receipts.items history (account_left result) }
     ensures borne_out { IfOk result (λ audit. All (IsBorneOut state.now audit.sent) audit.receipts) }
-    ensures strange { (place : ℕ) → result ≡ Err (StrangeReceipt place)
-        → IsFirstStrange state.now (map (λ v. v.items) sent.items) receipts.items place }
+    ensures strange { IfErr result (λ e. (place : ℕ) → e.0 ≡ StrangeReceipt place
+        → IsFirstStrange state.now (map (λ v. v.items) sent.items) receipts.items place) }
     // Where all seats are here, it is refused just where some receipt is strange.
-    ensures refused { result ≢ Err SeatMissing
+    ensures refused { IfErr result (λ e. e.0 ≢ SeatMissing)
         → IsErr result ↔ Any (IsStrange state.now (map (λ v. v.items) sent.items)) receipts.items }
 {
     let (shared, chronicle) = hall.into_shared();
+    let account = Account::of(&chronicle, seat, receipts, history);
+    drop(chronicle);
     let Some(books) = shared.audit(calls, mails) else {
         drop(sent);
-        drop(receipts);
-        drop(history);
-        drop(seat);
-        drop(chronicle);
-        return Err(Unclosed::SeatMissing);
+        return Err((Unclosed::SeatMissing, account));
     };
-    let Some(history) = seat.whole(&chronicle, history) else {
+    if !account.own() {
         drop(sent);
-        drop(receipts);
-        drop(chronicle);
-        return Err(Unclosed::SeatMissing);
-    };
-    drop(chronicle);
-    let strange = first_strange(state, sent.as_slice(), receipts.as_slice());
+        return Err((Unclosed::SeatMissing, account));
+    }
+    let strange = first_strange(state, sent.as_slice(), account.receipts());
     match strange {
         Some(place) => {
             drop(sent);
-            drop(receipts);
-            drop(history);
-            Err(Unclosed::StrangeReceipt { place })
+            Err((Unclosed::StrangeReceipt { place }, account))
         }
         None => Ok(Audit {
             books,
             sent,
-            receipts,
-            history: history.into_seen(),
+            account,
         }),
     }
 }
@@ -195,7 +197,8 @@ pub fn close<C: Tally, M: Tally, D: Disk + Drop>(
             drop(audit);
             Ok(Closing { books, keeper })
         }
-        Err(unclosed) => {
+        Err((unclosed, account)) => {
+            drop(account);
             drop(keeper);
             Err(unclosed)
         }

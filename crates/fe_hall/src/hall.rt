@@ -1,4 +1,4 @@
-ghost use Rattle.std.specs.Prelude.{◌≡◌, ◌≤◌, ◌∷◌, ◌++◌, [], ◌+◌, IsTrue, IfOk, IfErr, IfSome, length, true};
+ghost use Rattle.std.specs.Prelude.{◌≡◌, ◌≤◌, ◌∷◌, ◌++◌, [], ◌+◌, IsTrue, IfOk, IfErr, IfSome, length, true, false};
 ghost use Rattle.fe_mail.specs.Books.{first_books};
 ghost use Rattle.fe_hall.specs.Seats.{HasDeparted, ReadSeat, TookNoMessage, WriteSeat, first_read_seat, first_write_seat, message_answered, taking_answered, most_connections};
 ghost use mathlib.Core.List.{IsPrefix};
@@ -288,6 +288,7 @@ impl<C: Tally, M: Tally> Hall<C, M> {
         ensures this { IsPrefix seat.old seat.new }
         ensures noted { IsTrue result
             → stores_in seat.new ≡ stores_in seat.old ++ (keeper.now.state.place, D.moment keeper.now.store.disk) ∷ [] }
+        ensures unnoted { result ≡ false → seat.new ≡ seat.old }
     {
         seat.note(&self.chronicle, keeper)
     }

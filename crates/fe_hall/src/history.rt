@@ -1,11 +1,12 @@
-//! The history of a hall: it exists in proofs alone, but for one word, which counts the groups that were stored.
+//! The history of a hall. It exists in proofs alone, except for one word that counts the stored groups.
 
-ghost use Rattle.std.specs.Prelude.{◌≡◌, ◌^◌, ◌==◌, ◌<◌, ◌≤◌, ◌∷◌, ◌++◌, [], length, IsTrue};
+ghost use Rattle.std.specs.Prelude.{◌≡◌, ◌^◌, ◌==◌, ◌<◌, ◌≤◌, ◌∷◌, ◌++◌, [], true, length, IsTrue};
 ghost use mathlib.Core.List.{IsPrefix};
 ghost use Rattle.fe_hall.specs.declared.act.Act.TheVariants as act;
 ghost use Rattle.fe_hall.specs.Acts.{IsLegal, mark_of, stores_in};
 ghost use Rattle.fe_hall.specs.Rules.{ComesAfter, word_of};
 
+use crate::account::Account;
 use crate::act::Act;
 use crate::receipt::Receipt;
 use crate::tally::Tally;
@@ -13,9 +14,10 @@ use fe_disk::Disk;
 use fe_keeper::Keeper;
 use fe_state::Answer;
 use logbook::{Gain, Offer, Opening, Plain, Play, Rule, Seen, Start, Word};
+use std::alloc::Global;
 use std::marker::{Model, PhantomData};
 
-/// The rule of the history: the word is how many groups were stored, and each answer that is told was stored before.
+/// The rule of the history: the word counts the stored groups, and an answer is told only after its entry was stored.
 pub struct Law;
 
 impl Rule<Act, u64> for Law {
@@ -140,6 +142,13 @@ impl NewHistory {
         self.place
     }
 
+    /// The account of a hall that did not begin: no receipts, and nothing happened.
+    pub fn account(&self, alloc: Global) -> Account
+        ensures { result ≡ record { receipts = []; history = act.Began self.now.place ∷ []; own = true } }
+    {
+        Account::new(Vec::new(alloc), self.seen.again())
+    }
+
     /// Its word, and what was seen of it.
     pub(crate) fn named<M: Tally>(self) -> (Chronicle<M>, History<M>)
         requires { self.book ≡ M.book }
@@ -211,7 +220,7 @@ impl<M: Tally> History<M> {
         self.seen.learn(&other.seen);
     }
 
-    /// An answer is told, whose entry was stored.
+    /// Adds an answer whose entry was stored before.
     pub(crate) fn tell(&mut self, chronicle: &Chronicle<M>, receipt: Receipt)
         requires { receipt.place < mark_of self.old }
         ensures { ComesAfter self.old (act.Told receipt) self.new }
@@ -224,7 +233,7 @@ impl<M: Tally> History<M> {
             .load::<Telling, Nothing>(&mut self.seen, &mut offer);
     }
 
-    /// A group is stored, with which a keeper is as it is. Whether this many were stored before it; otherwise nothing was added.
+    /// Adds the group that a keeper has just stored, if the history has this many groups so far. Whether it did.
     pub(crate) fn store<D: Disk>(
         &mut self,
         chronicle: &Chronicle<M>,

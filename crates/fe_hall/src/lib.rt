@@ -4,6 +4,7 @@
 //! and each side of a connection has a seat that says what it did, so that the books can be compared with the seats.
 #![tactic(auto)]
 
+mod account;
 mod act;
 mod call_seat;
 mod call_seats;
@@ -30,10 +31,11 @@ mod turn;
 mod write_end;
 mod writing;
 
+pub use account::Account;
 pub use act::Act;
 pub use call_seat::CallSeat;
 pub use call_seats::CallSeats;
-pub use closing::{Audit, Closing, Unclosed, close, settle};
+pub use closing::{Audit, Closing, Unclosed, account_of, close, settle};
 pub use commit_end::CommitEnd;
 pub use committing::commit_side;
 pub use ends::ReadEnd;

@@ -58,6 +58,18 @@ impl<M: Tally> Receipts<M> {
         added
     }
 
+    /// Learns what another side of the same hall saw, and drops its receipts.
+    pub fn learn(&mut self, other: Receipts<M>)
+        ensures items { self.new.items ≡ self.old.items }
+        ensures this { IsPrefix self.old.history self.new.history }
+        ensures that { IsPrefix other.history self.new.history }
+    {
+        let Receipts { items, history } = other;
+        self.history.learn(&history);
+        drop(history);
+        drop(items);
+    }
+
     pub fn as_slice(&self) -> &[Receipt]
         ensures { result.now ≡ self.now.items }
     {

@@ -1,6 +1,6 @@
-ghost use Rattle.std.specs.Prelude.{◌≡◌, ◌≤◌, ◌∷◌, ◌++◌, [], IsTrue, IfSome};
+ghost use Rattle.std.specs.Prelude.{◌≡◌, ◌≤◌, ◌∷◌, ◌++◌, [], false, IsTrue, MatchBool};
 ghost use mathlib.Core.List.{IsPrefix};
-ghost use Rattle.fe_hall.specs.Acts.{IsLegal, mark_of, stores_in};
+ghost use Rattle.fe_hall.specs.Acts.{HasMore, IsLegal, mark_of, stores_in};
 
 use crate::history::{Chronicle, History};
 use crate::tally::Tally;
@@ -47,11 +47,12 @@ impl<M: Tally> StoreSeat<M> {
         }
     }
 
-    /// The group is noted that a keeper has just stored. Whether it was: not where someone else noted one, or 2^62 were.
+    /// Notes the group that a keeper has just stored. False where someone else noted a group, or this side 2^62; then nothing changes.
     pub(crate) fn note<D: Disk>(&mut self, chronicle: &Chronicle<M>, keeper: &Keeper<D>) -> bool
         ensures this { IsPrefix self.old self.new }
         ensures noted { IsTrue result
             → stores_in self.new ≡ stores_in self.old ++ (keeper.now.state.place, D.moment keeper.now.store.disk) ∷ [] }
+        ensures unnoted { result ≡ false → self.new ≡ self.old }
     {
         if self.stored >= GROUPS {
             return false;
@@ -79,12 +80,12 @@ impl<M: Tally> StoreSeat<M> {
         &self.history
     }
 
-    /// What happened, where no other group was stored than those that this side noted.
-    pub(crate) fn whole(self, chronicle: &Chronicle<M>, seen: History<M>) -> Option<History<M>>
-        ensures stores { IfSome result (λ h. stores_in h ≡ stores_in self) }
-        ensures this { IfSome result (λ h. IsPrefix self h) }
-        ensures seen { IfSome result (λ h. IsPrefix seen h) }
-        ensures legal { IfSome result (λ h. IsLegal h) }
+    /// All that this side and the other history saw, and whether this side noted every group in it.
+    pub(crate) fn whole(self, chronicle: &Chronicle<M>, seen: History<M>) -> (History<M>, bool)
+        ensures this { IsPrefix self result.0 }
+        ensures seen { IsPrefix seen result.0 }
+        ensures legal { IsLegal result.0 }
+        ensures own { MatchBool result.1 (stores_in result.0 ≡ stores_in self) (HasMore (stores_in self) (stores_in result.0)) }
     {
         let StoreSeat {
             stored,
@@ -95,9 +96,8 @@ impl<M: Tally> StoreSeat<M> {
         all.learn(&seen);
         drop(seen);
         if all.count(chronicle) != stored {
-            drop(all);
-            return None;
+            return (all, false);
         }
-        Some(all)
+        (all, true)
     }
 }

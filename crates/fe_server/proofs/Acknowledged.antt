@@ -1,6 +1,7 @@
 -- Whatever was told is held.
-use Rattle.std.proofs.Common.{◌≡◌, ◌⊎◌, inl, inr, ⊎_elim, ℕ, zero, suc, ◌+◌, ◌<◌, ◌≤◌, max, false, Some, None, List, [], ◌∷◌, ◌++◌, length, map, refl, sym, ap, subst, ◌∙◌, zero-add, arith, length-append}
-use Rattle.std.specs.Prelude.{slice_get, take}
+use Rattle.std.proofs.Common.{◌≡◌, ◌⊎◌, inl, inr, ⊎_elim, ℕ, zero, suc, ◌+◌, ◌<◌, ◌≤◌, max, Bool, true, false, Option, Some, List, [], ◌∷◌, ◌++◌, length, map, refl, sym, ap, subst, ◌∙◌, arith}
+use Rattle.std.specs.Prelude.{slice_get, MatchBool}
+use Rattle.std.proofs.lemmas.List.{append-nil}
 use Rattle.std.proofs.Math.Nat.{max-eq_left, max-eq_right}
 use Rattle.fe_disk.specs.Disk.{LeavesOnly}
 use Rattle.fe_state.specs.State.{ServerState}
@@ -8,17 +9,15 @@ use Rattle.fe_state.specs.declared.entry.Entry.{Entry}
 use Rattle.fe_keeper.specs.Keeper.{KeeperState}
 use Rattle.fe_keeper.specs.Prefix.{LeavesPrefix}
 use mathlib.Core.List.{IsPrefix}
-use Rattle.fe_hall.proofs.Acts.{prefix_trans, stores_append}
-use Rattle.fe_hall.specs.Acts.{EachTold, GoesOn, IsLegal, mark_from, stores_in}
-use Rattle.fe_hall.specs.Audits.{Audited}
-use Rattle.fe_hall.specs.Commits.{Append, AreNoted, Commits, HoldsSince, noted}
+use Rattle.fe_hall.proofs.Acts.{prefix_self, prefix_trans, stores_append}
+use Rattle.fe_hall.specs.Acts.{Account, EachTold, GoesOn, HasMore, IsAccountOf, IsLegal, mark_from, stores_in}
+use Rattle.fe_hall.specs.Commits.{Append, AreNoted, AreNotes, Commits, HoldsSince, noted}
 use Rattle.fe_hall.specs.declared.act.Act.{Act}
 use Rattle.fe_hall.specs.declared.act.Act.TheVariants.{Began, Stored, Told}
 use Rattle.fe_hall.specs.declared.commit_end.CommitEnd.{CommitEnd}
-use Rattle.fe_hall.specs.declared.commit_end.CommitEnd.TheVariants.{Stopped, Store, Strange, Spent}
 use Rattle.fe_hall.specs.declared.receipt.Receipt.{Receipt}
 use Rattle.fe_server.specs.Acknowledged.{IsHeld, IsAcknowledged}
-use Rattle.fe_server.specs.Serving.{HasCommitted, fault_of_end}
+use Rattle.fe_server.specs.Serving.{HasNoted}
 
 -- ---- what lies below the mark
 
@@ -106,58 +105,76 @@ module _ {D : Type 0} (moment : D → ℕ) (left_since : D → ℕ → List ℕ 
 
 -- ---- together
 
-module _ {D : Type 0} (honest : D → Type 0) (moment : D → ℕ) (left_since : D → ℕ → List ℕ → Type 0) (old new : KeeperState D) (commits : Commits honest moment left_since old new (Some Stopped)) where
-  module _ (acts : List Act) (stored : stores_in acts ≡ map (noted moment) commits.appends) (legal : GoesOn old.state.place acts) (h : honest old.store.disk) (fine : old.store.has_failed ≡ false) where
-    stored_holds : (earlier later : List Act) (r : Receipt) → acts ≡ earlier ++ Told r ∷ later → HasStored (stores_in earlier) r.place
-        → IsHeld moment left_since old.state commits.groups commits.appends new.store.disk (length (stores_in earlier)) r.place
-    stored_holds earlier later r is has =
-        let all : stores_in earlier ++ stores_in (Told r ∷ later) ≡ map (noted moment) commits.appends = sym (stores_append earlier (Told r ∷ later)) ∙ sym (ap stores_in is) ∙ stored in
-        let there : slice_get (map (noted moment) commits.appends) has.at ≡ Some has.store =
-        subst (λ (s : List (ℕ × ℕ)). slice_get s has.at ≡ Some has.store) all (get_front (stores_in earlier) (stores_in (Told r ∷ later)) has.at has.store has.is_there) in
-        let n = noted_of moment commits.appends has.at has.store there in
-        let count : 0 + has.at + 1 ≡ has.at + 1 = omega arith in
-        record {
-          at = has.at;
-          append = n.append;
-          is_there = n.is_there;
-          before = get_short (stores_in earlier) has.at has.store has.is_there;
-          has_it = subst (λ (s : ℕ × ℕ). r.place < s.0) (sym n.is_noted) has.below;
-          every_image =
-              subst (λ (j : ℕ). LeavesOnly moment left_since n.append.after.store.disk new.store.disk (LeavesPrefix old.state commits.groups j)) count
-              (append_holds moment left_since old.state commits.groups new.store.disk 0 old.store.disk commits.appends has.at n.append n.is_there (commits.any_moment h fine));
-        }
+-- what was noted is of the first appends
+notes_front : {D : Type 0} (moment : D → ℕ) (appends : List (Append D)) (end : Option CommitEnd) (notes : List (ℕ × ℕ)) → AreNotes moment appends end notes → IsPrefix notes (map (noted moment) appends)
+notes_front moment appends end notes (inl all) = ([], append-nil notes ∙ all)
+notes_front moment appends end notes (inr (strange, last, all)) = (last ∷ [], all)
 
-    held_by : (earlier later : List Act) (r : Receipt) → Began old.state.place ∷ acts ≡ earlier ++ Told r ∷ later
-        → (r.place < old.state.place) ⊎ IsHeld moment left_since old.state commits.groups commits.appends new.store.disk (length (stores_in earlier)) r.place
-    held_by [] later r is = absurd (cc is)
-    held_by (e ∷ earlier) later r is =
-        let head : Began old.state.place ≡ e = cc is in
-        let tail : acts ≡ earlier ++ Told r ∷ later = cc is in
-        let below = below_mark old.state.place earlier r.place (told_below old.state.place earlier later r (subst (λ (a : List Act). GoesOn old.state.place a) tail legal)) in
-        subst (λ (a : Act). (r.place < old.state.place) ⊎ IsHeld moment left_since old.state commits.groups commits.appends new.store.disk (length (stores_in (a ∷ earlier))) r.place) head
-        (⊎_elim (λ (first : r.place < old.state.place). inl first) (λ (has : HasStored (stores_in earlier) r.place). inr (stored_holds earlier later r tail has)) below)
+module _ {D : Type 0} (honest : D → Type 0) (moment : D → ℕ) (left_since : D → ℕ → List ℕ → Type 0) (old new : KeeperState D) (end : CommitEnd) (commits : Commits honest moment left_since old new (Some end)) where
+  module _ (notes : List (ℕ × ℕ)) (are_notes : AreNotes moment commits.appends (Some end) notes) (h : honest old.store.disk) (fine : old.store.has_failed ≡ false) where
+    module _ (acts : List Act) (stored : stores_in acts ≡ notes) (legal : GoesOn old.state.place acts) where
+      stored_holds : (earlier later : List Act) (r : Receipt) → acts ≡ earlier ++ Told r ∷ later → HasStored (stores_in earlier) r.place
+          → IsHeld moment left_since old.state commits.groups commits.appends new.store.disk (length (stores_in earlier)) r.place
+      stored_holds earlier later r is has =
+          let all : stores_in earlier ++ stores_in (Told r ∷ later) ≡ notes = sym (stores_append earlier (Told r ∷ later)) ∙ sym (ap stores_in is) ∙ stored in
+          let front = notes_front moment commits.appends (Some end) notes are_notes in
+          let noted_there : slice_get notes has.at ≡ Some has.store =
+          subst (λ (s : List (ℕ × ℕ)). slice_get s has.at ≡ Some has.store) all (get_front (stores_in earlier) (stores_in (Told r ∷ later)) has.at has.store has.is_there) in
+          let there : slice_get (map (noted moment) commits.appends) has.at ≡ Some has.store =
+          subst (λ (s : List (ℕ × ℕ)). slice_get s has.at ≡ Some has.store) front.1 (get_front notes front.0 has.at has.store noted_there) in
+          let n = noted_of moment commits.appends has.at has.store there in
+          let count : 0 + has.at + 1 ≡ has.at + 1 = omega arith in
+          record {
+            at = has.at;
+            append = n.append;
+            is_there = n.is_there;
+            before = get_short (stores_in earlier) has.at has.store has.is_there;
+            has_it = subst (λ (s : ℕ × ℕ). r.place < s.0) (sym n.is_noted) has.below;
+            every_image =
+                subst (λ (j : ℕ). LeavesOnly moment left_since n.append.after.store.disk new.store.disk (LeavesPrefix old.state commits.groups j)) count
+                (append_holds moment left_since old.state commits.groups new.store.disk 0 old.store.disk commits.appends has.at n.append n.is_there (commits.any_moment h fine));
+          }
 
-  pub acknowledged : (audit : Audited) (seat : List Act) → AreNoted moment commits.appends (Some Stopped) (Began old.state.place ∷ []) seat → IsPrefix seat audit.history → stores_in audit.history ≡ stores_in seat
-      → IsLegal audit.history → EachTold audit.receipts audit.history → IsAcknowledged honest moment left_since old new audit
-  acknowledged audit seat (p, inr strange) this same legal told = absurd (cc strange)
-  acknowledged audit seat (p, inl notes) this same legal told =
-      let whole = prefix_trans (Began old.state.place ∷ []) seat audit.history p this in
-      let stored : stores_in audit.history ≡ map (noted moment) commits.appends = same ∙ notes in
-      let begins : Began old.state.place ∷ whole.0 ≡ audit.history = whole.1 in
+      held_by : (earlier later : List Act) (r : Receipt) → Began old.state.place ∷ acts ≡ earlier ++ Told r ∷ later
+          → (r.place < old.state.place) ⊎ IsHeld moment left_since old.state commits.groups commits.appends new.store.disk (length (stores_in earlier)) r.place
+      held_by [] later r is = absurd (cc is)
+      held_by (e ∷ earlier) later r is =
+          let head : Began old.state.place ≡ e = cc is in
+          let tail : acts ≡ earlier ++ Told r ∷ later = cc is in
+          let below = below_mark old.state.place earlier r.place (told_below old.state.place earlier later r (subst (λ (a : List Act). GoesOn old.state.place a) tail legal)) in
+          subst (λ (a : Act). (r.place < old.state.place) ⊎ IsHeld moment left_since old.state commits.groups commits.appends new.store.disk (length (stores_in (a ∷ earlier))) r.place) head
+          (⊎_elim (λ (first : r.place < old.state.place). inl first) (λ (has : HasStored (stores_in earlier) r.place). inr (stored_holds earlier later r tail has)) below)
+
+  pub acknowledged : (account : Account) (seat : List Act) → AreNoted moment commits.appends (Some end) (Began old.state.place ∷ []) seat → IsPrefix seat account.history → IsLegal account.history
+      → MatchBool account.own (stores_in account.history ≡ stores_in seat) (HasMore (stores_in seat) (stores_in account.history)) → EachTold account.receipts account.history
+      → IsAcknowledged honest moment left_since old new end account
+  acknowledged account seat (p, notes, is, are_notes) this legal own told =
+      let whole = prefix_trans (Began old.state.place ∷ []) seat account.history p this in
+      let begins : Began old.state.place ∷ whole.0 ≡ account.history = whole.1 in
+      let stored : MatchBool account.own (stores_in account.history ≡ notes) (HasMore notes (stores_in account.history)) =
+      subst (λ (s : List (ℕ × ℕ)). MatchBool account.own (stores_in account.history ≡ s) (HasMore s (stores_in account.history))) is own in
       record {
         commits = commits;
+        notes = notes;
+        are_notes = are_notes;
         stored = stored;
         told = told;
-        held = λ h fine earlier later r is.
-            held_by whole.0 (ap stores_in begins ∙ stored) (subst IsLegal (sym begins) legal) h fine earlier later r (begins ∙ is);
+        held = λ alone h fine earlier later r at.
+            let same : stores_in account.history ≡ notes = subst (λ (b : Bool). MatchBool b (stores_in account.history ≡ notes) (HasMore notes (stores_in account.history))) alone stored in
+            held_by notes are_notes h fine whole.0 (ap stores_in begins ∙ same) (subst IsLegal (sym begins) legal) earlier later r (begins ∙ at);
       }
 
--- what a thread says of a side that ended, at an end that is known
-pub ended_well : {D : Type 0} (honest : D → Type 0) (moment : D → ℕ) (left_since : D → ℕ → List ℕ → Type 0) (may_leave : D → List ℕ → Type 0) (failures : D → ℕ) (old new : KeeperState D) (end : CommitEnd) (audit : Audited) (seat : List Act) → fault_of_end end ≡ None
-    → (all : HasCommitted honest moment left_since may_leave failures old new end) → AreNoted moment all.commits.appends (Some end) (Began old.state.place ∷ []) seat → IsPrefix seat audit.history
-    → stores_in audit.history ≡ stores_in seat → IsLegal audit.history → EachTold audit.receipts audit.history → IsAcknowledged honest moment left_since old new audit
-ended_well honest moment left_since may_leave failures old new Stopped audit seat none all notes this same legal told =
-    acknowledged honest moment left_since old new all.commits audit seat notes this same legal told
-ended_well honest moment left_since may_leave failures old new (Store why) audit seat none all notes this same legal told = absurd (cc none)
-ended_well honest moment left_since may_leave failures old new Strange audit seat none all notes this same legal told = absurd (cc none)
-ended_well honest moment left_since may_leave failures old new Spent audit seat none all notes this same legal told = absurd (cc none)
+-- with what a committing side gave back, and the account of its hall
+pub ended_acknowledged : {D : Type 0} (honest : D → Type 0) (moment : D → ℕ) (left_since : D → ℕ → List ℕ → Type 0) (may_leave : D → List ℕ → Type 0) (failures : D → ℕ) (old new : KeeperState D) (end : CommitEnd) (seat : List Act) (account : Account)
+    (receipts : List Receipt) (seen : List Act) → HasNoted honest moment left_since may_leave failures old new end seat → IsAccountOf seat receipts seen account → EachTold account.receipts account.history → IsAcknowledged honest moment left_since old new end account
+ended_acknowledged honest moment left_since may_leave failures old new end seat account receipts seen (all, notes) of told = acknowledged honest moment left_since old new end all.commits account seat notes of.this of.legal of.own told
+
+-- a hall that did not begin
+pub unbegun_acknowledged : {D : Type 0} (honest : D → Type 0) (moment : D → ℕ) (left_since : D → ℕ → List ℕ → Type 0) (may_leave : D → List ℕ → Type 0) (failures : D → ℕ) (old new : KeeperState D) (end : CommitEnd) (account : Account) (place : ℕ)
+    → HasNoted honest moment left_since may_leave failures old new end (Began old.state.place ∷ []) → account ≡ record { receipts = []; history = Began place ∷ []; own = true } → place ≡ old.state.place → IsAcknowledged honest moment left_since old new end account
+unbegun_acknowledged honest moment left_since may_leave failures old new end account place (all, notes) is here =
+    let acts : List Act = Began old.state.place ∷ [] in
+    let none : Account = record { receipts = []; history = acts; own = true } in
+    let same : none ≡ account = sym (is ∙ ap (λ (p : ℕ). record { receipts = []; history = Began p ∷ []; own = true }) here) in
+    subst (λ (a : Account). IsAcknowledged honest moment left_since old new end a) same
+    (acknowledged honest moment left_since old new end all.commits none acts notes (prefix_self acts) tt refl tt)

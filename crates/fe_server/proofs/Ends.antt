@@ -1,21 +1,23 @@
 -- How serving a store ends.
-use Rattle.std.proofs.Common.{◌≡◌, ◌⊎◌, ℕ, false, List, Some, None, sym}
+use Rattle.std.proofs.Common.{◌≡◌, ◌⊎◌, ℕ, false, List, [], ◌∷◌, Some, None, sym}
 use Rattle.fe_keeper.specs.Keeper.{KeeperState}
 use Rattle.fe_keeper.specs.Stands.{EachStandsFor}
-use Rattle.fe_hall.proofs.Committed.{commits_kept, rests_itself, still_itself}
+use Rattle.fe_hall.proofs.Committed.{kept_noted, rests_itself, still_itself}
+use Rattle.fe_hall.specs.declared.act.Act.TheVariants.{Began}
 use Rattle.fe_hall.specs.declared.commit_end.CommitEnd.{CommitEnd}
 use Rattle.fe_hall.specs.declared.commit_end.CommitEnd.TheVariants.{Stopped, Store, Strange, Spent}
 use Rattle.fe_server.specs.declared.stop_fault.StopFault.{StopFault}
 use Rattle.fe_server.specs.declared.stop_fault.StopFault.TheVariants as fault
-use Rattle.fe_server.specs.Serving.{HasCommitted, IsAnswerAt, fault_of_end}
+use Rattle.fe_server.specs.Serving.{HasNoted, IsAnswerAt, fault_of_end}
 
 module _ {D : Type 0} (honest : D → Type 0) (may_leave : D → List ℕ → Type 0) (moment : D → ℕ) (left_since : D → ℕ → List ℕ → Type 0) (failures : D → ℕ) where
   -- nothing was done
   pub none_committed : ((disk : D) (image : List ℕ) → honest disk → left_since disk (moment disk) image → may_leave disk image) → (k : KeeperState D)
-      → (honest k.store.disk → k.store.has_failed ≡ false → EachStandsFor may_leave k.store.disk k.state) → HasCommitted honest moment left_since may_leave failures k k Stopped
+      → (honest k.store.disk → k.store.has_failed ≡ false → EachStandsFor may_leave k.store.disk k.state) → HasNoted honest moment left_since may_leave failures k k Stopped (Began k.state.place ∷ [])
   none_committed only_now k stands =
       let rests = rests_itself honest may_leave moment left_since only_now k stands in
-      record { commits = commits_kept honest moment left_since k k (Some Stopped) rests; stands = stands; tells = still_itself failures k; honesty = rests.honesty }
+      let kept = kept_noted honest moment left_since k k (Some Stopped) rests (Began k.state.place ∷ []) in
+      (record { commits = kept.0; stands = stands; tells = still_itself failures k; honesty = rests.honesty }, kept.1)
 
 -- a hall that was stopped is closed
 pub closed_answers : (end : CommitEnd) → fault_of_end end ≡ None → IsAnswerAt end None

@@ -1,16 +1,15 @@
 -- Whatever a client was told is in every image that a stop may leave from then on.
-use Rattle.std.specs.Prelude.{◌≡◌, ◌⊎◌, ℕ, ◌+◌, ◌<◌, false, List, ◌∷◌, ◌++◌, length, map, slice_get, Some}
+use Rattle.std.specs.Prelude.{◌≡◌, ◌⊎◌, ℕ, ◌+◌, ◌<◌, true, false, List, ◌∷◌, ◌++◌, length, slice_get, Some, MatchBool}
 use Rattle.fe_disk.specs.Disk.{LeavesOnly}
 use Rattle.fe_state.specs.State.{ServerState}
 use Rattle.fe_state.specs.declared.entry.Entry.{Entry}
 use Rattle.fe_keeper.specs.Keeper.{KeeperState}
 use Rattle.fe_keeper.specs.Prefix.{LeavesPrefix}
-use Rattle.fe_hall.specs.Acts.{EachTold, IsLegal, stores_in}
-use Rattle.fe_hall.specs.Audits.{Audited}
-use Rattle.fe_hall.specs.Commits.{Append, Commits, noted}
+use Rattle.fe_hall.specs.Acts.{Account, EachTold, HasMore, stores_in}
+use Rattle.fe_hall.specs.Commits.{Append, AreNotes, Commits}
 use Rattle.fe_hall.specs.declared.act.Act.{Act}
 use Rattle.fe_hall.specs.declared.act.Act.TheVariants.{Told}
-use Rattle.fe_hall.specs.declared.commit_end.CommitEnd.TheVariants.{Stopped}
+use Rattle.fe_hall.specs.declared.commit_end.CommitEnd.{CommitEnd}
 use Rattle.fe_hall.specs.declared.receipt.Receipt.{Receipt}
 
 -- One of the first n groups has the entry of that place. From the end of its append on, up to the last disk, each image that a stop leaves
@@ -23,11 +22,14 @@ pub record IsHeld {D : Type 0} (moment : D → ℕ) (left_since : D → ℕ → 
   pub has_it : place < append.after.state.place
   pub every_image : LeavesOnly moment left_since append.after.store.disk last (LeavesPrefix begun groups (at + 1))
 
--- A server that ended by itself stored groups, and its history has the appends in their order, and the answer of each receipt. Before an
--- answer was told, a group with its entry had been stored, which every image has had since; or the store had its entry from the beginning.
-pub record IsAcknowledged {D : Type 0} (honest : D → Type 0) (moment : D → ℕ) (left_since : D → ℕ → List ℕ → Type 0) (old new : KeeperState D) (audit : Audited) : Type 0 where
-  pub commits : Commits honest moment left_since old new (Some Stopped)
-  pub stored : stores_in audit.history ≡ map (noted moment) commits.appends
-  pub told : EachTold audit.receipts audit.history
-  pub held : honest old.store.disk → old.store.has_failed ≡ false → (earlier later : List Act) (r : Receipt) → audit.history ≡ earlier ++ Told r ∷ later
+-- A server ended so. It stored groups, of which these were noted; its history has the notes in their order, and the answer of each receipt.
+-- Where nobody else noted groups in its hall, there was a stored group with the entry of each answer before that answer was told, which every
+-- image has had since; or the store had the entry from the beginning.
+pub record IsAcknowledged {D : Type 0} (honest : D → Type 0) (moment : D → ℕ) (left_since : D → ℕ → List ℕ → Type 0) (old new : KeeperState D) (end : CommitEnd) (account : Account) : Type 0 where
+  pub commits : Commits honest moment left_since old new (Some end)
+  pub notes : List (ℕ × ℕ)
+  pub are_notes : AreNotes moment commits.appends (Some end) notes
+  pub stored : MatchBool account.own (stores_in account.history ≡ notes) (HasMore notes (stores_in account.history))
+  pub told : EachTold account.receipts account.history
+  pub held : account.own ≡ true → honest old.store.disk → old.store.has_failed ≡ false → (earlier later : List Act) (r : Receipt) → account.history ≡ earlier ++ Told r ∷ later
       → (r.place < old.state.place) ⊎ IsHeld moment left_since old.state commits.groups commits.appends new.store.disk (length (stores_in earlier)) r.place

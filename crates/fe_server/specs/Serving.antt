@@ -1,13 +1,17 @@
 -- How serving a store ends.
-use Rattle.std.specs.Prelude.{◌≡◌, ◌⊎◌, ◌↔◌, ℕ, false, List, Option, Some, None, Result, Ok, Err}
+use Rattle.std.specs.Prelude.{◌≡◌, ◌⊎◌, ◌↔◌, ℕ, true, false, List, [], ◌∷◌, Option, Some, None, Result, Ok, Err}
 use Rattle.fe_keeper.specs.Keeper.{KeeperState}
 use Rattle.fe_keeper.specs.Stands.{EachStandsFor}
 use Rattle.fe_keeper.specs.declared.fault.Fault as keeper
 use Rattle.fe_keeper.specs.declared.fault.Fault.TheVariants as store
+use Rattle.fe_server.specs.declared.failed.Failed.{Failed}
 use Rattle.fe_server.specs.declared.served.Served.{Served}
 use Rattle.fe_server.specs.declared.stop_fault.StopFault.{StopFault}
 use Rattle.fe_server.specs.declared.stop_fault.StopFault.TheVariants as fault
-use Rattle.fe_hall.specs.Commits.{Commits, TellsEnd}
+use Rattle.fe_hall.specs.Acts.{Account}
+use Rattle.fe_hall.specs.Commits.{AreNoted, Commits, TellsEnd}
+use Rattle.fe_hall.specs.declared.act.Act.{Act}
+use Rattle.fe_hall.specs.declared.act.Act.TheVariants.{Began}
 use Rattle.fe_hall.specs.declared.commit_end.CommitEnd.{CommitEnd}
 use Rattle.fe_hall.specs.declared.commit_end.CommitEnd.TheVariants.{Stopped, Store, Strange, Spent}
 
@@ -19,6 +23,11 @@ pub record HasCommitted {D : Type 0} (honest : D → Type 0) (moment : D → ℕ
   pub stands : honest new.store.disk → new.store.has_failed ≡ false → EachStandsFor may_leave new.store.disk new.state
   pub tells : TellsEnd failures old new (Some end)
   pub honesty : honest new.store.disk ↔ honest old.store.disk
+
+-- So it was, and the history of a hall that began with that keeper notes what was stored.
+abbrev pub HasNoted : {D : Type 0} → (D → Type 0) → (D → ℕ) → (D → ℕ → List ℕ → Type 0) → (D → List ℕ → Type 0) → (D → ℕ) → KeeperState D → KeeperState D → CommitEnd → List Act → Type 0
+HasNoted honest moment left_since may_leave failures old new end acts =
+    (all : HasCommitted honest moment left_since may_leave failures old new end) × AreNoted moment all.commits.appends (Some end) (Began old.state.place ∷ []) acts
 
 -- ---- what a server answers
 
@@ -37,9 +46,9 @@ fault_of_end Strange = Some fault.Strange
 fault_of_end Spent = Some fault.Strange
 
 -- the fault of an answer; none where it has the books
-abbrev pub fault_in : {A B : Type 0} → Result A (StopFault × B) → Option StopFault
+abbrev pub fault_in : {D : Type 0} → Result (Served D) (Failed D) → Option StopFault
 fault_in (Ok served) = None
-fault_in (Err refused) = Some refused.0
+fault_in (Err failed) = Some failed.fault
 
 -- Where the committing side ended so, a server answers this: its fault; and where it was stopped the books, or that memory was
 -- short, or that a receipt or a seat is strange.
@@ -51,6 +60,11 @@ IsAnswerAt Strange answer = answer ≡ fault_of_end Strange
 IsAnswerAt Spent answer = answer ≡ fault_of_end Spent
 
 -- the keeper that comes back
-abbrev pub keeper_in : {D : Type 0} → Result (Served D) (StopFault × KeeperState D) → KeeperState D
+abbrev pub keeper_in : {D : Type 0} → Result (Served D) (Failed D) → KeeperState D
 keeper_in (Ok served) = served.keeper
-keeper_in (Err refused) = refused.1
+keeper_in (Err failed) = failed.keeper
+
+-- the account that comes back; a hall whose history has groups of others is not closed
+abbrev pub account_in : {D : Type 0} → Result (Served D) (Failed D) → Account
+account_in (Ok served) = record { receipts = served.audit.receipts; history = served.audit.history; own = true }
+account_in (Err failed) = failed.account

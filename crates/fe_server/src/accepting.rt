@@ -34,110 +34,107 @@ pub(crate) fn serve_clients<
         move |scope|
             requires { (C.all ≡ C.parts) × (M.all ≡ M.parts) }
         {
-            accept_all(rt, alloc, scope, house, &listener, settings, gate);
+            let porter = Porter {
+                rt,
+                alloc,
+                house,
+                gate,
+                turns: settings.turns,
+            };
+            porter.accept_all(scope, &listener, settings.accepts);
             house.close_door(rt);
             drop(listener);
         },
     );
 }
 
-/// Takes connections from the listener.
-fn accept_all<
+/// Takes connections from a listener, and begins to serve them.
+#[derive(Clone, Copy)]
+struct Porter<'s, C: Tally, M: Tally, G: Gate, R: Clock> {
+    rt: &'s R,
+    alloc: Global,
+    house: &'s House<C, M>,
+    gate: &'s G,
+    /// How many reads each connection has.
+    turns: u64,
+}
+
+impl<
     's,
-    E,
     C: Tally + Send + Sync,
     M: Tally + Send + Sync,
     G: Gate + Sync,
     R: Clock + Threads + Wait + Sync,
->(
-    rt: &'s R,
-    alloc: Global,
-    scope: &Scope<'s, E>,
-    house: &'s House<C, M>,
-    listener: &UnixListener,
-    settings: &Settings,
-    gate: &'s G,
-)
-    requires calls { C.all ≡ C.parts }
-    requires mails { M.all ≡ M.parts }
-{
-    let mut left = settings.accepts;
-    for conn in 0..u64::MAX {
-        if house.is_over(rt) {
-            return;
-        }
-        match listener.accept() {
-            Err(error) => pause(rt, error),
-            Ok((stream, _)) => {
-                let came = welcome(rt, alloc, scope, house, settings, gate, conn, stream);
-                if came && left == 1 {
-                    return;
-                }
-                if came {
-                    left = left.saturating_sub(1);
+> Porter<'s, C, M, G, R> {
+    /// Takes connections from the listener: this many, where it is not 0.
+    fn accept_all<E>(&self, scope: &Scope<'s, E>, listener: &UnixListener, accepts: u64)
+        requires calls { C.all ≡ C.parts }
+        requires mails { M.all ≡ M.parts }
+    {
+        let mut left = accepts;
+        for conn in 0..u64::MAX {
+            if self.house.is_over(self.rt) {
+                return;
+            }
+            match listener.accept() {
+                Err(error) => pause(self.rt, error),
+                Ok((stream, _)) => {
+                    let came = self.welcome(scope, conn, stream);
+                    if came && left == 1 {
+                        return;
+                    }
+                    if came {
+                        left = left.saturating_sub(1);
+                    }
                 }
             }
         }
     }
-}
 
-/// Begins to serve a connection. Whether it was made: it is closed where too many are there and none is about to end, or the hall
-/// refuses it.
-fn welcome<
-    's,
-    E,
-    C: Tally + Send + Sync,
-    M: Tally + Send + Sync,
-    G: Gate + Sync,
-    R: Clock + Threads + Wait + Sync,
->(
-    rt: &'s R,
-    alloc: Global,
-    scope: &Scope<'s, E>,
-    house: &'s House<C, M>,
-    settings: &Settings,
-    gate: &'s G,
-    conn: u64,
-    stream: UnixStream,
-) -> bool
-    requires calls { C.all ≡ C.parts }
-    requires mails { M.all ≡ M.parts }
-{
-    if !house.has_place(rt) {
-        return false;
-    }
-    let Ok(stream) = Arc::new(alloc, stream) else {
-        return false;
-    };
-    let Ok((calls, mails)) = house.hall.connect(rt, conn) else {
-        return false;
-    };
-    let newcomer = Newcomer {
-        conn,
-        stream,
-        calls,
-        mails,
-    };
-    if let Err(newcomer) = house.put(rt, newcomer) {
-        turn_away(rt, alloc, house, gate, newcomer);
-        return true;
-    }
-    let turns = settings.turns;
-    let started = Builder::new()
-        .stack_size(STACK)
-        .spawn_scoped(
-            scope,
-            move ||
-                requires { (C.all ≡ C.parts) × (M.all ≡ M.parts) }
-            { attend(rt, alloc, house, gate, turns) },
-        )
-        .is_ok();
-    if !started {
-        if let Some(newcomer) = house.take(rt) {
-            turn_away(rt, alloc, house, gate, newcomer);
+    /// Begins to serve a connection. Whether it was made: it is closed where too many are there and none is about to end, or the hall
+    /// refuses it.
+    fn welcome<E>(&self, scope: &Scope<'s, E>, conn: u64, stream: UnixStream) -> bool
+        requires calls { C.all ≡ C.parts }
+        requires mails { M.all ≡ M.parts }
+    {
+        let (rt, alloc, house, gate, turns) = (
+            self.rt, self.alloc, self.house, self.gate, self.turns,
+        );
+        if !house.has_place(rt) {
+            return false;
         }
+        let Ok(stream) = Arc::new(alloc, stream) else {
+            return false;
+        };
+        let Ok((calls, mails)) = house.hall.connect(rt, conn) else {
+            return false;
+        };
+        let newcomer = Newcomer {
+            conn,
+            stream,
+            calls,
+            mails,
+        };
+        if let Err(newcomer) = house.put(rt, newcomer) {
+            turn_away(rt, alloc, house, gate, newcomer);
+            return true;
+        }
+        let started = Builder::new()
+            .stack_size(STACK)
+            .spawn_scoped(
+                scope,
+                move ||
+                    requires { (C.all ≡ C.parts) × (M.all ≡ M.parts) }
+                { attend(rt, alloc, house, gate, turns) },
+            )
+            .is_ok();
+        if !started {
+            if let Some(newcomer) = house.take(rt) {
+                turn_away(rt, alloc, house, gate, newcomer);
+            }
+        }
+        true
     }
-    true
 }
 
 /// Lets some time pass where no connection could be taken since there are too many open files or too little memory, so that it is

@@ -13,8 +13,8 @@ const BESIDE: &str = ".new";
 /// The most bytes that the path of a socket has on Linux.
 const LONGEST: usize = 107;
 
-/// A listener at a path that nothing has. Its file comes there once clients can connect, but where the path has no room for the name
-/// beside it, that name is another's, or the file system has no hard links: then it is bound to the path itself.
+/// Binds a listener to a path that does not exist. The file appears there once clients can connect. Where the path has no room for
+/// the name beside it, that name is taken, or the file system has no hard links, the path itself is bound.
 pub(crate) fn bind<R: Files + Net>(rt: &R, alloc: Global, path: &str) -> Option<UnixListener> {
     // The system would make a socket of its own choice.
     if path.is_empty() || is_taken(rt, path) {

@@ -3,17 +3,17 @@
 ghost use Rattle.std.specs.Prelude.{◌≡◌, ◌+◌, ◌⊎◌, ◌∷◌, [], false, All, IfOk, IfErr, nat_lt};
 ghost use Rattle.fe_front.specs.Front.{IsFirst};
 ghost use Rattle.fe_mail.specs.Books.{AddUp};
-ghost use mathlib.Core.List.{IsPrefix};
-ghost use Rattle.fe_hall.specs.Acts.{EachTold, IsLegal, stores_in};
+ghost use Rattle.fe_hall.specs.Acts.{EachTold, IsAccountOf, Receipts as Kept};
+ghost use Rattle.fe_hall.specs.Audits.{account_left};
 ghost use Rattle.fe_hall.specs.Receipts.{IsBorneOut};
 ghost use Rattle.fe_hall.specs.Seats.{most_connections};
 ghost use Rattle.fe_hall.specs.declared.act.Act.TheVariants as act;
 ghost use Rattle.fe_server.specs.declared.stop_fault.StopFault.TheVariants as fault;
 
-use crate::register::{Newcomer, Register};
+use crate::register::{Newcomer, Over, Register};
 use crate::stop_fault::StopFault;
 use fe_front::Front;
-use fe_hall::{Audit, CallSeat, Hall, MailSeat, NewHistory, Receipts, StoreSeat, Tally};
+use fe_hall::{Account, Audit, CallSeat, Hall, MailSeat, NewHistory, Receipts, StoreSeat, Tally};
 use fe_options::Settings;
 use fe_state::State;
 use fe_wire::ClientMessage;
@@ -49,10 +49,6 @@ pub(crate) struct Opened<C: Tally, M: Tally> {
     house: House<C, M>,
     begun: Snapshot<State>,
 }
-
-/// Shows that a house has ended. Only `House::end` makes it, and a house is not closed without it.
-#[derive(Drop)]
-pub(crate) struct Over(());
 
 impl<C: Tally, M: Tally> Opened<C, M> {
     /// A house with no connection, whose front begins with a copy of a state. `door` is a handle of its listener.
@@ -106,23 +102,32 @@ impl<C: Tally, M: Tally> Opened<C, M> {
         &self.house
     }
 
+    /// The account of the hall, which is not closed.
+    pub(crate) fn account(self, over: Over, seat: StoreSeat<M>) -> Account
+        ensures leaves { (kept : Kept) × IsAccountOf seat kept.items kept.history result }
+        ensures told { EachTold result.receipts result.history }
+    {
+        drop(over);
+        let Opened { house, .. } = self;
+        let House { hall, register, .. } = house;
+        register.into_inner().account(hall, seat)
+    }
+
     /// Closes the hall with what is in the register. `state` is what is stored.
     pub(crate) fn close(
         self,
         over: Over,
         seat: StoreSeat<M>,
         state: &State,
-    ) -> Result<Audit, StopFault>
+    ) -> Result<Audit, (StopFault, Account)>
         requires calls { C.all ≡ C.parts }
         requires mails { M.all ≡ M.parts }
         ensures add_up { IfOk result (λ audit. AddUp audit.books) }
         ensures unspent { IfOk result (λ audit. audit.books.spent ≡ false) }
         ensures borne_out { IfOk result (λ audit. All (IsBorneOut state.now audit.sent) audit.receipts) }
-        ensures this { IfOk result (λ audit. IsPrefix seat audit.history) }
-        ensures stores { IfOk result (λ audit. stores_in audit.history ≡ stores_in seat) }
-        ensures legal { IfOk result (λ audit. IsLegal audit.history) }
-        ensures told { IfOk result (λ audit. EachTold audit.receipts audit.history) }
-        ensures faults { IfErr result (λ told. (told ≡ fault.Memory) ⊎ (told ≡ fault.Strange)) }
+        ensures leaves { (kept : Kept) × IsAccountOf seat kept.items kept.history (account_left result) }
+        ensures told { EachTold (account_left result).receipts (account_left result).history }
+        ensures faults { IfErr result (λ e. (e.0 ≡ fault.Memory) ⊎ (e.0 ≡ fault.Strange)) }
     {
         drop(over);
         let Opened { house, .. } = self;
@@ -168,7 +173,7 @@ impl<C: Tally, M: Tally> House<C, M> {
     /// wrote what was told; where its client does not take that for so long, the stream is ended here.
     pub(crate) fn end<R: Clock + Wait>(&self, rt: &R) -> Over {
         let mut register = self.register.lock(rt);
-        register.end();
+        let over = register.end();
         let waited = self.freed.wait_timeout_while(
             rt,
             register,
@@ -176,7 +181,7 @@ impl<C: Tally, M: Tally> House<C, M> {
             |register| !register.is_empty(),
         );
         waited.0.shut_all();
-        Over(())
+        over
     }
 
     /// No connection is taken any more.

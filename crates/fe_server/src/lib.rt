@@ -8,6 +8,7 @@ mod accepting;
 mod binding;
 mod books;
 mod connection;
+mod failed;
 mod house;
 mod register;
 mod serve_fault;
@@ -17,6 +18,7 @@ mod socket;
 mod stop_fault;
 
 pub use books::books_text;
+pub use failed::Failed;
 pub use serve_fault::ServeFault;
 pub use served::Served;
 pub use server::{serve, serve_store};

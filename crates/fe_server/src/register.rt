@@ -1,16 +1,18 @@
 //! What the connections of a server that ended did, and how many are there.
 
-ghost use Rattle.std.specs.Prelude.{◌≡◌, ◌⊎◌, ◌∷◌, ◌++◌, [], false, IsTrue, All, IfOk, IfErr, IfSome, IsOk, IsSome, map, nat_lt};
+ghost use Rattle.std.specs.Prelude.{◌≡◌, ◌⊎◌, ◌∷◌, ◌++◌, [], true, false, IsTrue, All, IfOk, IfErr, IfSome, IsOk, IsSome, map, nat_lt};
 ghost use Rattle.fe_mail.specs.Books.{AddUp};
 ghost use mathlib.Core.List.{IsPrefix};
-ghost use Rattle.fe_hall.specs.Acts.{EachTold, IsLegal, stores_in};
+ghost use Rattle.fe_hall.specs.Acts.{EachTold, IsAccountOf};
+ghost use Rattle.fe_hall.specs.Audits.{account_left};
 ghost use Rattle.fe_hall.specs.Receipts.{IsBorneOut};
 ghost use Rattle.fe_server.specs.declared.stop_fault.StopFault.TheVariants as fault;
 ghost use Rattle.fe_server.specs.Ended.{joined_to};
 
 use crate::stop_fault::StopFault;
 use fe_hall::{
-    Audit, CallSeat, CallSeats, Hall, MailSeat, MailSeats, Receipts, StoreSeat, Tally, settle,
+    Account, Audit, CallSeat, CallSeats, Hall, MailSeat, MailSeats, Receipts, StoreSeat, Tally,
+    account_of, settle,
 };
 use fe_state::State;
 use fe_wire::ClientMessage;
@@ -28,6 +30,10 @@ pub(crate) struct Newcomer<C: Tally, M: Tally> {
     pub(crate) calls: CallSeat<C>,
     pub(crate) mails: MailSeat<M>,
 }
+
+/// Shows that a server has ended. Only `Register::end` makes it, and a house gives neither its books nor its account without it.
+#[derive(Drop)]
+pub(crate) struct Over(());
 
 /// What lies under the second lock of a server.
 #[derive(Drop)]
@@ -118,11 +124,14 @@ impl<C: Tally, M: Tally> Register<C, M> {
     }
 
     /// Nothing is stored any more, and no connection comes any more.
-    pub(crate) fn end(&mut self) {
+    pub(crate) fn end(&mut self) -> Over
+        ensures { self.new.over ≡ true }
+    {
         self.over = true;
         if let Some(door) = self.door.take() {
             let _ = door.shutdown(Shutdown::Both);
         }
+        Over(())
     }
 
     /// No connection is taken any more.
@@ -154,7 +163,7 @@ impl<C: Tally, M: Tally> Register<C, M> {
         ensures none { keeps ≡ false → self.new.sent.items ≡ self.old.sent.items }
         ensures short { IsTrue self.old.short → IsTrue self.new.short }
         ensures mails { self.new.mails ≡ self.old.mails }
-        ensures receipts { self.new.receipts.items ≡ self.old.receipts.items }
+        ensures receipts { self.new.receipts ≡ self.old.receipts }
     {
         match &mut self.calls {
             Some(calls) => calls.add(seat),
@@ -165,13 +174,15 @@ impl<C: Tally, M: Tally> Register<C, M> {
         }
     }
 
-    /// Adds what the write side of a connection did; its receipts only where `keeps`.
+    /// Adds what the write side of a connection did and saw; its receipts only where `keeps`.
     pub(crate) fn add_mails(&mut self, seat: MailSeat<M>, receipts: Receipts<M>, keeps: bool)
         requires ledger { M.all ≡ M.parts }
         ensures joined { self.new.mails ≡ joined_to self.old.mails seat.mails }
         ensures receipts { IsTrue keeps → self.new.short ≡ false
             → self.new.receipts.items ≡ self.old.receipts.items ++ receipts.items }
         ensures none { keeps ≡ false → self.new.receipts.items ≡ self.old.receipts.items }
+        ensures saw { IsPrefix self.old.receipts.history self.new.receipts.history
+            × IsPrefix receipts.history self.new.receipts.history }
         ensures short { IsTrue self.old.short → IsTrue self.new.short }
         ensures calls { self.new.calls ≡ self.old.calls }
         ensures sent { self.new.sent.items ≡ self.old.sent.items }
@@ -181,12 +192,22 @@ impl<C: Tally, M: Tally> Register<C, M> {
             None => self.mails = Some(MailSeats::of(seat)),
         }
         if !keeps {
-            drop(receipts);
+            self.receipts.learn(receipts);
             return;
         }
         if self.receipts.add(receipts).is_err() {
             self.short = true;
         }
+    }
+
+    /// The account of a hall that is not closed.
+    pub(crate) fn account(self, hall: Hall<C, M>, seat: StoreSeat<M>) -> Account
+        ensures leaves { IsAccountOf seat self.receipts.items self.receipts.history result }
+        ensures told { EachTold result.receipts result.history }
+    {
+        let Register { receipts, .. } = self;
+        let (receipts, history) = receipts.into_parts();
+        account_of(hall, seat, receipts, history)
     }
 
     /// Closes a hall with what its connections did. `state` is what is stored. `Memory` where not all of that could be kept; `Strange`
@@ -196,36 +217,27 @@ impl<C: Tally, M: Tally> Register<C, M> {
         hall: Hall<C, M>,
         seat: StoreSeat<M>,
         state: &State,
-    ) -> Result<Audit, StopFault>
+    ) -> Result<Audit, (StopFault, Account)>
         requires calls { C.all ≡ C.parts }
         requires mails { M.all ≡ M.parts }
         ensures calls { IfOk result (λ audit. IfSome self.calls (λ seat. audit.books.calls ≡ seat.amount)) }
         ensures mails { IfOk result (λ audit. IfSome self.mails (λ seat. audit.books.taken ≡ seat.amount)) }
         ensures sent { IfOk result (λ audit. audit.sent ≡ map (λ v. v.items) self.sent.items) }
-        ensures receipts { IfOk result (λ audit. audit.receipts ≡ self.receipts.items) }
         ensures borne_out { IfOk result (λ audit. All (IsBorneOut state.now audit.sent) audit.receipts) }
-        ensures this { IfOk result (λ audit. IsPrefix seat audit.history) }
-        ensures stores { IfOk result (λ audit. stores_in audit.history ≡ stores_in seat) }
-        ensures legal { IfOk result (λ audit. IsLegal audit.history) }
-        ensures told { IfOk result (λ audit. EachTold audit.receipts audit.history) }
+        ensures leaves { IsAccountOf seat self.receipts.items self.receipts.history (account_left result) }
+        ensures told { EachTold (account_left result).receipts (account_left result).history }
         ensures whole { IsOk result
             → (self.short ≡ false) × ((self.spent ≡ false) × (IsSome self.calls × IsSome self.mails)) }
         ensures add_up { IfOk result (λ audit. AddUp audit.books) }
         ensures unspent { IfOk result (λ audit. audit.books.spent ≡ false) }
-        ensures faults { IfErr result
-            (λ told. ((told ≡ fault.Memory) × IsTrue self.short) ⊎ ((told ≡ fault.Strange) × (self.short ≡ false))) }
+        ensures faults { IfErr result (λ e. ((e.0 ≡ fault.Memory) × IsTrue self.short)
+            ⊎ ((e.0 ≡ fault.Strange) × (self.short ≡ false))) }
     {
         if self.short {
-            drop(self);
-            drop(seat);
-            drop(hall);
-            return Err(StopFault::Memory);
+            return Err((StopFault::Memory, self.account(hall, seat)));
         }
-        if self.spent {
-            drop(self);
-            drop(seat);
-            drop(hall);
-            return Err(StopFault::Strange);
+        if self.spent || self.calls.is_none() || self.mails.is_none() {
+            return Err((StopFault::Strange, self.account(hall, seat)));
         }
         let Register {
             newcomers,
@@ -240,17 +252,11 @@ impl<C: Tally, M: Tally> Register<C, M> {
         drop(newcomers);
         drop(sockets);
         drop(door);
-        let (Some(calls), Some(mails)) = (calls, mails) else {
-            drop(sent);
-            drop(receipts);
-            drop(seat);
-            drop(hall);
-            return Err(StopFault::Strange);
-        };
         let (receipts, history) = receipts.into_parts();
+        let (calls, mails) = (calls.unwrap(), mails.unwrap());
         match settle(hall, calls, mails, sent, receipts, history, seat, state) {
             Ok(audit) => Ok(audit),
-            Err(_) => Err(StopFault::Strange),
+            Err((_, account)) => Err((StopFault::Strange, account)),
         }
     }
 }

@@ -1,8 +1,7 @@
 //! A store is served.
 
-ghost use Rattle.std.specs.Prelude.{◌≡◌, ◌≢◌, ◌+◌, ◌∷◌, ℕ, [], false, Some, All, IfOk, IsErrOf, nat_lt};
+ghost use Rattle.std.specs.Prelude.{◌≡◌, ◌≢◌, ◌+◌, ◌∷◌, ℕ, [], false, All, IfOk, IsErrOf, nat_lt};
 ghost use Rattle.fe_mail.specs.Books.{AddUp};
-ghost use Rattle.fe_hall.specs.Commits.{AreNoted};
 ghost use Rattle.fe_hall.specs.Receipts.{IsBorneOut};
 ghost use Rattle.fe_hall.specs.Seats.{most_connections};
 ghost use Rattle.fe_hall.specs.declared.act.Act.TheVariants as act;
@@ -11,17 +10,20 @@ ghost use Rattle.fe_hall.specs.declared.commit_end.CommitEnd.TheVariants as hall
 ghost use Rattle.fe_journal.specs.Layout.{device_bytes};
 ghost use Rattle.fe_store.specs.declared.fault.OpenFault.TheVariants as store;
 ghost use Rattle.fe_server.specs.Acknowledged.{IsAcknowledged};
-ghost use Rattle.fe_server.specs.Serving.{HasCommitted, IsAnswerAt, fault_in, fault_of_end, keeper_in};
-ghost use Rattle.fe_server.specs.declared.serve_fault.ServeFault.TheVariants as fault;
+ghost use Rattle.fe_server.specs.Serving.{HasCommitted, HasNoted, IsAnswerAt, account_in, fault_in, fault_of_end, keeper_in};
+ghost use Rattle.fe_server.specs.declared.serve_fault.ServeFault.TheVariants as served;
+ghost use Rattle.fe_server.specs.declared.stop_fault.StopFault.TheVariants as fault;
 
 use crate::accepting::serve_clients;
 use crate::binding::bind;
-use crate::house::{House, Opened, Over};
+use crate::failed::Failed;
+use crate::house::{House, Opened};
+use crate::register::Over;
 use crate::serve_fault::ServeFault;
 use crate::served::Served;
 use crate::stop_fault::StopFault;
 use fe_disk::Disk;
-use fe_hall::{Audit, CommitEnd, Gate, NewHistory, StoreSeat, Tally, commit_side};
+use fe_hall::{Account, Audit, CommitEnd, Gate, NewHistory, StoreSeat, Tally, commit_side};
 use fe_keeper::Keeper;
 use fe_options::Settings;
 use fe_store::open_store;
@@ -53,8 +55,8 @@ pub fn serve<R: Files<File = File> + Net + Clock + Threads + Wait + Sync, G: Gat
     ensures add_up { IfOk result (λ audit. AddUp audit.books) }
     ensures unspent { IfOk result (λ audit. audit.books.spent ≡ false) }
     // The file is told to have another size only where it has, and to be unformatted only where no store was asked for.
-    ensures wrong_size { (found : ℕ) → IsErrOf result (fault.Store (store.Size found)) → found ≢ device_bytes }
-    ensures unformatted { IsErrOf result (fault.Store store.Unformatted) → settings.now.format ≡ false }
+    ensures wrong_size { (found : ℕ) → IsErrOf result (served.Store (store.Size found)) → found ≢ device_bytes }
+    ensures unformatted { IsErrOf result (served.Store store.Unformatted) → settings.now.format ≡ false }
 {
     let keeper = open_store(rt, alloc, settings.store.as_str(), settings.format)?;
     let Some(listener) = bind(rt, alloc, settings.socket.as_str()) else {
@@ -66,7 +68,14 @@ pub fn serve<R: Files<File = File> + Net + Clock + Threads + Wait + Sync, G: Gat
             drop(keeper);
             Ok(audit)
         }
-        Err((fault, keeper)) => {
+        Err(
+            Failed {
+                fault,
+                keeper,
+                account,
+            },
+        ) => {
+            drop(account);
             drop(keeper);
             Err(ServeFault::Stopped(fault))
         }
@@ -81,7 +90,7 @@ pub fn serve_store<D: Disk + Drop + Send, G: Gate + Sync, R: Clock + Threads + W
     settings: &Settings,
     keeper: Keeper<D>,
     gate: &G,
-) -> Result<Served<D>, (StopFault, Keeper<D>)>
+) -> Result<Served<D>, Failed<D>>
     // Whatever the end, the keeper comes back: it is the one before with what was stored since; and the answer is that of the
     // committing side's end.
     ensures committed { (end : Ended)
@@ -93,10 +102,10 @@ pub fn serve_store<D: Disk + Drop + Send, G: Gate + Sync, R: Clock + Threads + W
     // What its clients were told is stored.
     ensures borne_out { IfOk result
         (λ served. All (IsBorneOut served.keeper.state served.audit.sent) served.audit.receipts) }
-    // Whatever a client was told is in every image that a stop may leave from then on: before an answer was told, a group with its entry
-    // was stored, and each image since the end of its append stands for a state with that group.
-    ensures acknowledged { IfOk result
-        (λ served. IsAcknowledged D.honest D.moment D.left_since keeper served.keeper served.audit) }
+    // Whatever a client was told is in every image that a stop may leave from then on, whatever the end: before an answer was told, a
+    // group with its entry was stored, and each image since the end of its append stands for a state with that group.
+    ensures acknowledged { (end : Ended) × IsAnswerAt end (fault_in result)
+        × IsAcknowledged D.honest D.moment D.left_since keeper (keeper_in result) end (account_in result) }
 {
     let history = NewHistory::new(keeper.state().place());
     serve_as::<Brand, Brand, D, G, R>(
@@ -128,7 +137,7 @@ fn serve_as<
     calls: Blank,
     mails: Blank,
     history: NewHistory,
-) -> Result<Served<D>, (StopFault, Keeper<D>)>
+) -> Result<Served<D>, Failed<D>>
     requires calls { (calls.name ≡ C.name) × (calls.parts ≡ C.parts) × (C.all ≡ C.parts)
         × (C.all ≡ most_connections + 1) }
     requires mails { (mails.name ≡ M.name) × (mails.parts ≡ M.parts) × (M.all ≡ M.parts)
@@ -142,12 +151,13 @@ fn serve_as<
     ensures unspent { IfOk result (λ served. served.audit.books.spent ≡ false) }
     ensures borne_out { IfOk result
         (λ served. All (IsBorneOut served.keeper.state served.audit.sent) served.audit.receipts) }
-    ensures acknowledged { IfOk result
-        (λ served. IsAcknowledged D.honest D.moment D.left_since keeper served.keeper served.audit) }
+    ensures acknowledged { (end : Ended) × IsAnswerAt end (fault_in result)
+        × IsAcknowledged D.honest D.moment D.left_since keeper (keeper_in result) end (account_in result) }
 {
+    let nothing = history.account(alloc);
     let Ok(door) = listener.try_clone() else {
         drop(history);
-        return Err((StopFault::Memory, unserved(keeper)));
+        return Err(unserved(keeper, nothing));
     };
     // The system ends an `accept` whose listener is shut, which only a stream can do here.
     let door = UnixStream::from(OwnedFd::from(door));
@@ -160,29 +170,42 @@ fn serve_as<
         door,
         settings,
     ) else {
-        return Err((StopFault::Memory, unserved(keeper)));
+        return Err(unserved(keeper, nothing));
     };
+    drop(nothing);
     let (keeper, end, over, seat) = run(rt, alloc, &opened, listener, settings, keeper, seat, gate);
     if let Some(fault) = fault_of_end(end) {
-        drop(opened);
-        drop(over);
-        drop(seat);
-        return Err((fault, keeper));
+        let account = opened.account(over, seat);
+        return Err(Failed {
+            fault,
+            keeper,
+            account,
+        });
     }
     match opened.close(over, seat, keeper.state()) {
         Ok(audit) => Ok(Served { audit, keeper }),
-        Err(fault) => Err((fault, keeper)),
+        Err((fault, account)) => Err(Failed {
+            fault,
+            keeper,
+            account,
+        }),
     }
 }
 
-/// A keeper that was not served.
-fn unserved<D: Disk>(keeper: Keeper<D>) -> Keeper<D>
-    ensures same { result ≡ keeper }
-    ensures committed { HasCommitted D.honest D.moment D.left_since D.may_leave D.failures keeper result hall.Stopped }
+/// What a server leaves where memory is short before it serves a client.
+fn unserved<D: Disk>(keeper: Keeper<D>, account: Account) -> Failed<D>
+    ensures committed { HasNoted D.honest D.moment D.left_since D.may_leave D.failures keeper result.keeper hall.Stopped
+        (act.Began keeper.state.place ∷ []) }
+    ensures fault { result.fault ≡ fault.Memory }
+    ensures account { result.account ≡ account }
 {
     // It names what is always true of the keeper (`docs/DECISIONS.md`, "Toolchain").
     let _ = keeper.state();
-    keeper
+    Failed {
+        fault: StopFault::Memory,
+        keeper,
+        account,
+    }
 }
 
 /// What the committing thread gives back.
@@ -193,14 +216,10 @@ struct Committed<D: Disk + Drop> {
 
 impl<D: Disk + Drop, M: Tally> Promise<(Keeper<D>, CommitEnd, Over, StoreSeat<M>)>
     for Committed<D> {
-    ghost use Rattle.std.specs.Prelude.{Some, [], ◌∷◌};
-    ghost use Rattle.fe_hall.specs.declared.act.Act.TheVariants.{Began};
-    ghost use Rattle.fe_hall.specs.Commits.{AreNoted};
-    ghost use Rattle.fe_server.specs.Serving.{HasCommitted};
+    ghost use Rattle.fe_server.specs.Serving.{HasNoted};
 
     ghost kept_by = { λ p r.
-        (all : HasCommitted D.honest D.moment D.left_since D.may_leave D.failures p.before.value r.0 r.1)
-        × AreNoted D.moment all.commits.appends (Some r.1) (Began p.before.value.state.place ∷ []) r.3 };
+        HasNoted D.honest D.moment D.left_since D.may_leave D.failures p.before.value r.0 r.1 r.3 };
 }
 
 /// Serves the clients of a listener, and stores what they do. The keeper comes back, and why the committing side ended.
@@ -226,8 +245,7 @@ fn run<
     requires most { opened.now.house.most ≡ settings.now.connections }
     requires keeps { opened.now.house.keeps ≡ nat_lt 0 settings.now.accepts }
     requires seat { seat ≡ act.Began keeper.state.place ∷ [] }
-    ensures { (all : HasCommitted D.honest D.moment D.left_since D.may_leave D.failures keeper result.0 result.1)
-        × AreNoted D.moment all.commits.appends (Some result.1) (act.Began keeper.state.place ∷ []) result.3 }
+    ensures { HasNoted D.honest D.moment D.left_since D.may_leave D.failures keeper result.0 result.1 result.3 }
 {
     let house = opened.house();
     thread::scope(
@@ -235,7 +253,7 @@ fn run<
         rt,
         move |scope| -> (Keeper<D>, CommitEnd, Over, StoreSeat<M>)
             requires { (C.all ≡ C.parts) × (M.all ≡ M.parts) × (seat ≡ act.Began keeper.state.place ∷ []) }
-            ensures { (all : HasCommitted D.honest D.moment D.left_since D.may_leave D.failures keeper result.0 result.1) × AreNoted D.moment all.commits.appends (Some result.1) (act.Began keeper.state.place ∷ []) result.3 }
+            ensures { HasNoted D.honest D.moment D.left_since D.may_leave D.failures keeper result.0 result.1 result.3 }
         {
             run_in(
                 rt, alloc, scope, house, listener, settings, keeper, seat, gate,
@@ -267,8 +285,7 @@ fn run_in<
     requires calls { C.all ≡ C.parts }
     requires mails { M.all ≡ M.parts }
     requires seat { seat ≡ act.Began keeper.state.place ∷ [] }
-    ensures { (all : HasCommitted D.honest D.moment D.left_since D.may_leave D.failures keeper result.0 result.1)
-        × AreNoted D.moment all.commits.appends (Some result.1) (act.Began keeper.state.place ∷ []) result.3 }
+    ensures { HasNoted D.honest D.moment D.left_since D.may_leave D.failures keeper result.0 result.1 result.3 }
 {
     let promise = Committed {
         before: Snapshot::of(&keeper),
@@ -277,7 +294,7 @@ fn run_in<
         promise,
         move || -> (Keeper<D>, CommitEnd, Over, StoreSeat<M>)
             requires { seat ≡ act.Began keeper.state.place ∷ [] }
-            ensures { (all : HasCommitted D.honest D.moment D.left_since D.may_leave D.failures keeper result.0 result.1) × AreNoted D.moment all.commits.appends (Some result.1) (act.Began keeper.state.place ∷ []) result.3 }
+            ensures { HasNoted D.honest D.moment D.left_since D.may_leave D.failures keeper result.0 result.1 result.3 }
         { commit(rt, house, keeper, seat) },
     );
     match committing {
@@ -302,8 +319,7 @@ fn commit<C: Tally, M: Tally, D: Disk, R: Clock + Wait>(
     seat: StoreSeat<M>,
 ) -> (Keeper<D>, CommitEnd, Over, StoreSeat<M>)
     requires { seat ≡ act.Began keeper.state.place ∷ [] }
-    ensures { (all : HasCommitted D.honest D.moment D.left_since D.may_leave D.failures keeper result.0 result.1)
-        × AreNoted D.moment all.commits.appends (Some result.1) (act.Began keeper.state.place ∷ []) result.3 }
+    ensures { HasNoted D.honest D.moment D.left_since D.may_leave D.failures keeper result.0 result.1 result.3 }
 {
     let mut keeper = keeper;
     let mut seat = seat;

@@ -1,26 +1,34 @@
-use Rattle.std.proofs.Common.{List, refl, sym, subst, true≢false}
+use Rattle.std.proofs.Common.{◌≡◌, ◌∙◌, Bool, true, List, refl, sym, subst, true≢false, rules}
+use Rattle.std.specs.Prelude.{MatchBool}
 use Rattle.fe_hall.proofs.BorneOut.{one_strange, all_borne_out, none_is}
-use mathlib.Core.List.{IsPrefix}
-use Rattle.fe_hall.specs.declared.act.Act.{Act}
-use Rattle.fe_hall.proofs.Acts.{each_later}
+use Rattle.fe_hall.specs.Acts.{HasMore, stores_in}
 use Rattle.fe_hall.proofs.closing.settle.Goals as goal
 
 pub returns-in-Some-strange-clause-refused : goal.returns-in-Some-strange-clause-refused
 returns-in-Some-strange-clause-refused g c = λ _. (
-  λ _. one_strange c.args.state.now c.args.state.now c.as_slice.result.now c.args.sent.items c.as_slice-2.result.now c.args.receipts.items (λ v. v.items) refl c.as_slice.ensures.value c.as_slice-2.ensures.value c.in-Some-strange.place c.in-Some-strange.ensures.some,
+  λ _. one_strange c.args.state.now c.args.state.now c.as_slice.result.now c.args.sent.items c.receipts.result.now c.args.receipts.items (λ v. v.items) refl c.as_slice.ensures.value (c.receipts.ensures ∙ c.of-account.ensures.same_receipts) c.in-Some-strange.place c.in-Some-strange.ensures.some,
   λ _. refl,
 )
 
 pub returns-in-None-clause-borne_out : goal.returns-in-None-clause-borne_out
-returns-in-None-clause-borne_out g c = all_borne_out c.args.state.now c.args.state.now c.as_slice.result.now c.args.sent.items c.as_slice-2.result.now c.args.receipts.items (λ v. v.items) refl c.as_slice.ensures.value c.as_slice-2.ensures.value c.in-None.ensures.none
+returns-in-None-clause-borne_out g c =
+    all_borne_out c.args.state.now c.args.state.now c.as_slice.result.now c.args.sent.items c.receipts.result.now c.of-account.result.receipts (λ v. v.items) refl c.as_slice.ensures.value c.receipts.ensures c.in-None.ensures.none
 
 pub returns-in-None-clause-refused : goal.returns-in-None-clause-refused
 returns-in-None-clause-refused g c = λ _. (
   λ err. absurd (true≢false (sym err)),
-  λ one. absurd (none_is c.args.state.now c.args.state.now c.as_slice.result.now c.args.sent.items c.as_slice-2.result.now c.args.receipts.items (λ v. v.items) refl c.as_slice.ensures.value c.as_slice-2.ensures.value c.in-None.ensures.none one),
+  λ one. absurd (none_is c.args.state.now c.args.state.now c.as_slice.result.now c.args.sent.items c.receipts.result.now c.args.receipts.items (λ v. v.items) refl c.as_slice.ensures.value (c.receipts.ensures ∙ c.of-account.ensures.same_receipts) c.in-None.ensures.none one),
 )
 
-pub returns-in-None-clause-told : goal.returns-in-None-clause-told
-returns-in-None-clause-told g c = λ told.
-    let seen = subst (λ (h : List Act). IsPrefix c.args.history h) (sym c.into_seen.ensures.same) c.in-Some-whole.ensures.seen in
-    each_later c.args.receipts.items c.args.history c.into_seen.result.log seen told
+pub returns-in-None-clause-leaves : goal.returns-in-None-clause-leaves
+returns-in-None-clause-leaves g c =
+    let e = c.of-account.ensures in
+    let a = c.of-account.result in
+    let alone : a.own ≡ true = search rules in
+    record {
+      same_receipts = e.same_receipts;
+      this = e.this;
+      that = e.that;
+      legal = e.legal;
+      own = subst (λ (b : Bool). MatchBool b (stores_in a.history ≡ stores_in c.args.seat) (HasMore (stores_in c.args.seat) (stores_in a.history))) alone e.own;
+    }

@@ -4,7 +4,7 @@ use Rattle.fe_hall.specs.Commits.{AreNoted, Commits, IsStored, TellsEnd, end_of}
 use Rattle.fe_hall.specs.declared.commit_end.CommitEnd.{CommitEnd}
 use Rattle.fe_hall.specs.declared.commit_end.CommitEnd.TheVariants.{Strange, Spent}
 use Rattle.fe_hall.proofs.Committed.{group_noted, commits_fault, fault_tells, appended_works}
-use Rattle.fe_hall.proofs.Noted.{none_noted}
+use Rattle.fe_hall.proofs.Noted.{none_noted, one_noted, one_unnoted}
 use Rattle.fe_hall.proofs.committing.commit.Goals as goal
 
 pub post-requires : goal.post-requires
@@ -22,7 +22,7 @@ returns-in-Some-Ok-clause-commits g c =
     let new = c.append.new.self in
     group_noted g.D.Disk.honest g.D.Disk.moment g.D.Disk.left_since g.D.Disk.may_leave g.met.D.Disk.only_now old new None c.args.batch.entries c.args.seat.now c.note.new.seat e.continues.some e.continues.legal e.state
     (appended_works old.store new.store c.args.batch.entries new.store.disk e.store) c.append.ensures.honesty c.append.ensures.durable c.append.ensures.any_moment
-    (c.note.ensures.this, inl (c.note.ensures.noted (search rules)))
+    (one_noted g.D.Disk.moment (record { before = old; after = new }) _ c.args.seat.now c.note.new.seat c.note.ensures.this (c.note.ensures.noted (search rules)))
 
 pub returns-in-Some-Err-clause-commits : goal.returns-in-Some-Err-clause-commits
 returns-in-Some-Err-clause-commits g c =
@@ -31,7 +31,7 @@ returns-in-Some-Err-clause-commits g c =
     let new = c.append.new.self in
     group_noted g.D.Disk.honest g.D.Disk.moment g.D.Disk.left_since g.D.Disk.may_leave g.met.D.Disk.only_now old new (Some Strange) c.args.batch.entries c.args.seat.now c.note.new.seat e.continues.some e.continues.legal e.state
     (appended_works old.store new.store c.args.batch.entries new.store.disk e.store) c.append.ensures.honesty c.append.ensures.durable c.append.ensures.any_moment
-    (c.note.ensures.this, inl (c.note.ensures.noted (search rules)))
+    (one_noted g.D.Disk.moment (record { before = old; after = new }) _ c.args.seat.now c.note.new.seat c.note.ensures.this (c.note.ensures.noted (search rules)))
 
 pub returns-in-Ok-clause-commits : goal.returns-in-Ok-clause-commits
 returns-in-Ok-clause-commits g c =
@@ -40,7 +40,7 @@ returns-in-Ok-clause-commits g c =
     let new = c.append.new.self in
     group_noted g.D.Disk.honest g.D.Disk.moment g.D.Disk.left_since g.D.Disk.may_leave g.met.D.Disk.only_now old new (Some Spent) c.args.batch.entries c.args.seat.now c.note.new.seat e.continues.some e.continues.legal e.state
     (appended_works old.store new.store c.args.batch.entries new.store.disk e.store) c.append.ensures.honesty c.append.ensures.durable c.append.ensures.any_moment
-    (c.note.ensures.this, inl (c.note.ensures.noted (search rules)))
+    (one_noted g.D.Disk.moment (record { before = old; after = new }) _ c.args.seat.now c.note.new.seat c.note.ensures.this (c.note.ensures.noted (search rules)))
 
 pub returns-clause-commits : goal.returns-clause-commits
 returns-clause-commits g c =
@@ -64,4 +64,4 @@ returns-then-not-note-clause-commits g c =
     let new = c.append.new.self in
     group_noted g.D.Disk.honest g.D.Disk.moment g.D.Disk.left_since g.D.Disk.may_leave g.met.D.Disk.only_now old new (Some Strange) c.args.batch.entries c.args.seat.now c.note.new.seat e.continues.some e.continues.legal e.state
     (appended_works old.store new.store c.args.batch.entries new.store.disk e.store) c.append.ensures.honesty c.append.ensures.durable c.append.ensures.any_moment
-    (c.note.ensures.this, inr refl)
+    (one_unnoted g.D.Disk.moment (record { before = old; after = new }) c.args.seat.now c.note.new.seat (c.note.ensures.unnoted (search rules)))

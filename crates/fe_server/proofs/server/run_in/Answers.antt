@@ -1,21 +1,19 @@
-use Rattle.std.proofs.Common.{Some, [], ◌∷◌, sym, ap, subst, ◌∙◌}
+use Rattle.std.proofs.Common.{sym, ap, subst, ◌∙◌}
 use Rattle.fe_keeper.specs.Keeper.{KeeperState}
-use Rattle.fe_hall.specs.Commits.{AreNoted}
-use Rattle.fe_hall.specs.declared.act.Act.TheVariants.{Began}
-use Rattle.fe_server.specs.Serving.{HasCommitted}
+use Rattle.fe_server.specs.Serving.{HasNoted}
 use Rattle.fe_server.proofs.server.run_in.Goals as goal
 
 pub spawn_with-committing-requires-clause-keeps : goal.spawn_with-committing-requires-clause-keeps
 spawn_with-committing-requires-clause-keeps g c κs within = λ r kept.
     subst
-    (λ (k : KeeperState g.row.D.Denot). (all : HasCommitted g.D.Disk.honest g.D.Disk.moment g.D.Disk.left_since g.D.Disk.may_leave g.D.Disk.failures k r.0 r.1) × AreNoted g.D.Disk.moment all.commits.appends (Some r.1) (Began k.state.place ∷ []) r.3)
+    (λ (k : KeeperState g.row.D.Denot). HasNoted g.D.Disk.honest g.D.Disk.moment g.D.Disk.left_since g.D.Disk.may_leave g.D.Disk.failures k r.0 r.1 r.3)
     (sym c.of.ensures) kept
 
 pub returns-in-Ok : goal.returns-in-Ok
 returns-in-Ok g c =
     let r = c.join.result in
     subst
-    (λ (k : KeeperState g.row.D.Denot). (all : HasCommitted g.D.Disk.honest g.D.Disk.moment g.D.Disk.left_since g.D.Disk.may_leave g.D.Disk.failures k r.0 r.1) × AreNoted g.D.Disk.moment all.commits.appends (Some r.1) (Began k.state.place ∷ []) r.3)
+    (λ (k : KeeperState g.row.D.Denot). HasNoted g.D.Disk.honest g.D.Disk.moment g.D.Disk.left_since g.D.Disk.may_leave g.D.Disk.failures k r.0 r.1 r.3)
     (ap (λ p. p.before.value) c.in-Ok.ensures.ok ∙ c.of.ensures) c.join.ensures
 
 pub returns-in-Err : goal.returns-in-Err

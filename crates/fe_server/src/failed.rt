@@ -1,0 +1,12 @@
+use crate::stop_fault::StopFault;
+use fe_disk::Disk;
+use fe_hall::Account;
+use fe_keeper::Keeper;
+
+/// What a server leaves when a fault ends it. The account has the receipts that were kept until then.
+#[derive(Drop)]
+pub struct Failed<D: Disk> {
+    pub fault: StopFault,
+    pub keeper: Keeper<D>,
+    pub account: Account,
+}
