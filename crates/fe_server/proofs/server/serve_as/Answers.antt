@@ -16,16 +16,25 @@ returns-in_default-clause-acknowledged g c =
           (c.unserved.ensures.account ∙ c.account-nothing.ensures) c.requires.place,
     )
 
+pub returns-in_default-new-clause-acknowledged : goal.returns-in_default-new-clause-acknowledged
+returns-in_default-new-clause-acknowledged g c =
+    let u = c.unserved-in_default-new.result in (
+      Stopped,
+      inl c.unserved-in_default-new.ensures.fault,
+      unbegun_acknowledged g.D.Disk.honest g.D.Disk.moment g.D.Disk.left_since g.D.Disk.may_leave g.D.Disk.failures c.args.keeper u.keeper Stopped u.account c.args.history.place c.unserved-in_default-new.ensures.committed
+          (c.unserved-in_default-new.ensures.account ∙ c.account-nothing.ensures) c.requires.place,
+    )
+
 pub returns-in-Some-clause-committed : goal.returns-in-Some-clause-committed
 returns-in-Some-clause-committed g c = (c.run-keeper.result.1, c.run-keeper.ensures.0, fault_answers _ _ (sym c.fault_of_end.ensures ∙ c.in-Some.is))
 
 pub returns-in-Some-clause-acknowledged : goal.returns-in-Some-clause-acknowledged
 returns-in-Some-clause-acknowledged g c =
     let r = c.run-keeper.result in
-    let e = c.account.ensures in (
+    let e = c.account-account.ensures in (
       r.1,
       fault_answers _ _ (sym c.fault_of_end.ensures ∙ c.in-Some.is),
-      ended_acknowledged g.D.Disk.honest g.D.Disk.moment g.D.Disk.left_since g.D.Disk.may_leave g.D.Disk.failures c.args.keeper r.0 r.1 r.3 c.account.result e.leaves.0.items e.leaves.0.history
+      ended_acknowledged g.D.Disk.honest g.D.Disk.moment g.D.Disk.left_since g.D.Disk.may_leave g.D.Disk.failures c.args.keeper r.0 r.1 r.3 c.account-account.result e.leaves.0.items e.leaves.0.history
           c.run-keeper.ensures e.leaves.1 e.told,
     )
 
