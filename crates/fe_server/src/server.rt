@@ -102,8 +102,9 @@ pub fn serve_store<D: Disk + Drop + Send, G: Gate + Sync, R: Clock + Threads + W
     // What its clients were told is stored.
     ensures borne_out { IfOk result
         (λ served. All (IsBorneOut served.keeper.state served.audit.sent) served.audit.receipts) }
-    // Whatever a client was told is in every image that a stop may leave from then on, whatever the end: before an answer was told, a
+    // Whatever a client was told is in every image that a stop may leave from then on: before an answer was told, a
     // group with its entry was stored, and each image since the end of its append stands for a state with that group.
+    // After a fault this holds if the account's `own` is true.
     ensures acknowledged { (end : Ended) × IsAnswerAt end (fault_in result)
         × IsAcknowledged D.honest D.moment D.left_since keeper (keeper_in result) end (account_in result) }
 {
