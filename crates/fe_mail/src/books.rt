@@ -1,14 +1,15 @@
 ghost use Rattle.std.specs.Prelude.{◌≡◌, ◌+◌, ◌&&◌, ◌||◌, ℕ, not, nat_lt, min};
 ghost use Rattle.fe_mail.specs.Books.{first_books, Balances, call_completed, call_waits, call_repeated, call_refused, waiter_completed, waiters_withdrawn, mail_boxed, mail_refused_by_box, mail_taken, box_dropped};
+ghost use Rattle.fe_mail.specs.declared.books.TheConstants.{MOST_BOOKED};
 
 use std::marker::Model;
 
 /// The maximum number of calls, and of mails, that the books count.
-const MOST: u64 = 9223372036854775807;
+pub const MOST_BOOKED: u64 = (1 << 63) - 1;
 
 /// How the calls and the mails ended. Each call is counted in `calls` and in one of the five columns after it, each
-/// mail in `mails` and in one of the three columns after that. A call or a mail past 2^63 - 1 is not counted; it
-/// makes the books `spent`, and spent books never change.
+/// mail in `mails` and in one of the three columns after that. A call or a mail past `MOST_BOOKED` is not counted;
+/// it makes the books `spent`, and spent books never change.
 #[derive(Clone, Copy, PartialEq, Eq)]
 pub struct Books {
     pub calls: u64,
@@ -189,10 +190,10 @@ impl Books {
 
 // Whether one more can be counted. If the count is at its maximum, the books become spent.
 fn can_count(count: u64, spent: &mut bool) -> bool
-    ensures counts { result ≡ (not spent.old && nat_lt count 9223372036854775807) }
-    ensures spent { spent.new ≡ (spent.old || not (nat_lt count 9223372036854775807)) }
+    ensures counts { result ≡ (not spent.old && nat_lt count MOST_BOOKED) }
+    ensures spent { spent.new ≡ (spent.old || not (nat_lt count MOST_BOOKED)) }
 {
-    if count >= MOST {
+    if count >= MOST_BOOKED {
         *spent = true;
     }
     !*spent

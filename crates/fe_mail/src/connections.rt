@@ -1,6 +1,7 @@
 ghost use Rattle.std.specs.Prelude.{◌≡◌, ◌↔◌, ◌<◌, ◌≤◌, [], ◌∷◌, ◌++◌, length, nat_lt, drop, slice_get, is_some, None, IfOk, IfErr, IfNone, OnOk, OnErr, IsOk, IsSome};
 ghost use Rattle.std.specs.FinMap as map;
 ghost use Rattle.fe_mail.specs.Connections.{first_connection, session_on, mails_on, with_session, with_mails};
+ghost use Rattle.fe_mail.specs.declared.mailbox.TheConstants.{MAILS};
 
 use crate::connection::Connection;
 use crate::mail::Mail;
@@ -11,7 +12,7 @@ use std::marker::Model;
 
 /// The connections by number: the session of each, and the box in which its mails wait.
 ///
-/// Connections are in a hash map. `connect` allocates room for 128 mails; nothing else allocates.
+/// Connections are in a hash map. `connect` allocates room for `MAILS` mails; nothing else allocates.
 #[derive(Drop)]
 pub struct Connections {
     connections: IndexMap<u64, Connection>,
@@ -94,12 +95,12 @@ impl Connections {
         connection.session = session;
     }
 
-    /// Appends a mail to a connection's box. If the box has 128 mails, returns the mail as the error.
+    /// Appends a mail to a connection's box. If the box has `MAILS` mails, returns the mail as the error.
     pub fn put(&mut self, conn: u64, mail: Mail) -> Result<(), Mail>
         requires connected { IsSome (map.get self.old conn) }
-        ensures room { IsOk result ↔ (length (mails_on self.old conn) < 128) }
+        ensures room { IsOk result ↔ (length (mails_on self.old conn) < MAILS) }
         ensures put { OnOk result (self.new ≡ with_mails self.old conn (mails_on self.old conn ++ mail ∷ [])) }
-        ensures full { OnErr result (length (mails_on self.old conn) ≡ 128) }
+        ensures full { OnErr result (length (mails_on self.old conn) ≡ MAILS) }
         ensures returned { IfErr result (λ back. back ≡ mail) }
         ensures err { OnErr result (self.new ≡ self.old) }
     {
@@ -119,11 +120,11 @@ impl Connections {
         }
     }
 
-    /// Removes a connection and its box, and returns the number of mails in the box, 0 to 128. Returns 0 if it is not
+    /// Removes a connection and its box, and returns the number of mails in the box, 0 to `MAILS`. Returns 0 if it is not
     /// connected.
     pub fn remove(&mut self, conn: u64) -> u32
         ensures mails { result ≡ length (mails_on self.old conn) }
-        ensures few { result ≤ 128 }
+        ensures few { result ≤ MAILS }
         ensures removed { self.new ≡ map.remove self.old conn }
     {
         match self.connections.swap_remove(&conn) {

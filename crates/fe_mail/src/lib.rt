@@ -9,7 +9,7 @@ mod mailbox;
 mod refusal;
 mod report_text;
 
-pub use books::Books;
+pub use books::{Books, MOST_BOOKED};
 pub use connections::Connections;
 pub use mail::{Mail, session_of};
 pub use mailbox::MAILS;

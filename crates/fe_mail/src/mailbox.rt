@@ -1,4 +1,5 @@
 ghost use Rattle.std.specs.Prelude.{◌≡◌, ◌↔◌, ◌<◌, ◌≤◌, [], ◌∷◌, ◌++◌, length, nat_lt, drop, slice_get, IfOk, IfErr, OnOk, OnErr, IsOk};
+ghost use Rattle.fe_mail.specs.declared.mailbox.TheConstants.{MAILS};
 
 use crate::mail::Mail;
 use std::alloc::{AllocError, Global};
@@ -8,7 +9,7 @@ use std::marker::Model;
 /// The maximum number of unread mails in a box.
 pub const MAILS: usize = 128;
 
-/// The mails that a connection has not taken yet, at most 128.
+/// The mails that a connection has not taken yet, at most `MAILS`.
 #[derive(Drop)]
 pub(crate) struct Mailbox {
     mails: VecDeque<Mail>,
@@ -18,16 +19,17 @@ impl Model for Mailbox {
     ghost use Rattle.std.specs.Prelude.{◌≤◌, List};
     ghost use Rattle.std.specs.VecDeque.{deque_len, deque_capacity};
     ghost use Rattle.fe_mail.specs.declared.mail.Mail.{Mail};
+    ghost use Rattle.fe_mail.specs.declared.mailbox.TheConstants.{MAILS};
 
     ghost Value = { List Mail };
 
     ghost view = { λ a. a.mails.items };
 
-    ghost invariant = { λ a. (deque_len a.mails ≤ 128) × (128 ≤ deque_capacity a.mails) };
+    ghost invariant = { λ a. (deque_len a.mails ≤ MAILS) × (MAILS ≤ deque_capacity a.mails) };
 }
 
 impl Mailbox {
-    /// An empty box with room for 128 mails. Fails only if memory runs out.
+    /// An empty box with room for `MAILS` mails. Fails only if memory runs out.
     pub fn new(alloc: Global) -> Result<Mailbox, AllocError>
         ensures { IfOk result (λ mailbox. mailbox ≡ []) }
     {
@@ -36,19 +38,19 @@ impl Mailbox {
         })
     }
 
-    /// The number of mails in the box, 0 to 128.
+    /// The number of mails in the box, 0 to `MAILS`.
     pub fn len(&self) -> u32
         ensures len { result ≡ length self.now }
-        ensures few { result ≤ 128 }
+        ensures few { result ≤ MAILS }
     {
         self.mails.len() as u32
     }
 
     /// Appends a mail. If the box is full, returns the mail as the error.
     pub fn put(&mut self, mail: Mail) -> Result<(), Mail>
-        ensures room { IsOk result ↔ (length self.old < 128) }
+        ensures room { IsOk result ↔ (length self.old < MAILS) }
         ensures put { OnOk result (self.new ≡ self.old ++ mail ∷ []) }
-        ensures full { OnErr result (length self.old ≡ 128) }
+        ensures full { OnErr result (length self.old ≡ MAILS) }
         ensures returned { IfErr result (λ back. back ≡ mail) }
         ensures err { OnErr result (self.new ≡ self.old) }
     {

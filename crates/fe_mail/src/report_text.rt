@@ -1,11 +1,12 @@
 ghost use Rattle.std.specs.Prelude.{◌≡◌, ◌≤◌, string_bytes, string_len, length};
+ghost use Rattle.fe_mail.specs.declared.report_text.TheConstants.{REPORT_BYTES};
 
 use std::marker::Model;
 
 /// The maximum length of a report, in bytes.
-pub const REPORT_BYTES: usize = 262144;
+pub const REPORT_BYTES: usize = 262_144;
 
-/// The text of a report: 1 to 262,144 bytes.
+/// The text of a report: 1 to `REPORT_BYTES` bytes.
 #[derive(Drop)]
 pub struct ReportText {
     text: String,
@@ -13,19 +14,20 @@ pub struct ReportText {
 
 impl Model for ReportText {
     ghost use Rattle.std.specs.Prelude.{List, ℕ, ◌≤◌, string_bytes, string_len};
+    ghost use Rattle.fe_mail.specs.declared.report_text.TheConstants.{REPORT_BYTES};
 
     ghost Value = { List ℕ };
 
     ghost view = { λ a. string_bytes a.text };
 
-    ghost invariant = { λ a. (1 ≤ string_len a.text) × (string_len a.text ≤ 262144) };
+    ghost invariant = { λ a. (1 ≤ string_len a.text) × (string_len a.text ≤ REPORT_BYTES) };
 }
 
 impl ReportText {
     /// A report with this text.
     pub fn new(text: String) -> ReportText
         requires some { 1 ≤ string_len text }
-        requires few { string_len text ≤ 262144 }
+        requires few { string_len text ≤ REPORT_BYTES }
         ensures { result ≡ string_bytes text }
     {
         ReportText { text }
@@ -35,7 +37,7 @@ impl ReportText {
     pub fn as_str(&self) -> &str
         ensures text { result.now ≡ self.now }
         ensures some { 1 ≤ length result.now }
-        ensures few { length result.now ≤ 262144 }
+        ensures few { length result.now ≤ REPORT_BYTES }
     {
         self.text.as_str()
     }
@@ -44,7 +46,7 @@ impl ReportText {
     pub fn into_string(self) -> String
         ensures text { string_bytes result ≡ self }
         ensures some { 1 ≤ string_len result }
-        ensures few { string_len result ≤ 262144 }
+        ensures few { string_len result ≤ REPORT_BYTES }
     {
         let ReportText { text } = self;
         text
