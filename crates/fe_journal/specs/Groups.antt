@@ -4,6 +4,7 @@ use Rattle.std.specs.Prelude.{◌≡◌, ℕ, ◌+◌, ◌-◌, ◌≤◌, List,
 use Rattle.byteorder.specs.Endian.{big_bytes}
 use Rattle.fe_disk.specs.Disk.{bytes_at}
 use Rattle.fe_journal.specs.Layout.{number_at, IsOpen, IsShut, area_bytes}
+use Rattle.fe_journal.specs.declared.layout.TheConstants.{LONGEST_PAYLOAD}
 use Rattle.fe_format.specs.Layout.{IsPayloadLength}
 use Rattle.fe_format.specs.declared.format.Format.{Format}
 
@@ -40,4 +41,4 @@ behind_gate payload = big_bytes 4 (length payload) ++ (payload ++ 0 ∷ [])
 
 -- the longest payload that fits with its gate at `at`, 0 where there is none
 abbrev pub room_at : ℕ → ℕ
-room_at at = 1048570 - at
+room_at at = LONGEST_PAYLOAD - at

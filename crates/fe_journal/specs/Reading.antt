@@ -1,6 +1,6 @@
 -- What the parts of opening read of a store.
-use Rattle.std.specs.Prelude.{◌≡◌, ◌⊎◌, ◌≤◌, ◌<◌, ◌+◌, ℕ, List, Option, Some, None}
-use Rattle.fe_journal.specs.Layout.{number_at, IsOpen, header_of, area_of, area_bytes}
+use Rattle.std.specs.Prelude.{◌≡◌, ◌⊎◌, ◌≤◌, ◌<◌, ◌+◌, ◌-◌, ℕ, List, Option, Some, None}
+use Rattle.fe_journal.specs.Layout.{number_at, IsOpen, header_bytes, header_of, area_of, area_bytes}
 use Rattle.fe_format.specs.Layout.{magic_of, IsImageLength}
 use Rattle.fe_journal.specs.Groups.{StandFrom, HoldsGroups, end_of, Fits}
 use Rattle.fe_format.specs.declared.format.Format.{Format}
@@ -15,13 +15,13 @@ IsFormatOf magic (Some format) = magic ≡ magic_of format
 
 -- the header that begins at `at` is valid and says this, or it is not valid
 pub record IsHeaderAt (bytes : List ℕ) (at : ℕ) (header : Header) : Type 0 where
-  pub is_open : IsOpen bytes (at + 4095)
+  pub is_open : IsOpen bytes (at + (header_bytes - 1))
   pub magic : number_at bytes at 8 ≡ magic_of header.format
   pub generation_is : number_at bytes (at + 8) 8 ≡ header.generation
   pub length_is : number_at bytes (at + 16) 4 ≡ header.image_length
 
 abbrev pub IsHeader : List ℕ → ℕ → Option Header → Type 0
-IsHeader bytes at None = (format : Format) → IsOpen bytes (at + 4095) → number_at bytes at 8 ≡ magic_of format → ⊥
+IsHeader bytes at None = (format : Format) → IsOpen bytes (at + (header_bytes - 1)) → number_at bytes at 8 ≡ magic_of format → ⊥
 IsHeader bytes at (Some header) = IsHeaderAt bytes at header
 
 -- of two headers the one with the greater generation counts, and the first of equal ones

@@ -3,7 +3,7 @@ use Rattle.std.specs.Prelude.{◌≡◌, ◌⊎◌, ℕ, ◌+◌, List, [], ◌�
 use Rattle.byteorder.specs.Endian.{big_bytes}
 use Rattle.fe_disk.specs.Disk.{IsTorn, AddsNone, LeavesOnly, MakesJust, bytes_at, after_write}
 use Rattle.fe_disk.specs.declared.calls.Calls.{Calls}
-use Rattle.fe_journal.specs.Layout.{IsOpen, IsShut, header_of, gate_of, image_of}
+use Rattle.fe_journal.specs.Layout.{IsOpen, IsShut, header_bytes, header_of, gate_of, image_of}
 use Rattle.fe_format.specs.Layout.{magic_of}
 use Rattle.fe_journal.specs.Groups.{behind_gate}
 use Rattle.fe_journal.specs.Contents.{empty_image}
@@ -45,7 +45,7 @@ pub record Shuts (seen : List ℕ) (gate writes : ℕ) (before now : Calls) : Ty
 
 -- the slot's header may have changed, and its gate is closed
 pub record IsHeaderTorn (seen : List ℕ) (slot : ℕ) (image : List ℕ) : Type 0 where
-  pub torn : IsTorn (header_of slot) 4096 seen image
+  pub torn : IsTorn (header_of slot) header_bytes seen image
   pub shut : IsShut image (gate_of slot)
 
 -- what a stop leaves while a slot is begun: its gate is closed first, and then its header is written
