@@ -1,6 +1,6 @@
 //! Images of states, written.
 
-ghost use Rattle.std.specs.Prelude.{◌≡◌, ◌+◌, ◌<◌, ◌≤◌, ◌++◌, length, flat_map, is_ok, OnOk, OnErr, IsOk, Some, slice_get, vec_len, vec_capacity};
+ghost use Rattle.std.specs.Prelude.{◌≡◌, ◌+◌, ◌^◌, ◌<◌, ◌≤◌, ◌++◌, length, flat_map, is_ok, OnOk, OnErr, IsOk, Some, slice_get, vec_len, vec_capacity};
 ghost use Rattle.std.specs.FinMap.{entries};
 ghost use Rattle.std.specs.List.{AllByRecursion};
 ghost use Rattle.fe_state.specs.declared.array.Array.{Array as Held};
@@ -12,19 +12,27 @@ ghost use Rattle.fe_codec.specs.Image.{array_spelling, kept_spelling, session_sp
 use crate::Format;
 use crate::appending::{put_bytes, put_u32, put_u64, put_words};
 use crate::record::{name_record, record_of};
-use fe_state::{Array, Entry, Kept, Session, State};
+use fe_state::{Entry, Kept, KeptAnswers, Name, State};
+use fe_words::Word;
 use std::alloc::AllocError;
 
-fn put_array(format: Format, id: u64, array: &Array, out: &mut Vec<u8>) -> Result<(), AllocError>
-    requires { ArrayOfFormat format (id, array.now) }
+fn put_array(
+    format: Format,
+    id: u64,
+    name: &Name,
+    words: &[Word],
+    out: &mut Vec<u8>,
+) -> Result<(), AllocError>
+    requires name { ArrayOfFormat format (id, record { name = name.now; words = words.now }) }
+    requires few { length words.now < 2 ^ 32 }
     ensures appends { Appends out.old.items out.new.items (vec_capacity out.old) (vec_capacity out.new) (is_ok result)
-        (array_spelling format (id, array.now)) }
-    ensures fits { OnOk result (ArrayFits (id, array.now)) }
+        (array_spelling format (id, record { name = name.now; words = words.now })) }
+    ensures fits { OnOk result (ArrayFits (id, record { name = name.now; words = words.now })) }
 {
     put_u64(out, id)?;
-    put_bytes(out, name_record(format, &array.name).bytes())?;
-    put_u32(out, array.words.len())?;
-    put_words(out, array.words.as_slice())
+    put_bytes(out, name_record(format, name).bytes())?;
+    put_u32(out, words.len() as u32)?;
+    put_words(out, words)
 }
 
 fn put_arrays(format: Format, state: &State, out: &mut Vec<u8>) -> Result<(), AllocError>
@@ -34,8 +42,8 @@ fn put_arrays(format: Format, state: &State, out: &mut Vec<u8>) -> Result<(), Al
     ensures fits { OnOk result (AllByRecursion ArrayFits (entries state.now.arrays)) }
 {
     for k in 0..state.array_count() {
-        if let Some((id, array)) = state.array_entry(k) {
-            put_array(format, id, array, out)?;
+        if let Some((id, name, words)) = state.array_entry(k) {
+            put_array(format, id, name, words, out)?;
         }
     }
     Ok(())
@@ -67,15 +75,15 @@ fn put_kept(
 fn put_answers(
     format: Format,
     session: u64,
-    window: &Session,
+    answers: KeptAnswers<'_>,
     out: &mut Vec<u8>,
 ) -> Result<(), AllocError>
-    requires { SessionOfFormat format (session, window.now) }
+    requires { AllByRecursion (KeptOfFormat format session) (entries answers) }
     ensures appends { Appends out.old.items out.new.items (vec_capacity out.old) (vec_capacity out.new) (is_ok result)
-        (flat_map (kept_spelling format session) (entries window.now.kept)) }
-    ensures fits { OnOk result (AllByRecursion (λ k. FieldsFit (entry_of_kept session k)) (entries window.now.kept)) }
+        (flat_map (kept_spelling format session) (entries answers.entry)) }
+    ensures fits { OnOk result (AllByRecursion (λ k. FieldsFit (entry_of_kept session k)) (entries answers.entry)) }
 {
-    for (number, kept) in window.answers() {
+    for (number, kept) in answers {
         put_kept(format, session, number, kept, out)?;
     }
     Ok(())
@@ -84,18 +92,19 @@ fn put_answers(
 fn put_session(
     format: Format,
     session: u64,
-    window: &Session,
+    floor: u64,
+    answers: KeptAnswers<'_>,
     out: &mut Vec<u8>,
 ) -> Result<(), AllocError>
-    requires { SessionOfFormat format (session, window.now) }
+    requires { SessionOfFormat format (session, record { floor = floor; kept = answers }) }
     ensures appends { Appends out.old.items out.new.items (vec_capacity out.old) (vec_capacity out.new) (is_ok result)
-        (session_spelling format (session, window.now)) }
-    ensures fits { OnOk result (SessionFits (session, window.now)) }
+        (session_spelling format (session, record { floor = floor; kept = answers.entry })) }
+    ensures fits { OnOk result (SessionFits (session, record { floor = floor; kept = answers.entry })) }
 {
     put_u64(out, session)?;
-    put_u64(out, window.floor())?;
-    put_u32(out, window.kept_count() as u32)?;
-    put_answers(format, session, window, out)
+    put_u64(out, floor)?;
+    put_u32(out, answers.len() as u32)?;
+    put_answers(format, session, answers, out)
 }
 
 fn put_sessions(format: Format, state: &State, out: &mut Vec<u8>) -> Result<(), AllocError>
@@ -105,8 +114,8 @@ fn put_sessions(format: Format, state: &State, out: &mut Vec<u8>) -> Result<(), 
     ensures fits { OnOk result (AllByRecursion SessionFits (entries state.now.sessions)) }
 {
     for k in 0..state.session_count() {
-        if let Some((session, window)) = state.session_entry(k) {
-            put_session(format, session, window, out)?;
+        if let Some((session, floor, answers)) = state.session_entry(k) {
+            put_session(format, session, floor, answers, out)?;
         }
     }
     Ok(())

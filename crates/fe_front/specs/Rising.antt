@@ -1,7 +1,8 @@
 -- How the books of a front rise: by what each event says of itself, so that counts kept beside them follow.
-use Rattle.std.specs.Prelude.{◌≡◌, ℕ, ◌+◌, ◌-◌, ◌^◌, ◌≤◌, false, List, length, Some}
+use Rattle.std.specs.Prelude.{◌≡◌, ℕ, ◌+◌, ◌≤◌, false, List, length, Some}
 use Rattle.fe_state.specs.declared.entry.Entry.{Entry}
 use Rattle.fe_mail.specs.Books.{Books}
+use Rattle.fe_mail.specs.declared.books.TheConstants.{MOST_BOOKED}
 use Rattle.fe_mail.specs.declared.refusal.Refusal.{Refusal}
 use Rattle.fe_mail.specs.declared.mail.Mail.TheVariants as mail
 use Rattle.fe_front.specs.Event.{Event, Call, Cancel, Post, TakeMail, Tell}
@@ -14,8 +15,8 @@ use Rattle.fe_state.specs.declared.bounds.TheConstants.{BATCH_ENTRIES}
 -- books that are not spent, with places for this many more calls and mails
 pub record HaveRoom (b : Books) (calls mails : ℕ) : Type 0 where
   pub unspent : b.spent ≡ false
-  pub few_calls : b.calls + calls ≤ 2 ^ 63 - 1
-  pub few_mails : b.mails + mails ≤ 2 ^ 63 - 1
+  pub few_calls : b.calls + calls ≤ MOST_BOOKED
+  pub few_mails : b.mails + mails ≤ MOST_BOOKED
 
 -- Books go to others that are not spent, with this many calls more, this many more mails that were taken, and at most so
 -- many more mails.

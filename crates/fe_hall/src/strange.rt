@@ -9,7 +9,7 @@ ghost use Rattle.fe_hall.specs.Receipts.{IsAsTold, IsCalledBehind, WasSent, AreW
 
 use crate::receipt::Receipt;
 use fe_front::is_same;
-use fe_state::{Kept, Request, Session, State};
+use fe_state::{Kept, KeptAnswers, Request, State};
 use fe_wire::ClientMessage;
 
 /// How many messages of a connection are kept at most.
@@ -60,8 +60,8 @@ fn keeps_other(state: &State, receipt: &Receipt) -> bool
         → k.place ≡ receipt.now.place → IsAsTold receipt.now session number k) }
 {
     for k in 0..state.session_count() {
-        let (session, held) = state.session_entry(k).unwrap();
-        if holds_other(session, held, receipt) {
+        let (session, _, answers) = state.session_entry(k).unwrap();
+        if holds_other(session, answers, receipt) {
             return true;
         }
     }
@@ -69,13 +69,13 @@ fn keeps_other(state: &State, receipt: &Receipt) -> bool
 }
 
 /// Whether a session keeps something else than what a receipt says, at the receipt's place.
-fn holds_other(session: u64, held: &Session, receipt: &Receipt) -> bool
-    ensures other { OnTrue result ((number : ℕ) × (k : Kept) × (get held.now.kept number ≡ Some k)
+fn holds_other(session: u64, answers: KeptAnswers<'_>, receipt: &Receipt) -> bool
+    ensures other { OnTrue result ((number : ℕ) × (k : Kept) × (get answers.entry number ≡ Some k)
         × (k.place ≡ receipt.now.place) × (IsAsTold receipt.now session number k → ⊥)) }
-    ensures none { OnFalse result ((number : ℕ) (k : Kept) → get held.now.kept number ≡ Some k
+    ensures none { OnFalse result ((number : ℕ) (k : Kept) → get answers.entry number ≡ Some k
         → k.place ≡ receipt.now.place → IsAsTold receipt.now session number k) }
 {
-    for (number, kept) in held.answers() {
+    for (number, kept) in answers {
         if kept.place == receipt.place && !is_as_told(receipt, session, number, kept) {
             return true;
         }

@@ -11,7 +11,7 @@ use Rattle.fe_format.specs.Layout.{magic_of, IsImageLength}
 use Rattle.fe_journal.specs.Groups.{IsGroup, StandFrom, HoldsGroups, Fits, end_of}
 use Rattle.fe_journal.specs.Contents.{Contents, Holds, IsValidAs, Counts, generation_at, image_length_at}
 use Rattle.fe_journal.specs.Cursor.{Cursor, Lists}
-use Rattle.fe_journal.specs.Damage.{TellsFound, IsUnformatted, IsDamagedAt, NoGeneration, OddImage, OddGroup}
+use Rattle.fe_journal.specs.Damage.{TellsFound, HasSoundHeader, IsUnformatted, IsDamagedAt, NoGeneration, OddImage, OddGroup}
 use Rattle.fe_journal.specs.Found.{IsFound, AsksToOpen}
 use Rattle.fe_journal.specs.Journal.{JournalState, IsLeft, Keeps}
 use Rattle.fe_journal.specs.Store.{IsStore, IsWhole}
@@ -171,6 +171,17 @@ module _ (c : Contents) (image : List ℕ) (holds : Holds c image) where
   formatted (inl odd) = odd holds.whole
   formatted (inr none) = none c.slot c.format holds.counts.is_slot holds.counts.valid
 
+  pub sound_header : HasSoundHeader image
+  sound_header =
+      record {
+        slot = c.slot;
+        format = c.format;
+        whole = holds.whole;
+        counts = holds.counts;
+        numbered = (let g = holds.generation_is in let n = holds.numbered in omega (arith, g, n));
+        length_fits = subst (λ (n : ℕ). IsImageLength c.format n) (sym holds.length_is) holds.length_fits;
+      }
+
   -- contents are refused only for the device or for memory
   pub refused_only : (fault : StoreFault) → TellsFound fault image → (fault ≡ Device) ⊎ (fault ≡ NoMemory)
   refused_only Unformatted told = absurd (formatted told)
@@ -209,4 +220,4 @@ pub unformatted_only : (image : List ℕ) (fault : StoreFault) → TellsFound fa
 unformatted_only image Unformatted told odd = inl refl
 unformatted_only image (Damaged offset) told odd = absurd (unformatted_undamaged image offset told.0 told.1 odd)
 unformatted_only image Device told odd = inr refl
-unformatted_only image NoMemory told odd = absurd (told odd)
+unformatted_only image NoMemory told odd = absurd (none_counts image told.slot told.format told.whole told.counts odd)

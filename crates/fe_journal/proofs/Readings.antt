@@ -7,7 +7,7 @@ use Rattle.fe_journal.specs.Layout.{header_of, area_of, area_bytes, device_bytes
 use Rattle.fe_format.specs.Layout.{IsImageLength}
 use Rattle.fe_journal.specs.Groups.{Fits, end_of}
 use Rattle.fe_journal.specs.Contents.{IsValidAs, generation_at}
-use Rattle.fe_journal.specs.Damage.{TellsFound, IsUnformatted, NoGeneration, OddImage, OddGroup}
+use Rattle.fe_journal.specs.Damage.{TellsFound, HasSoundHeader, NoGeneration, OddImage, OddGroup}
 use Rattle.fe_journal.specs.Reading.{IsHeader, IsHeaderAt, IsCounting, IsOddAt, HeaderFault, GroupFault}
 use Rattle.fe_journal.specs.Steps.{OnlyReads}
 use Rattle.fe_journal.specs.Store.{CountsAs}
@@ -126,15 +126,22 @@ module _ (image : List ℕ) where
   group_tells slot header area Device whole is_slot read numbered fits counts fault = absurd fault
   group_tells slot header area NoMemory whole is_slot read numbered fits counts fault = absurd fault
 
-  -- a store with a slot that counts is not unformatted
-  pub formatted_by : (slot : ℕ) (header : Header) → length image ≡ device_bytes → CountsAs image (Some (slot, header)) → IsUnformatted image → ⊥
-  formatted_by slot header whole counts (inl odd) = odd whole
-  formatted_by slot header whole counts (inr none) = none slot header.format counts.0.is_slot counts.0.valid
+  -- a slot that counts, with a header that was tested
+  pub sound_by : (slot : ℕ) (header : Header) → length image ≡ device_bytes → CountsAs image (Some (slot, header)) → 1 ≤ header.generation → IsImageLength header.format header.image_length → HasSoundHeader image
+  sound_by slot header whole counts numbered fits =
+      record {
+        slot = slot;
+        format = header.format;
+        whole = whole;
+        counts = counts.0;
+        numbered = (let g = counts.1 in omega (arith, g, numbered));
+        length_fits = subst (λ (n : ℕ). IsImageLength header.format n) (sym counts.2) fits;
+      }
 
   -- of the device nothing is told, and of memory no more
-  pub nothing_told : (fault : StoreFault) → (IsUnformatted image → ⊥) → (fault ≡ Device) ⊎ (fault ≡ NoMemory) → TellsFound fault image
-  nothing_told fault formatted (inl is) = subst (λ (f : StoreFault). TellsFound f image) (sym is) tt
-  nothing_told fault formatted (inr is) = subst (λ (f : StoreFault). TellsFound f image) (sym is) formatted
+  pub nothing_told : (fault : StoreFault) → HasSoundHeader image → (fault ≡ Device) ⊎ (fault ≡ NoMemory) → TellsFound fault image
+  nothing_told fault sound (inl is) = subst (λ (f : StoreFault). TellsFound f image) (sym is) tt
+  nothing_told fault sound (inr is) = subst (λ (f : StoreFault). TellsFound f image) (sym is) sound
 
 -- a fault that is handed on
 pub same_fault : {T : Type 0} (r : Result T StoreFault) (given fault : StoreFault) → r ≡ Err given → given ≡ fault → r ≡ Err Device → fault ≡ Device

@@ -12,6 +12,15 @@ use Rattle.fe_journal.specs.declared.fault.StoreFault.TheVariants.{Unformatted, 
 abbrev pub IsUnformatted : List ℕ → Type 0
 IsUnformatted image = (length image ≢ device_bytes) ⊎ ((slot : ℕ) (format : Format) → slot < 2 → IsValidAs image slot format → ⊥)
 
+-- The header of the slot that counts, in an image of a store's size, allows the slot to be read.
+pub record HasSoundHeader (image : List ℕ) : Type 0 where
+  pub slot : ℕ
+  pub format : Format
+  pub whole : length image ≡ device_bytes
+  pub counts : Counts image slot format
+  pub numbered : 1 ≤ generation_at image slot
+  pub length_fits : IsImageLength format (image_length_at image slot)
+
 -- The first thing wrong in the slot that counts, in this order, and its offset on the device.
 pub data IsDamagedAt (image : List ℕ) (offset : ℕ) : Type 0 where
   -- generation 0, at its field
@@ -25,9 +34,9 @@ pub data IsDamagedAt (image : List ℕ) (offset : ℕ) : Type 0 where
       → offset ≡ area_of slot + end_of groups → IsDamagedAt image offset
 
 -- What a fault of opening says of the image that the disk reads: it is unformatted; it has a store's size, and is damaged
--- first at this offset; or memory ran out, and it is not unformatted. A fault of the device says nothing.
+-- first at this offset; or memory ran out, which it does only once a sound header was read. A fault of the device says nothing.
 abbrev pub TellsFound : StoreFault → List ℕ → Type 0
 TellsFound Unformatted image = IsUnformatted image
 TellsFound (Damaged offset) image = (length image ≡ device_bytes) × IsDamagedAt image offset
 TellsFound Device image = Unit {0}
-TellsFound NoMemory image = IsUnformatted image → ⊥
+TellsFound NoMemory image = HasSoundHeader image

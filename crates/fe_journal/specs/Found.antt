@@ -1,5 +1,5 @@
 -- What opening and formatting give.
-use Rattle.std.specs.Prelude.{◌≡◌, ◌⊎◌, ◌↔◌, ℕ, List, None, Result, Ok, Err, IsErrOf}
+use Rattle.std.specs.Prelude.{◌≡◌, ◌⊎◌, ◌↔◌, ◌+◌, ◌≤◌, ℕ, List, None, Result, Ok, Err, IsErrOf}
 use Rattle.fe_disk.specs.Disk.{Rises, MakesAtMost}
 use Rattle.fe_disk.specs.declared.calls.Calls.{Calls}
 use Rattle.fe_journal.specs.Layout.{area_of}
@@ -29,11 +29,16 @@ pub record AreListed {D : Type 0} (found : Found D) : Type 0 where
   pub lists : Lists found.groups groups
   pub used_is : found.journal.used ≡ end_of groups
 
--- Why the store of an image is not opened: what the fault says of the image holds, and one that holds contents is refused only if the device fails or memory
--- runs out.
-pub record IsReason (image : List ℕ) (fault : StoreFault) : Type 0 where
+-- Opening reads two headers, then the journal area, and then the image. The last of these four reads was not made.
+abbrev pub ReadsInPart : Calls → Calls → Type 0
+ReadsInPart before now = now.reads ≤ before.reads + 3
+
+-- Why the store of an image is not opened: what the fault says of the image holds; one that holds contents is refused only if the device fails or memory
+-- runs out; and memory runs out only before all of it was read.
+pub record IsReason (image : List ℕ) (before now : Calls) (fault : StoreFault) : Type 0 where
   pub tells : TellsFound fault image
   pub valid : (c : Contents) → Holds c image → (fault ≡ Device) ⊎ (fault ≡ NoMemory)
+  pub memory : fault ≡ NoMemory → ReadsInPart before now
 
 -- What opening does to a disk besides what it reads: a sync and four reads at most. The fault is `device` exactly where a call of the disk failed.
 pub record AsksToOpen {D T E : Type 0} (size failures : D → ℕ) (calls : D → Calls) (honest : D → Type 0) (device : E) (result : Result T E) (old new : D) : Type 0 where

@@ -32,8 +32,9 @@ impl<D: Disk> Journal<D> {
     /// its image's length, the lengths of its groups (`docs/formats.md`, "Device").
     pub fn find(alloc: Global, disk: D) -> Result<Found<D>, (StoreFault, D)>
         ensures found { D.honest disk → IfOk result (IsFound D.seen D.may_leave (D.seen disk)) }
-        // A reported fault is the store's. One that holds contents is refused only for its device or for memory.
-        ensures refused { D.honest disk → IfErr result (λ e. IsReason (D.seen disk) e.0) }
+        // A reported fault is the store's. One that holds contents is refused only for its device or for memory, and memory runs
+        // out only after a sound header, before all of the store was read.
+        ensures refused { D.honest disk → IfErr result (λ e. IsReason (D.seen disk) (D.calls disk) (D.calls e.1) e.0) }
 
         // An unformatted store is reported as such, however much memory there is.
         ensures unformatted { D.honest disk → IsUnformatted (D.seen disk)

@@ -1,11 +1,11 @@
 // A store as it is read from its device.
-ghost use Rattle.std.specs.Prelude.{◌≡◌, ◌⊎◌, ◌+◌, ◌≤◌, ◌<◌, length, Some, IfSome, IfOk, IfErr, OnOk, vec_len};
+ghost use Rattle.std.specs.Prelude.{◌≡◌, ◌⊎◌, ◌+◌, ◌≤◌, ◌<◌, length, Some, IfSome, IfOk, IfErr, IsErrOf, OnOk, vec_len};
 ghost use Rattle.fe_disk.specs.Disk.{LeavesJust, bytes_at};
 ghost use Rattle.fe_disk.specs.Outcome.{Asks, Runs};
 ghost use Rattle.fe_journal.specs.Layout.{device_bytes, header_bytes, area_bytes, header_of};
 ghost use Rattle.fe_format.specs.Layout.{IsImageLength};
 ghost use Rattle.fe_journal.specs.Damage.{TellsFound};
-ghost use Rattle.fe_journal.specs.Found.{AsksToOpen};
+ghost use Rattle.fe_journal.specs.Found.{AsksToOpen, ReadsInPart};
 ghost use Rattle.fe_journal.specs.Reading.{IsHeader, HeaderFault, GroupFault, EndsAt};
 ghost use Rattle.fe_journal.specs.Steps.{OnlyReads};
 ghost use Rattle.fe_journal.specs.Store.{CountsAs, IsSlotRead, AreParts, IsSound, IsStore, IsWhole};
@@ -39,6 +39,7 @@ pub struct Store {
 pub fn read_store<D: Disk>(alloc: Global, disk: &mut D) -> Result<Store, StoreFault>
     ensures store { D.honest disk.old → IfOk result (IsStore (D.seen disk.old)) }
     ensures faults { D.honest disk.old → IfErr result (λ fault. TellsFound fault (D.seen disk.old)) }
+    ensures memory { IsErrOf result NoMemory → ReadsInPart (D.calls disk.old) (D.calls disk.new) }
     ensures settled { D.honest disk.old → OnOk result (LeavesJust (D.seen disk.new) (D.may_leave disk.new)) }
     ensures reads { D.honest disk.old → OnlyReads D.seen D.may_leave D.moment D.left_since disk.old disk.new }
 
@@ -59,6 +60,7 @@ fn read_synced<D: Disk>(alloc: Global, disk: &mut D) -> Result<Store, StoreFault
     requires settled { D.honest disk.old → LeavesJust (D.seen disk.old) (D.may_leave disk.old) }
     ensures store { D.honest disk.old → IfOk result (IsStore (D.seen disk.old)) }
     ensures faults { D.honest disk.old → IfErr result (λ fault. TellsFound fault (D.seen disk.old)) }
+    ensures memory { IsErrOf result NoMemory → ReadsInPart (D.calls disk.old) (D.calls disk.new) }
     ensures whole { IfOk result IsWhole }
     ensures reads { D.honest disk.old → OnlyReads D.seen D.may_leave D.moment D.left_since disk.old disk.new }
 
@@ -156,6 +158,7 @@ fn read_bytes<D: Disk>(
     ensures bytes { D.honest disk.old → IfOk result (λ bytes. bytes.items ≡ bytes_at (D.seen disk.old) at length) }
     ensures whole { IfOk result (λ bytes. vec_len bytes ≡ length) }
     ensures refused { IfErr result (λ fault. (fault ≡ Device) ⊎ (fault ≡ NoMemory)) }
+    ensures memory { IsErrOf result NoMemory → D.calls disk.new ≡ D.calls disk.old }
     ensures reads { D.honest disk.old → OnlyReads D.seen D.may_leave D.moment D.left_since disk.old disk.new }
 
     ensures device { Runs D.size D.failures D.calls D.honest 1 0 0 Device result disk.old disk.new }
@@ -195,6 +198,7 @@ fn read_slot<D: Disk>(
     ensures parts { D.honest disk.old → IfOk result (IsSlotRead (D.seen disk.old) slot header.now) }
     ensures faults { D.honest disk.old → CountsAs (D.seen disk.old) (Some (slot, header.now))
         → IfErr result (λ fault. TellsFound fault (D.seen disk.old)) }
+    ensures memory { IsErrOf result NoMemory → (D.calls disk.new).reads ≤ (D.calls disk.old).reads + 1 }
     ensures whole { IfOk result AreParts }
     ensures ends { IfOk result (λ parts. EndsAt header.now.format parts.area.items parts.used) }
     ensures reads { D.honest disk.old → OnlyReads D.seen D.may_leave D.moment D.left_since disk.old disk.new }
@@ -202,7 +206,7 @@ fn read_slot<D: Disk>(
     ensures device { Runs D.size D.failures D.calls D.honest 2 0 0 Device result disk.old disk.new }
 {
     let area = read_bytes(alloc, disk, area_of(slot), AREA_BYTES)?;
-    let used = groups_end(slot, &area, header.format)?;
     let image = read_bytes(alloc, disk, image_of(slot), header.image_length as usize)?;
+    let used = groups_end(slot, &area, header.format)?;
     Ok(Parts { area, used, image })
 }

@@ -1,5 +1,5 @@
 -- A batch that is appended to what a store keeps.
-use Rattle.std.proofs.Common.{◌≡◌, ◌&&◌, nat_le, inl, inr, ⊎_elim, ℕ, ◌+◌, ◌-◌, ◌*◌, ◌%◌, ◌^◌, ◌≤◌, ◌<◌, Option, Some, None, Bool, true, false, List, [], ◌∷◌, ◌++◌, length, refl, sym, ap, subst, ◌∙◌, arith}
+use Rattle.std.proofs.Common.{◌≡◌, ◌&&◌, nat_le, inl, inr, ⊎_elim, ℕ, ◌+◌, ◌-◌, ◌*◌, ◌%◌, ◌≤◌, Option, Some, None, Bool, true, false, List, [], ◌∷◌, ◌++◌, length, refl, sym, ap, subst, ◌∙◌, arith}
 use Rattle.std.specs.List.{AllByRecursion, list_all}
 use Rattle.std.proofs.lemmas.Grind.{flat_map-append}
 use Rattle.std.proofs.lemmas.List.{length-append}
@@ -11,16 +11,17 @@ use Rattle.fe_disk.proofs.Moments.{weaker}
 use Rattle.fe_state.specs.State.{ServerState, after, after_all}
 use Rattle.fe_state.specs.Format.{entry_fits_format_1}
 use Rattle.fe_state.specs.History.{AreLegal, after_groups}
+use Rattle.fe_state.specs.declared.bounds.TheConstants.{BATCH_ENTRIES, GREATEST_PLACE}
 use Rattle.fe_state.specs.declared.entry.Entry.{Entry}
 use Rattle.fe_state.proofs.Histories.{history-append}
 use Rattle.fe_codec.specs.Record.{entry_spelling, group_spelling, FitsGroup, IsGroupOf, CanPut}
 use Rattle.fe_codec.proofs.RecordLaws.{length-entry_spelling}
-use Rattle.fe_format.specs.Layout.{record_bytes, group_records, IsPayloadLength, IsImageLength}
+use Rattle.fe_format.specs.Layout.{record_bytes, group_records, longest_payload, IsPayloadLength, IsImageLength}
 use Rattle.fe_format.specs.declared.format.Format.{Format}
 use Rattle.fe_format.specs.declared.format.Format.TheVariants.{One, Two}
 use Rattle.fe_journal.specs.Contents.{Contents, Holds, HoldsEither, with_group}
 use Rattle.fe_journal.specs.Journal.{JournalState, Draft, Keeps}
-use Rattle.fe_keeper.specs.within.CatchUp.{HasRoomFor, HasMore, CatchesUp}
+use Rattle.fe_keeper.specs.within.CatchUp.{batch_bytes, HasRoomFor, HasMore, CatchesUp}
 use Rattle.fe_keeper.specs.Keeper.{Progress, StoreState, is_spellable, catches_up, fits, appended}
 use Rattle.fe_journal.specs.Groups.{room_at}
 use Rattle.fe_keeper.specs.Stands.{AreGroups, Stands, StandsForEither}
@@ -147,7 +148,7 @@ record_whole One n = omega arith
 record_whole Two n = omega arith
 
 -- a batch is a payload
-pub batch_is_payload : (format : Format) (n : ℕ) → 1 ≤ n → n ≤ 4097 → IsPayloadLength format (n * record_bytes format)
+pub batch_is_payload : (format : Format) (n : ℕ) → 1 ≤ n → n ≤ BATCH_ENTRIES → IsPayloadLength format (n * record_bytes format)
 batch_is_payload One n some few = record { some = omega arith; within = omega arith; whole = omega arith }
 batch_is_payload Two n some few = record { some = omega arith; within = omega arith; whole = omega arith }
 
@@ -194,9 +195,9 @@ same_progress entries (Some old) (Some new) more = let i = more.image in let w =
 pub room_to_catch_up : {D : Type 0} (place n : ℕ) (j : JournalState D) (c : Option Checkpoint) → IsCheckpoint place j c → catches_up place n (option_map progress_of c) ≡ true → HasRoomFor c n
 room_to_catch_up place n j None h fit = tt
 room_to_catch_up place n j (Some c) h fit =
-    let few : (place - c.place) + n ≤ 13107 = leb-true _ _ fit in
-    let room : 1048560 ≤ vec_capacity c.catch_up = h.room in
-    let caught : vec_len c.catch_up ≡ (place - c.place) * 80 = h.caught_up in
+    let few : (place - c.place) + n ≤ group_records Two = leb-true _ _ fit in
+    let room : longest_payload Two ≤ vec_capacity c.catch_up = h.room in
+    let caught : vec_len c.catch_up ≡ (place - c.place) * record_bytes Two = h.caught_up in
     omega arith
 
 -- a checkpoint under way is still one after entries that it caught up with
@@ -206,10 +207,10 @@ under_way_then place n j k entries None None h fit begun generation more = begun
 under_way_then place n j k entries None (Some new) h fit begun generation more = absurd more
 under_way_then place n j k entries (Some old) None h fit begun generation more = absurd more
 under_way_then place n j k entries (Some old) (Some new) h fit begun generation more =
-    let few : (place - old.place) + length entries ≤ 13107 = leb-true _ _ fit in
+    let few : (place - old.place) + length entries ≤ group_records Two = leb-true _ _ fit in
     let image : vec_len new.image ≡ vec_len old.image = ap (λ (v : _). vec_len v) more.image in
     let earlier : old.place ≤ place = h.earlier in
-    let caught : vec_len old.catch_up ≡ (place - old.place) * 80 = h.caught_up in
+    let caught : vec_len old.catch_up ≡ (place - old.place) * record_bytes Two = h.caught_up in
     record {
       begun = let b = h.begun in let w = more.written in cc;
       allowed = subst (IsImageLength Two) (sym image) h.allowed;
@@ -222,11 +223,11 @@ under_way_then place n j k entries (Some old) (Some new) h fit begun generation 
     }
 
 -- a batch that is spelled is a group
-few_records : (format : Format) (n : ℕ) → n ≤ 4097 → n ≤ group_records format
+few_records : (format : Format) (n : ℕ) → n ≤ BATCH_ENTRIES → n ≤ group_records format
 few_records One n few = omega arith
 few_records Two n few = omega arith
 
-pub batch_group : (f format : Format) (entries : List Entry) (payload group : List ℕ) → payload ≡ group → group ≡ group_spelling f entries → FitsGroup f entries → f ≡ format → 1 ≤ length entries → length entries ≤ 4097
+pub batch_group : (f format : Format) (entries : List Entry) (payload group : List ℕ) → payload ≡ group → group ≡ group_spelling f entries → FitsGroup f entries → f ≡ format → 1 ≤ length entries → length entries ≤ BATCH_ENTRIES
     → IsGroupOf format entries payload
 batch_group f format entries payload group same spelled fits is some few =
     subst (λ (k : Format). IsGroupOf k entries payload) is (record { least = some; most = few_records f (length entries) few; fits = fits; spelled = same ∙ spelled })
@@ -236,7 +237,7 @@ group_size format entries payload is = ap length is.spelled ∙ length-group for
 
 -- what is always true of a store is true of it after a batch
 pub sound_then : {D : Type 0} (old new : Store D) (entries : List Entry) (disk : D) (used : ℕ) → IsStore old → fits (store_of old) entries ≡ true → new.journal ≡ record old.journal { disk = disk; used = used }
-    → 1 ≤ length entries → new.place ≡ old.place + length entries → new.place < 2 ^ 63 → 327760 ≤ vec_capacity new.group → CatchesUp entries old.checkpoint new.checkpoint → IsStore new
+    → 1 ≤ length entries → new.place ≡ old.place + length entries → new.place ≤ GREATEST_PLACE → batch_bytes ≤ vec_capacity new.group → CatchesUp entries old.checkpoint new.checkpoint → IsStore new
 sound_then {D} old new entries disk used h fit journal some place low group more =
     let parts = fits_parts (store_of old) entries fit in
     let generation : new.journal.generation ≡ old.journal.generation = ap (λ (j : JournalState D). j.generation) journal in

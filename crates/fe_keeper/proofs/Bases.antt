@@ -1,8 +1,10 @@
 -- What stands for a state is recovered.
-use Rattle.std.proofs.Common.{◌≡◌, ℕ, ◌≤◌, List, sym, ◌∙◌, subst}
+use Rattle.std.proofs.Common.{◌≡◌, ℕ, ◌≤◌, List, length, Result, Ok, Err, refl, sym, ap, ◌∙◌, subst}
+use Rattle.std.specs.Prelude.{IsOk}
 use Rattle.fe_state.specs.State.{ServerState}
 use Rattle.fe_state.specs.History.{IsHistory}
-use Rattle.fe_codec.proofs.ImageOnly.{one_image}
+use Rattle.fe_codec.specs.FirstFault.{◌followed_by◌, header_at, state_at, told_at, image_at}
+use Rattle.fe_codec.proofs.ImageOnly.{one_image, spellings_read}
 use Rattle.fe_format.specs.declared.format.Format.{Format}
 use Rattle.fe_journal.specs.Contents.{Contents}
 use Rattle.fe_journal.specs.Cursor.{Cursor}
@@ -32,3 +34,30 @@ goes_from_base c s base format generation image groups parts stands is =
       groups_are = stands.groups_are;
       legal = subst (λ (z : ServerState). IsHistory z stands.groups) same stands.legal;
     })
+
+-- ---- the fields of an image that are read before any memory is taken
+
+told : {A : Type 0} (size : ℕ) (r : Result A ℕ) (x : A) → told_at size r ≡ Ok x → r ≡ Ok x
+told size (Ok y) x is = is
+told size (Err left) x is = absurd cc
+
+first_step : {A B : Type 0} (r : Result A ℕ) (f : A → Result B ℕ) (x : B) → r followed_by f ≡ Ok x → IsOk r
+first_step (Ok a) f x is = refl
+first_step (Err left) f x is = absurd cc
+
+state_fields : (format : Format) (image : List ℕ) (s : ServerState) → state_at format image ≡ Ok s → IsOk (header_at image)
+unfolding state_at
+state_fields format image s is = first_step (header_at image) _ s is
+
+-- they are right in an image that is read
+pub fields_right : (format : Format) (image : List ℕ) (s : ServerState) → image_at format image ≡ Ok s → IsOk (header_at image)
+unfolding image_at
+fields_right format image s is = state_fields format image s (told (length image) (state_at format image) s is)
+
+-- and in one that is spelled
+pub fields_spelled : (format : Format) (generation : ℕ) (image : List ℕ) (s : ServerState) → IsBase format generation image s → IsOk (header_at image)
+fields_spelled format generation image s is = fields_right format image s (ap (image_at format) is.image_is ∙ spellings_read format s is.fits)
+
+-- and in contents that stand for a state
+pub fields_stand : (c : Contents) (s : ServerState) → Stands c s → IsOk (header_at c.image)
+fields_stand c s stands = fields_right c.format c.image stands.base (ap (image_at c.format) stands.image_is ∙ spellings_read c.format stands.base stands.fits)

@@ -1,35 +1,39 @@
 -- What is reported of a store that stands for no state.
 use Rattle.std.proofs.Common.{◌≡◌, ◌⊎◌, inl, inr, ℕ, ◌+◌, ◌≤◌, List, Result, Ok, Err, refl, sym, ◌∙◌, ap, subst, arith}
+use Rattle.std.specs.Prelude.{IsOk}
+use Rattle.fe_disk.specs.declared.calls.Calls.{Calls}
 use Rattle.fe_state.specs.State.{ServerState}
 use Rattle.fe_state.specs.History.{IsHistory}
-use Rattle.fe_codec.specs.FirstFault.{image_at}
+use Rattle.fe_codec.specs.FirstFault.{header_at, image_at}
 use Rattle.fe_codec.proofs.ImageOnly.{spellings_read}
 use Rattle.fe_format.specs.declared.format.Format.{Format}
 use Rattle.fe_journal.specs.Layout.{area_of}
 use Rattle.fe_journal.specs.Contents.{Contents, Holds}
 use Rattle.fe_journal.specs.Damage as journal
+use Rattle.fe_journal.specs.Found.{ReadsInPart}
 use Rattle.fe_journal.specs.declared.fault.StoreFault.{StoreFault}
 use Rattle.fe_journal.specs.declared.fault.StoreFault.TheVariants as store
 use Rattle.fe_journal.proofs.Founds as founds
 use Rattle.fe_keeper.specs.Stands.{Stands, StandsFor, greatest_generation}
 use Rattle.fe_keeper.specs.Opened.{IsSlotFault}
 use Rattle.fe_keeper.specs.within.Replaying.{CanGoOn}
-use Rattle.fe_keeper.specs.Damage.{IsWrongIn, IsWrongAt, IsDamagedAt, TellsStore, OddField, OddGeneration, OddRecord, InSlot, InContents}
+use Rattle.fe_keeper.specs.Damage.{IsWrongIn, IsWrongAt, IsDamagedAt, MayLackMemory, TellsStore, OddField, OddGeneration, OddRecord, InSlot, InContents, InPart, AfterFields}
 use Rattle.fe_keeper.specs.within.Faults.{fault_of_store}
 use Rattle.fe_keeper.specs.Laws.{AreToldApart}
 use Rattle.fe_keeper.specs.declared.fault.Fault.{Fault}
 use Rattle.fe_keeper.specs.declared.fault.Fault.TheVariants.{Device, NoMemory, Damaged, Unformatted}
+use Rattle.fe_keeper.proofs.Bases.{fields_stand}
 use Rattle.fe_keeper.proofs.Going.{none_bad}
 use Rattle.fe_keeper.proofs.Openings.{stands_by}
 
 -- ---- what is told
 
 -- what the journal told
-pub tells_found : (image : List ℕ) (fault : StoreFault) → journal.TellsFound fault image → TellsStore (fault_of_store fault) image
-tells_found image store.Unformatted told = told
-tells_found image (store.Damaged offset) told = InSlot told.0 told.1
-tells_found image store.Device told = told
-tells_found image store.NoMemory told = told
+pub tells_found : (image : List ℕ) (before now : Calls) (fault : StoreFault) → journal.TellsFound fault image → (fault ≡ store.NoMemory → ReadsInPart before now) → TellsStore (fault_of_store fault) image before now
+tells_found image before now store.Unformatted told short = told
+tells_found image before now (store.Damaged offset) told short = InSlot told.0 told.1
+tells_found image before now store.Device told short = told
+tells_found image before now store.NoMemory told short = InPart told (short refl)
 
 -- only the device or memory
 pub passed_on : (fault : StoreFault) → (fault ≡ store.Device) ⊎ (fault ≡ store.NoMemory) → (fault_of_store fault ≡ Device) ⊎ (fault_of_store fault ≡ NoMemory)
@@ -53,9 +57,14 @@ told_found fault (inl is) = inl (ap fault_of_store is)
 told_found fault (inr is) = inr (ap fault_of_store is)
 
 -- what is reported of contents
-pub tells_slot : (image : List ℕ) (c : Contents) (fault : Fault) → Holds c image → IsSlotFault fault → ((offset : ℕ) → fault ≡ Damaged offset → IsWrongAt c offset) → TellsStore fault image
-tells_slot image c fault holds (inl is) wrong = subst (λ (f : Fault). TellsStore f image) (sym is) (founds.formatted c image holds)
-tells_slot image c fault holds (inr (offset, is)) wrong = subst (λ (f : Fault). TellsStore f image) (sym is) (InContents c holds (wrong offset is))
+pub tells_slot : (image : List ℕ) (before now : Calls) (c : Contents) (fault : Fault) → Holds c image → IsSlotFault fault → ((offset : ℕ) → fault ≡ Damaged offset → IsWrongAt c offset) → (fault ≡ NoMemory → IsOk (header_at c.image))
+    → TellsStore fault image before now
+tells_slot image before now c fault holds (inl is) wrong fields = subst (λ (f : Fault). TellsStore f image before now) (sym is) (AfterFields c holds (fields is))
+tells_slot image before now c fault holds (inr (offset, is)) wrong fields = subst (λ (f : Fault). TellsStore f image before now) (sym is) (InContents c holds (wrong offset is))
+
+-- memory may run out once the store is found to stand for a state
+pub lacks_standing : (image : List ℕ) (before now : Calls) (s : ServerState) → StandsFor image s → MayLackMemory image before now
+lacks_standing image before now s stands = AfterFields stands.contents stands.holds (fields_stand stands.contents s stands.stands)
 
 -- what is wrong in the parts of contents is wrong in them
 pub wrong_there : (c : Contents) (slot : ℕ) (format : Format) (generation : ℕ) (image : List ℕ) (start at offset : ℕ) → slot ≡ c.slot → format ≡ c.format → generation ≡ c.generation → image ≡ c.image

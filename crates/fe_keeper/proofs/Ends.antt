@@ -1,5 +1,5 @@
 -- How calls of a store end, one after the other, and what a keeper tells of their faults.
-use Rattle.std.proofs.Common.{◌≡◌, ◌⊎◌, ◌↔◌, inl, ℕ, List, true, false, Bool, IsTrue, refl, sym, ap, subst, ◌∙◌}
+use Rattle.std.proofs.Common.{◌≡◌, ◌⊎◌, ◌↔◌, inl, ℕ, ◌+◌, List, true, false, Bool, IsTrue, refl, sym, ap, subst, ◌∙◌}
 use Rattle.std.specs.Prelude.{Result, Ok, Err, MatchResult, IsErrAnd, OnOk}
 use Rattle.fe_disk.specs.Disk.{LeavesOnly, Rises}
 use Rattle.fe_disk.proofs.Moments.{joined}
@@ -12,14 +12,17 @@ use Rattle.fe_journal.specs.Journal.{JournalState}
 use Rattle.fe_journal.specs.declared.fault.JournalFault.{JournalFault}
 use Rattle.fe_journal.specs.declared.fault.JournalFault.TheVariants as journal
 use Rattle.fe_state.specs.declared.batch.Batch.{Batch}
-use Rattle.fe_keeper.specs.Ends.{Works, Breaks, Refuses, Fails, ForBatch, AppendEnds}
+use Rattle.fe_keeper.specs.Ends.{Works, Breaks, Refuses, Fails, Ends, ForBatch, AppendEnds}
 use Rattle.fe_keeper.specs.Keeper.{KeeperState, must_begin}
 use Rattle.fe_keeper.specs.Stands.{StandsFor}
-use Rattle.fe_keeper.specs.within.Ends.{WorksOn, BreaksOff, StoreEnds, Carries}
+use Rattle.fe_keeper.specs.within.Ends.{WorksOn, BreaksOff, StoreEnds, CountsBatch, Carries}
 use Rattle.fe_keeper.specs.within.Faults.{fault_of_journal, fault_of_refused}
-use Rattle.fe_keeper.specs.within.Upholds.{Upholds}
+use Rattle.fe_keeper.specs.within.Parts.{kept_of}
+use Rattle.fe_keeper.specs.within.Upholds.{Upholds, store_of}
 use Rattle.fe_keeper.specs.declared.fault.Fault.{Fault}
 use Rattle.fe_keeper.specs.declared.fault.Fault.TheVariants.{Device, NoMemory, Mismatch}
+use Rattle.fe_keeper.specs.declared.parts.Parts.{Parts}
+use Rattle.fe_keeper.specs.declared.store.Store.{Store}
 use Rattle.fe_keeper.specs.declared.store.Store.{Store}
 
 -- ---- calls one after the other
@@ -41,6 +44,11 @@ pub then_carries : {T D : Type 0} (moment : D → ℕ) (left_since : D → ℕ �
     → LeavesOnly moment left_since old.journal.disk mid.journal.disk (λ image. StandsFor image s) → Carries moment left_since seen may_leave result mid new s → Carries moment left_since seen may_leave result old new s
 then_carries moment left_since seen may_leave result old mid new s first second =
     record { any_moment = joined moment left_since old.journal.disk mid.journal.disk new.journal.disk (λ image. StandsFor image s) first second.any_moment; upheld = second.upheld }
+
+-- a batch that is stored once there is room for it
+pub then_counts : {T D : Type 0} (result : Result T JournalFault) (old mid new : Store D) (n : ℕ) → mid.place ≡ old.place → CountsBatch result mid new n → CountsBatch result old new n
+then_counts (Ok x) old mid new n same h = record { sound = h.sound; place = h.place ∙ ap (λ (p : ℕ). p + n) same }
+then_counts (Err fault) old mid new n same h = record { sound = h.sound; place = h.place ∙ same }
 
 -- ---- what a keeper tells
 
@@ -82,5 +90,12 @@ append_fails {D} failures result was old new batch back fault entries is same sp
     (subst (λ (k : KeeperState D). Fails failures (ForBatch k batch.first batch.entries) k new fault) same
     (subst (λ (es : List Entry). Fails failures (ForBatch was batch.first es) was new fault) spelled fails))
 
-pub breaks_as : {D : Type 0} (failures : D → ℕ) (was old new : KeeperState D) → was ≡ old → Breaks failures was new → Breaks failures old new
-breaks_as {D} failures was old new same breaks = subst (λ (k : KeeperState D). Breaks failures k new) same breaks
+-- a call of the store in which the device fails, as the keeper tells it
+pub device_told : {T D : Type 0} (failures : D → ℕ) (Cause : Fault → Type 0) (result : Result T Fault) (fault : JournalFault) (parts : Parts D) (new : Store D) (old : KeeperState D) → kept_of parts ≡ old
+    → IsErrAnd result (λ f. f ≡ fault_of_journal fault) → parts.store.journal.has_failed ≡ false → (fault ≡ journal.Device) × BreaksOff failures parts.store.journal new.journal → Cause Device
+    → Ends failures Cause result old (record { state = parts.state; store = store_of new })
+device_told {D = D} failures Cause result fault parts new old same is works failed cause =
+    let after : KeeperState D = record { state = parts.state; store = store_of new } in
+    let breaks : Breaks failures (kept_of parts) after = record { before = works; failed = failed.1.failed; rises = failed.1.rises } in
+    told result (fault_of_journal fault) (Works failures old after) (Fails failures Cause old after) is
+    (device_fails failures Cause fault old after failed.0 cause (subst (λ (k : KeeperState D). Breaks failures k after) same breaks))

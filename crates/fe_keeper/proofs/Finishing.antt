@@ -11,6 +11,7 @@ use Rattle.fe_state.specs.declared.entry.Entry.{Entry}
 use Rattle.fe_codec.specs.Record.{group_spelling, FitsGroup}
 use Rattle.fe_codec.specs.Image.{image_spelling, FitsImage}
 use Rattle.fe_codec.proofs.GroupLaws.{not_empty}
+use Rattle.fe_format.specs.Layout.{record_bytes, longest_payload}
 use Rattle.fe_format.specs.declared.format.Format.{Format}
 use Rattle.fe_format.specs.declared.format.Format.TheVariants.{Two}
 use Rattle.fe_journal.specs.Contents.{Contents, HoldsEither}
@@ -53,19 +54,19 @@ unfolding one_group
 after_one s [] = refl
 after_one s (entry ∷ entries) = refl
 
-spelled_as_one : (entries : List Entry) (bytes : List ℕ) → bytes ≡ group_spelling Two entries → FitsGroup Two entries → length bytes ≤ 1048560 → AreGroups Two (one_group entries) (catch_up_groups bytes)
+spelled_as_one : (entries : List Entry) (bytes : List ℕ) → bytes ≡ group_spelling Two entries → FitsGroup Two entries → length bytes ≤ longest_payload Two → AreGroups Two (one_group entries) (catch_up_groups bytes)
 unfolding one_group
 spelled_as_one [] [] is fits short = tt
 spelled_as_one [] (byte ∷ bytes) is fits short = cc
 spelled_as_one (entry ∷ entries) [] is fits short = absurd (not_empty Two entry entries fits.0 (sym is))
 spelled_as_one (entry ∷ entries) (byte ∷ bytes) is fits short =
     let long = length-group Two (entry ∷ entries) fits in
-    let size : length (byte ∷ bytes) ≡ length (entry ∷ entries) * 80 = ap length is ∙ long in
+    let size : length (byte ∷ bytes) ≡ length (entry ∷ entries) * record_bytes Two = ap length is ∙ long in
     (record { least = omega arith; most = omega (arith, size, short); fits = fits; spelled = is }, tt)
 
 -- what a finished draft stands for
 pub finished_stands : (contents : Contents) (d : Draft) (c : Checkpoint) (s : ServerState) (bytes : List ℕ) → bytes ≡ c.catch_up.items → IsDraftOf c d s → d.format ≡ Two → d.generation ≤ c.place + 2 → vec_len c.image ≤ c.written
-    → length bytes ≤ 1048560 → Stands (finished contents d bytes) s
+    → length bytes ≤ longest_payload Two → Stands (finished contents d bytes) s
 finished_stands contents d c s bytes bytes_are is format generation whole short =
     let base_place = is.place_is in
     record {

@@ -9,6 +9,7 @@ use Rattle.fe_format.specs.Layout.{IsPayloadLength}
 use Rattle.fe_format.specs.declared.format.Format.{Format}
 use Rattle.fe_format.specs.declared.format.Format.TheVariants.{One, Two}
 use Rattle.fe_journal.specs.Groups.{StandFrom}
+use Rattle.fe_journal.specs.Layout.{area_bytes}
 use Rattle.fe_journal.specs.Contents.{Contents, Holds}
 use Rattle.fe_journal.specs.Cursor.{Cursor, Lists}
 use Rattle.fe_replica.specs.Replaying.{Replays, IsFirstBad}
@@ -134,7 +135,7 @@ bad_within format payload s offset bad = omega (arith, bad.offset_is, ap (λ (l 
 -- the groups go on after the payload
 pub goes_up : (payloads : List (List ℕ)) (groups groups' : Cursor) (read : List ℕ) → IsRead groups read → Lists groups payloads
     → ((payload : List ℕ) (rest : List (List ℕ)) → Lists groups (payload ∷ rest) → groups' ≡ record { bytes = groups.bytes; start = groups.start; at = groups.at + (5 + length payload) })
-    → groups.at + (5 + length read) ≤ 1048576 → (groups.at < groups'.at) × (groups'.at ≤ 1048576)
+    → groups.at + (5 + length read) ≤ area_bytes → (groups.at < groups'.at) × (groups'.at ≤ area_bytes)
 goes_up [] groups groups' read is lists behind low = absurd (is.some lists)
 goes_up (payload ∷ rest) groups groups' read is lists behind low =
     let at : groups'.at ≡ groups.at + (5 + length payload) = ap (λ (g : Cursor). g.at) (behind payload rest lists) in

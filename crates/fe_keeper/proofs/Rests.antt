@@ -4,6 +4,7 @@ use Rattle.std.proofs.lemmas.Bool.{cases_lt}
 use Rattle.std.proofs.lemmas.Bool.Decides.{nat_tests}
 use Rattle.std.specs.Option.{option_map_or}
 use Rattle.std.specs.Prelude.{Result, Ok}
+use Rattle.fe_journal.specs.Layout.{slice_bytes}
 use Rattle.fe_journal.specs.declared.fault.JournalFault.{JournalFault}
 use Rattle.fe_disk.specs.Disk.{LeavesOnly, Rises, MakesAtMost}
 use Rattle.fe_disk.specs.declared.calls.Calls.{Calls}
@@ -57,14 +58,14 @@ finished_parts disk place format used failed (Some p) = refl
 above : (a b : ℕ) → not (nat_le a b) ≡ true → b < a
 above a b is = grind (arith, nat_tests)
 
-slice_less : (size written : ℕ) (short : Bool) → not (nat_le size (written + (if short then size - written else 65536))) ≡ true → size - (written + (if short then size - written else 65536)) < size - written
+slice_less : (size written : ℕ) (short : Bool) → not (nat_le size (written + (if short then size - written else slice_bytes))) ≡ true → size - (written + (if short then size - written else slice_bytes)) < size - written
 slice_less size written true more = let far = above size (written + (size - written)) more in omega arith
-slice_less size written false more = let far = above size (written + 65536) more in omega arith
+slice_less size written false more = let far = above size (written + slice_bytes) more in omega arith
 
 less_parts : {D : Type 0} (disk : D) (place : ℕ) (format : Format) (used : ℕ) (failed : Bool) (checkpoint : Option Progress)
     → has_slices (stepped (of_parts disk place format used failed checkpoint)).checkpoint ≡ true → bytes_left (stepped (of_parts disk place format used failed checkpoint)).checkpoint < bytes_left checkpoint
 less_parts disk place format used failed None more = cc
-less_parts disk place format used failed (Some p) more = slice_less p.size p.written (nat_le (p.size - p.written) 65536) more
+less_parts disk place format used failed (Some p) more = slice_less p.size p.written (nat_le (p.size - p.written) slice_bytes) more
 
 -- fewer bytes are left after a slice
 pub fewer_left : {D : Type 0} (store new : StoreState D) (disk : D) (more : Bool) → new ≡ record (stepped store) { disk = disk } → more ≡ has_slices new.checkpoint → more ≡ true → bytes_left new.checkpoint < bytes_left store.checkpoint
@@ -76,9 +77,9 @@ fewer_left {D = D} store new disk more is more_is has =
 below : (a b : ℕ) → a ≤ b → not (nat_le a b) ≡ false
 below a b is = grind (arith, nat_tests)
 
-slices_fewer : (size written : ℕ) (short : Bool) → nat_le (size - written) 65536 ≡ short → written < size → slices_of (size - (written + (if short then size - written else 65536))) + 1 ≤ slices_of (size - written)
+slices_fewer : (size written : ℕ) (short : Bool) → nat_le (size - written) slice_bytes ≡ short → written < size → slices_of (size - (written + (if short then size - written else slice_bytes))) + 1 ≤ slices_of (size - written)
 slices_fewer size written true is less = omega arith
-slices_fewer size written false is less = let long = above (size - written) 65536 (ap not is) in omega (arith, long)
+slices_fewer size written false is less = let long = above (size - written) slice_bytes (ap not is) in omega (arith, long)
 
 no_more : (size written n : ℕ) → size ≤ written → slices_of (size - (written + n)) ≤ slices_of (size - written)
 no_more size written n is = let none : size - (written + n) ≡ size - written = omega arith in subst (λ (k : ℕ). slices_of k ≤ slices_of (size - written)) (sym none) (omega arith)
@@ -87,10 +88,10 @@ counted_parts : {D : Type 0} (disk : D) (place : ℕ) (format : Format) (used : 
     → after ≤ before + 1 → (has_slices checkpoint ≡ false → after ≡ before) → after + slices_left (stepped (of_parts disk place format used failed checkpoint)).checkpoint ≤ before + slices_left checkpoint
 counted_parts disk place format used failed None before after one rests = let same = rests refl in omega (arith, same)
 counted_parts disk place format used failed (Some p) before after one rests = elim (cases_lt p.written p.size) [
-  | inl less ↦ let fewer = slices_fewer p.size p.written (nat_le (p.size - p.written) 65536) refl less in omega (arith, fewer, one)
+  | inl less ↦ let fewer = slices_fewer p.size p.written (nat_le (p.size - p.written) slice_bytes) refl less in omega (arith, fewer, one)
   | inr whole ↦
       let same = rests (below p.size p.written whole) in
-      let fewer = no_more p.size p.written (if nat_le (p.size - p.written) 65536 then p.size - p.written else 65536) whole in
+      let fewer = no_more p.size p.written (if nat_le (p.size - p.written) slice_bytes then p.size - p.written else slice_bytes) whole in
       omega (arith, same, fewer)
 ]
 

@@ -1,5 +1,5 @@
 -- A batch that is taken, and the moments of calls that leave the state as it is.
-use Rattle.std.proofs.Common.{◌≡◌, ◌↔◌, inl, ℕ, List, refl, sym, ap, subst, ◌∙◌}
+use Rattle.std.proofs.Common.{◌≡◌, ◌↔◌, inl, false, ℕ, List, refl, sym, ap, subst, ◌∙◌}
 use Rattle.std.specs.Prelude.{Result, Ok, Err, IfErr, OnErr, IsErrAnd, IsErrOf}
 use Rattle.fe_disk.specs.Disk.{LeavesOnly}
 use Rattle.fe_disk.proofs.Moments.{started, joined, weaker}
@@ -14,7 +14,7 @@ use Rattle.fe_keeper.specs.declared.fault.Fault.TheVariants.{NoMemory, Mismatch}
 use Rattle.fe_keeper.specs.Stands.{StandsFor, StandsForEither, EachStandsFor}
 use Rattle.fe_journal.specs.declared.fault.JournalFault.{JournalFault}
 use Rattle.fe_keeper.specs.Keeper.{KeeperState}
-use Rattle.fe_keeper.specs.Ends.{Rests}
+use Rattle.fe_keeper.specs.Ends.{IsDurable, Rests}
 use Rattle.fe_keeper.specs.within.Ends.{Carries, Leads}
 use Rattle.fe_keeper.specs.within.Parts.{IsKept, kept_of}
 use Rattle.fe_keeper.specs.within.Upholds.{Upholds, store_of}
@@ -72,6 +72,13 @@ module _ {D : Type 0} (moment : D → ℕ) (left_since : D → ℕ → List ℕ 
   carries_rest honest result parts new old kept same carries honesty =
       subst (λ (k : KeeperState D). Rests honest moment left_since k (record { state = parts.state; store = store_of new })) same
       (record { state = refl; any_moment = λ h works. (carries h (kept.upheld h works)).any_moment; honesty = honesty })
+
+  -- and what it leaves is durable
+  pub carries_durable : (honest : D → Type 0) (parts : Parts D) (new : Store D) → IsKept honest seen may_leave parts → parts.store.journal.has_failed ≡ false → (honest new.journal.disk ↔ honest parts.store.journal.disk)
+      → (honest parts.store.journal.disk → Upholds seen may_leave parts.store parts.state → Upholds seen may_leave new parts.state)
+      → IsDurable honest may_leave (record { state = parts.state; store = store_of new })
+  carries_durable honest parts new kept works honesty upholds =
+      λ h _. let before = honesty.0 h in each_stands new parts.state (upholds before (kept.upheld before works))
 
   -- a state that stays is one of the two
   pub stays : (old new : D) (s : ServerState) (entries : List Entry) → LeavesOnly moment left_since old new (λ image. StandsFor image s) → LeavesOnly moment left_since old new (StandsForEither s (after_all s entries))

@@ -1,11 +1,13 @@
 -- When a store stands for no state, and what is reported of it.
-use Rattle.std.specs.Prelude.{◌≡◌, ◌⊎◌, ℕ, ◌+◌, ◌<◌, ◌≤◌, List, [], ◌∷◌, length, Ok, Err}
+use Rattle.std.specs.Prelude.{◌≡◌, ◌⊎◌, ℕ, ◌+◌, ◌<◌, ◌≤◌, List, [], ◌∷◌, length, Ok, Err, IsOk}
+use Rattle.fe_disk.specs.declared.calls.Calls.{Calls}
 use Rattle.fe_state.specs.State.{ServerState}
-use Rattle.fe_codec.specs.FirstFault.{image_at}
+use Rattle.fe_codec.specs.FirstFault.{header_at, image_at}
 use Rattle.fe_format.specs.declared.format.Format.{Format}
 use Rattle.fe_journal.specs.Layout.{device_bytes, header_of, image_of, area_of}
 use Rattle.fe_journal.specs.Contents.{Contents, Holds}
 use Rattle.fe_journal.specs.Damage as journal
+use Rattle.fe_journal.specs.Found.{ReadsInPart}
 use Rattle.fe_replica.specs.Replaying.{Replays, IsFirstBad}
 use Rattle.fe_keeper.specs.Stands.{StandsFor, greatest_generation}
 use Rattle.fe_keeper.specs.declared.fault.Fault.{Fault}
@@ -40,18 +42,25 @@ pub data IsDamagedAt (image : List ℕ) (offset : ℕ) : Type 0 where
   InSlot : length image ≡ device_bytes → journal.IsDamagedAt image offset → IsDamagedAt image offset
   InContents : (c : Contents) → Holds c image → IsWrongAt c offset → IsDamagedAt image offset
 
+-- When memory may run out while the store of an image is opened, between these counts of calls. What was read until then is right.
+pub data MayLackMemory (image : List ℕ) (before now : Calls) : Type 0 where
+  -- before all of the store was read: the header of the slot that counts
+  InPart : journal.HasSoundHeader image → ReadsInPart before now → MayLackMemory image before now
+  -- after that: the lengths of the groups, and the image's fields before its arrays
+  AfterFields : (c : Contents) → Holds c image → IsOk (header_at c.image) → MayLackMemory image before now
+
 -- What a fault of opening says of the image that the disk reads: it is unformatted; it is damaged first at this offset; or memory
--- ran out, and it is not unformatted. The other faults say nothing of it.
-abbrev pub TellsStore : Fault → List ℕ → Type 0
-TellsStore Unformatted image = journal.IsUnformatted image
-TellsStore (Damaged offset) image = IsDamagedAt image offset
-TellsStore Device image = Unit {0}
-TellsStore NoMemory image = journal.IsUnformatted image → ⊥
-TellsStore Failed image = Unit {0}
-TellsStore (Mismatch place) image = Unit {0}
+-- ran out where it may. The other faults say nothing of it.
+abbrev pub TellsStore : Fault → List ℕ → Calls → Calls → Type 0
+TellsStore Unformatted image before now = journal.IsUnformatted image
+TellsStore (Damaged offset) image before now = IsDamagedAt image offset
+TellsStore Device image before now = Unit {0}
+TellsStore NoMemory image before now = MayLackMemory image before now
+TellsStore Failed image before now = Unit {0}
+TellsStore (Mismatch place) image before now = Unit {0}
 
 -- Why the store of an image is not opened: what the fault says of the image holds, and one that stands for a state is refused only if the device fails or
 -- memory runs out.
-pub record IsReason (image : List ℕ) (fault : Fault) : Type 0 where
-  pub tells : TellsStore fault image
+pub record IsReason (image : List ℕ) (before now : Calls) (fault : Fault) : Type 0 where
+  pub tells : TellsStore fault image before now
   pub valid : (s : ServerState) → StandsFor image s → (fault ≡ Device) ⊎ (fault ≡ NoMemory)

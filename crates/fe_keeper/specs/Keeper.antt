@@ -5,10 +5,11 @@ use Rattle.std.specs.List.{list_all}
 use Rattle.fe_state.specs.State.{ServerState}
 use Rattle.fe_state.specs.Format.{entry_fits_format_1}
 use Rattle.fe_state.specs.declared.entry.Entry.{Entry}
-use Rattle.fe_format.specs.Layout.{record_bytes}
+use Rattle.fe_format.specs.Layout.{record_bytes, group_records}
 use Rattle.fe_format.specs.declared.format.Format.{Format}
 use Rattle.fe_format.specs.declared.format.Format.TheVariants.{One, Two}
 use Rattle.fe_journal.specs.Groups.{room_at}
+use Rattle.fe_journal.specs.Layout.{slice_bytes}
 
 -- a checkpoint under way: the bytes of its image, how many of them are written, and the place of the state in it
 pub record Progress : Type 0 where
@@ -44,7 +45,7 @@ is_spellable Two entries = true
 
 -- whether this many more entries fit with those since a checkpoint's beginning, at a place
 abbrev pub catches_up : ℕ → ℕ → Option Progress → Bool
-catches_up place n checkpoint = option_map_or (λ p. nat_le (place - p.place + n) 13107) checkpoint true
+catches_up place n checkpoint = option_map_or (λ p. nat_le (place - p.place + n) (group_records Two)) checkpoint true
 
 -- whether a batch can be appended as the store is
 abbrev pub fits : {D : Type 0} → StoreState D → List Entry → Bool
@@ -56,7 +57,7 @@ fits store entries =
 -- how many bytes this many entries take as a group of format 2, with its gate and length; none is no group
 abbrev pub caught_up_bytes : ℕ → ℕ
 caught_up_bytes zero = 0
-caught_up_bytes (suc n) = 5 + suc n * 80
+caught_up_bytes (suc n) = 5 + suc n * record_bytes Two
 
 -- a checkpoint can be begun: none is under way, and an entry came since the image, or the slot is of format 1
 abbrev pub is_behind : Format → ℕ → Bool
@@ -73,7 +74,7 @@ begun store size = record store { checkpoint = Some (record { size = size; writt
 
 -- the bytes of the next slice
 abbrev pub slice_size : Progress → ℕ
-slice_size p = if nat_le (p.size - p.written) 65536 then p.size - p.written else 65536
+slice_size p = if nat_le (p.size - p.written) slice_bytes then p.size - p.written else slice_bytes
 
 -- a slice more is written
 abbrev pub stepped_by : {D : Type 0} → StoreState D → Progress → StoreState D
@@ -88,7 +89,7 @@ has_slices checkpoint = option_map_or (λ p. not (nat_le p.size p.written)) chec
 
 -- how many slices this many bytes take
 abbrev pub slices_of : ℕ → ℕ
-slices_of bytes = (bytes + 65535) / 65536
+slices_of bytes = (bytes + (slice_bytes - 1)) / slice_bytes
 
 -- how many slices of a checkpoint under way are left
 abbrev pub slices_left : Option Progress → ℕ

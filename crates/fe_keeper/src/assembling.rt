@@ -5,9 +5,9 @@ ghost use Rattle.fe_keeper.specs.Opened.{keeper_over, KeepsState};
 ghost use Rattle.fe_keeper.specs.within.Rooms.{AreRooms};
 ghost use Rattle.fe_keeper.specs.declared.fault.Fault.TheVariants.{NoMemory};
 
-use crate::Fault;
 use crate::keeper::Keeper;
 use crate::store::Store;
+use crate::{Fault, Format};
 use fe_disk::Disk;
 use fe_journal::Journal;
 use fe_state::{BATCH_ENTRIES, State, UndoLog};
@@ -24,7 +24,7 @@ impl Rooms {
     pub(crate) fn new(alloc: Global) -> Result<Rooms, AllocError>
         ensures { IfOk result AreRooms }
     {
-        let group = Vec::with_capacity(alloc, BATCH_ENTRIES * 80)?;
+        let group = Vec::with_capacity(alloc, BATCH_ENTRIES * Format::Two.record_bytes())?;
         let log = UndoLog::with_room(alloc, BATCH_ENTRIES)?;
         Ok(Rooms { group, log })
     }

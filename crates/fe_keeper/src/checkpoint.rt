@@ -12,16 +12,12 @@ ghost use Rattle.fe_keeper.specs.within.Slices.{KeepsDraft, sliced, journal_slic
 ghost use Rattle.fe_keeper.specs.within.Upholds.{progress_of};
 ghost use Rattle.fe_keeper.specs.declared.fault.Fault.TheVariants.{NoMemory};
 
-use crate::store::LONGEST_GROUP;
 use crate::{Fault, Format};
 use fe_codec::put_image;
 use fe_disk::Disk;
-use fe_journal::{Journal, JournalFault};
+use fe_journal::{Journal, JournalFault, SLICE_BYTES};
 use fe_state::State;
 use std::alloc::Global;
-
-/// How many bytes a slice has at most.
-const SLICE_BYTES: usize = 65_536;
 
 /// A checkpoint under way.
 #[derive(Drop)]
@@ -46,7 +42,7 @@ impl Checkpoint {
     {
         let mut image = Vec::new(alloc);
         put_image(Format::Two, state, &mut image)?;
-        let catch_up = Vec::with_capacity(alloc, LONGEST_GROUP * 80)?;
+        let catch_up = Vec::with_capacity(alloc, Format::Two.longest_payload())?;
         Ok(Checkpoint {
             image,
             written: 0,

@@ -4,8 +4,8 @@ ghost use Rattle.std.specs.Prelude.{◌≡◌, ◌+◌, false, vec_len, IsTrue, 
 ghost use Rattle.fe_disk.specs.Disk.{MakesAtMost};
 ghost use Rattle.fe_state.specs.State.{ServerState};
 ghost use Rattle.fe_keeper.specs.Keeper as effect;
-ghost use Rattle.fe_keeper.specs.Keeper.{fits, has_slices, slices_of, slices_left, stepped, finished, renewed, made_room};
-ghost use Rattle.fe_keeper.specs.within.Ends.{StoreEnds, StaysSound, Carries, MakesRoom};
+ghost use Rattle.fe_keeper.specs.Keeper.{fits, has_slices, slices_of, slices_left, finished, renewed, made_room};
+ghost use Rattle.fe_keeper.specs.within.Ends.{StoreEnds, StaysSound, IsStepped, Carries, MakesRoom};
 ghost use Rattle.fe_keeper.specs.within.Fresh.{IsImageOf, whole_slices};
 ghost use Rattle.fe_keeper.specs.within.Ready.{HasCheckpoint, CanTake, CanStore, IsWholeFor};
 ghost use Rattle.fe_keeper.specs.within.Upholds.{Upholds, store_of};
@@ -45,10 +45,7 @@ impl<D: Disk> Store<D> {
         ensures stays { StaysSound self.old self.new }
         ensures carries { D.honest self.old.journal.disk → (s : ServerState) → Upholds D.seen D.may_leave self.old s
             → Carries D.moment D.left_since D.seen D.may_leave result self.old self.new s }
-        ensures value { OnOk result (store_of self.new
-            ≡ record (stepped (store_of self.old)) { disk = self.new.journal.disk }) }
-        ensures more { IfOk result (λ more. more ≡ has_slices (store_of self.new).checkpoint) }
-        ensures ready { OnOk result (HasCheckpoint self.new) }
+        ensures stepped { IfOk result (IsStepped self.old self.new) }
         ensures rests { has_slices (store_of self.old).checkpoint ≡ false → self.new ≡ self.old }
         ensures ends { StoreEnds D.honest D.failures result self.old.journal self.new.journal }
         ensures calls { MakesAtMost 0 1 0 (D.calls self.old.journal.disk) (D.calls self.new.journal.disk) }

@@ -35,8 +35,9 @@ impl<D: Disk> Keeper<D> {
     pub fn open(alloc: Global, disk: D) -> Result<Keeper<D>, (Fault, D)>
         // What the disk reads stands for the keeper's state, and so does each image that a stop may leave.
         ensures opened { D.honest disk → IfOk result (IsOpenedFrom D.may_leave (D.seen disk)) }
-        // A reported fault is the store's. A valid store is refused only if the device fails or memory runs out.
-        ensures refused { D.honest disk → IfErr result (λ e. IsReason (D.seen disk) e.0) }
+        // A reported fault is the store's. A valid store is refused only if the device fails or memory runs out, and memory runs
+        // out only where what was read until then is right.
+        ensures refused { D.honest disk → IfErr result (λ e. IsReason (D.seen disk) (D.calls disk) (D.calls e.1) e.0) }
         // An unformatted store is reported as such, however much memory there is.
         ensures unformatted { D.honest disk → IsUnformatted (D.seen disk)
             → IsErrAnd result (λ e. (e.0 ≡ Unformatted) ⊎ (e.0 ≡ Device)) }

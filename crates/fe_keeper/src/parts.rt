@@ -6,11 +6,11 @@ ghost use Rattle.fe_replica.specs.Taking.{Continues};
 ghost use Rattle.fe_codec.specs.Image.{image_spelling};
 ghost use Rattle.fe_format.specs.declared.format.Format.TheVariants.{Two};
 ghost use Rattle.fe_keeper.specs.Stands.{StandsForEither};
-ghost use Rattle.fe_keeper.specs.Ends.{StopsLeave, Ends, ForBatch, IsAppended, MakesToAppend};
+ghost use Rattle.fe_keeper.specs.Ends.{StopsLeave, Ends, ForBatch, MakesToAppend};
 ghost use Rattle.fe_keeper.specs.Keeper.{appended, made_room, must_begin, slices_of};
 ghost use Rattle.fe_keeper.specs.within.Ends.{StoreEnds, Leads};
 ghost use Rattle.fe_keeper.specs.within.Fresh.{whole_slices};
-ghost use Rattle.fe_keeper.specs.within.Parts.{AreAtRest, HasBatch, HasTaken, IsKept, IsMadeFor, kept_of, state_before};
+ghost use Rattle.fe_keeper.specs.within.Parts.{AppendsOrStays, AreAtRest, HasBatch, HasTaken, IsKept, IsMadeFor, IsStateThen, kept_of, state_before};
 ghost use Rattle.fe_keeper.specs.within.Upholds.{Upholds, store_of};
 ghost use Rattle.fe_keeper.specs.declared.fault.Fault.TheVariants.{NoMemory};
 
@@ -73,12 +73,11 @@ impl<D: Disk> Parts<D> {
             → Leads D.moment D.left_since D.seen D.may_leave result self.old.store self.new.store
             (state_before self.old)
             (after_all (state_before self.old) entries.now) }
-        ensures state { OnOk result (self.new.state ≡ after_all (state_before self.old) entries.now) }
+        ensures state { IsStateThen result (state_before self.old) entries.now self.new.state }
         ensures value { OnOk result (store_of self.new.store
             ≡ record (appended
             (made_room
             (store_of self.old.store) entries.now) entries.now) { disk = self.new.store.journal.disk }) }
-        ensures err { OnErr result (self.new.state ≡ state_before self.old) }
         ensures ends { StoreEnds D.honest D.failures result self.old.store.journal self.new.store.journal }
         ensures calls { MakesToAppend (store_of self.old.store) entries.now (whole_slices whole)
             (D.calls self.old.store.journal.disk) (D.calls self.new.store.journal.disk) }
@@ -99,8 +98,7 @@ impl<D: Disk> Parts<D> {
         ensures kept { IsKept D.honest D.seen D.may_leave self.new }
         ensures any_moment { StopsLeave D.honest D.moment D.left_since (kept_of self.old) (kept_of self.new)
             (StandsForEither self.old.state (after_all self.old.state entries.now)) }
-        ensures appended { OnOk result (IsAppended (kept_of self.old) (kept_of self.new) first entries.now) }
-        ensures err { OnErr result (self.new.state ≡ self.old.state) }
+        ensures batch { AppendsOrStays result (kept_of self.old) (kept_of self.new) first entries.now }
         ensures ends { Ends D.failures (ForBatch (kept_of self.old) first entries.now) result (kept_of self.old)
             (kept_of self.new) }
         ensures calls { MakesToAppend (store_of self.old.store) entries.now

@@ -1,10 +1,11 @@
 //! The state that a slot stands for: that of its image, and its groups gone through.
 
-ghost use Rattle.std.specs.Prelude.{◌≡◌, ◌+◌, ◌<◌, ◌≤◌, ℕ, List, ◌∷◌, length, true, Ok, IfOk, IfErr, OnOk, IsErrOf};
+ghost use Rattle.std.specs.Prelude.{◌≡◌, ◌+◌, ◌<◌, ◌≤◌, ℕ, List, ◌∷◌, length, true, Ok, IsOk, IfOk, IfErr, OnOk, IsErrOf};
 ghost use Rattle.fe_state.specs.State.{ServerState};
-ghost use Rattle.fe_codec.specs.FirstFault.{image_at};
+ghost use Rattle.fe_codec.specs.FirstFault.{header_at, image_at};
 ghost use Rattle.fe_journal.specs.Contents.{Contents};
 ghost use Rattle.fe_journal.specs.Cursor.{Lists};
+ghost use Rattle.fe_journal.specs.Layout.{area_bytes};
 ghost use Rattle.fe_keeper.specs.Stands.{Stands, greatest_generation};
 ghost use Rattle.fe_keeper.specs.Opened.{IsSlotFault, IsListing, IsBase, ReplaysAll, IsRecovered, ArePartsOf};
 ghost use Rattle.fe_keeper.specs.within.Replaying.{IsNext, CanGoOn};
@@ -38,6 +39,8 @@ pub(crate) fn recovered(
     ensures damaged { (offset : ℕ) (payloads : List (List ℕ)) → IsErrOf result (Damaged offset)
         → Lists groups.old payloads
         → IsWrongIn slot format generation image.now payloads (groups.old.start + groups.old.at) offset }
+    // Memory runs out only once the first fields of the image are read.
+    ensures memory { IsErrOf result NoMemory → IsOk (header_at image.now) }
     ensures faults { IfErr result IsSlotFault }
 {
     let mut state = base_of(alloc, format, generation, slot, image)?;
@@ -60,6 +63,7 @@ fn base_of(
         → IfErr result (λ fault. fault ≡ NoMemory) }
     ensures damaged { (offset at : ℕ) (payloads : List (List ℕ)) → IsErrOf result (Damaged offset)
         → IsWrongIn slot format generation image.now payloads at offset }
+    ensures memory { IsErrOf result NoMemory → IsOk (header_at image.now) }
     ensures faults { IfErr result IsSlotFault }
 {
     let state = match read_image(alloc, format, image) {
@@ -112,7 +116,7 @@ fn replay_next(format: Format, groups: &mut Groups, state: &mut State) -> Result
         → IfOk result (IsNext format payloads groups.new state.old state.new) }
     ensures place { (payload : List ℕ) (rest : List (List ℕ)) → Lists groups.old (payload ∷ rest)
         → OnOk result (groups.new ≡ record groups.old { at = groups.old.at + (5 + length payload) }) }
-    ensures on { IfOk result (λ more. more ≡ true → (groups.old.at < groups.new.at) × (groups.new.at ≤ 1048576)) }
+    ensures on { IfOk result (λ more. more ≡ true → (groups.old.at < groups.new.at) × (groups.new.at ≤ area_bytes)) }
     ensures refused { (payloads : List (List ℕ)) → Lists groups.old payloads → CanGoOn format payloads state.old
         → IfErr result (λ fault. fault ≡ NoMemory) }
     ensures damaged { (offset : ℕ) (payloads : List (List ℕ)) → IsErrOf result (Damaged offset)

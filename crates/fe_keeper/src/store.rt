@@ -1,4 +1,4 @@
-ghost use Rattle.std.specs.Prelude.{◌≡◌, ◌+◌, ◌≤◌, ◌*◌, ◌++◌, length, IsTrue, IfSome, OnOk, OnErr, vec_len, vec_capacity};
+ghost use Rattle.std.specs.Prelude.{◌≡◌, ◌+◌, ◌≤◌, ◌*◌, ◌++◌, length, IsTrue, IfSome, OnOk, vec_len, vec_capacity};
 ghost use Rattle.std.specs.List.{AllByRecursion, list_all};
 ghost use Rattle.fe_disk.specs.Disk.{MakesAtMost};
 ghost use Rattle.fe_state.specs.Format.{entry_fits_format_1};
@@ -6,12 +6,13 @@ ghost use Rattle.fe_state.specs.History.{AreLegal};
 ghost use Rattle.fe_state.specs.State.{ServerState, after_all};
 ghost use Rattle.fe_state.specs.declared.bounds.TheConstants.{BATCH_ENTRIES};
 ghost use Rattle.fe_codec.specs.Record.{CanPut, FitsGroup, group_spelling};
+ghost use Rattle.fe_format.specs.Layout.{record_bytes, group_records};
 ghost use Rattle.fe_format.specs.declared.format.Format.TheVariants.{Two};
 ghost use Rattle.fe_journal.specs.Groups.{room_at};
 ghost use Rattle.fe_keeper.specs.Ends.{MakesToAppend};
 ghost use Rattle.fe_keeper.specs.Keeper.{fits, is_spellable, catches_up, caught_up_bytes, can_begin, appended, made_room, must_begin};
-ghost use Rattle.fe_keeper.specs.within.CatchUp.{HasRoomFor, CatchesUp, IsSpelledBatch};
-ghost use Rattle.fe_keeper.specs.within.Ends.{StoreEnds, Leads};
+ghost use Rattle.fe_keeper.specs.within.CatchUp.{batch_bytes, HasRoomFor, CatchesUp, IsSpelledBatch};
+ghost use Rattle.fe_keeper.specs.within.Ends.{StoreEnds, CountsBatch, Leads};
 ghost use Rattle.fe_keeper.specs.within.Fresh.{IsImageOf, whole_slices};
 ghost use Rattle.fe_keeper.specs.within.Ready.{CanStore, IsWholeFor};
 ghost use Rattle.fe_keeper.specs.within.Upholds.{IsStore, Upholds, store_of};
@@ -20,14 +21,8 @@ use crate::checkpoint::Checkpoint;
 use crate::{Fault, Format};
 use fe_codec::put_group;
 use fe_disk::Disk;
-use fe_journal::{Journal, JournalFault};
+use fe_journal::{Journal, JournalFault, LONGEST_PAYLOAD};
 use fe_state::Entry;
-
-/// How many entries the longest group of format 2 has.
-pub(crate) const LONGEST_GROUP: usize = 13_107;
-
-/// How many bytes the longest payload in an empty journal area has.
-const LONGEST_PAYLOAD: usize = 1_048_570;
 
 /// Whether format 1 has a record for each entry.
 fn all_fit_format_1(entries: &[Entry]) -> bool
@@ -50,10 +45,10 @@ fn is_spellable(format: Format, entries: &[Entry]) -> bool
 fn spell(format: Format, entries: &[Entry], group: &mut Vec<u8>)
     requires each { AllByRecursion (CanPut format) entries.now }
     requires few { length entries.now ≤ BATCH_ENTRIES }
-    requires room { 327760 ≤ vec_capacity group.old }
+    requires room { batch_bytes ≤ vec_capacity group.old }
     ensures spelled { group.new.items ≡ group_spelling format entries.now }
     ensures fits { FitsGroup format entries.now }
-    ensures room { 327760 ≤ vec_capacity group.new }
+    ensures room { batch_bytes ≤ vec_capacity group.new }
 {
     group.clear();
     let _ = put_group(format, entries, group);
@@ -63,7 +58,7 @@ fn spell(format: Format, entries: &[Entry], group: &mut Vec<u8>)
 /// are taken as they are.
 fn put_records(format: Format, group: &[u8], entries: &[Entry], out: &mut Vec<u8>)
     requires batch { IsSpelledBatch format group.now entries.now }
-    requires room { vec_len out.old + length entries.now * 80 ≤ vec_capacity out.old }
+    requires room { vec_len out.old + length entries.now * record_bytes Two ≤ vec_capacity out.old }
     ensures items { out.new.items ≡ out.old.items ++ group_spelling Two entries.now }
     ensures fits { FitsGroup Two entries.now }
     ensures capacity { vec_capacity out.old ≤ vec_capacity out.new }
@@ -88,12 +83,12 @@ fn catch_up(checkpoint: &mut Option<Checkpoint>, format: Format, group: &[u8], e
 
 /// The longest payload, in bytes, after a catch-up group of this many entries.
 fn room_behind(entries: usize) -> usize
-    requires few { entries ≤ 13107 }
+    requires few { entries ≤ group_records Two }
     ensures { result ≡ room_at (caught_up_bytes entries) }
 {
     match entries {
-        0 => LONGEST_PAYLOAD,
-        _ => LONGEST_PAYLOAD - (5 + entries * Format::Two.record_bytes()),
+        0 => LONGEST_PAYLOAD as usize,
+        _ => LONGEST_PAYLOAD as usize - (5 + entries * Format::Two.record_bytes()),
     }
 }
 
@@ -139,7 +134,8 @@ impl<D: Disk> Store<D> {
     {
         match &self.checkpoint {
             None => true,
-            Some(checkpoint) => (self.place - checkpoint.place) as usize + entries <= LONGEST_GROUP,
+            Some(checkpoint) => (self.place - checkpoint.place) as usize + entries
+                <= Format::Two.group_records(),
         }
     }
 
@@ -166,13 +162,12 @@ impl<D: Disk> Store<D> {
     pub(crate) fn append(&mut self, entries: &[Entry]) -> Result<(), JournalFault>
         requires can { CanStore self.old entries.now }
         requires fits { IsTrue (fits (store_of self.old) entries.now) }
-        ensures sound { IsStore self.new }
+        ensures counts { CountsBatch result self.old self.new (length entries.now) }
         ensures leads { D.honest self.old.journal.disk → (s : ServerState) → Upholds D.seen D.may_leave self.old s
             → AreLegal s entries.now
             → Leads D.moment D.left_since D.seen D.may_leave result self.old self.new s (after_all s entries.now) }
         ensures value { OnOk result (store_of self.new
             ≡ record (appended (store_of self.old) entries.now) { disk = self.new.journal.disk }) }
-        ensures kept { OnErr result (self.new.place ≡ self.old.place) }
         ensures ends { StoreEnds D.honest D.failures result self.old.journal self.new.journal }
         ensures calls { MakesAtMost 0 2 2 (D.calls self.old.journal.disk) (D.calls self.new.journal.disk) }
     {
@@ -193,15 +188,13 @@ impl<D: Disk> Store<D> {
     ) -> Result<(), JournalFault>
         requires can { CanStore self.old entries.now }
         requires whole { IsWholeFor self.old entries.now whole }
-        ensures sound { IsStore self.new }
+        ensures counts { CountsBatch result self.old self.new (length entries.now) }
         ensures leads { D.honest self.old.journal.disk → (s : ServerState) → Upholds D.seen D.may_leave self.old s
             → IfSome whole (λ made. IsImageOf made s) → AreLegal s entries.now
             → Leads D.moment D.left_since D.seen D.may_leave result self.old self.new s (after_all s entries.now) }
         ensures value { OnOk result (store_of self.new
             ≡ record (appended
             (made_room (store_of self.old) entries.now) entries.now) { disk = self.new.journal.disk }) }
-        ensures place { OnOk result (self.new.place ≡ self.old.place + length entries.now) }
-        ensures kept { OnErr result (self.new.place ≡ self.old.place) }
         ensures ends { StoreEnds D.honest D.failures result self.old.journal self.new.journal }
         ensures calls { MakesToAppend (store_of self.old) entries.now (whole_slices whole)
             (D.calls self.old.journal.disk) (D.calls self.new.journal.disk) }

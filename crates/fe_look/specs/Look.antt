@@ -14,14 +14,20 @@ abbrev pub place_line : ℕ → List ℕ
 place_line place = codes "place " ++ (decimal place ++ codes "\n")
 
 -- an array: its id, its name, and its length in words
+abbrev pub line_of_array : ℕ → List ℕ → ℕ → List ℕ
+line_of_array id name size =
+    codes "array " ++ (decimal id ++ (codes " " ++ (name ++ (codes " " ++ (decimal size ++ codes "\n")))))
+
 abbrev pub array_line : ℕ × Array → List ℕ
-array_line e =
-    codes "array " ++ (decimal e.0 ++ (codes " " ++ (e.1.name ++ (codes " " ++ (decimal (length e.1.words) ++ codes "\n")))))
+array_line e = line_of_array e.0 e.1.name (length e.1.words)
 
 -- a session: its floor, and how many answers are kept for it
+abbrev pub line_of_session : ℕ → ℕ → ℕ → List ℕ
+line_of_session number floor kept =
+    codes "session " ++ (decimal number ++ (codes " floor " ++ (decimal floor ++ (codes " kept " ++ (decimal kept ++ codes "\n")))))
+
 abbrev pub session_line : ℕ × Session → List ℕ
-session_line e =
-    codes "session " ++ (decimal e.0 ++ (codes " floor " ++ (decimal e.1.floor ++ (codes " kept " ++ (decimal (len e.1.kept) ++ codes "\n")))))
+session_line e = line_of_session e.0 e.1.floor (len e.1.kept)
 
 -- The text of a state: its place, and a line for each array and then for each session, both ascending.
 abbrev pub state_text : ServerState → List ℕ

@@ -4,18 +4,17 @@ ghost use Rattle.std.specs.Prelude.{◌≡◌, ◌++◌, true, string_bytes, len
 ghost use Rattle.std.specs.FinMap.{entries};
 ghost use Rattle.std.specs.List.{flat_map};
 ghost use Rattle.fe_state.specs.Name.{is_plain};
-ghost use Rattle.fe_look.specs.Look.{array_line, session_line, state_text};
+ghost use Rattle.fe_look.specs.Look.{array_line, session_line, line_of_array, line_of_session, state_text};
 
-use fe_state::{Array, Session, State};
+use fe_state::{Name, State};
 use std::alloc::{AllocError, Global};
 
 /// Writes the line of an array.
-fn put_array(text: &mut String, id: u64, array: &Array) -> Result<(), AllocError>
-    requires { is_plain array.now.name ≡ true }
-    ensures { OnOk result (string_bytes text.new ≡ string_bytes text.old ++ array_line (id, array.now)) }
+fn put_array(text: &mut String, id: u64, name: &Name, length: usize) -> Result<(), AllocError>
+    requires { is_plain name.now ≡ true }
+    ensures { OnOk result (string_bytes text.new ≡ string_bytes text.old ++ line_of_array id name.now length) }
 {
-    let name = str::from_utf8(array.name.bytes()).unwrap();
-    let length = array.words.len();
+    let name = str::from_utf8(name.bytes()).unwrap();
     write!(text, "array {id} {name} {length}\n")
 }
 
@@ -26,19 +25,17 @@ fn put_arrays(text: &mut String, state: &State) -> Result<(), AllocError>
 {
     let _ = state.place();
     for k in 0..state.array_count() {
-        if let Some((id, array)) = state.array_entry(k) {
-            put_array(text, id, array)?;
+        if let Some((id, name, words)) = state.array_entry(k) {
+            put_array(text, id, name, words.len())?;
         }
     }
     Ok(())
 }
 
 /// Writes the line of a session.
-fn put_session(text: &mut String, number: u64, session: &Session) -> Result<(), AllocError>
-    ensures { OnOk result (string_bytes text.new ≡ string_bytes text.old ++ session_line (number, session.now)) }
+fn put_session(text: &mut String, number: u64, floor: u64, kept: usize) -> Result<(), AllocError>
+    ensures { OnOk result (string_bytes text.new ≡ string_bytes text.old ++ line_of_session number floor kept) }
 {
-    let floor = session.floor();
-    let kept = session.kept_count();
     write!(text, "session {number} floor {floor} kept {kept}\n")
 }
 
@@ -48,8 +45,8 @@ fn put_sessions(text: &mut String, state: &State) -> Result<(), AllocError>
         ≡ string_bytes text.old ++ flat_map session_line (entries state.now.sessions)) }
 {
     for k in 0..state.session_count() {
-        if let Some((number, session)) = state.session_entry(k) {
-            put_session(text, number, session)?;
+        if let Some((number, floor, answers)) = state.session_entry(k) {
+            put_session(text, number, floor, answers.len())?;
         }
     }
     Ok(())

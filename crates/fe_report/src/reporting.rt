@@ -1,4 +1,5 @@
 ghost use Rattle.std.specs.Prelude.{◌≡◌, ◌≤◌, IfOk, string_bytes, string_len};
+ghost use Rattle.fe_mail.specs.declared.report_text.TheConstants.{REPORT_BYTES};
 ghost use Rattle.fe_report.specs.Report.{report_text, attached_seats};
 
 use crate::rows::{do_all_wait, rows_by_session, rows_by_word};
@@ -12,7 +13,7 @@ pub(crate) const WORD_LINE: usize = 108;
 /// The most bytes that all other lines have together.
 const OTHER_LINES: usize = 2976;
 
-/// The report of what waits in a front, 1 to 262,144 bytes long. `AllocError` if memory is short.
+/// The report of what waits in a front, 1 to `REPORT_BYTES` bytes long. `AllocError` if memory is short.
 ///
 /// It walks each session's waiting list once, and looks at no word. It allocates room for the longest text first, and gives
 /// back what the text doesn't use.
@@ -20,7 +21,7 @@ pub fn report(alloc: Global, front: &Front) -> Result<String, AllocError>
     ensures text { IfOk result
         (λ text. string_bytes text ≡ report_text front.now.service.waiting (attached_seats front.now)) }
     ensures some { IfOk result (λ text. 1 ≤ string_len text) }
-    ensures few { IfOk result (λ text. string_len text ≤ 262144) }
+    ensures few { IfOk result (λ text. string_len text ≤ REPORT_BYTES) }
 {
     let _ = front.state();
     let count = front.waiting_count();

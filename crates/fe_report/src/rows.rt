@@ -38,7 +38,7 @@ pub(crate) fn rows_by_word(alloc: Global, front: &Front) -> Result<Vec<(Spot, Op
     let state = front.state();
     let mut rows = Vec::with_capacity(alloc, front.waiting_count() as usize)?;
     for k in 0..state.session_count() {
-        let (session, _) = state.session_entry(k).unwrap();
+        let session = state.session_at(k).unwrap();
         add_session(alloc, front, &mut rows, session)?;
     }
     rows.sort_unstable_by_key(|row| row.0);
@@ -56,7 +56,7 @@ pub(crate) fn rows_by_session(
     let state = front.state();
     let mut rows = BTreeMap::new(alloc);
     for k in 0..state.session_count() {
-        let (session, _) = state.session_entry(k).unwrap();
+        let session = state.session_at(k).unwrap();
         let count = front.count_of(session);
         if count > 0 {
             rows.insert(session, count)?;
@@ -73,7 +73,7 @@ pub(crate) fn do_all_wait(front: &Front) -> bool
     let mut attached = false;
     let mut idle = false;
     for k in 0..state.session_count() {
-        let (session, _) = state.session_entry(k).unwrap();
+        let session = state.session_at(k).unwrap();
         let here = front.attached(session);
         let none = front.count_of(session) == 0;
         attached |= here;

@@ -12,6 +12,6 @@ mod streams;
 mod told;
 
 pub use fault::ScheduleFault;
+pub use fe_journal::DEVICE_BYTES;
 pub use schedule::run_schedule;
-pub use serving::STORE;
 pub use streams::{Sink, Source};

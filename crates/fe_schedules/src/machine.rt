@@ -15,10 +15,11 @@ ghost use Rattle.fe_schedules.specs.Runs.{IsMachine, ActsOn, PrintsMore, last_di
 
 use crate::fault::MachineFault;
 use crate::reading::{mark_all, read_all};
-use crate::serving::{STORE, new_desk, stopped, take};
+use crate::serving::{new_desk, stopped, take};
 use crate::told::{Told, print_told, sort};
 use fe_desk::{Desk, Step};
 use fe_disk::MemoryDisk;
+use fe_journal::DEVICE_BYTES;
 use fe_text::Line;
 use fe_wire::{ClientMessage, put_message};
 use std::alloc::{AllocError, Global};
@@ -158,7 +159,7 @@ impl Machine {
         ensures fault { IfErr result (TellsDisk (last_disk self.new)) }
     {
         // A desk of its own is there until the store is opened.
-        let disk = MemoryDisk::new(self.alloc, STORE)?;
+        let disk = MemoryDisk::new(self.alloc, DEVICE_BYTES)?;
         let between = match new_desk(self.alloc, disk) {
             Ok(desk) => desk,
             Err((fault, disk)) => return Err(self.lose(fault, disk)),

@@ -131,8 +131,8 @@ impl Run {
         ensures taken { (read : List ℕ) (before : Option (List ℕ)) → SoFar read before (W.contents writer.old) self.old
             → HasNoFeed bytes.now
             → MatchResult result (λ _. SoFar (read ++ (bytes.now ++ 10 ∷ [])) before (W.contents writer.new) self.new)
-            (λ end. EndedIn (W.has_failed writer.new) end (read ++ (bytes.now ++ 10 ∷ [])) before (W.contents writer.new)
-            (string_bytes self.new.text)) }
+            (λ end. EndedIn (W.has_failed writer.new) end (read ++ (bytes.now ++ 10 ∷ [])) before
+            (W.contents writer.new) (string_bytes self.new.text)) }
     {
         self.end_line(bytes)?;
         if self.text.len() < FULL {

@@ -15,9 +15,6 @@ use fe_disk::{MemoryDisk, Torn};
 use fe_keeper::images_stand_for_one;
 use std::alloc::Global;
 
-/// How many bytes a store has (`docs/formats.md`, "Device").
-pub const STORE: usize = 4_202_496;
-
 /// A desk over a new store on the disk, with no connection.
 pub(crate) fn new_desk(
     alloc: Global,

@@ -58,6 +58,9 @@ pub record IsEntered (old mid : Parts) (own : Entry) : Type 0 where
   pub seats : mid.seats.seats ≡ old.seats.seats
   pub pending : mid.pending ≡ old.pending ++ own ∷ []
 
+pub entered_by : (old mid : Parts) (own : Entry) → mid.state ≡ after old.state own → mid.seats ≡ old.seats → mid.pending ≡ old.pending ++ own ∷ [] → IsEntered old mid own
+entered_by old mid own state seats pending = record { state = state; waiting = ap (λ s. s.waiting) seats; seats = ap (λ s. s.seats) seats; pending = pending }
+
 pub entered_usable : (old mid : Parts) (session number : ℕ) (request : Request) (answer : Answer) → AreUsable old.state old.seats.waiting → IsFree (service_of old) session number
     → IsEntered old mid (Finished session number request answer) → AreUsable mid.state mid.seats.waiting
 entered_usable old mid session number request answer usable free e =

@@ -16,7 +16,7 @@ pub(crate) fn seat_sessions(state: &State, seats: &mut Seats)
 {
     let _ = state.place();
     for k in 0..state.session_count() {
-        let (session, _) = state.session_entry(k).unwrap();
+        let session = state.session_at(k).unwrap();
         seats.sit(session);
     }
 }
@@ -30,8 +30,8 @@ pub(crate) fn add_arrays(state: &State, seats: &mut Seats) -> Result<(), AllocEr
 {
     let _ = state.place();
     for k in 0..state.array_count() {
-        let (id, array) = state.array_entry(k).unwrap();
-        seats.add_array(id, array.words.len())?;
+        let (id, _, words) = state.array_entry(k).unwrap();
+        seats.add_array(id, words.len() as u32)?;
     }
     Ok(())
 }

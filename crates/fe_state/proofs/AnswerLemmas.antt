@@ -65,7 +65,7 @@ no_entries [] e = refl
 no_entries (x ∷ es) e = absurd (omega arith)
 
 -- from the end of the window on nothing is kept
-pub from_beyond : (s : Session) (end : ℕ) → s.floor + WINDOW ≤ end → ((n : ℕ) (k : Kept) → get s.kept n ≡ Some k → IsInWindow s.floor n) → answers_from s end ≡ []
+pub from_beyond : (s : Session) (end : ℕ) → s.floor + WINDOW ≤ end → ((n : ℕ) (k : Kept) → get s.kept n ≡ Some k → IsInWindow s.floor n) → entries (answers_from s end) ≡ []
 from_beyond s end beyond within =
     no_entries (entries (retain_keys s.kept (nat_le end))) (sym (len-entries (retain_keys s.kept (nat_le end))) ∙ ap len none ∙ len-empty nat_cmp Kept)
   where

@@ -1,5 +1,5 @@
 -- The order of creation: where an id is in it, and what it is after one more.
-use Rattle.std.proofs.Common.{◌≡◌, ℕ, zero, suc, ◌+◌, ◌<◌, ◌≤◌, true, false, List, [], ◌∷◌, length, take, map, nat_eq, position, slice_get, Option, Some, None, IsSome, is_some, true≢false, eqb-true, refl, sym, ap, subst, ◌∙◌, arith, add-one}
+use Rattle.std.proofs.Common.{◌≡◌, ℕ, zero, suc, ◌+◌, ◌<◌, ◌≤◌, false, List, [], ◌∷◌, length, take, map, nat_eq, position, slice_get, Option, Some, None, IsSome, is_some, true≢false, eqb-true, refl, sym, ap, subst, ◌∙◌, arith, add-one}
 use Rattle.std.proofs.lemmas.List.{length-map, get_or-map, map-append}
 use Rattle.std.proofs.lemmas.List.Quantifiers.{position-Some}
 use Rattle.std.specs.Cmp.{unsigned_tied}

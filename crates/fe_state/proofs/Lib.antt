@@ -7,6 +7,7 @@ pub mod Histories
 pub mod IdLemmas
 pub mod LegalLimits
 pub mod Limits
+pub mod Listed
 pub mod Loads
 pub mod LogLemmas
 pub mod Maps

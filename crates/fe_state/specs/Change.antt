@@ -1,5 +1,5 @@
 -- What a request changed of a directory, and the directory before it.
-use Rattle.std.specs.Prelude.{◌≡◌, ℕ, ◌+◌, ◌-◌, ◌≤◌, ◌<◌, List, length, None, IsSome}
+use Rattle.std.specs.Prelude.{◌≡◌, ℕ, ◌+◌, ◌-◌, ◌≤◌, ◌<◌, length, None, IsSome}
 use Rattle.std.specs.FinMap.{get, insert, remove, len}
 use Rattle.fe_state.specs.Directory.{Directory, IsArray, named, word_in, word_count}
 use Rattle.fe_state.specs.Effect.{put_word}
@@ -29,7 +29,3 @@ CanRestore Nothing d = Unit {0}
 CanRestore Created d = IsSome (get d.arrays (d.next_id - 1))
 CanRestore (Removed id a) d = MayCome d id a
 CanRestore (Wrote id index w) d = IsSome (word_in (get d.arrays id) index)
-
--- what an array shows of itself in a list of them: its id, its name and its length
-abbrev pub shown : ℕ × Array → ℕ × List ℕ × ℕ
-shown e = (e.0, e.1.name, length e.1.words)

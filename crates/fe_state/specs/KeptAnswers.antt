@@ -1,9 +1,10 @@
 -- What a session keeps, one after the other.
-use Rattle.std.specs.Prelude.{ℕ, nat_le, List}
-use Rattle.std.specs.FinMap.{entries, retain_keys}
+use Rattle.std.specs.Prelude.{ℕ, nat_le}
+use Rattle.std.specs.Ordering.{nat_cmp}
+use Rattle.std.specs.FinMap.{FinMap, retain_keys}
 use Rattle.fe_state.specs.declared.kept.Kept.{Kept}
 use Rattle.fe_state.specs.Sessions.{Session}
 
--- what a session keeps for the numbers from one on, in ascending order
-abbrev pub answers_from : Session → ℕ → List (ℕ × Kept)
-answers_from s number = entries (retain_keys s.kept (nat_le number))
+-- what a session keeps for the numbers from one on
+abbrev pub answers_from : Session → ℕ → FinMap nat_cmp Kept
+answers_from s number = retain_keys s.kept (nat_le number)

@@ -13,6 +13,7 @@ pub mod OtherWords
 pub mod Padding
 pub mod SessionEffect
 pub mod Sessions
+pub mod Shown
 pub mod State
 pub mod Total
 pub mod UndoLog

@@ -1,12 +1,12 @@
-ghost use Rattle.std.specs.Prelude.{◌≡◌, ◌≤◌, ◌<◌, ◌+◌, ◌^◌, ℕ, length, map, slice_get, find, drop, not, nat_le, nat_lt, ◌&&◌, is_some, IsTrue, IsSome, IfOk, OnErr, OnOk, Some, None};
+ghost use Rattle.std.specs.Prelude.{◌≡◌, ◌≤◌, ◌<◌, ◌+◌, ◌^◌, ℕ, length, slice_get, find, drop, not, nat_le, nat_lt, ◌&&◌, is_some, IsTrue, IsSome, IfOk, IfSome, OnErr, OnOk, Some, None};
 ghost use Rattle.std.specs.Option.{option_map};
 ghost use Rattle.std.specs.Str.{bytes_eq};
 ghost use Rattle.std.specs.FinMap.{entries, get, insert, len, contains_key};
 ghost use Rattle.fe_words.specs.Table.{table};
 ghost use Rattle.fe_state.specs.Directory.{first_directory, named, creation, accessed, access, at_once, answer_of, answer_in, word_in, words_in};
 ghost use Rattle.fe_state.specs.Effect.{created, new_array, put_word, operated_on, performed, CreatesArray};
-ghost use Rattle.fe_state.specs.Change.{restored, CanRestore, MayCome, shown};
-ghost use Rattle.fe_table.specs.Table.{shown_entry};
+ghost use Rattle.fe_state.specs.Change.{restored, CanRestore, MayCome};
+ghost use Rattle.fe_state.specs.Shown.{shown_array};
 
 use crate::answer::Answer;
 use crate::array::Array;
@@ -287,16 +287,6 @@ impl Directory {
         Some(self.arrays.get(array)?.words.len())
     }
 
-    /// The array at a place of the ascending order of ids, counted from zero: its id, its name and its length in words.
-    pub fn array_at(&self, place: usize) -> Option<(u64, Name, u32)>
-        ensures { result ≡ slice_get (map shown (entries self.now.arrays)) place }
-    {
-        match self.arrays.at(place) {
-            Some((id, array)) => Some((id, array.name, array.words.len())),
-            None => None,
-        }
-    }
-
     /// How many arrays there are.
     pub fn len(&self) -> usize
         ensures { result ≡ len self.now.arrays }
@@ -304,11 +294,13 @@ impl Directory {
         self.arrays.len()
     }
 
-    /// The array at a place of the ascending order of ids, counted from zero, with its id.
-    pub fn entry_at(&self, place: usize) -> Option<(u64, &Array)>
-        ensures { option_map shown_entry result ≡ slice_get (entries self.now.arrays) place }
+    /// The array at a place of the ascending order of ids, counted from zero: its id, its name and its words.
+    pub fn entry_at(&self, place: usize) -> Option<(u64, &Name, &[Word])>
+        ensures entry { option_map shown_array result ≡ slice_get (entries self.now.arrays) place }
+        ensures few { IfSome result (λ e. length e.2.now < 2 ^ 32) }
     {
-        self.arrays.at(place)
+        let (id, array) = self.arrays.at(place)?;
+        Some((id, &array.name, array.words.as_slice()))
     }
 
     /// Looks for an array, so that the look-ups of it that follow take one comparison each.

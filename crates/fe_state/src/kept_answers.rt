@@ -1,13 +1,15 @@
 ghost use Rattle.std.specs.Prelude.{◌≡◌, ◌≤◌};
+ghost use Rattle.std.specs.FinMap.{entries, len};
 ghost use Rattle.std.specs.Iterator.{YieldsFirstBy, item_count};
 ghost use Rattle.fe_state.specs.KeptAnswers.{answers_from};
 ghost use Rattle.fe_table.specs.Table.{shown_entry};
 
+use crate::bounds::WINDOW;
 use crate::kept::Kept;
 use crate::session::Session;
 use std::marker::Model;
 
-/// What a session keeps, with the numbers, in ascending order.
+/// What a session keeps, with the numbers, in ascending order. Contracts see the map of what is left.
 #[derive(Drop)]
 pub struct KeptAnswers<'a> {
     session: &'a Session,
@@ -16,33 +18,54 @@ pub struct KeptAnswers<'a> {
 }
 
 impl<'a> Model for KeptAnswers<'a> {
-    ghost use Rattle.std.specs.Prelude.{ℕ, ◌≤◌, List};
+    ghost use Rattle.std.specs.Prelude.{ℕ, ◌≤◌};
+    ghost use Rattle.std.specs.Ordering.{nat_cmp};
+    ghost use Rattle.std.specs.Coded.{coded_ℕ};
+    ghost use Rattle.std.specs.FinMap.{FinMap, code, len};
     ghost use Rattle.fe_state.specs.declared.kept.Kept.{Kept};
+    ghost use Rattle.fe_state.specs.contracts.kept.Kept.{the_row};
+    ghost use Rattle.fe_state.specs.declared.bounds.TheConstants.{WINDOW};
     ghost use Rattle.fe_state.specs.KeptAnswers.{answers_from};
 
-    ghost Value = { List (ℕ × Kept) };
+    ghost Value = { FinMap nat_cmp Kept };
+
+    ghost coded = { code coded_ℕ the_row.coded };
 
     ghost view = { λ it. answers_from it.session.now it.next };
 
-    ghost invariant = { λ it. it.session.now.floor ≤ it.next };
+    ghost invariant = { λ it. (it.session.now.floor ≤ it.next)
+        × (len (answers_from it.session.now it.next) ≤ WINDOW) };
 }
 
 impl<'a> KeptAnswers<'a> {
     /// What a session keeps for the numbers from one of its window on.
     pub(crate) fn starting(session: &'a Session, next: u64) -> KeptAnswers<'a>
-        requires { session.now.floor ≤ next }
+        requires next { session.now.floor ≤ next }
+        requires few { len (answers_from session.now next) ≤ WINDOW }
         ensures { result ≡ answers_from session.now next }
     {
         KeptAnswers { session, next }
+    }
+
+    /// How many are left, 0 to `WINDOW`.
+    pub fn len(&self) -> usize
+        ensures count { result ≡ len self.now }
+        ensures few { result ≤ WINDOW }
+    {
+        let mut count = 0;
+        for _answer in KeptAnswers::starting(self.session, self.next) {
+            count += 1;
+        }
+        count
     }
 }
 
 impl<'a> Iterator for KeptAnswers<'a> {
     type Item = (u64, &'a Kept);
 
-    ghost next_gives = { YieldsFirstBy shown_entry (λ rest. rest) };
+    ghost next_gives = { YieldsFirstBy shown_entry entries };
 
-    ghost remaining = { item_count (λ rest. rest) };
+    ghost remaining = { item_count entries };
 
     fn next(&mut self) -> Option<(u64, &'a Kept)> {
         let (number, kept) = self.session.first_kept(self.next)?;

@@ -24,7 +24,6 @@ mod undo_log;
 mod words;
 
 pub use answer::Answer;
-pub use array::Array;
 pub use batch::{Batch, Entries};
 pub use bounds::{
     ARRAYS, BATCH_ENTRIES, EVENT_ENTRIES, GREATEST_FLOOR, GREATEST_PLACE, NAME_BYTES, SESSIONS,
@@ -40,7 +39,5 @@ pub use laws::{
 pub use name::Name;
 pub use naming::named;
 pub use request::Request;
-pub use session::Session;
 pub use state::{Illegal, State};
 pub use undo_log::UndoLog;
-pub use words::Words;

@@ -1,4 +1,4 @@
-ghost use Rattle.std.specs.Prelude.{◌≡◌, ◌↔◌, ℕ, ◌+◌, ◌-◌, ◌%◌, ◌^◌, ◌≤◌, ◌<◌, [], ◌∷◌, ◌++◌, Some, IsTrue, IfSome, IfNone, length, nat_le, option_copied, vec_len, vec_capacity};
+ghost use Rattle.std.specs.Prelude.{◌≡◌, ◌↔◌, ℕ, ◌+◌, ◌-◌, ◌%◌, ◌^◌, ◌≤◌, ◌<◌, [], ◌∷◌, ◌++◌, Some, IsTrue, IfSome, IfNone, nat_le, option_copied, vec_len, vec_capacity};
 ghost use Rattle.std.specs.FinMap as map;
 ghost use Rattle.fe_state.specs.declared.kept.Kept.{Kept};
 ghost use Rattle.fe_state.specs.Sessions.{first_session, IsInWindow, MayRise, raised, keeping};
@@ -91,10 +91,11 @@ impl Session {
     pub(crate) fn first_kept(&self, from: u64) -> Option<(u64, &Kept)>
         requires { self.now.floor ≤ from }
         ensures first { IfSome result
-            (λ x. answers_from self.now from ≡ shown_entry x ∷ answers_from self.now (x.0 + 1)) }
+            (λ x. map.entries (answers_from self.now from)
+            ≡ shown_entry x ∷ map.entries (answers_from self.now (x.0 + 1))) }
         ensures least { IfSome result (λ x. from ≤ x.0) }
         ensures most { IfSome result (λ x. x.0 < 2 ^ 63) }
-        ensures none { IfNone result (answers_from self.now from ≡ []) }
+        ensures none { IfNone result (map.entries (answers_from self.now from) ≡ []) }
     {
         for number in from..self.floor + WINDOW {
             if let Some(kept) = self.kept(number) {
@@ -106,22 +107,9 @@ impl Session {
 
     /// What is kept, with the numbers, in ascending order.
     pub fn answers(&self) -> KeptAnswers<'_>
-        ensures entries { result ≡ map.entries self.now.kept }
-        ensures few { length result ≤ WINDOW }
+        ensures { result ≡ self.now.kept }
     {
         KeptAnswers::starting(self, self.floor)
-    }
-
-    /// For how many numbers something is kept, 0 to `WINDOW`.
-    pub fn kept_count(&self) -> usize
-        ensures count { result ≡ map.len self.now.kept }
-        ensures few { result ≤ WINDOW }
-    {
-        let mut count = 0;
-        for _answer in self.answers() {
-            count += 1;
-        }
-        count
     }
 
     /// Whether a request may still finish under the number: it is in the window and nothing is kept for it.

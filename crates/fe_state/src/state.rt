@@ -1,22 +1,22 @@
-ghost use Rattle.std.specs.Prelude.{◌≡◌, ℕ, ◌+◌, ◌-◌, ◌^◌, ◌<◌, ◌≤◌, ◌↔◌, length, map, slice_get, None, IfOk, OnOk, OnErr, IsOk, IsSome, IsSomeAnd, IsTrue, option_copied};
+ghost use Rattle.std.specs.Prelude.{◌≡◌, ℕ, ◌+◌, ◌-◌, ◌^◌, ◌<◌, ◌≤◌, ◌↔◌, length, slice_get, None, IfOk, IfSome, OnOk, OnErr, IsOk, IsSome, IsSomeAnd, IsTrue, option_copied};
 ghost use Rattle.std.specs.Option.{option_map};
 ghost use Rattle.std.specs.FinMap.{get, keys, entries, len, empty, insert};
-ghost use Rattle.fe_state.specs.Change.{MayCome, restored, CanRestore, shown};
+ghost use Rattle.fe_state.specs.Change.{MayCome, restored, CanRestore};
 ghost use Rattle.fe_state.specs.Directory.{word_in, words_in};
 ghost use Rattle.fe_state.specs.Effect.{CreatesArray, new_array, put_word};
 ghost use Rattle.fe_state.specs.Sessions.{kept_in, IsInWindow, keeping, put_session};
+ghost use Rattle.fe_state.specs.Shown.{shown_array, shown_session};
 ghost use Rattle.fe_state.specs.State.{first_state, reply, IsLegal, IsAnswered, after, directory_of, directory_after, with_arrays, with_sessions, IsWithinLimits, MakesArray, OnFinished};
 ghost use Rattle.fe_words.specs.declared.word.Tag.TheVariants.{Empty};
-ghost use Rattle.fe_table.specs.Table.{shown_entry};
 ghost use Rattle.fe_state.specs.UndoLog.{empty_log, shortened, undone, rewound, IsLogOf};
 
 use crate::answer::Answer;
-use crate::array::Array;
 use crate::bounds::{GREATEST_FLOOR, GREATEST_PLACE, SESSIONS};
 use crate::change::Change;
 use crate::directory::Directory;
 use crate::entry::Entry;
 use crate::kept::Kept;
+use crate::kept_answers::KeptAnswers;
 use crate::name::Name;
 use crate::request::Request;
 use crate::session::Session;
@@ -250,13 +250,6 @@ impl State {
         self.directory.next_id()
     }
 
-    /// The id, name and length of an array, by its place in the order of ids, counted from zero.
-    pub fn array_at(&self, k: usize) -> Option<(u64, Name, u32)>
-        ensures { result ≡ slice_get (map shown (entries self.now.arrays)) k }
-    {
-        self.directory.array_at(k)
-    }
-
     /// The number of a session, by its place in ascending order, counted from zero.
     pub fn session_at(&self, k: usize) -> Option<u64>
         ensures { result ≡ slice_get (keys self.now.sessions) k }
@@ -279,18 +272,20 @@ impl State {
         self.sessions.len()
     }
 
-    /// The array at a place in ascending order, counted from zero, with its id.
-    pub fn array_entry(&self, k: usize) -> Option<(u64, &Array)>
-        ensures { option_map shown_entry result ≡ slice_get (entries self.now.arrays) k }
+    /// The array at a place in ascending order, counted from zero: its id, its name and its words.
+    pub fn array_entry(&self, k: usize) -> Option<(u64, &Name, &[Word])>
+        ensures entry { option_map shown_array result ≡ slice_get (entries self.now.arrays) k }
+        ensures few { IfSome result (λ e. length e.2.now < 2 ^ 32) }
     {
         self.directory.entry_at(k)
     }
 
-    /// The session at a place in ascending order, counted from zero, with its number.
-    pub fn session_entry(&self, k: usize) -> Option<(u64, &Session)>
-        ensures { option_map shown_entry result ≡ slice_get (entries self.now.sessions) k }
+    /// The session at a place in ascending order, counted from zero: its number, its floor and what it keeps.
+    pub fn session_entry(&self, k: usize) -> Option<(u64, u64, KeptAnswers<'_>)>
+        ensures { option_map shown_session result ≡ slice_get (entries self.now.sessions) k }
     {
-        self.sessions.at(k)
+        let (session, here) = self.sessions.at(k)?;
+        Some((session, here.floor(), here.answers()))
     }
 
     /// Adds an array of an image, its words empty and of value 0. The one error is that memory is short.

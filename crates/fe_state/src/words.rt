@@ -1,4 +1,4 @@
-ghost use Rattle.std.specs.Prelude.{◌≡◌, ◌<◌, replicate, length, slice_get, slice_set, IfOk};
+ghost use Rattle.std.specs.Prelude.{◌≡◌, ◌<◌, ◌^◌, replicate, length, slice_get, slice_set, IfOk};
 ghost use Rattle.fe_words.specs.Table.{word};
 
 use fe_table::Copied;
@@ -50,7 +50,8 @@ impl Words {
 
     /// All of them.
     pub fn as_slice(&self) -> &[Word]
-        ensures { result.now ≡ self.now }
+        ensures words { result.now ≡ self.now }
+        ensures few { length self.now < 2 ^ 32 }
     {
         self.items.as_slice()
     }

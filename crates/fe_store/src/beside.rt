@@ -9,10 +9,10 @@ ghost use Rattle.fe_journal.specs.Layout.{device_bytes};
 ghost use Rattle.fe_store.specs.declared.fault.OpenFault.TheVariants as fault;
 
 use crate::fault::OpenFault;
-use crate::file::STORE;
 use crate::fresh::is_spare;
 use crate::opening::open_on;
 use fe_disk::{Disk, FileDisk, add_name, remove_name};
+use fe_journal::DEVICE_BYTES;
 use std::alloc::{AllocError, Global};
 use std::fs::{File, Metadata};
 use std::io::ErrorKind;
@@ -62,7 +62,7 @@ pub(crate) fn keep<R: Files<File = File>>(
     ensures size { file_size disk.new ≡ device_bytes }
     ensures faults { IfErr result (λ e. (e ≡ fault.Device) ⊎ (e ≡ fault.Memory)) }
 {
-    let mut bytes = vec![in alloc; 0; STORE]?;
+    let mut bytes = vec![in alloc; 0; DEVICE_BYTES]?;
     disk.read_at(0, &mut bytes)?;
     if is_spare(&bytes, &[]) {
         return Ok(());
@@ -96,7 +96,7 @@ fn clear<R: Files<File = File>>(
     ensures faults { IfErr result (λ e. (e ≡ fault.Device) ⊎ (e ≡ fault.Memory)) }
 {
     let found = match fs::symlink_metadata(rt, new) {
-        Ok(found) if found.is_file() && found.len() <= STORE as u64 => found,
+        Ok(found) if found.is_file() && found.len() <= DEVICE_BYTES as u64 => found,
         Err(error) if error.kind() == ErrorKind::NotFound => return Ok(()),
         _ => return Err(OpenFault::Device),
     };
@@ -168,10 +168,10 @@ fn compare<R: Files<File = File>>(
 ) -> Result<(), OpenFault>
     ensures faults { IfErr result (λ e. (e ≡ fault.Device) ⊎ (e ≡ fault.Memory)) }
 {
-    let Ok(mut disk) = FileDisk::read_only(rt, kept, STORE) else {
+    let Ok(mut disk) = FileDisk::read_only(rt, kept, DEVICE_BYTES) else {
         return Err(OpenFault::Device);
     };
-    let mut others = vec![in alloc; 0; STORE]?;
+    let mut others = vec![in alloc; 0; DEVICE_BYTES]?;
     disk.read_at(0, &mut others)?;
     if is_spare(bytes, &others) {
         Ok(())
@@ -185,7 +185,7 @@ fn made<R: Files<File = File>>(rt: &R, new: &str) -> Result<FileDisk, OpenFault>
     ensures size { IfOk result (λ disk. file_size disk ≡ device_bytes) }
     ensures faults { IfErr result (λ e. e ≡ fault.Device) }
 {
-    match FileDisk::create(rt, new, STORE) {
+    match FileDisk::create(rt, new, DEVICE_BYTES) {
         Ok(disk) => Ok(disk),
         Err(_) => Err(OpenFault::Device),
     }

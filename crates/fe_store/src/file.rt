@@ -10,13 +10,11 @@ use crate::beside::{keep, make, tidy};
 use crate::fault::OpenFault;
 use crate::opening::open_on;
 use fe_disk::{FileDisk, FileFault};
+use fe_journal::DEVICE_BYTES;
 use fe_keeper::Keeper;
 use std::alloc::Global;
 use std::fs::File;
 use std::rt::Files;
-
-/// How many bytes a store has (`docs/formats.md`, "Device").
-pub(crate) const STORE: usize = 4_202_496;
 
 /// Opens the store in a file. With `format`, a missing file is made, and an unformatted store is formatted once its bytes are kept
 /// in `PATH.before-format`. Errors: `Device` if there is no such file, another program has it or it can't be read, made or kept;
@@ -73,10 +71,10 @@ fn disk_at<R: Files<File = File>>(
     ensures wrong { (found : ℕ) → IsErrOf result (fault.Size found) → found ≢ device_bytes }
     ensures formatted { IsErrOf result fault.Unformatted → ⊥ }
 {
-    match FileDisk::at(rt, path, STORE) {
+    match FileDisk::at(rt, path, DEVICE_BYTES) {
         Err(FileFault::Missing) if format => {
             make(rt, alloc, path)?;
-            Ok(FileDisk::at(rt, path, STORE)?)
+            Ok(FileDisk::at(rt, path, DEVICE_BYTES)?)
         }
         found => Ok(found?),
     }
@@ -88,5 +86,5 @@ pub fn disk_to_read<R: Files<File = File>>(rt: &R, path: &str) -> Result<FileDis
     ensures size { IfOk result (λ disk. file_size disk ≡ device_bytes) }
     ensures wrong_size { (found : ℕ) → IsErrOf result (fault.Size found) → found ≢ device_bytes }
 {
-    Ok(FileDisk::read_only(rt, path, STORE)?)
+    Ok(FileDisk::read_only(rt, path, DEVICE_BYTES)?)
 }

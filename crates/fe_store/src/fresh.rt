@@ -1,20 +1,21 @@
 //! Bytes that may be overwritten.
 
+use fe_journal::image_of;
+
 /// The header of slot 0 in a new store: its magic, generation 1, and the length of the empty image (`docs/formats.md`, "Device").
 const HEADER: [u8; 20] = [
     70, 69, 77, 69, 77, 83, 84, 50, 0, 0, 0, 0, 0, 0, 0, 1, 0, 0, 0, 24,
 ];
 
-/// The gate of that header, and the byte of the empty image that is not zero, the last of its next array id.
-const GATE: usize = 4_095;
+/// Where the byte of the empty image lies that is not zero: the last of its next array id (`docs/formats.md`, "Image").
+const NEXT_ID: usize = 15;
 
-const NEXT_ID: usize = 4_111;
-
-/// The byte that a new store has there.
+/// The byte that a new store has there. The gate of its header is open, and its image begins behind the gate.
 fn fresh_byte(at: usize) -> u8 {
+    let image = image_of(0);
     match HEADER.get(at) {
         Some(byte) => *byte,
-        None if at == GATE || at == NEXT_ID => 1,
+        None if at == image - 1 || at == image + NEXT_ID => 1,
         None => 0,
     }
 }

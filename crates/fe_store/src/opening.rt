@@ -6,6 +6,7 @@ ghost use Rattle.fe_state.specs.State.{first_state};
 ghost use Rattle.fe_journal.specs.Found.{AsksToOpen};
 ghost use Rattle.fe_journal.specs.Layout.{device_bytes};
 ghost use Rattle.fe_journal.specs.Steps.{OnlyReads};
+ghost use Rattle.fe_keeper.specs.Damage.{MayLackMemory};
 ghost use Rattle.fe_keeper.specs.Opened.{IsOpenedFrom, IsReady};
 ghost use Rattle.fe_keeper.specs.Stands.{EachStandsFor};
 ghost use Rattle.fe_store.specs.Opening.{IsToFormat, IsReason, IsOpenedAs, disk_after};
@@ -22,6 +23,9 @@ pub fn open_existing<D: Disk>(alloc: Global, disk: D) -> Result<Keeper<D>, (Open
     ensures opened { D.honest disk → IfOk result (IsOpenedFrom D.may_leave (D.seen disk)) }
     // A reported fault is the store's. A valid store is refused only if the device fails or memory runs out.
     ensures refused { D.honest disk → IfErr result (λ e. IsReason (D.seen disk) e.0) }
+    // Memory runs out only where what was read until then is right.
+    ensures memory { D.honest disk
+        → IfErr result (λ e. e.0 ≡ fault.Memory → MayLackMemory (D.seen disk) (D.calls disk) (D.calls e.1)) }
     // No stop leaves what could not be left before, and what is read stays the same.
     ensures reads { D.honest disk → OnlyReads D.seen D.may_leave D.moment D.left_since disk (disk_after result) }
 

@@ -129,7 +129,7 @@ fn told_in(conn: u64, words: &[u8]) -> Option<Line>
 }
 
 /// The line that the bytes spell, without a line feed, with single spaces between words. `None` if they spell none; no
-/// line has more than 99 bytes.
+/// line has more than `LONGEST` bytes.
 #[tactic(auto, unfolding(crate::specs::Line::parsed))]
 pub fn parse(bytes: &[u8]) -> Option<Line>
     ensures line { result ≡ parsed bytes.now }

@@ -67,7 +67,7 @@ fn reply_of_kind(kind: u8, body: &[u8]) -> Option<ServerMessage>
     }
 }
 
-/// The report with this text, or `None` if it is not 1 to 262,144 bytes of UTF-8.
+/// The report with this text, or `None` if it is not 1 to `REPORT_BYTES` bytes of UTF-8.
 fn report_of(alloc: Global, body: &[u8]) -> Result<Option<ServerMessage>, AllocError>
     ensures value { IfOk result (λ reply. reply ≡ report_of body.now) }
     ensures memory { OnErr result (ReplyFits (Reply.Report body.now)) }

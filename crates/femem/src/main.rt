@@ -21,7 +21,7 @@ use fe_front::Books;
 use fe_hall::Open;
 use fe_look::look;
 use fe_options::{Invocation, Settings, arguments, not_text, read_settings};
-use fe_schedules::{STORE, run_schedule};
+use fe_schedules::{DEVICE_BYTES, run_schedule};
 use fe_server::{books_text, serve};
 use fe_text::{StreamFault, write_out};
 use libc::net as c;
@@ -89,7 +89,7 @@ fn start<R: Runtime + Files<File = File> + Net + Threads + Wait + Sync + AllocGl
 
 /// Runs the schedule from the reader, on a disk in memory.
 fn run_by<R: Read, W: Write>(alloc: Global, reader: &mut R, writer: &mut W) -> Result<(), Fault> {
-    let Ok(disk) = MemoryDisk::new(alloc, STORE) else {
+    let Ok(disk) = MemoryDisk::new(alloc, DEVICE_BYTES) else {
         return Err(Fault::Memory);
     };
     let (ended, disk) = run_schedule(alloc, disk, reader, writer);

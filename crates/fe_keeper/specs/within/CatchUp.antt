@@ -4,9 +4,14 @@ use Rattle.fe_state.specs.declared.entry.Entry.{Entry}
 use Rattle.std.specs.List.{AllByRecursion}
 use Rattle.fe_state.specs.declared.bounds.TheConstants.{BATCH_ENTRIES}
 use Rattle.fe_codec.specs.Record.{CanPut, group_spelling, FitsGroup}
+use Rattle.fe_format.specs.Layout.{record_bytes}
 use Rattle.fe_format.specs.declared.format.Format.{Format}
 use Rattle.fe_format.specs.declared.format.Format.TheVariants.{Two}
 use Rattle.fe_keeper.specs.declared.checkpoint.Checkpoint.{Checkpoint}
+
+-- how many bytes the longest batch has as a group of format 2
+abbrev pub batch_bytes : ℕ
+batch_bytes = BATCH_ENTRIES * record_bytes Two
 
 -- The bytes spell the entries of a batch, which can be spelled in format 2 too.
 pub record IsSpelledBatch (format : Format) (group : List ℕ) (entries : List Entry) : Type 0 where
@@ -18,7 +23,7 @@ pub record IsSpelledBatch (format : Format) (group : List ℕ) (entries : List E
 -- room for the records of this many entries more, if a checkpoint is under way
 abbrev pub HasRoomFor : Option Checkpoint → ℕ → Type 0
 HasRoomFor None n = Unit {0}
-HasRoomFor (Some c) n = vec_len c.catch_up + n * 80 ≤ vec_capacity c.catch_up
+HasRoomFor (Some c) n = vec_len c.catch_up + n * record_bytes Two ≤ vec_capacity c.catch_up
 
 -- the same checkpoint, with the records of more entries after those that it catches up with
 pub record HasMore (entries : List Entry) (old new : Checkpoint) : Type 0 where
@@ -26,7 +31,7 @@ pub record HasMore (entries : List Entry) (old new : Checkpoint) : Type 0 where
   pub written : new.written ≡ old.written
   pub place : new.place ≡ old.place
   pub records : new.catch_up.items ≡ old.catch_up.items ++ group_spelling Two entries
-  pub count : vec_len new.catch_up ≡ vec_len old.catch_up + length entries * 80
+  pub count : vec_len new.catch_up ≡ vec_len old.catch_up + length entries * record_bytes Two
   pub room : vec_capacity old.catch_up ≤ vec_capacity new.catch_up
   pub fits : FitsGroup Two entries
 

@@ -1,5 +1,5 @@
 -- How a call of a store ends, and what it carries over.
-use Rattle.std.specs.Prelude.{◌≡◌, ◌↔◌, ℕ, ◌+◌, true, false, IsTrue, List, Result, MatchResult, OnOk}
+use Rattle.std.specs.Prelude.{◌≡◌, ◌↔◌, ℕ, ◌+◌, Bool, true, false, IsTrue, List, Result, MatchResult, OnOk}
 use Rattle.fe_disk.specs.Disk.{LeavesOnly, Rises, MakesAtMost}
 use Rattle.fe_disk.specs.declared.calls.Calls.{Calls}
 use Rattle.fe_state.specs.State.{ServerState}
@@ -8,10 +8,11 @@ use Rattle.fe_journal.specs.Contents.{Contents, Holds}
 use Rattle.fe_journal.specs.Journal.{JournalState}
 use Rattle.fe_journal.specs.declared.fault.JournalFault.{JournalFault}
 use Rattle.fe_journal.specs.declared.fault.JournalFault.TheVariants.{Device}
-use Rattle.fe_keeper.specs.Keeper.{StoreState, fits, must_begin, slices_left}
+use Rattle.fe_keeper.specs.Keeper.{StoreState, fits, has_slices, must_begin, slices_left, stepped}
 use Rattle.fe_keeper.specs.Stands.{StandsFor, StandsForEither}
+use Rattle.fe_keeper.specs.within.Ready.{HasCheckpoint}
 use Rattle.fe_keeper.specs.within.Slices.{KeepsDraft}
-use Rattle.fe_keeper.specs.within.Upholds.{IsStore, Upholds}
+use Rattle.fe_keeper.specs.within.Upholds.{IsStore, Upholds, store_of}
 use Rattle.fe_keeper.specs.declared.checkpoint.Checkpoint.{Checkpoint}
 use Rattle.fe_keeper.specs.declared.store.Store.{Store}
 
@@ -38,6 +39,17 @@ pub record StoreEnds {T D : Type 0} (honest : D → Type 0) (failures : D → �
 pub record StaysSound {D : Type 0} (old new : Store D) : Type 0 where
   pub sound : IsStore new
   pub place : new.place ≡ old.place
+
+-- The store is sound, and counts the entries of a batch exactly where the batch is stored.
+pub record CountsBatch {T D : Type 0} (result : Result T JournalFault) (old new : Store D) (n : ℕ) : Type 0 where
+  pub sound : IsStore new
+  pub place : MatchResult result (λ _. new.place ≡ old.place + n) (λ _. new.place ≡ old.place)
+
+-- The next slice is written, if one was left, and the result says whether slices are left then.
+pub record IsStepped {D : Type 0} (old new : Store D) (more : Bool) : Type 0 where
+  pub value : store_of new ≡ record (stepped (store_of old)) { disk = new.journal.disk }
+  pub more_is : more ≡ has_slices (store_of new).checkpoint
+  pub ready : HasCheckpoint new
 
 -- Each image that a stop leaves stands for the state, and the store upholds it then, if the call succeeds.
 pub record Carries {T D : Type 0} (moment : D → ℕ) (left_since : D → ℕ → List ℕ → Type 0) (seen : D → List ℕ) (may_leave : D → List ℕ → Type 0) (result : Result T JournalFault) (old new : Store D) (s : ServerState) : Type 0 where

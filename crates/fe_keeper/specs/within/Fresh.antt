@@ -3,7 +3,7 @@ use Rattle.std.specs.Prelude.{◌≡◌, ℕ, ◌≤◌, [], Option, vec_len, ve
 use Rattle.std.specs.Option.{option_map_or}
 use Rattle.fe_state.specs.State.{ServerState}
 use Rattle.fe_codec.specs.Image.{image_spelling, FitsImage}
-use Rattle.fe_format.specs.Layout.{IsImageLength}
+use Rattle.fe_format.specs.Layout.{longest_payload, IsImageLength}
 use Rattle.fe_format.specs.declared.format.Format.TheVariants.{Two}
 use Rattle.fe_keeper.specs.Keeper.{slices_of}
 use Rattle.fe_keeper.specs.declared.checkpoint.Checkpoint.{Checkpoint}
@@ -14,7 +14,7 @@ pub record IsFresh (c : Checkpoint) (place : ℕ) : Type 0 where
   pub written : c.written ≡ 0
   pub place_is : c.place ≡ place
   pub empty : c.catch_up.items ≡ []
-  pub room : 1048560 ≤ vec_capacity c.catch_up
+  pub room : longest_payload Two ≤ vec_capacity c.catch_up
 
 -- its image is that of the state
 pub record IsImageOf (c : Checkpoint) (s : ServerState) : Type 0 where

@@ -1,10 +1,11 @@
 -- The parts of a keeper, at rest and with a batch that is taken and not yet stored.
-use Rattle.std.specs.Prelude.{◌≡◌, ◌≤◌, ℕ, List, length, false, IfSome, Option}
+use Rattle.std.specs.Prelude.{◌≡◌, ◌≤◌, ℕ, List, length, false, IfSome, Option, Result, MatchResult}
 use Rattle.fe_state.specs.State.{ServerState, after_all, IsWithinLimits}
 use Rattle.fe_state.specs.declared.bounds.TheConstants.{BATCH_ENTRIES}
 use Rattle.fe_state.specs.History.{AreLegal}
 use Rattle.fe_state.specs.UndoLog.{UndoLog, empty_log, rewound, IsLogOf}
 use Rattle.fe_state.specs.declared.entry.Entry.{Entry}
+use Rattle.fe_keeper.specs.Ends.{IsAppended}
 use Rattle.fe_keeper.specs.Keeper.{KeeperState}
 use Rattle.fe_keeper.specs.within.Upholds.{IsStore, Upholds, store_of}
 use Rattle.fe_keeper.specs.within.Fresh.{IsImageOf}
@@ -56,3 +57,11 @@ pub record AreAtRest {D : Type 0} (old new : Parts D) : Type 0 where
   pub store : IsStore new.store
   pub place : new.store.place ≡ new.state.place
   pub log : new.log ≡ empty_log old.log.room
+
+-- the state is that after the batch, where it is stored, and that before it otherwise
+abbrev pub IsStateThen : {T E : Type 0} → Result T E → ServerState → List Entry → ServerState → Type 0
+IsStateThen result before entries now = MatchResult result (λ _. now ≡ after_all before entries) (λ _. now ≡ before)
+
+-- the batch is appended, or the state stays as it was
+abbrev pub AppendsOrStays : {T E D : Type 0} → Result T E → KeeperState D → KeeperState D → ℕ → List Entry → Type 0
+AppendsOrStays result old new first entries = MatchResult result (λ _. IsAppended old new first entries) (λ _. new.state ≡ old.state)

@@ -2,9 +2,10 @@
 use Rattle.std.specs.Prelude.{◌≡◌, ◌≤◌, vec_capacity}
 use Rattle.fe_state.specs.UndoLog.{empty_log}
 use Rattle.fe_state.specs.declared.bounds.TheConstants.{BATCH_ENTRIES}
+use Rattle.fe_keeper.specs.within.CatchUp.{batch_bytes}
 use Rattle.fe_keeper.specs.declared.assembling.Rooms.{Rooms}
 
--- the bytes of the longest batch's group, and its entries in an empty log
+-- the longest batch's group, and its entries in an empty log
 pub record AreRooms (rooms : Rooms) : Type 0 where
-  pub group : 327760 ≤ vec_capacity rooms.group
+  pub group : batch_bytes ≤ vec_capacity rooms.group
   pub log : rooms.log ≡ empty_log BATCH_ENTRIES

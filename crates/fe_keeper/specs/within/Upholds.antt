@@ -1,17 +1,19 @@
 -- How the bytes side of a keeper stands to a state, and to the images that its disk may leave.
-use Rattle.std.specs.Prelude.{◌≡◌, ◌⊎◌, ℕ, ◌+◌, ◌-◌, ◌*◌, ◌^◌, ◌<◌, ◌≤◌, List, take, Option, Some, None, vec_len, vec_capacity}
+use Rattle.std.specs.Prelude.{◌≡◌, ◌⊎◌, ℕ, ◌+◌, ◌-◌, ◌*◌, ◌≤◌, List, take, Option, Some, None, vec_len, vec_capacity}
 use Rattle.fe_state.specs.State.{ServerState, after_all}
 use Rattle.fe_state.specs.History.{AreLegal}
+use Rattle.fe_state.specs.declared.bounds.TheConstants.{GREATEST_PLACE}
 use Rattle.fe_state.specs.declared.entry.Entry.{Entry}
 use Rattle.fe_codec.specs.Record.{group_spelling, FitsGroup}
 use Rattle.fe_codec.specs.Image.{image_spelling, FitsImage}
-use Rattle.fe_format.specs.Layout.{IsImageLength}
+use Rattle.fe_format.specs.Layout.{record_bytes, group_records, longest_payload, IsImageLength}
 use Rattle.fe_format.specs.declared.format.Format.TheVariants.{Two}
 use Rattle.fe_journal.specs.Contents.{Contents}
 use Rattle.fe_journal.specs.Journal.{JournalState, Draft, Keeps}
 use Rattle.std.specs.Option.{option_map}
 use Rattle.fe_keeper.specs.Keeper.{Progress, StoreState}
 use Rattle.fe_keeper.specs.Stands.{Stands}
+use Rattle.fe_keeper.specs.within.CatchUp.{batch_bytes}
 use Rattle.fe_keeper.specs.declared.checkpoint.Checkpoint.{Checkpoint}
 use Rattle.fe_keeper.specs.declared.store.Store.{Store}
 
@@ -28,9 +30,9 @@ pub record IsUnderWay {D : Type 0} (place : ℕ) (j : JournalState D) (c : Check
   pub written : c.written ≤ vec_len c.image
   pub numbered : j.generation + 1 ≤ c.place + 2
   pub earlier : c.place ≤ place
-  pub caught_up : vec_len c.catch_up ≡ (place - c.place) * 80
-  pub few : place - c.place ≤ 13107
-  pub room : 1048560 ≤ vec_capacity c.catch_up
+  pub caught_up : vec_len c.catch_up ≡ (place - c.place) * record_bytes Two
+  pub few : place - c.place ≤ group_records Two
+  pub room : longest_payload Two ≤ vec_capacity c.catch_up
 
 -- a checkpoint is under way exactly where the journal has a slot begun
 abbrev pub IsCheckpoint : {D : Type 0} → ℕ → JournalState D → Option Checkpoint → Type 0
@@ -39,9 +41,9 @@ IsCheckpoint place j (Some c) = IsUnderWay place j c
 
 -- what is always true of the bytes side
 pub record IsStore {D : Type 0} (store : Store D) : Type 0 where
-  pub place : store.place < 2 ^ 63
+  pub place : store.place ≤ GREATEST_PLACE
   pub numbered : IsNumbered store.place store.journal
-  pub group : 327760 ≤ vec_capacity store.group
+  pub group : batch_bytes ≤ vec_capacity store.group
   pub checkpoint : IsCheckpoint store.place store.journal store.checkpoint
 
 -- how the fields give what a keeper's callers see

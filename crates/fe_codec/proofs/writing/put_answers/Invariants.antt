@@ -8,6 +8,6 @@ use Rattle.fe_codec.specs.Record.{FieldsFit}
 use Rattle.fe_codec.proofs.writing.put_answers.Given as goal
 
 abbrev pub invariant-loop-number : goal.invariant-loop-number
-invariant-loop-number l = (k : ℕ) × (drop k (entries l.window.kept) ≡ l.number-iterator)
-    × Appends l.fn.out.items l.out.items (vec_capacity l.fn.out) (vec_capacity l.out) true (flat_map (kept_spelling l.format l.session) (take k (entries l.window.kept)))
-    × AllByRecursion (λ e. FieldsFit (entry_of_kept l.session e)) (take k (entries l.window.kept))
+invariant-loop-number l = (k : ℕ) × (drop k (entries l.fn.answers) ≡ entries l.number-iterator)
+    × Appends l.fn.out.items l.out.items (vec_capacity l.fn.out) (vec_capacity l.out) true (flat_map (kept_spelling l.format l.session) (take k (entries l.fn.answers)))
+    × AllByRecursion (λ e. FieldsFit (entry_of_kept l.session e)) (take k (entries l.fn.answers))

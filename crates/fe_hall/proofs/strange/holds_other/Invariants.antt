@@ -5,5 +5,5 @@ use Rattle.fe_hall.specs.Receipts.{IsAsTold}
 use Rattle.fe_hall.proofs.strange.holds_other.Given as goal
 
 abbrev pub invariant-loop-number : goal.invariant-loop-number
-invariant-loop-number l = (k : ℕ) × (drop k (entries l.held.kept) ≡ l.number-iterator)
-    × AllByRecursion (λ e. e.1.place ≡ l.receipt.place → IsAsTold l.receipt l.session e.0 e.1) (take k (entries l.held.kept))
+invariant-loop-number l = (k : ℕ) × (drop k (entries l.fn.answers) ≡ entries l.number-iterator)
+    × AllByRecursion (λ e. e.1.place ≡ l.receipt.place → IsAsTold l.receipt l.session e.0 e.1) (take k (entries l.fn.answers))

@@ -2,7 +2,7 @@ use Rattle.std.proofs.Common.{◌≡◌, ℕ, length, ◌∙◌, ap}
 use Rattle.std.proofs.lemmas.Result.{err_from_is_err_and}
 use Rattle.fe_disk.specs.Disk.{bytes_at}
 use Rattle.fe_journal.specs.Layout.{area_of}
-use Rattle.fe_journal.proofs.Readings.{group_tells, formatted_by, nothing_told}
+use Rattle.fe_journal.proofs.Readings.{group_tells, sound_by, nothing_told}
 use Rattle.fe_journal.proofs.store.read_slot.Goals as goal
 
 pub returns-in_err-used-clause-faults : goal.returns-in_err-used-clause-faults
@@ -21,7 +21,7 @@ returns-in_err-area-clause-faults g c = λ honest counts.
     let disk = c.args.disk.now in
     let seen = g.D.Disk.seen disk in
     let sized : length seen ≡ g.D.Disk.size disk = (g.met.D.Disk.seen_is_image disk honest).whole in
-    let told = nothing_told seen c.in_err-area.field-0.0 (formatted_by seen c.args.slot c.args.header.now (sized ∙ c.requires.device) counts) c.in_err-area.ensures.refused in
+    let told = nothing_told seen c.in_err-area.field-0.0 (sound_by seen c.args.slot c.args.header.now (sized ∙ c.requires.device) counts c.requires.numbered c.requires.length) c.in_err-area.ensures.refused in
     let p = err_from_is_err_and c.from_residual.result c.from_residual.ensures.1 in
     rw (p.1, p.2) told
 
@@ -30,6 +30,6 @@ returns-in_err-image-clause-faults g c = λ honest counts.
     let disk = c.args.disk.now in
     let seen = g.D.Disk.seen disk in
     let sized : length seen ≡ g.D.Disk.size disk = (g.met.D.Disk.seen_is_image disk honest).whole in
-    let told = nothing_told seen c.in_err-image.field-0.0 (formatted_by seen c.args.slot c.args.header.now (sized ∙ c.requires.device) counts) c.in_err-image.ensures.refused in
+    let told = nothing_told seen c.in_err-image.field-0.0 (sound_by seen c.args.slot c.args.header.now (sized ∙ c.requires.device) counts c.requires.numbered c.requires.length) c.in_err-image.ensures.refused in
     let p = err_from_is_err_and c.from_residual-in_err-image.result c.from_residual-in_err-image.ensures.1 in
     rw (p.1, p.2) told

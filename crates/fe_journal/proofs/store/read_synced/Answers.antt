@@ -5,7 +5,7 @@ use Rattle.fe_journal.specs.Damage.{TellsFound}
 use Rattle.fe_journal.specs.Store.{CountsAs, IsSlotRead}
 use Rattle.fe_journal.specs.declared.fault.StoreFault.{StoreFault}
 use Rattle.fe_journal.specs.declared.fault.StoreFault.TheVariants.{Device, NoMemory}
-use Rattle.fe_journal.proofs.Readings.{reads_again, same_fault, fault_back, formatted_by}
+use Rattle.fe_journal.proofs.Readings.{reads_again, same_fault, fault_back, sound_by}
 use Rattle.fe_journal.proofs.store.read_synced.Goals as goal
 
 pub returns-clause-store : goal.returns-clause-store
@@ -50,9 +50,10 @@ pub returns-in_err-buffer-clause-faults : goal.returns-in_err-buffer-clause-faul
 returns-in_err-buffer-clause-faults g c = λ honest.
     let seen = g.D.Disk.seen c.args.disk.now in
     let sized : length seen ≡ g.D.Disk.size c.args.disk.now = (g.met.D.Disk.seen_is_image c.args.disk.now honest).whole in
-    let formatted : TellsFound NoMemory seen = formatted_by seen c.in_ok-slot.slot c.in_ok-slot.header (sized ∙ c.requires.device) (c.in_ok-slot.ensures.counts honest) in
+    let s = c.in_ok-slot.ensures.sound in
+    let sound : TellsFound NoMemory seen = sound_by seen c.in_ok-slot.slot c.in_ok-slot.header (sized ∙ c.requires.device) (c.in_ok-slot.ensures.counts honest) s.1 s.2 in
     let p = err_from_is_err_and c.from_residual-in_err-buffer.result c.from_residual-in_err-buffer.ensures.1 in
-    rw (p.1, p.2) formatted
+    rw (p.1, p.2) sound
 
 pub returns-clause-device : goal.returns-clause-device
 returns-clause-device g c =
@@ -72,3 +73,11 @@ returns-in_err-slot-clause-device g c =
     runs_as g.D.Disk.size g.D.Disk.failures g.D.Disk.calls g.D.Disk.honest 4 0 0 Device _ _ c.args.disk.now c.read_sound.new.disk
     (runs_within g.D.Disk.size g.D.Disk.failures g.D.Disk.calls g.D.Disk.honest 2 0 0 4 0 0 Device _ c.args.disk.now c.read_sound.new.disk (omega arith) (omega arith) (omega arith) c.in_err-slot.ensures.device)
     (λ e. ap (λ (f : StoreFault). Err f) (same_fault c.from_residual.result p.0 c.in_err-slot.field-0.0 p.1 p.2 e)) (fault_back c.from_residual.result p.0 c.in_err-slot.field-0.0 p.1 p.2)
+
+pub returns-in_err-parts-clause-memory : goal.returns-in_err-parts-clause-memory
+returns-in_err-parts-clause-memory g c = λ asked.
+    let p = err_from_is_err_and c.from_residual-in_err-parts.result c.from_residual-in_err-parts.ensures.1 in
+    let short : c.read_slot.result ≡ Err NoMemory = cc (p.1, p.2, c.in_err-parts.was, asked) in
+    let first = c.read_sound.ensures.device.most.0.1 in
+    let more = c.read_slot.ensures.memory short in
+    omega (arith, first, more)

@@ -1,5 +1,6 @@
 use Rattle.std.proofs.Common.{ℕ, ◌+◌, ◌-◌, List}
 use Rattle.fe_journal.specs.Cursor.{Lists}
+use Rattle.fe_journal.specs.Layout.{area_bytes}
 use Rattle.fe_keeper.specs.Opened.{IsListing}
 use Rattle.fe_keeper.proofs.Going.{IsGoingOn}
 use Rattle.fe_keeper.proofs.recovering.replay_all.Given as goal
@@ -11,4 +12,4 @@ invariant-loop l = record {
 }
 
 abbrev pub decreases-loop : goal.decreases-loop
-decreases-loop l = 1048576 - l.groups.at
+decreases-loop l = area_bytes - l.groups.at

@@ -1,6 +1,7 @@
 use Rattle.std.proofs.Common.{◌≡◌, ◌*◌, ◌++◌, ◌∙◌, List, ℕ, length, refl, ap, subst, arith}
 use Rattle.std.specs.Prelude.{Result, Ok, Err, IsOk, is_ok, if◌then◌else◌}
 use Rattle.fe_codec.specs.Record.{group_spelling, FitsGroup}
+use Rattle.fe_format.specs.Layout.{record_bytes}
 use Rattle.fe_format.specs.declared.format.Format.{Format}
 use Rattle.fe_format.specs.declared.format.Format.TheVariants.{Two}
 use Rattle.fe_keeper.proofs.Appending.{length-group}
@@ -18,5 +19,5 @@ returns-in-Two-clause-items c =
     let put = c.extend_from_slice in
     let spelled : c.args.group.now ≡ group_spelling Two entries = c.requires.batch.spelled ∙ ap (λ (f : Format). group_spelling f entries) c.in-Two.is in
     let fits : FitsGroup Two entries = subst (λ (f : Format). FitsGroup f entries) c.in-Two.is c.requires.batch.fits in
-    let size : length c.args.group.now ≡ length entries * 80 = ap length spelled ∙ length-group Two entries fits in
+    let size : length c.args.group.now ≡ length entries * record_bytes Two = ap length spelled ∙ length-group Two entries fits in
     put.ensures.items ∙ where_ok put.result (out ++ c.args.group.now) out (put.ensures.succeeds (omega (arith, size, c.requires.room))) ∙ ap (λ (l : List ℕ). out ++ l) spelled

@@ -1,8 +1,8 @@
 use Rattle.std.proofs.Common.{◌≡◌, ◌<◌, ◌||◌, ◌&&◌, ◌==◌, not, ℕ, inl, inr, true, true≢false, IsSome, sym, ap, subst, ◌∙◌, arith}
-use Rattle.std.specs.Option.{option_map}
 use Rattle.std.specs.FinMap.{get}
-use Rattle.fe_table.specs.Table.{shown_entry}
-use Rattle.fe_table.proofs.TableCopyLemmas.{made_all, shown_there}
+use Rattle.fe_state.specs.Sessions.{Session}
+use Rattle.fe_state.proofs.Listed.{entry_of_key, key_there}
+use Rattle.fe_table.proofs.TableCopyLemmas.{made_all}
 use Rattle.fe_seats.specs.Seating.{count_of}
 use Rattle.fe_front.specs.Front.{is_attached}
 use Rattle.fe_report.proofs.AllWait.{or_either, or_left, or_right, and_first, and_second, and_both, same_zero, zero_same, attached_there, all_wait}
@@ -18,13 +18,14 @@ loop-k-init c = record {
 }
 
 pub unwrap-session-requires : goal.unwrap-session-requires
-unwrap-session-requires c = shown_there c.state-state.result.now.sessions c.loop-k.k c.session_entry.result c.session_entry.ensures (subst (λ n. c.loop-k.k < n) c.session_count-k-end.ensures c.loop-k-test.true)
+unwrap-session-requires c = subst IsSome (sym c.session_at.ensures) (key_there c.state-state.result.now.sessions c.loop-k.k (subst (λ n. c.loop-k.k < n) c.session_count-k-end.ensures c.loop-k-test.true))
 
 pub loop-k-preserved : goal.loop-k-preserved
 loop-k-preserved c =
     let f = c.args.front.now in
-    let e = shown_entry c.unwrap-session.result in
-    let entry = sym c.session_entry.ensures ∙ ap (option_map shown_entry) c.unwrap-session.ensures in
+    let got = entry_of_key c.state-state.result.now.sessions c.loop-k.k c.unwrap-session.result (sym c.session_at.ensures ∙ c.unwrap-session.ensures) in
+    let e : ℕ × Session = (c.unwrap-session.result, got.0) in
+    let entry = got.1 in
     let here = c.attached-here.result in
     let none = c.count_of-none.result == 0 in
     let seen = one_more_seen c.state-state.result.now.sessions c.loop-k.k e entry in

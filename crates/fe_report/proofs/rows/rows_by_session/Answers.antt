@@ -1,10 +1,10 @@
-use Rattle.std.proofs.Common.{◌<◌, inl, inr, Some, IsSome, is_some, length, sym, ap, subst, ◌∙◌, arith}
+use Rattle.std.proofs.Common.{ℕ, ◌<◌, inl, inr, Some, IsSome, is_some, length, sym, ap, subst, ◌∙◌, arith}
 use Rattle.std.specs.Cmp.{nat_cmp_total}
-use Rattle.std.specs.Option.{option_map}
 use Rattle.std.specs.Ordering.{nat_cmp}
 use Rattle.std.specs.FinMap.{get, find, nat_cmp-IsAntisymmetric}
-use Rattle.fe_table.specs.Table.{shown_entry}
-use Rattle.fe_table.proofs.TableCopyLemmas.{made_all, shown_there}
+use Rattle.fe_state.specs.Sessions.{Session}
+use Rattle.fe_state.proofs.Listed.{entry_of_key, key_there}
+use Rattle.fe_table.proofs.TableCopyLemmas.{made_all}
 use Rattle.fe_seats.specs.Seating.{count_of}
 use Rattle.fe_report.specs.Report.{by_session}
 use Rattle.fe_report.specs.within.Rows.{ArePart}
@@ -22,14 +22,15 @@ loop-k-init c = record {
 }
 
 pub unwrap-session-requires : goal.unwrap-session-requires
-unwrap-session-requires c = shown_there c.state-state.result.now.sessions c.loop-k.k c.session_entry.result c.session_entry.ensures (subst (λ n. c.loop-k.k < n) c.session_count-k-end.ensures c.loop-k-test.true)
+unwrap-session-requires c = subst IsSome (sym c.session_at.ensures) (key_there c.state-state.result.now.sessions c.loop-k.k (subst (λ n. c.loop-k.k < n) c.session_count-k-end.ensures c.loop-k-test.true))
 
 pub loop-k-preserved : goal.loop-k-preserved
 loop-k-preserved c =
     let waiting = c.args.front.now.service.waiting in
     let sessions = c.state-state.result.now.sessions in
-    let e = shown_entry c.unwrap-session.result in
-    let entry = sym c.session_entry.ensures ∙ ap (option_map shown_entry) c.unwrap-session.ensures in
+    let got = entry_of_key c.state-state.result.now.sessions c.loop-k.k c.unwrap-session.result (sym c.session_at.ensures ∙ c.unwrap-session.ensures) in
+    let e : ℕ × Session = (c.unwrap-session.result, got.0) in
+    let entry = got.1 in
     let seen = one_more_seen sessions c.loop-k.k e entry in
     let old = c.loop-k.rows.entries in
     let new = c.if-count-gt0.rows.entries in

@@ -1,9 +1,9 @@
-use Rattle.std.proofs.Common.{◌<◌, IsSome, length, sym, ap, subst, ◌∙◌, arith, rules}
+use Rattle.std.proofs.Common.{ℕ, ◌<◌, IsSome, length, sym, ap, subst, ◌∙◌, arith, rules}
 use Rattle.std.proofs.lemmas.List.Sorted.{answers_always}
-use Rattle.std.specs.Option.{option_map}
 use Rattle.std.specs.FinMap.{get, len-entries}
-use Rattle.fe_table.specs.Table.{shown_entry}
-use Rattle.fe_table.proofs.TableCopyLemmas.{made_all, shown_there}
+use Rattle.fe_state.specs.Sessions.{Session}
+use Rattle.fe_state.proofs.Listed.{entry_of_key, key_there}
+use Rattle.fe_table.proofs.TableCopyLemmas.{made_all}
 use Rattle.fe_report.specs.Report.{by_word}
 use Rattle.fe_report.proofs.Added.{no_rows, more_rows}
 use Rattle.fe_report.proofs.Parts.{whole}
@@ -17,12 +17,13 @@ pub loop-k-init : goal.loop-k-init
 loop-k-init c = no_rows c.args.front.now.service.waiting c.state-state.result.now.sessions _ (ap length c.in_ok-rows.ensures.items)
 
 pub unwrap-session-requires : goal.unwrap-session-requires
-unwrap-session-requires c = shown_there c.state-state.result.now.sessions c.loop-k.k c.session_entry.result c.session_entry.ensures (subst (λ n. c.loop-k.k < n) c.session_count-k-end.ensures c.loop-k-test.true)
+unwrap-session-requires c = subst IsSome (sym c.session_at.ensures) (key_there c.state-state.result.now.sessions c.loop-k.k (subst (λ n. c.loop-k.k < n) c.session_count-k-end.ensures c.loop-k-test.true))
 
 pub loop-k-preserved : goal.loop-k-preserved
 loop-k-preserved c =
-    let e = shown_entry c.unwrap-session.result in
-    let entry = sym c.session_entry.ensures ∙ ap (option_map shown_entry) c.unwrap-session.ensures in
+    let got = entry_of_key c.state-state.result.now.sessions c.loop-k.k c.unwrap-session.result (sym c.session_at.ensures ∙ c.unwrap-session.ensures) in
+    let e : ℕ × Session = (c.unwrap-session.result, got.0) in
+    let entry = got.1 in
     more_rows c.args.front.now.service.waiting c.state-state.result.now.sessions c.loop-k.k e entry _ _ c.loop-k.invariant c.in_ok-add_session.ensures.added
 
 pub returns-clause-rows : goal.returns-clause-rows

@@ -1,10 +1,11 @@
 use Rattle.std.proofs.Common.{◌≤◌, ◌<◌, ◌+◌, ℕ, length, refl, sym, ap, subst, ◌∙◌, arith}
 use Rattle.std.specs.Option.{option_map}
-use Rattle.std.specs.FinMap.{get, len, insert}
+use Rattle.std.specs.FinMap.{get, len}
 use Rattle.fe_state.specs.Directory.{words_in}
-use Rattle.fe_table.specs.Table.{shown_entry}
+use Rattle.fe_state.specs.Shown.{shown_array}
+use Rattle.fe_state.proofs.Listed.{entry_there}
 use Rattle.fe_state.specs.declared.array.Array.{Array}
-use Rattle.fe_table.proofs.TableCopyLemmas.{made_all, shown_there}
+use Rattle.fe_table.proofs.TableCopyLemmas.{made_all}
 use Rattle.fe_service.proofs.Remade.{tied_first, first_len, tied_new, tied_len, tied_next}
 use Rattle.fe_service.proofs.beginning.add_arrays.Goals as goal
 
@@ -20,7 +21,7 @@ loop-k-init c = record {
 }
 
 pub unwrap-id-requires : goal.unwrap-id-requires
-unwrap-id-requires c = shown_there c.args.state.now.arrays c.loop-k.k c.array_entry.result c.array_entry.ensures (subst (λ n. c.loop-k.k < n) c.array_count-k-end.ensures c.loop-k-test.true)
+unwrap-id-requires c = entry_there shown_array c.args.state.now.arrays c.loop-k.k c.array_entry.result c.array_entry.ensures.entry (subst (λ n. c.loop-k.k < n) c.array_count-k-end.ensures c.loop-k-test.true)
 
 pub add_array-requires-clause-new : goal.add_array-requires-clause-new
 add_array-requires-clause-new c =
@@ -29,15 +30,15 @@ add_array-requires-clause-new c =
     words
     c.loop-k.seats.arrays
     c.loop-k.k
-    (shown_entry c.unwrap-id.result)
-    (sym c.array_entry.ensures ∙ ap (option_map shown_entry) c.unwrap-id.ensures)
+    (shown_array c.unwrap-id.result)
+    (sym c.array_entry.ensures.entry ∙ ap (option_map shown_array) c.unwrap-id.ensures)
     c.loop-k.invariant.tied
 
 pub loop-k-preserved : goal.loop-k-preserved
 loop-k-preserved c =
-    let e = shown_entry c.unwrap-id.result in
-    let here = sym c.array_entry.ensures ∙ ap (option_map shown_entry) c.unwrap-id.ensures in
-    let added = c.in_ok-add_array.ensures.ok ∙ ap (insert c.loop-k.seats.arrays e.0) c.len.ensures in
+    let e = shown_array c.unwrap-id.result in
+    let here = sym c.array_entry.ensures.entry ∙ ap (option_map shown_array) c.unwrap-id.ensures in
+    let added = c.in_ok-add_array.ensures.ok in
     record {
       tied = λ q. ap (λ m. get m q) added ∙ tied_next c.args.state.now.arrays words c.loop-k.seats.arrays c.loop-k.k e here c.loop-k.invariant.tied q;
       few = subst (λ m. len m ≤ c.loop-k.k + 1) (sym added) (tied_len c.args.state.now.arrays words c.loop-k.seats.arrays c.loop-k.k e here c.loop-k.invariant.tied c.loop-k.invariant.few);

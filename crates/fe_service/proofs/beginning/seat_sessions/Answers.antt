@@ -1,8 +1,9 @@
-use Rattle.std.proofs.Common.{◌≤◌, ◌<◌, ◌+◌, refl, sym, ap, subst, ◌∙◌, arith}
+use Rattle.std.proofs.Common.{ℕ, ◌≤◌, ◌<◌, ◌+◌, IsSome, refl, sym, ap, subst, ◌∙◌, arith}
 use Rattle.std.specs.Option.{option_map}
 use Rattle.std.specs.FinMap.{get, len}
-use Rattle.fe_table.specs.Table.{shown_entry}
-use Rattle.fe_table.proofs.TableCopyLemmas.{made_all, shown_there}
+use Rattle.fe_state.specs.Sessions.{Session}
+use Rattle.fe_state.proofs.Listed.{entry_of_key, key_there}
+use Rattle.fe_table.proofs.TableCopyLemmas.{made_all}
 use Rattle.fe_seats.specs.Seating.{free_seat}
 use Rattle.fe_service.proofs.Remade.{tied_first, first_len, tied_new, tied_len, tied_next}
 use Rattle.fe_service.proofs.beginning.seat_sessions.Goals as goal
@@ -16,23 +17,25 @@ loop-k-init c = record {
 }
 
 pub unwrap-session-requires : goal.unwrap-session-requires
-unwrap-session-requires c = shown_there c.args.state.now.sessions c.loop-k.k c.session_entry.result c.session_entry.ensures (subst (λ n. c.loop-k.k < n) c.session_count-k-end.ensures c.loop-k-test.true)
+unwrap-session-requires c = subst IsSome (sym c.session_at.ensures) (key_there c.args.state.now.sessions c.loop-k.k (subst (λ n. c.loop-k.k < n) c.session_count-k-end.ensures c.loop-k-test.true))
 
 pub sit-requires-clause-new : goal.sit-requires-clause-new
 sit-requires-clause-new c =
+    let got = entry_of_key c.args.state.now.sessions c.loop-k.k c.unwrap-session.result (sym c.session_at.ensures ∙ c.unwrap-session.ensures) in
     tied_new
     c.args.state.now.sessions
     (λ _. free_seat)
     c.loop-k.seats.seats
     c.loop-k.k
-    (shown_entry c.unwrap-session.result)
-    (sym c.session_entry.ensures ∙ ap (option_map shown_entry) c.unwrap-session.ensures)
+    (c.unwrap-session.result, got.0)
+    got.1
     c.loop-k.invariant.tied
 
 pub loop-k-preserved : goal.loop-k-preserved
 loop-k-preserved c =
-    let e = shown_entry c.unwrap-session.result in
-    let here = sym c.session_entry.ensures ∙ ap (option_map shown_entry) c.unwrap-session.ensures in
+    let got = entry_of_key c.args.state.now.sessions c.loop-k.k c.unwrap-session.result (sym c.session_at.ensures ∙ c.unwrap-session.ensures) in
+    let e : ℕ × Session = (c.unwrap-session.result, got.0) in
+    let here = got.1 in
     record {
       tied = λ q. ap (λ m. get m q) c.sit.ensures.seats ∙ tied_next c.args.state.now.sessions (λ _. free_seat) c.loop-k.seats.seats c.loop-k.k e here c.loop-k.invariant.tied q;
       few = subst (λ m. len m ≤ c.loop-k.k + 1) (sym c.sit.ensures.seats) (tied_len c.args.state.now.sessions (λ _. free_seat) c.loop-k.seats.seats c.loop-k.k e here c.loop-k.invariant.tied c.loop-k.invariant.few);

@@ -1,4 +1,5 @@
 use Rattle.std.proofs.Common.{◌≡◌, ◌⊎◌, ℕ, List, Err, inl, inr, sym, ap, subst, refl}
+use Rattle.fe_disk.specs.declared.calls.Calls.{Calls}
 use Rattle.fe_journal.proofs.Founds.{opens_as}
 use Rattle.fe_keeper.specs.declared.fault.Fault as keeper
 use Rattle.fe_keeper.specs.declared.fault.Fault.TheVariants as store
@@ -15,13 +16,13 @@ told end answer is (inl device) = inl (subst (λ (e : keeper.Fault). IsToldAs e 
 told end answer is (inr short) = inr (subst (λ (e : keeper.Fault). IsToldAs e answer) short is)
 
 -- the same is said of the image
-tells : (end : keeper.Fault) (answer : OpenFault) (image : List ℕ) → IsToldAs end answer → TellsStore end image → TellsImage answer image
-tells store.Device answer image is says = subst (λ (f : OpenFault). TellsImage f image) (sym is) tt
-tells store.NoMemory answer image is says = subst (λ (f : OpenFault). TellsImage f image) (sym is) tt
-tells (store.Damaged offset) answer image is says = subst (λ (f : OpenFault). TellsImage f image) (sym is) says
-tells store.Unformatted answer image is says = subst (λ (f : OpenFault). TellsImage f image) (sym is) says
-tells store.Failed answer image is says = absurd is
-tells (store.Mismatch place) answer image is says = absurd is
+tells : (end : keeper.Fault) (answer : OpenFault) (image : List ℕ) (before now : Calls) → IsToldAs end answer → TellsStore end image before now → TellsImage answer image
+tells store.Device answer image before now is says = subst (λ (f : OpenFault). TellsImage f image) (sym is) tt
+tells store.NoMemory answer image before now is says = subst (λ (f : OpenFault). TellsImage f image) (sym is) tt
+tells (store.Damaged offset) answer image before now is says = subst (λ (f : OpenFault). TellsImage f image) (sym is) says
+tells store.Unformatted answer image before now is says = subst (λ (f : OpenFault). TellsImage f image) (sym is) says
+tells store.Failed answer image before now is says = absurd is
+tells (store.Mismatch place) answer image before now is says = absurd is
 
 -- the device is reported exactly where it failed
 device_of : (end : keeper.Fault) (answer : OpenFault) → IsToldAs end answer → answer ≡ fault.Device → end ≡ store.Device
@@ -32,10 +33,23 @@ device_of store.Unformatted answer is device = cc
 device_of store.Failed answer is device = absurd is
 device_of (store.Mismatch place) answer is device = absurd is
 
+-- memory is reported exactly where it ran out
+memory_of : (end : keeper.Fault) (answer : OpenFault) → IsToldAs end answer → answer ≡ fault.Memory → end ≡ store.NoMemory
+memory_of store.Device answer is short = cc
+memory_of store.NoMemory answer is short = refl
+memory_of (store.Damaged offset) answer is short = cc
+memory_of store.Unformatted answer is short = cc
+memory_of store.Failed answer is short = absurd is
+memory_of (store.Mismatch place) answer is short = absurd is
+
+pub returns-in-Err-clause-memory : goal.returns-in-Err-clause-memory
+returns-in-Err-clause-memory g c honest is =
+    subst (λ (e : keeper.Fault). TellsStore e (g.D.Disk.seen c.args.disk) (g.D.Disk.calls c.args.disk) (g.D.Disk.calls c.in-Err.disk)) (memory_of _ _ c.told_as.ensures is) (c.in-Err.ensures.refused honest).tells
+
 pub returns-in-Err-clause-refused : goal.returns-in-Err-clause-refused
 returns-in-Err-clause-refused g c honest =
     let reason = c.in-Err.ensures.refused honest in
-    record { tells = tells _ _ _ c.told_as.ensures reason.tells; valid = λ s stands. told _ _ c.told_as.ensures (reason.valid s stands) }
+    record { tells = tells _ _ _ _ _ c.told_as.ensures reason.tells; valid = λ s stands. told _ _ c.told_as.ensures (reason.valid s stands) }
 
 pub returns-in-Err-clause-device : goal.returns-in-Err-clause-device
 returns-in-Err-clause-device g c =

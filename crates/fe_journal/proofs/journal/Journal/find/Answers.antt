@@ -1,7 +1,8 @@
-use Rattle.std.proofs.Common.{ℕ, List, Ok, sym, subst}
+use Rattle.std.proofs.Common.{ℕ, List, Ok, Err, sym, ap, subst}
 use Rattle.fe_journal.specs.Found.{IsFound, AsksToOpen}
 use Rattle.fe_journal.specs.Steps.{OnlyReads}
 use Rattle.fe_journal.specs.Store.{IsStore}
+use Rattle.fe_journal.specs.declared.fault.StoreFault.{StoreFault}
 use Rattle.fe_journal.specs.declared.fault.StoreFault.TheVariants.{Device}
 use Rattle.fe_journal.proofs.Founds.{formatted, opens_as, refused_only, unformatted_only}
 use Rattle.fe_journal.proofs.journal.Journal.find.Goals as goal
@@ -15,7 +16,11 @@ returns-in-Ok-clause-found g c = λ honest.
 pub returns-in-Err-clause-refused : goal.returns-in-Err-clause-refused
 returns-in-Err-clause-refused g c = λ honest.
     let tells = c.in-Err.ensures.faults honest in
-    record { tells = tells; valid = λ contents holds. refused_only contents (g.D.Disk.seen c.args.disk) holds c.in-Err.fault tells }
+    record {
+      tells = tells;
+      valid = λ contents holds. refused_only contents (g.D.Disk.seen c.args.disk) holds c.in-Err.fault tells;
+      memory = λ is. c.in-Err.ensures.memory (ap (λ (f : StoreFault). Err f) is);
+    }
 
 pub returns-in-Ok-clause-reads : goal.returns-in-Ok-clause-reads
 returns-in-Ok-clause-reads g c = λ honest.

@@ -1,4 +1,4 @@
-use Rattle.std.proofs.Common.{◌≡◌, ◌+◌, ℕ, length, Some, sym, ◌∙◌, ap, arith}
+use Rattle.std.proofs.Common.{◌+◌, ℕ, length, Some, sym, ◌∙◌, ap, arith}
 use Rattle.fe_journal.specs.Contents.{Holds}
 use Rattle.fe_journal.specs.Journal.{JournalState}
 use Rattle.fe_disk.proofs.Outcomes.{at_ok}

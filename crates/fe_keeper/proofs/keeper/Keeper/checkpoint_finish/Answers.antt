@@ -1,31 +1,16 @@
-use Rattle.std.proofs.Common.{◌≡◌, ◌∙◌, IsTrue, sym, ap, subst, rules}
-use Rattle.std.specs.Prelude.{false, is_some}
-use Rattle.fe_journal.specs.declared.fault.JournalFault.{JournalFault}
-use Rattle.fe_keeper.specs.Ends.{Works, Breaks, Refuses, Fails, ForDevice}
-use Rattle.fe_keeper.specs.Keeper.{KeeperState, finished}
-use Rattle.fe_keeper.specs.within.Faults.{fault_of_journal}
-use Rattle.fe_keeper.specs.within.Parts.{kept_of}
-use Rattle.fe_keeper.specs.within.Upholds.{store_of}
-use Rattle.fe_keeper.specs.declared.fault.Fault.{Fault}
-use Rattle.fe_keeper.specs.declared.parts.Parts.{Parts}
-use Rattle.fe_keeper.specs.declared.store.Store.{Store}
-use Rattle.fe_keeper.proofs.Ends.{told, device_fails, memory_fails, breaks_as, must_be}
-use Rattle.fe_keeper.proofs.Taking.{each_stands, carries_rest}
+use Rattle.std.proofs.Common.{◌∙◌, IsTrue, sym, rules}
+use Rattle.std.specs.Prelude.{is_some}
+use Rattle.fe_keeper.specs.Ends.{ForDevice}
+use Rattle.fe_keeper.proofs.Ends.{device_told}
+use Rattle.fe_keeper.proofs.Taking.{carries_durable, carries_rest}
 use Rattle.fe_keeper.proofs.keeper.Keeper.checkpoint_finish.Goals as goal
 
 pub returns-in_err-finish-clause-ends : goal.returns-in_err-finish-clause-ends
 returns-in_err-finish-clause-ends g c =
     let old = c.args.self.now in
-    let parts = c.self.inside.parts in
-    let new : KeeperState g.row.D.Denot = record { state = parts.state; store = store_of c.finish.new.self } in
-    let Cause : Fault → Type 0 = ForDevice (IsTrue (is_some old.store.checkpoint)) in
-    let fault : JournalFault = c.in_err-finish.field-0.0 in
-    let failed = c.in_err-finish.ensures.ends.outcome in
-    let works : parts.store.journal.has_failed ≡ false = sym c.has_failed.ensures ∙ c.if-has_failed.false in
-    let breaks : Breaks g.D.Disk.failures (kept_of parts) new = record { before = works; failed = failed.1.failed; rises = failed.1.rises } in
     let cause : IsTrue (is_some old.store.checkpoint) = search rules in
-    told c.from_residual.result (fault_of_journal fault) (Works g.D.Disk.failures old new) (Fails g.D.Disk.failures Cause old new) c.from_residual.ensures.1
-    (device_fails g.D.Disk.failures Cause fault old new failed.0 cause (breaks_as g.D.Disk.failures (kept_of parts) old new c.self.view_is breaks))
+    device_told g.D.Disk.failures (ForDevice (IsTrue (is_some old.store.checkpoint))) c.from_residual.result c.in_err-finish.field-0.0 c.self.inside.parts c.finish.new.self old c.self.view_is c.from_residual.ensures.1
+    (sym c.has_failed.ensures ∙ c.if-has_failed.false) c.in_err-finish.ensures.ends.outcome cause
 
 pub returns-in_err-finish-clause-rests : goal.returns-in_err-finish-clause-rests
 returns-in_err-finish-clause-rests g c =
@@ -38,8 +23,6 @@ returns-clause-rests g c =
     (λ honest kept. c.finish.ensures.carries honest c.self.inside.parts.state kept) c.finish.ensures.ends.honesty
 
 pub returns-clause-durable : goal.returns-clause-durable
-returns-clause-durable g c = λ honest works.
-    let parts = c.self.inside.parts in
-    let working : parts.store.journal.has_failed ≡ false = sym c.has_failed.ensures ∙ c.if-has_failed.false in
-    let before = c.finish.ensures.ends.honesty.0 honest in
-    each_stands g.D.Disk.moment g.D.Disk.left_since g.D.Disk.seen g.D.Disk.may_leave c.finish.new.self parts.state (c.in_ok-finish.ensures.carries before parts.state (c.self.invariant.upheld before working)).upheld
+returns-clause-durable g c =
+    carries_durable g.D.Disk.moment g.D.Disk.left_since g.D.Disk.seen g.D.Disk.may_leave g.D.Disk.honest c.self.inside.parts c.finish.new.self c.self.invariant (sym c.has_failed.ensures ∙ c.if-has_failed.false) c.finish.ensures.ends.honesty
+    (λ honest kept. (c.in_ok-finish.ensures.carries honest c.self.inside.parts.state kept).upheld)

@@ -1,16 +1,19 @@
-use Rattle.std.proofs.Common.{◌≡◌, ℕ, Result, Err, inr, refl, sym, ap, ◌∙◌, subst}
+use Rattle.std.proofs.Common.{◌≡◌, ℕ, List, Result, Err, inr, refl, sym, ap, ◌∙◌, subst}
+use Rattle.std.specs.Prelude.{IsOk}
 use Rattle.std.proofs.lemmas.Result.{IfOk-weaker, IfErr-weaker}
+use Rattle.fe_codec.specs.FirstFault.{header_at}
 use Rattle.fe_keeper.specs.Keeper.{KeeperState}
 use Rattle.fe_keeper.specs.Opened.{IsOpenedFrom, IsReady, keeper_over}
 use Rattle.fe_journal.specs.Found.{AsksToOpen}
 use Rattle.fe_journal.specs.declared.fault.StoreFault.{StoreFault}
 use Rattle.fe_journal.specs.declared.fault.StoreFault.TheVariants as store
 use Rattle.fe_journal.proofs.Founds.{formatted, opens_as}
-use Rattle.fe_keeper.specs.Damage.{IsWrongAt, IsReason, TellsStore}
+use Rattle.fe_keeper.specs.Damage.{IsWrongAt, IsReason, TellsStore, AfterFields}
 use Rattle.fe_keeper.specs.declared.fault.Fault.{Fault}
 use Rattle.fe_keeper.specs.declared.fault.Fault.TheVariants.{Device, Damaged, NoMemory}
 use Rattle.fe_keeper.specs.within.Faults.{fault_of_store}
 use Rattle.fe_keeper.proofs.Damages.{passed_on, device_back, slot_fault, tells_found, tells_slot, wrong_there}
+use Rattle.fe_keeper.proofs.Bases.{fields_spelled}
 use Rattle.fe_keeper.proofs.Numbers.{numbered}
 use Rattle.fe_keeper.proofs.Openings.{recovered_in, parts_found, stands_found, stands_by, each_stands, opens_keeper}
 use Rattle.fe_keeper.proofs.keeper.Keeper.open.Goals as goal
@@ -65,8 +68,10 @@ returns-in-Err-recovered-clause-refused g c = λ honest.
     wrong_there found.contents c.slot-slot.result c.store_format-format.result c.generation-generation.result c.deref.result.now c.in-Ok.found.groups.start c.in-Ok.found.groups.at offset
     (c.slot-slot.ensures.value ∙ found.keeps.slot_is) parts.format_is parts.generation_is parts.image_is found.start_is found.from_the_first
     (c.in-Err-recovered.ensures.damaged offset found.contents.groups (ap (λ (f : Fault). Err f) is) found.groups_are) in
+    let fields : c.in-Err-recovered.fault ≡ NoMemory → IsOk (header_at found.contents.image) = λ is.
+    subst (λ (l : List ℕ). IsOk (header_at l)) parts.image_is (c.in-Err-recovered.ensures.memory (ap (λ (f : Fault). Err f) is)) in
     record {
-      tells = tells_slot seen found.contents c.in-Err-recovered.fault found.holds c.in-Err-recovered.ensures.faults wrong;
+      tells = tells_slot seen (g.D.Disk.calls c.args.disk) (g.D.Disk.calls c.into_disk.result) found.contents c.in-Err-recovered.fault found.holds c.in-Err-recovered.ensures.faults wrong fields;
       valid = λ s stands. inr (c.in-Err-recovered.ensures.refused found.contents s parts (stands_by found.contents seen s found.holds stands));
     }
 
@@ -74,8 +79,10 @@ pub returns-in-Err-clause-refused : goal.returns-in-Err-clause-refused
 returns-in-Err-clause-refused g c = λ honest.
     let seen = g.D.Disk.seen c.args.disk in
     let reason = c.in-Err.ensures.refused honest in
-    subst (λ (f : Fault). IsReason seen f) (sym c.from.ensures) (record {
-      tells = tells_found seen c.in-Err.fault reason.tells;
+    let before = g.D.Disk.calls c.args.disk in
+    let now = g.D.Disk.calls c.in-Err.disk in
+    subst (λ (f : Fault). IsReason seen before now f) (sym c.from.ensures) (record {
+      tells = tells_found seen before now c.in-Err.fault reason.tells reason.memory;
       valid = λ s stands. passed_on c.in-Err.fault (reason.valid stands.contents stands.holds);
     })
 
@@ -83,8 +90,12 @@ pub returns-clause-refused : goal.returns-clause-refused
 returns-clause-refused g c = λ honest.
     let seen = g.D.Disk.seen c.args.disk in
     let found = c.in-Ok.ensures.found honest in
-    IfErr-weaker c.keeper_with_room.result (λ e. (e.0 ≡ NoMemory) × (e.1 ≡ c.in-Ok.found.journal.disk)) (λ e. IsReason seen e.0)
-    (λ e is. record { tells = subst (λ (f : Fault). TellsStore f seen) (sym is.0) (formatted found.contents seen found.holds); valid = λ s stands. inr is.0 }) c.keeper_with_room.ensures.refused
+    let parts = parts_found g.D.Disk.seen g.D.Disk.may_leave seen c.in-Ok.found found c.store_format-format.result c.generation-generation.result c.deref.result.now c.store_format-format.ensures c.generation-generation.ensures c.deref.ensures.value in
+    let recovered = c.in-Ok-recovered.ensures.state found.contents.groups found.groups_are in
+    let fields = subst (λ (l : List ℕ). IsOk (header_at l)) parts.image_is (fields_spelled _ _ c.deref.result.now recovered.base recovered.is_base) in
+    let before = g.D.Disk.calls c.args.disk in
+    IfErr-weaker c.keeper_with_room.result (λ e. (e.0 ≡ NoMemory) × (e.1 ≡ c.in-Ok.found.journal.disk)) (λ e. IsReason seen before (g.D.Disk.calls e.1) e.0)
+    (λ e is. record { tells = subst (λ (f : Fault). TellsStore f seen before (g.D.Disk.calls e.1)) (sym is.0) (AfterFields found.contents found.holds fields); valid = λ s stands. inr is.0 }) c.keeper_with_room.ensures.refused
 
 pub returns-clause-ready : goal.returns-clause-ready
 returns-clause-ready g c =

@@ -26,4 +26,4 @@ returns-in-Ok-clause-rest g c =
     let before : ServerState = rewound c.args.self.now.log c.args.self.now.state in
     let now = place_after before c.args.entries.now in
     let there : c.args.self.now.state.place ≡ _ = ap (λ (s : ServerState). s.place) batch.taken.state_is in
-    record { store = search rules; place = omega (arith, now, there, batch.place, c.in-Ok.ensures.place); log = search rules }
+    record { store = search rules; place = omega (arith, now, there, batch.place, c.in-Ok.ensures.counts.place); log = search rules }

@@ -46,11 +46,15 @@ returns-in_err-append_group-clause-leads g c = λ honest s upheld legal.
       upheld = search rules;
     }
 
-pub returns-clause-sound : goal.returns-clause-sound
-returns-clause-sound g c =
+pub returns-clause-counts : goal.returns-clause-counts
+returns-clause-counts g c =
     let old = c.args.self.now in
     let new : Store g.row.D.Denot = record { journal = c.append_group.new.self; group = c.spell.new.group; place = old.place + length c.args.entries.now; checkpoint = c.catch_up.new.checkpoint } in
-    sound_then old new c.args.entries.now c.append_group.new.self.disk (old.journal.used + (5 + length c.deref.result.now)) c.requires.can.sound c.requires.fits c.in_ok-append_group.ensures.value c.requires.can.some refl c.requires.can.place c.spell.ensures.room c.catch_up.ensures
+    record {
+      sound =
+          sound_then old new c.args.entries.now c.append_group.new.self.disk (old.journal.used + (5 + length c.deref.result.now)) c.requires.can.sound c.requires.fits c.in_ok-append_group.ensures.value c.requires.can.some refl c.requires.can.place c.spell.ensures.room c.catch_up.ensures;
+      place = refl;
+    }
 
 pub returns-clause-leads : goal.returns-clause-leads
 returns-clause-leads g c = λ honest s upheld legal.

@@ -1,5 +1,5 @@
-use Rattle.std.proofs.Common.{rules}
-use Rattle.fe_keeper.proofs.Ends.{then_ends}
+use Rattle.std.proofs.Common.{length, rules}
+use Rattle.fe_keeper.proofs.Ends.{then_counts, then_ends}
 use Rattle.fe_keeper.proofs.Taking.{stays, then_stored}
 use Rattle.fe_keeper.proofs.store.Store.put.Goals as goal
 
@@ -26,3 +26,6 @@ pub returns-clause-ends : goal.returns-clause-ends
 returns-clause-ends g c =
     let first = c.in_ok-make_room.ensures.ends in
     then_ends g.D.Disk.honest g.D.Disk.failures c.append.result c.args.self.now.journal c.make_room.new.self.journal c.append.new.self.journal first.outcome first.honesty c.append.ensures.ends
+
+pub returns-clause-counts : goal.returns-clause-counts
+returns-clause-counts g c = then_counts c.append.result c.args.self.now c.make_room.new.self c.append.new.self (length c.args.entries.now) c.make_room.ensures.stays.place c.append.ensures.counts

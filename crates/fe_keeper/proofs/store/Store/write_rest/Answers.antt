@@ -17,7 +17,7 @@ returns-in_err-step-clause-carries g c = λ honest s upholds. record {
 pub loop-preserved : goal.loop-preserved
 loop-preserved g c =
     one_more g.D.Disk.moment g.D.Disk.left_since g.D.Disk.seen g.D.Disk.may_leave g.D.Disk.honest g.D.Disk.failures g.D.Disk.calls c.in_ok-step.field-0 c.args.self.now c.loop.self c.step.new.self c.loop.invariant
-    c.step.ensures.stays c.in_ok-step.ensures.ready c.in_ok-step.ensures.carries c.in_ok-step.ensures.value c.in_ok-step.ensures.ends c.step.ensures.calls c.step.ensures.rests
+    c.step.ensures.stays c.in_ok-step.ensures.stepped.ready c.in_ok-step.ensures.carries c.in_ok-step.ensures.stepped.value c.in_ok-step.ensures.ends c.step.ensures.calls c.step.ensures.rests
 
 pub returns-clause-carries : goal.returns-clause-carries
 returns-clause-carries g c = λ honest s upholds. record {

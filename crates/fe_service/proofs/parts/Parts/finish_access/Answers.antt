@@ -6,7 +6,7 @@ use Rattle.fe_state.specs.declared.request.Request.TheVariants.{Access}
 use Rattle.fe_service.specs.within.Parts.{WaitAtTag}
 use Rattle.fe_service.proofs.Lengths.{operated_lengths}
 use Rattle.fe_service.proofs.Quiet.{quiet_tag, none_there, word_below, some_word, no_word, quiet_unless_there, quiet_there_and}
-use Rattle.fe_service.proofs.Completing.{IsEntered, entered_usable, entered_service, entered_completes, entered_quiet_at, quiet_everywhere}
+use Rattle.fe_service.proofs.Completing.{IsEntered, entered_by, entered_usable, entered_service, entered_completes, entered_quiet_at, quiet_everywhere}
 use Rattle.fe_service.proofs.Serving.{none_taken, taken_len, taken_lengths}
 use Rattle.fe_service.proofs.parts.Parts.finish_access.Goals as goal
 
@@ -19,12 +19,7 @@ serve_word-requires-clause-word c =
 
 pub serve_word-requires-clause-usable : goal.serve_word-requires-clause-usable
 serve_word-requires-clause-usable c =
-    let entered : IsEntered c.args.self.now c.enter.new.self _ = record {
-      state = c.enter.ensures.state;
-      waiting = ap (λ s. s.waiting) c.enter.ensures.seats;
-      seats = ap (λ s. s.seats) c.enter.ensures.seats;
-      pending = c.enter.ensures.pending;
-    } in
+    let entered : IsEntered c.args.self.now c.enter.new.self _ = entered_by c.args.self.now c.enter.new.self _ c.enter.ensures.state c.enter.ensures.seats c.enter.ensures.pending in
     entered_usable c.args.self.now c.enter.new.self c.args.session c.args.number (Access c.args.array c.args.index c.args.op c.args.no_wait) c.args.answer c.requires.sound.service.usable c.requires.free entered
 
 pub overflow_add-result : goal.overflow_add-result
@@ -40,12 +35,7 @@ returns-then-is_there-clause-sound c =
     let mid = c.enter.new.self in
     let new = c.serve_word.new.self in
     let request = Access c.args.array c.args.index c.args.op c.args.no_wait in
-    let entered : IsEntered old mid _ = record {
-      state = c.enter.ensures.state;
-      waiting = ap (λ s. s.waiting) c.enter.ensures.seats;
-      seats = ap (λ s. s.seats) c.enter.ensures.seats;
-      pending = c.enter.ensures.pending;
-    } in
+    let entered : IsEntered old mid _ = entered_by old mid _ c.enter.ensures.state c.enter.ensures.seats c.enter.ensures.pending in
     let (es, t, counted) = c.serve_word.ensures.served in
     let (word, is) = some_word (word_in (get old.state.arrays c.args.array) c.args.index) (sym (ap is_some c.word.ensures) ∙ sym c.is_some-is_there.ensures ∙ c.if-is_there.true) in
     let at : WaitAtTag mid.seats.waiting c.args.array c.args.index word.tag =
@@ -71,12 +61,7 @@ returns-then-is_there-clause-sound c =
 
 pub returns-then-is_there-clause-completes : goal.returns-then-is_there-clause-completes
 returns-then-is_there-clause-completes c =
-    let entered : IsEntered c.args.self.now c.enter.new.self _ = record {
-      state = c.enter.ensures.state;
-      waiting = ap (λ s. s.waiting) c.enter.ensures.seats;
-      seats = ap (λ s. s.seats) c.enter.ensures.seats;
-      pending = c.enter.ensures.pending;
-    } in
+    let entered : IsEntered c.args.self.now c.enter.new.self _ = entered_by c.args.self.now c.enter.new.self _ c.enter.ensures.state c.enter.ensures.seats c.enter.ensures.pending in
     let (es, t, counted) = c.serve_word.ensures.served in
     (es, entered_completes c.args.self.now c.enter.new.self c.serve_word.new.self _ es entered t (returns-then-is_there-clause-sound c).service.quiet, omega (arith, counted))
 
@@ -85,12 +70,7 @@ returns-else-is_there-clause-sound c =
     let old = c.args.self.now in
     let mid = c.enter.new.self in
     let request = Access c.args.array c.args.index c.args.op c.args.no_wait in
-    let entered : IsEntered old mid _ = record {
-      state = c.enter.ensures.state;
-      waiting = ap (λ s. s.waiting) c.enter.ensures.seats;
-      seats = ap (λ s. s.seats) c.enter.ensures.seats;
-      pending = c.enter.ensures.pending;
-    } in
+    let entered : IsEntered old mid _ = entered_by old mid _ c.enter.ensures.state c.enter.ensures.seats c.enter.ensures.pending in
     let here = word_in (get old.state.arrays c.args.array) c.args.index in
     let absent = no_word here (sym (ap is_some c.word.ensures) ∙ sym c.is_some-is_there.ensures ∙ c.if-is_there.false) in
     let none = none_there old.state old.seats.waiting c.args.array c.args.index c.requires.sound.service.quiet absent in

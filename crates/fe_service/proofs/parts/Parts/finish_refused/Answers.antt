@@ -3,7 +3,7 @@ use Rattle.std.specs.FinMap.{get}
 use Rattle.fe_state.specs.Directory.{words_in}
 use Rattle.fe_state.specs.declared.request.Request.TheVariants.{Create}
 use Rattle.fe_service.proofs.Creating.{created_quiet, refused_lengths}
-use Rattle.fe_service.proofs.Completing.{IsEntered, entered_service}
+use Rattle.fe_service.proofs.Completing.{IsEntered, entered_by, entered_service}
 use Rattle.fe_service.proofs.Serving.{none_taken}
 use Rattle.fe_service.proofs.parts.Parts.finish_refused.Goals as goal
 
@@ -11,12 +11,7 @@ pub returns-clause-sound : goal.returns-clause-sound
 returns-clause-sound c =
     let old = c.args.self.now in
     let mid = c.enter.new.self in
-    let entered : IsEntered old mid _ = record {
-      state = c.enter.ensures.state;
-      waiting = ap (λ s. s.waiting) c.enter.ensures.seats;
-      seats = ap (λ s. s.seats) c.enter.ensures.seats;
-      pending = c.enter.ensures.pending;
-    } in
+    let entered : IsEntered old mid _ = entered_by old mid _ c.enter.ensures.state c.enter.ensures.seats c.enter.ensures.pending in
     let quiet = created_quiet old mid c.args.session c.args.number c.args.name c.args.length c.args.tag c.args.answer c.limits.ensures.state c.requires.sound.service.quiet entered in
     record {
       service = entered_service old mid mid c.args.session c.args.number (Create c.args.name c.args.length c.args.tag) c.args.answer [] c.requires.sound.service c.requires.free entered (none_taken mid) quiet;

@@ -7,19 +7,14 @@ use Rattle.fe_state.specs.declared.entry.Entry.TheVariants.{Finished}
 use Rattle.fe_service.specs.ServiceState.{IsService, service_of}
 use Rattle.fe_service.specs.Events.{Completes}
 use Rattle.fe_service.proofs.Quiet.{none_on_absent}
-use Rattle.fe_service.proofs.Completing.{IsEntered, entered_usable, entered_service, entered_completes}
+use Rattle.fe_service.proofs.Completing.{IsEntered, entered_by, entered_usable, entered_service, entered_completes}
 use Rattle.fe_service.proofs.Removing.{removed_quiet, nothing_removed, removed_absent, removed_lengths}
 use Rattle.fe_service.proofs.Serving.{none_taken, taken_len, taken_lengths}
 use Rattle.fe_service.proofs.parts.Parts.finish_remove.Goals as goal
 
 pub serve_array-served-requires-clause-usable : goal.serve_array-served-requires-clause-usable
 serve_array-served-requires-clause-usable c =
-    let entered : IsEntered c.args.self.now c.enter.new.self _ = record {
-      state = c.enter.ensures.state;
-      waiting = ap (λ s. s.waiting) c.enter.ensures.seats;
-      seats = ap (λ s. s.seats) c.enter.ensures.seats;
-      pending = c.enter.ensures.pending;
-    } in
+    let entered : IsEntered c.args.self.now c.enter.new.self _ = entered_by c.args.self.now c.enter.new.self _ c.enter.ensures.state c.enter.ensures.seats c.enter.ensures.pending in
     entered_usable c.args.self.now c.enter.new.self c.args.session c.args.number (Remove c.args.array) c.args.answer c.requires.sound.service.usable c.requires.free entered
 
 pub drop_array-requires : goal.drop_array-requires
@@ -27,12 +22,7 @@ drop_array-requires c =
     let old = c.args.self.now in
     let mid = c.enter.new.self in
     let new = c.serve_array-served.new.self in
-    let entered : IsEntered old mid _ = record {
-      state = c.enter.ensures.state;
-      waiting = ap (λ s. s.waiting) c.enter.ensures.seats;
-      seats = ap (λ s. s.seats) c.enter.ensures.seats;
-      pending = c.enter.ensures.pending;
-    } in
+    let entered : IsEntered old mid _ = entered_by old mid _ c.enter.ensures.state c.enter.ensures.seats c.enter.ensures.pending in
     let (es, t, counted) = c.serve_array-served.ensures.served in
     let quiet = removed_quiet old mid new c.args.session c.args.number c.args.array c.in-Some.length c.args.answer es c.requires.sound.service.quiet entered t (sym c.length-length.ensures ∙ c.in-Some.is) c.serve_array-served.ensures.here c.serve_array-served.ensures.beside in
     record { unused = none_on_absent new.state new.seats.waiting c.args.array quiet (taken_lengths mid new es t c.args.array ∙ removed_absent old mid c.args.session c.args.number c.args.array c.args.answer entered) }
@@ -49,12 +39,7 @@ returns-in-Some-clause-sound c =
     let old = c.args.self.now in
     let mid = c.enter.new.self in
     let new = c.serve_array-served.new.self in
-    let entered : IsEntered old mid _ = record {
-      state = c.enter.ensures.state;
-      waiting = ap (λ s. s.waiting) c.enter.ensures.seats;
-      seats = ap (λ s. s.seats) c.enter.ensures.seats;
-      pending = c.enter.ensures.pending;
-    } in
+    let entered : IsEntered old mid _ = entered_by old mid _ c.enter.ensures.state c.enter.ensures.seats c.enter.ensures.pending in
     let (es, t, counted) = c.serve_array-served.ensures.served in
     let quiet = removed_quiet old mid new c.args.session c.args.number c.args.array c.in-Some.length c.args.answer es c.requires.sound.service.quiet entered t (sym c.length-length.ensures ∙ c.in-Some.is) c.serve_array-served.ensures.here c.serve_array-served.ensures.beside in
     let service = entered_service old mid new c.args.session c.args.number (Remove c.args.array) c.args.answer es c.requires.sound.service c.requires.free entered t quiet in
@@ -85,12 +70,7 @@ returns-in-Some-clause-completes c =
     let old = c.args.self.now in
     let mid = c.enter.new.self in
     let new = c.serve_array-served.new.self in
-    let entered : IsEntered old mid _ = record {
-      state = c.enter.ensures.state;
-      waiting = ap (λ s. s.waiting) c.enter.ensures.seats;
-      seats = ap (λ s. s.seats) c.enter.ensures.seats;
-      pending = c.enter.ensures.pending;
-    } in
+    let entered : IsEntered old mid _ = entered_by old mid _ c.enter.ensures.state c.enter.ensures.seats c.enter.ensures.pending in
     let (es, t, counted) = c.serve_array-served.ensures.served in
     let quiet = removed_quiet old mid new c.args.session c.args.number c.args.array c.in-Some.length c.args.answer es c.requires.sound.service.quiet entered t (sym c.length-length.ensures ∙ c.in-Some.is) c.serve_array-served.ensures.here c.serve_array-served.ensures.beside in
     let completes = entered_completes old mid new _ es entered t quiet in (
@@ -103,12 +83,7 @@ pub returns-in-None-clause-sound : goal.returns-in-None-clause-sound
 returns-in-None-clause-sound c =
     let old = c.args.self.now in
     let mid = c.enter.new.self in
-    let entered : IsEntered old mid _ = record {
-      state = c.enter.ensures.state;
-      waiting = ap (λ s. s.waiting) c.enter.ensures.seats;
-      seats = ap (λ s. s.seats) c.enter.ensures.seats;
-      pending = c.enter.ensures.pending;
-    } in
+    let entered : IsEntered old mid _ = entered_by old mid _ c.enter.ensures.state c.enter.ensures.seats c.enter.ensures.pending in
     let absent = sym c.length-length.ensures ∙ c.in-None.is in
     let quiet = nothing_removed old mid c.args.session c.args.number c.args.array c.args.answer c.requires.sound.service.quiet entered absent in
     record {
@@ -130,10 +105,5 @@ pub returns-in-None-clause-completes : goal.returns-in-None-clause-completes
 returns-in-None-clause-completes c =
     let old = c.args.self.now in
     let mid = c.enter.new.self in
-    let entered : IsEntered old mid _ = record {
-      state = c.enter.ensures.state;
-      waiting = ap (λ s. s.waiting) c.enter.ensures.seats;
-      seats = ap (λ s. s.seats) c.enter.ensures.seats;
-      pending = c.enter.ensures.pending;
-    } in
+    let entered : IsEntered old mid _ = entered_by old mid _ c.enter.ensures.state c.enter.ensures.seats c.enter.ensures.pending in
     ([], entered_completes old mid mid _ [] entered (none_taken mid) (returns-in-None-clause-sound c).service.quiet, refl)
