@@ -9,14 +9,15 @@ use Rattle.fe_state.specs.History.{IsHistory, AreLegal, after_groups}
 use Rattle.fe_state.specs.declared.entry.Entry.{Entry}
 use Rattle.fe_front.specs.Front.{FrontState, IsFirst, is_connected}
 use Rattle.fe_disk.specs.Disk.{Rises}
+use Rattle.fe_disk.specs.declared.calls.Calls.{Calls}
 use Rattle.fe_keeper.specs.Keeper.{KeeperState}
 use Rattle.fe_keeper.specs.Stands.{StandsFor, EachStandsFor}
 use Rattle.fe_keeper.specs.declared.fault.Fault.{Fault}
 use Rattle.fe_keeper.specs.declared.fault.Fault.TheVariants as keeper
 use Rattle.fe_desk.specs.declared.fault.DeskFault.{DeskFault}
 use Rattle.fe_desk.specs.declared.fault.DeskFault.TheVariants.{Store, NoMemory}
-use Rattle.fe_journal.specs.Damage.{IsUnformatted}
 use Rattle.fe_keeper.specs.Damage as store
+use Rattle.fe_keeper.proofs.Damages.{lacks_standing}
 use Rattle.fe_keeper.specs.Prefix.{LeavesPrefix}
 use Rattle.fe_desk.specs.Messages.{told_as}
 use Rattle.fe_desk.specs.Opened.{disk_after, TellsOpening}
@@ -115,15 +116,15 @@ is_trace p = record { groups = refl; written = written_as p.trace.ports.items; s
 
 -- ---- what is reported of a store
 
-pub tells_opening : (image : List ℕ) (fault : Fault) → store.TellsStore fault image → TellsOpening (told_as fault false) image
-tells_opening image keeper.Device tells = tells
-tells_opening image keeper.Failed tells = tells
-tells_opening image keeper.NoMemory tells = tells
-tells_opening image (keeper.Mismatch place) tells = tells
-tells_opening image (keeper.Damaged offset) tells = tells
-tells_opening image keeper.Unformatted tells = tells
+pub tells_opening : (image : List ℕ) (before now : Calls) (fault : Fault) → store.TellsStore fault image before now → TellsOpening (told_as fault false) image before now
+tells_opening image before now keeper.Device tells = tells
+tells_opening image before now keeper.Failed tells = tells
+tells_opening image before now keeper.NoMemory tells = tells
+tells_opening image before now (keeper.Mismatch place) tells = tells
+tells_opening image before now (keeper.Damaged offset) tells = tells
+tells_opening image before now keeper.Unformatted tells = tells
 
--- the store is not unformatted, and there was no memory for its desk
-pub short_opening : {T D : Type 0} (r : Result T (DeskFault × D)) (image : List ℕ) → (IsUnformatted image → ⊥) → IfErr r (λ e. e.0 ≡ NoMemory false) → IfErr r (λ e. TellsOpening e.0 image)
-short_opening (Ok desk) image formatted short = tt
-short_opening (Err e) image formatted short = subst (λ (f : DeskFault). TellsOpening f image) (sym short) formatted
+-- the store stands for a state, and there was no memory for its desk
+pub short_opening : {T D : Type 0} (calls : D → Calls) (before : Calls) (r : Result T (DeskFault × D)) (image : List ℕ) (s : ServerState) → StandsFor image s → IfErr r (λ e. e.0 ≡ NoMemory false) → IfErr r (λ e. TellsOpening e.0 image before (calls e.1))
+short_opening calls before (Ok desk) image s stands short = tt
+short_opening calls before (Err e) image s stands short = subst (λ (f : DeskFault). TellsOpening f image before (calls e.1)) (sym short) (lacks_standing image before (calls e.1) s stands)

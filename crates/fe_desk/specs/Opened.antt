@@ -1,5 +1,6 @@
 -- What opening a desk gives.
 use Rattle.std.specs.Prelude.{◌≡◌, ◌⊎◌, ℕ, false, List, Result, Ok, Err}
+use Rattle.fe_disk.specs.declared.calls.Calls.{Calls}
 use Rattle.fe_keeper.specs.declared.fault.Fault.TheVariants as keeper
 use Rattle.fe_desk.specs.declared.fault.DeskFault.{DeskFault}
 use Rattle.fe_keeper.specs.Damage as store
@@ -16,8 +17,8 @@ abbrev pub IsOpenFault : DeskFault → Type 0
 IsOpenFault fault =
     (fault ≡ Store keeper.Device) ⊎ ((fault ≡ NoMemory false) ⊎ ((fault ≡ Store keeper.Unformatted) ⊎ ((offset : ℕ) × (fault ≡ Store (keeper.Damaged offset)))))
 
--- what a fault of opening says of the image that the disk reads
-abbrev pub TellsOpening : DeskFault → List ℕ → Type 0
-TellsOpening (Store fault) image = store.TellsStore fault image
-TellsOpening (NoMemory fed) image = store.TellsStore keeper.NoMemory image
-TellsOpening Unwritten image = ⊥
+-- what a fault of opening says of the image that the disk reads, between these counts of calls
+abbrev pub TellsOpening : DeskFault → List ℕ → Calls → Calls → Type 0
+TellsOpening (Store fault) image before now = store.TellsStore fault image before now
+TellsOpening (NoMemory fed) image before now = store.TellsStore keeper.NoMemory image before now
+TellsOpening Unwritten image before now = ⊥

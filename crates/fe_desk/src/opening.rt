@@ -35,7 +35,7 @@ impl<D: Disk> Desk<D> {
         ensures refused { D.honest disk → (s : ServerState) → StandsFor (D.seen disk) s
             → IfErr result (λ e. (e.0 ≡ Store keeper.Device) ⊎ (e.0 ≡ NoMemory false)) }
         // A reported fault is the store's, and an unformatted store is reported as such, however much memory there is.
-        ensures told { D.honest disk → IfErr result (λ e. TellsOpening e.0 (D.seen disk)) }
+        ensures told { D.honest disk → IfErr result (λ e. TellsOpening e.0 (D.seen disk) (D.calls disk) (D.calls e.1)) }
         ensures unformatted { D.honest disk → IsUnformatted (D.seen disk)
             → IsErrAnd result (λ e. (e.0 ≡ Store keeper.Unformatted) ⊎ (e.0 ≡ Store keeper.Device)) }
         ensures reads { D.honest disk → OnlyReads D.seen D.may_leave D.moment D.left_since disk (disk_after result) }

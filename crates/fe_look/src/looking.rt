@@ -1,15 +1,17 @@
 //! Looks at a store.
 
-ghost use Rattle.std.specs.Prelude.{◌≡◌, ◌⊎◌, ◌↔◌, ◌≢◌, ℕ, take, OnOk, IsErrOf};
+ghost use Rattle.std.specs.Prelude.{◌≡◌, ◌↔◌, ◌≢◌, ℕ, take, OnOk, IsErrOf};
 ghost use Rattle.std.specs.Io.KnownBytes.{Appends, Keeps};
 ghost use Rattle.fe_disk.specs.Disk.{Rises};
 ghost use Rattle.fe_journal.specs.Layout.{device_bytes};
 ghost use Rattle.fe_journal.specs.Steps.{OnlyReads};
+ghost use Rattle.fe_keeper.specs.Damage.{MayLackMemory};
 ghost use Rattle.fe_keeper.specs.Stands.{StandsFor};
 ghost use Rattle.fe_state.specs.State.{ServerState};
-ghost use Rattle.fe_store.specs.Opening.{TellsImage};
+ghost use Rattle.fe_store.specs.Opening.{IsReason};
 ghost use Rattle.fe_store.specs.declared.fault.OpenFault.{OpenFault};
 ghost use Rattle.fe_store.specs.declared.fault.OpenFault.TheVariants as store;
+ghost use Rattle.fe_text.specs.declared.fault.StreamFault.{StreamFault};
 ghost use Rattle.fe_look.specs.Look.{Shows, ShowsSome, ShowsFront, state_text};
 ghost use Rattle.fe_look.specs.declared.fault.LookFault.TheVariants as fault;
 
@@ -51,11 +53,13 @@ pub fn look_at<D: Disk, W: Write>(
     ensures shows { D.honest disk
         → OnOk result.0 (Shows (D.seen disk) (W.contents writer.old) (W.contents writer.new)) }
     // A reported fault is true of the store, and a valid store is refused only if the device fails or memory is short.
-    ensures told { D.honest disk → (why : OpenFault) → IsErrOf result.0 (fault.Store why)
-        → TellsImage why (D.seen disk) }
-    ensures refused { D.honest disk → (s : ServerState) → StandsFor (D.seen disk) s → (why : OpenFault)
-        → IsErrOf result.0 (fault.Store why)
-        → (why ≡ store.Device) ⊎ (why ≡ store.Memory) }
+    ensures refused { D.honest disk → (why : OpenFault) → IsErrOf result.0 (fault.Store why)
+        → IsReason (D.seen disk) why }
+    // Memory is short for the store only where what was read until then is right, and for the text only once the store is read.
+    ensures memory { D.honest disk → IsErrOf result.0 (fault.Store store.Memory)
+        → MayLackMemory (D.seen disk) (D.calls disk) (D.calls result.1) }
+    ensures opened { D.honest disk → (why : StreamFault) → IsErrOf result.0 (fault.Stream why)
+        → (s : ServerState) × StandsFor (D.seen disk) s }
     // A crash leaves nothing that it couldn't leave before, and reads give the same bytes.
     ensures reads { D.honest disk → OnlyReads D.seen D.may_leave D.moment D.left_since disk result.1 }
 

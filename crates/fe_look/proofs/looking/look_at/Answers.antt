@@ -1,8 +1,8 @@
-use Rattle.std.proofs.Common.{◌≡◌, ◌⊎◌, subst}
+use Rattle.std.proofs.Common.{◌≡◌, subst}
 use Rattle.std.proofs.lemmas.Result.{on_ok_weaker}
 use Rattle.std.specs.Io.KnownBytes.{Appends}
 use Rattle.fe_state.specs.State.{ServerState}
-use Rattle.fe_store.specs.Opening.{TellsImage}
+use Rattle.fe_store.specs.Opening.{IsReason}
 use Rattle.fe_store.specs.declared.fault.OpenFault.{OpenFault}
 use Rattle.fe_store.specs.declared.fault.OpenFault.TheVariants as store
 use Rattle.fe_look.specs.Look.{state_text}
@@ -19,11 +19,14 @@ returns-in-Ok-clause-shows g c honest =
     })
     c.show-shown.ensures.ok
 
-pub returns-in-Ok-clause-told : goal.returns-in-Ok-clause-told
-returns-in-Ok-clause-told g c honest why is = absurd (c.show-shown.ensures.opened why is)
-
 pub returns-in-Ok-clause-refused : goal.returns-in-Ok-clause-refused
-returns-in-Ok-clause-refused g c honest s stands why is = absurd (c.show-shown.ensures.opened why is)
+returns-in-Ok-clause-refused g c honest why is = absurd (c.show-shown.ensures.opened why is)
+
+pub returns-in-Ok-clause-memory : goal.returns-in-Ok-clause-memory
+returns-in-Ok-clause-memory g c honest is = absurd (c.show-shown.ensures.opened store.Memory is)
+
+pub returns-in-Ok-clause-opened : goal.returns-in-Ok-clause-opened
+returns-in-Ok-clause-opened g c honest why is = (c.in-Ok.keeper.state, (c.in-Ok.ensures.opened honest).state)
 
 pub returns-in-Ok-clause-silent : goal.returns-in-Ok-clause-silent
 returns-in-Ok-clause-silent g c why is = absurd (c.show-shown.ensures.opened why is)
@@ -34,15 +37,13 @@ returns-in-Ok-clause-written g c = on_ok_weaker c.show-shown.result (λ w. recor
 pub returns-in-Ok-clause-front : goal.returns-in-Ok-clause-front
 returns-in-Ok-clause-front g c = record { state = c.state.result.now; count = c.show-shown.ensures.front.0; written = c.show-shown.ensures.front.1 }
 
-pub returns-in-Err-clause-told : goal.returns-in-Err-clause-told
-returns-in-Err-clause-told g c honest why is =
-    let same : c.in-Err.fault ≡ why = cc is in
-    subst (λ (f : OpenFault). TellsImage f (g.D.Disk.seen c.args.disk)) same (c.in-Err.ensures.refused honest).tells
-
 pub returns-in-Err-clause-refused : goal.returns-in-Err-clause-refused
-returns-in-Err-clause-refused g c honest s stands why is =
+returns-in-Err-clause-refused g c honest why is =
     let same : c.in-Err.fault ≡ why = cc is in
-    subst (λ (f : OpenFault). (f ≡ store.Device) ⊎ (f ≡ store.Memory)) same ((c.in-Err.ensures.refused honest).valid s stands)
+    subst (λ (f : OpenFault). IsReason (g.D.Disk.seen c.args.disk) f) same (c.in-Err.ensures.refused honest)
+
+pub returns-in-Err-clause-memory : goal.returns-in-Err-clause-memory
+returns-in-Err-clause-memory g c honest is = c.in-Err.ensures.memory honest (cc is)
 
 pub returns-in-Err-clause-front : goal.returns-in-Err-clause-front
 returns-in-Err-clause-front g c = shows_nothing (g.W.Write.contents c.args.writer.now)

@@ -45,7 +45,7 @@ returns-in-Err-clause-refused g c = λ honest s stands.
 
 pub returns-in-Ok-clause-told : goal.returns-in-Ok-clause-told
 returns-in-Ok-clause-told g c = λ honest.
-    short_opening c.desk_over.result (g.D.Disk.seen c.args.disk) (c.in-Ok.ensures.unformatted honest) c.desk_over.ensures.fault
+    short_opening g.D.Disk.calls (g.D.Disk.calls c.args.disk) c.desk_over.result (g.D.Disk.seen c.args.disk) c.in-Ok.keeper.state (c.in-Ok.ensures.opened honest).state c.desk_over.ensures.fault
 
 pub returns-in-Ok-clause-unformatted : goal.returns-in-Ok-clause-unformatted
 returns-in-Ok-clause-unformatted g c = λ honest odd. absurd (c.in-Ok.ensures.unformatted honest odd)
@@ -53,7 +53,9 @@ returns-in-Ok-clause-unformatted g c = λ honest odd. absurd (c.in-Ok.ensures.un
 pub returns-in-Err-clause-told : goal.returns-in-Err-clause-told
 returns-in-Err-clause-told g c = λ honest.
     let seen = g.D.Disk.seen c.args.disk in
-    subst (λ (f : DeskFault). TellsOpening f seen) (sym c.told.ensures) (tells_opening seen c.in-Err.fault (c.in-Err.ensures.refused honest).tells)
+    let before = g.D.Disk.calls c.args.disk in
+    let now = g.D.Disk.calls c.in-Err.disk in
+    subst (λ (f : DeskFault). TellsOpening f seen before now) (sym c.told.ensures) (tells_opening seen before now c.in-Err.fault (c.in-Err.ensures.refused honest).tells)
 
 pub returns-in-Err-clause-unformatted : goal.returns-in-Err-clause-unformatted
 returns-in-Err-clause-unformatted g c = λ honest odd.
