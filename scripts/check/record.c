@@ -358,6 +358,16 @@ int statx(int at, const char *path, int flags, unsigned mask, struct statx *to) 
   return result;
 }
 
+/* The end of an open file is its size. */
+off_t lseek(int file, off_t to, int from) {
+  typedef off_t (*seeker)(int, off_t, int);
+  REAL(seeker, "lseek");
+  const char *found = named(file);
+  off_t result = real(file, to, from);
+  if (found) note(NULL, 0, (long)result, "lseek %s", found);
+  return result;
+}
+
 /* The path of an open file is the target of its descriptor's link. */
 ssize_t readlink(const char *path, char *to, size_t size) {
   typedef ssize_t (*asker)(const char *, char *, size_t);

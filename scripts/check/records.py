@@ -50,8 +50,8 @@ def wrote(at, data):
     return [("pwrite", at, data)]
 
 
-# After each sync the server checks the file's size, that it has a name, and its path. The first sync also drops the cached pages.
-WATCH = [("fstat",), ("readlink",)]
+# After each sync the server checks the file's size and its path, which says whether it has a name. The first sync also drops the cached pages.
+WATCH = [("lseek",), ("readlink",)]
 SYNC = [("fdatasync",)] + WATCH
 FIRST_SYNC = [("fdatasync",), ("fadvise", 0, 0, os.POSIX_FADV_DONTNEED)] + WATCH
 

@@ -4,9 +4,8 @@ ghost use Rattle.fe_disk.specs.declared.file_fault.FileFault.TheVariants.{WrongS
 
 use crate::faults::{count, fault};
 use crate::names::sync_folder;
-use crate::watch::path_of;
+use crate::watch::Watch;
 use crate::{Calls, DeviceFault, Disk, FileFault};
-use libc::PATH_MAX;
 use std::fs::{File, OpenOptions};
 use std::io::{ErrorKind, Write};
 use std::os::fd::AsRawFd;
@@ -43,7 +42,7 @@ pub struct FileDisk {
     failures: u64,
     is_settled: bool,
     // The path that the file of a disk that writes has to keep.
-    path: Option<[u8; PATH_MAX]>,
+    watch: Option<Watch>,
 }
 
 impl FileDisk {
@@ -117,26 +116,36 @@ impl FileDisk {
         if found != size as u64 {
             return Err(FileFault::WrongSize { found });
         }
-        let path = is_watched.then(|| path_of(&file));
+        let watch = is_watched.then(|| Watch::of(&file));
         Ok(FileDisk {
             file,
             size,
             calls: Calls::NONE,
             failures: 0,
             is_settled: false,
-            path,
+            watch,
         })
     }
 
     // The file has its size, a name and its path; or it is not watched.
     fn is_there(&self) -> bool {
-        let Some(path) = &self.path else {
+        let Some(watch) = &self.watch else {
             return true;
         };
+        self.has_size() && watch.is_kept() && (watch.has_path() || self.has_name())
+    }
+
+    // Asks by `lseek`, since a file whose times were asked for gets new ones at its next write, and a sync may have to write those too.
+    fn has_size(&self) -> bool {
+        match u64::try_from(libc::lseek(self.file.as_raw_fd(), 0, libc::SEEK_END)) {
+            Ok(found) => found == self.size as u64,
+            Err(_) => false,
+        }
+    }
+
+    fn has_name(&self) -> bool {
         match self.file.metadata() {
-            Ok(found) => {
-                found.nlink() > 0 && found.len() == self.size as u64 && *path == path_of(&self.file)
-            }
+            Ok(found) => found.nlink() > 0,
             Err(_) => false,
         }
     }

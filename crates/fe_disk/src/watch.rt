@@ -13,18 +13,48 @@ const FOLDER: &[u8; 14] = b"/proc/self/fd/";
 /// A path padded with zeros. The C library needs the last one.
 type CPath = [u8; PATH_MAX];
 
-/// The path that the system has for an open file. It changes when the file or a folder above it is renamed, and ends in
-/// ` (deleted)` once the name is removed. Only zeros if the system has no `/proc`.
-pub(crate) fn path_of(file: &File) -> CPath {
-    let link = link_of(file);
-    let mut path = [0; PATH_MAX];
+/// The path that the system has for an open file, and the link by which it tells it.
+///
+/// It changes when the file or a folder above it is renamed, and ends in ` (deleted)` once the name is removed.
+#[derive(Drop)]
+pub(crate) struct Watch {
+    link: CPath,
+    path: CPath,
+    /// The bytes of the path. 0 if the system has no `/proc`.
+    length: usize,
+    ghost fits: { length ≤ 4096 },
+}
+
+impl Watch {
+    pub(crate) fn of(file: &File) -> Watch {
+        let link = link_of(file);
+        let mut path = [0; PATH_MAX];
+        let length = read_link(&link, &mut path);
+        Watch { link, path, length }
+    }
+
+    /// Whether the file still has its path.
+    pub(crate) fn is_kept(&self) -> bool {
+        let mut found = [0; PATH_MAX];
+        let length = read_link(&self.link, &mut found);
+        found[..length] == self.path[..self.length]
+    }
+
+    /// Whether the system has a path for the file, which then says whether the name was removed.
+    pub(crate) fn has_path(&self) -> bool {
+        self.length > 0
+    }
+}
+
+// Reads a link into the front of the buffer. How many bytes it has, 0 if it can't be read.
+fn read_link(link: &CPath, buffer: &mut CPath) -> usize
+    ensures { result ≤ 4096 }
+{
     if link[PATH_MAX - 1] != 0 {
-        return path;
+        return 0;
     }
-    if unsafe { libc::readlink(&link, &mut path) } < 0 {
-        return [0; PATH_MAX];
-    }
-    path
+    let count = unsafe { libc::readlink(link, buffer) };
+    usize::try_from(count).unwrap_or(0).min(PATH_MAX)
 }
 
 // The link for an open file.
