@@ -9,3 +9,4 @@ pub mod Sent
 pub mod Acts
 pub mod Moves
 pub mod Noted
+pub mod Marks

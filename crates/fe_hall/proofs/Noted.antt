@@ -7,12 +7,9 @@ use Rattle.fe_hall.specs.declared.act.Act.{Act}
 use Rattle.fe_hall.specs.declared.act.Act.TheVariants.{Stored}
 use Rattle.fe_hall.specs.declared.commit_end.CommitEnd.{CommitEnd}
 use Rattle.fe_hall.specs.declared.commit_end.CommitEnd.TheVariants.{Strange}
-use Rattle.fe_hall.specs.declared.taking.Taking.{Taking}
-use Rattle.fe_hall.specs.declared.taking.Taking.TheVariants as taking
 use Rattle.fe_hall.specs.Acts.{IsLegal, mark_of, stores_in}
 use Rattle.fe_hall.specs.Commits.{Append, AreNoted, AreNotes, noted}
-use Rattle.fe_hall.specs.Rules.{ComesAfter, told_as}
-use Rattle.fe_hall.specs.Seats.{WriteSeat, taking_answered}
+use Rattle.fe_hall.specs.Rules.{ComesAfter}
 use Rattle.fe_hall.proofs.Acts.{mark_stored, prefix_self, prefix_trans, stores_append, stores_same}
 
 -- a group that comes next is noted, and lies below the mark
@@ -63,10 +60,3 @@ module _ {D : Type 0} (moment : D → ℕ) where
   -- a batch was stored, and then nothing
   pub turn_noted : (first second : List (Append D)) (end : Option CommitEnd) (a b c : List Act) → AreNoted moment first None a b → AreNoted moment second None b c → AreNoted moment ((first ++ second) ++ []) end a c
   turn_noted first second end a b c one two = both_noted (first ++ second) [] end a c c (both_noted first second None a b c one two) (none_noted [] end c refl)
-
--- how a mail is told changes nothing of the seat
-pub answered_as : (s : WriteSeat) (mark : ℕ) (t : Taking) → taking_answered s (told_as mark t) ≡ taking_answered s t
-answered_as s mark (taking.Mail mail more) = refl
-answered_as s mark taking.Gone = refl
-answered_as s mark taking.Stopped = refl
-answered_as s mark taking.Spent = refl

@@ -6,4 +6,5 @@ pub mod Reads
 pub mod Writes
 pub mod Acts
 pub mod Rules
+pub mod Marks
 pub mod Audits

@@ -36,26 +36,6 @@ pub fn commit_side<C: Tally, M: Tally, D: Disk, R: Wait>(
     ensures tells { TellsEnd D.failures keeper.old keeper.new (Some result) }
     ensures honesty { D.honest keeper.new.store.disk ↔ D.honest keeper.old.store.disk }
 {
-    let end = commit_all(rt, hall, keeper, seat);
-    // It is stopped already where that is the end.
-    hall.stop(rt);
-    end
-}
-
-/// Stores and posts batch after batch.
-fn commit_all<C: Tally, M: Tally, D: Disk, R: Wait>(
-    rt: &R,
-    hall: &Hall<C, M>,
-    keeper: &mut Keeper<D>,
-    seat: &mut StoreSeat<M>,
-) -> CommitEnd
-    ensures commits { (all : Commits D.honest D.moment D.left_since keeper.old keeper.new (Some result))
-        × AreNoted D.moment all.appends (Some result) seat.old seat.new }
-    ensures stands { D.honest keeper.new.store.disk → keeper.new.store.has_failed ≡ false
-        → EachStandsFor D.may_leave keeper.new.store.disk keeper.new.state }
-    ensures tells { TellsEnd D.failures keeper.old keeper.new (Some result) }
-    ensures honesty { D.honest keeper.new.store.disk ↔ D.honest keeper.old.store.disk }
-{
     // It names what is always true of the keeper (`docs/DECISIONS.md`, "Toolchain").
     let _ = keeper.state();
     let mut slices = true;
@@ -64,11 +44,15 @@ fn commit_all<C: Tally, M: Tally, D: Disk, R: Wait>(
             return CommitEnd::Stopped;
         };
         if let Some(end) = commit(rt, hall, keeper, seat, batch) {
+            hall.stop(rt);
             return end;
         }
         match tend(keeper, slices) {
             Ok(left) => slices = left,
-            Err(fault) => return CommitEnd::Store(fault),
+            Err(fault) => {
+                hall.stop(rt);
+                return CommitEnd::Store(fault);
+            }
         }
     }
     unreachable!()

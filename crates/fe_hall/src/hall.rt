@@ -1,10 +1,9 @@
 ghost use Rattle.std.specs.Prelude.{◌≡◌, ◌≤◌, ◌∷◌, ◌++◌, [], ◌+◌, IsTrue, IfOk, IfErr, IfSome, length, true, false};
-ghost use Rattle.fe_mail.specs.Books.{first_books};
 ghost use Rattle.fe_hall.specs.Seats.{HasDeparted, ReadSeat, TookNoMessage, WriteSeat, first_read_seat, first_write_seat, message_answered, taking_answered, most_connections};
 ghost use mathlib.Core.List.{IsPrefix};
 ghost use Rattle.fe_hall.specs.Acts.{TakingTold, mark_of, stores_in};
 ghost use Rattle.fe_hall.specs.Commits.{IsStored};
-ghost use Rattle.fe_hall.specs.Rules.{told_as};
+ghost use Rattle.fe_hall.specs.Marks.{IsBegun, MayBeTold};
 ghost use Rattle.fe_hall.specs.declared.act.Act.TheVariants as act;
 
 use crate::call_seat::CallSeat;
@@ -20,7 +19,7 @@ use crate::taking::Taking;
 use crate::tally::Tally;
 use crate::turn::{Turn, Turned};
 use fe_disk::Disk;
-use fe_front::{BELLS, Front, Mail, StrangeBatch};
+use fe_front::{BELLS, Front, StrangeBatch};
 use fe_keeper::Keeper;
 use fe_state::Batch;
 use fe_wire::ClientMessage;
@@ -48,8 +47,8 @@ pub struct Hall<C: Tally, M: Tally> {
 }
 
 impl<C: Tally, M: Tally> Hall<C, M> {
-    /// A hall around a front that is as `Front::new` gave it, and the seat of its committing side. The blanks make its ledgers, of
-    /// 2^62 + 1 parts each. Where there is no memory the front comes back.
+    /// A hall around a front that is as `Front::new` gave it, and the seat of its committing side. The history begins at the place of
+    /// the front's state. The blanks make its ledgers, of 2^62 + 1 parts each. Where there is no memory the front comes back.
     pub fn new(
         alloc: Global,
         front: Front,
@@ -57,7 +56,7 @@ impl<C: Tally, M: Tally> Hall<C, M> {
         mails: Blank,
         history: NewHistory,
     ) -> Result<(Hall<C, M>, StoreSeat<M>), (AllocError, Front)>
-        requires first { front.books ≡ first_books }
+        requires begun { IsBegun front history.place }
         requires calls { (calls.name ≡ C.name) × (calls.parts ≡ C.parts) × (C.all ≡ C.parts)
             × (C.all ≡ most_connections + 1) }
         requires mails { (mails.name ≡ M.name) × (mails.parts ≡ M.parts) × (M.all ≡ M.parts)
@@ -68,11 +67,10 @@ impl<C: Tally, M: Tally> Hall<C, M> {
     {
         match bells(alloc) {
             Ok(bells) => {
-                let mark = history.place();
                 let (chronicle, begun) = history.named::<M>();
                 let (seen, stored) = (begun.again(), begun.again());
                 let hall = Hall {
-                    lock: Lock::new(Shared::new(alloc, front, calls, mails, seen, mark)),
+                    lock: Lock::new(Shared::new(alloc, front, calls, mails, seen)),
                     turn: Turn::new(),
                     chronicle,
                     begun,
@@ -80,7 +78,7 @@ impl<C: Tally, M: Tally> Hall<C, M> {
                     room: Condvar::new(),
                     bells,
                 };
-                Ok((hall, StoreSeat::new(stored, mark)))
+                Ok((hall, StoreSeat::new(stored)))
             }
             Err(_) => {
                 drop(history);
@@ -214,12 +212,13 @@ impl<C: Tally, M: Tally> Hall<C, M> {
         for _ in rt.forever() {
             if let Some(taking) = hold.take_mail(seat) {
                 let is_awaited = !seat.more() && hold.is_watched(conn);
-                let mark = hold.mark(history);
+                hold.teach(history);
                 hold.end();
                 if is_awaited {
                     self.ring(conn);
                 }
-                return tell(&self.chronicle, history, mark, taking);
+                tell(&self.chronicle, history, &taking);
+                return taking;
             }
             if hold.unwatch(conn) {
                 self.ring(conn);
@@ -263,6 +262,7 @@ impl<C: Tally, M: Tally> Hall<C, M> {
         seat: &StoreSeat<M>,
     ) -> Option<Result<Posted, StrangeBatch>>
         requires stored { IsStored batch keeper.now.state }
+        requires noted { keeper.now.state.place ≤ mark_of seat.now }
         ensures { IfSome result
             (λ outcome. IfOk outcome (λ posted. posted.durable ≡ batch.first + length batch.entries)) }
     {
@@ -288,6 +288,7 @@ impl<C: Tally, M: Tally> Hall<C, M> {
         ensures this { IsPrefix seat.old seat.new }
         ensures noted { IsTrue result
             → stores_in seat.new ≡ stores_in seat.old ++ (keeper.now.state.place, D.moment keeper.now.store.disk) ∷ [] }
+        ensures marked { IsTrue result → keeper.now.state.place ≤ mark_of seat.new }
         ensures unnoted { result ≡ false → seat.new ≡ seat.old }
     {
         seat.note(&self.chronicle, keeper)
@@ -323,49 +324,18 @@ impl<C: Tally, M: Tally> Hall<C, M> {
     }
 }
 
-/// Tells what was taken out of a box. An answer is told in the history, as one whose entry was stored before; one whose entry was not
-/// would be told as withdrawn. The front has none such in its boxes.
-fn tell<M: Tally>(
-    chronicle: &Chronicle<M>,
-    history: &mut History<M>,
-    mark: u64,
-    taking: Taking,
-) -> Taking
-    requires { mark ≤ mark_of history.old }
-    ensures same { result ≡ told_as mark taking }
+/// Adds what was taken out of a box to the history, if it is an answer.
+fn tell<M: Tally>(chronicle: &Chronicle<M>, history: &mut History<M>, taking: &Taking)
+    requires { MayBeTold taking.now history.old }
     ensures this { IsPrefix history.old history.new }
-    ensures told { TakingTold result history.new }
+    ensures told { TakingTold taking.now history.new }
 {
-    let Taking::Mail { mail, more } = taking else {
-        return taking;
+    let Taking::Mail { mail, .. } = taking else {
+        return;
     };
-    let Mail::Answer {
-        session,
-        number,
-        answer,
-        place,
-    } = mail
-    else {
-        return Taking::Mail { mail, more };
-    };
-    if place >= mark {
-        let mail = Mail::Withdrawn { number };
-        return Taking::Mail { mail, more };
+    if let Some(receipt) = Receipt::of(mail) {
+        history.tell(chronicle, receipt);
     }
-    let receipt = Receipt {
-        session,
-        number,
-        answer,
-        place,
-    };
-    history.tell(chronicle, receipt);
-    let mail = Mail::Answer {
-        session,
-        number,
-        answer,
-        place,
-    };
-    Taking::Mail { mail, more }
 }
 
 /// As many condition variables as there are bells.

@@ -17,7 +17,7 @@ use logbook::{Gain, Offer, Opening, Plain, Play, Rule, Seen, Start, Word};
 use std::alloc::Global;
 use std::marker::{Model, PhantomData};
 
-/// The rule of the history: the word counts the stored groups, and an answer is told only after its entry was stored.
+/// The rule of the history: the word counts the stored groups, and an answer comes only after its entry was stored.
 pub struct Law;
 
 impl Rule<Act, u64> for Law {
@@ -134,12 +134,6 @@ impl NewHistory {
             seen,
             place,
         }
-    }
-
-    pub(crate) fn place(&self) -> u64
-        ensures { result ≡ self.now.place }
-    {
-        self.place
     }
 
     /// The account of a hall that did not begin: no receipts, and nothing happened.

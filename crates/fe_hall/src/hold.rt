@@ -1,7 +1,7 @@
 //! A hold of a hall's lock, in which at most one event of the front is made.
 
 ghost use Rattle.std.specs.Sync.Mutex.{mutex_guard_value as under};
-ghost use Rattle.std.specs.Prelude.{◌≡◌, ◌≢◌, ◌+◌, ◌≤◌, ◌↔◌, ℕ, List, [], true, false, Ok, Err, Some, None, IsTrue, IsErr, IfOk, OnOk, OnErr, MatchOption, length};
+ghost use Rattle.std.specs.Prelude.{◌≡◌, ◌≢◌, ◌+◌, ◌≤◌, ◌↔◌, ℕ, List, [], true, false, Ok, Err, Some, None, IsTrue, IsErr, IfOk, IfSome, OnOk, OnErr, MatchOption, length};
 ghost use Rattle.fe_state.specs.declared.entry.Entry.{Entry};
 ghost use Rattle.fe_front.specs.Event as event;
 ghost use Rattle.fe_front.specs.Posting.{IsOut};
@@ -10,6 +10,7 @@ ghost use Rattle.fe_front.specs.Step.{FrontStep};
 ghost use Rattle.fe_messages.specs.Taking.{Takes};
 ghost use mathlib.Core.List.{IsPrefix};
 ghost use Rattle.fe_hall.specs.Acts.{mark_of};
+ghost use Rattle.fe_hall.specs.Marks.{MayBeTold};
 ghost use Rattle.fe_hall.specs.Commits.{IsStored};
 ghost use Rattle.fe_hall.specs.Holds.{Cuts, TakesMail};
 ghost use Rattle.fe_hall.specs.Seats.{HasDeparted, ReadSeat, TookNoMessage, WriteSeat, first_read_seat, first_write_seat, message_answered, taking_answered, posts_more};
@@ -140,6 +141,7 @@ impl<'a, C: Tally, M: Tally> Hold<'a, C, M> {
         ensures takes { TakesMail (under self.old.shared).front (under self.old.shared).stopped seat.old.conn result
             (under self.new.shared).front }
         ensures seat { MatchOption result (seat.new ≡ seat.old) (λ taking. seat.new ≡ taking_answered seat.old taking) }
+        ensures stored { IfSome result (λ taking. MayBeTold taking (under self.new.shared).history) }
     {
         self.used = true;
         self.shared.take_mail(seat)
@@ -207,6 +209,7 @@ impl<'a, C: Tally, M: Tally> Hold<'a, C, M> {
         requires fresh { self.old.used ≡ false }
         requires more { IsTrue (posts_more (under self.old.shared).front.books batch) }
         requires stored { IsStored batch keeper.now.state }
+        requires noted { keeper.now.state.place ≤ mark_of seat.now }
         ensures used { self.new.used ≡ true }
         ensures refused { IsErr result ↔ (¬ IsOut (under self.old.shared).front.out batch) }
         ensures step { OnOk result
@@ -265,12 +268,12 @@ impl<'a, C: Tally, M: Tally> Hold<'a, C, M> {
         self.shared.is_drained(conn, place)
     }
 
-    /// How far what was stored is posted (`Shared::mark`).
-    pub(crate) fn mark(&self, history: &mut History<M>) -> u64
+    /// The history learns what was stored (`Shared::teach`).
+    pub(crate) fn teach(&self, history: &mut History<M>)
         ensures this { IsPrefix history.old history.new }
-        ensures mark { result ≤ mark_of history.new }
+        ensures that { IsPrefix (under self.now.shared).history history.new }
     {
-        self.shared.mark(history)
+        self.shared.teach(history);
     }
 
     /// How many mails were made, also those that met a full box.

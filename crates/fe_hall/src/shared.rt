@@ -4,7 +4,7 @@ ghost use Rattle.std.specs.Prelude.{◌≡◌, ◌≢◌, ◌+◌, ◌-◌, ◌^
 ghost use Rattle.std.specs.FinMap.{get};
 ghost use Rattle.fe_state.specs.declared.entry.Entry.{Entry};
 ghost use Rattle.fe_front.specs.Front.{has_room, is_connected};
-ghost use Rattle.fe_mail.specs.Books.{AddUp, first_books};
+ghost use Rattle.fe_mail.specs.Books.{AddUp};
 ghost use Rattle.fe_front.specs.Event as event;
 ghost use Rattle.fe_front.specs.Posting.{IsOut};
 ghost use Rattle.fe_front.specs.Ringing.{Rings};
@@ -12,6 +12,7 @@ ghost use Rattle.fe_front.specs.Step.{FrontStep};
 ghost use Rattle.fe_messages.specs.Taking.{Takes};
 ghost use mathlib.Core.List.{IsPrefix};
 ghost use Rattle.fe_hall.specs.Acts.{mark_of};
+ghost use Rattle.fe_hall.specs.Marks.{IsBegun, IsMarked, MayBeTold};
 ghost use Rattle.fe_hall.specs.Commits.{IsStored};
 ghost use Rattle.fe_hall.specs.Holds.{Cuts, Ends, TakesMail};
 ghost use Rattle.fe_hall.specs.Seats.{HasDeparted, IsOpen, ReadSeat, TookNoMessage, WriteSeat, first_read_seat, first_write_seat, message_taken, message_answered, taking_answered, takes_more, posts_more, most_connections};
@@ -48,9 +49,8 @@ pub(crate) struct Shared<C: Tally, M: Tally> {
     mails: Book<M>,
     spare_calls: Share<C>,
     spare_mails: Share<M>,
-    /// What was stored, as far as it is posted; all entries before the mark are.
+    /// What was stored, at least as far as it is posted.
     history: History<M>,
-    mark: u64,
     /// How many connections were made.
     made: u64,
     /// Those whose read side waits for their box.
@@ -62,7 +62,7 @@ pub(crate) struct Shared<C: Tally, M: Tally> {
     ghost few: { made ≤ most_connections },
     ghost call_parts: { (spare_calls.parts + made ≡ C.all) × (spare_calls.amount ≡ 0)
         × (C.all ≡ most_connections + 1) },
-    ghost marked: { mark ≤ mark_of history },
+    ghost marked: { IsMarked front history },
     ghost mail_parts: { (spare_mails.parts + made ≡ M.all) × (spare_mails.amount ≡ 0)
         × (M.all ≡ most_connections + 1) },
 }
@@ -106,14 +106,12 @@ impl<C: Tally, M: Tally> Shared<C, M> {
         calls: Blank,
         mails: Blank,
         history: History<M>,
-        mark: u64,
     ) -> Shared<C, M>
-        requires first { front.books ≡ first_books }
+        requires begun { IsBegun front (mark_of history) }
         requires calls { (calls.name ≡ C.name) × (calls.parts ≡ C.parts) × (C.all ≡ C.parts)
             × (C.all ≡ most_connections + 1) }
         requires mails { (mails.name ≡ M.name) × (mails.parts ≡ M.parts) × (M.all ≡ M.parts)
             × (M.all ≡ most_connections + 1) }
-        requires marked { mark ≤ mark_of history }
         ensures { result.front ≡ front }
     {
         let (called, spare_calls) = calls.open::<C>();
@@ -125,7 +123,6 @@ impl<C: Tally, M: Tally> Shared<C, M> {
             spare_calls,
             spare_mails,
             history,
-            mark,
             made: 0,
             watched: Vec::new(alloc),
             stopped: false,
@@ -150,6 +147,7 @@ impl<C: Tally, M: Tally> Shared<C, M> {
         if self.made == CONNECTIONS {
             return Err(Unconnected::Spent);
         }
+        let _ = self.front.state();
         if self.front.connect(conn).is_err() {
             return Err(Unconnected::NoMemory);
         }
@@ -294,6 +292,7 @@ impl<C: Tally, M: Tally> Shared<C, M> {
     pub(crate) fn take_mail(&mut self, seat: &mut MailSeat<M>) -> Option<Taking>
         ensures takes { TakesMail self.old.front self.old.stopped seat.old.conn result self.new.front }
         ensures seat { MatchOption result (seat.new ≡ seat.old) (λ taking. seat.new ≡ taking_answered seat.old taking) }
+        ensures stored { IfSome result (λ taking. MayBeTold taking self.new.history) }
         ensures still { self.new.stopped ≡ self.old.stopped }
     {
         let _ = self.front.state();
@@ -308,13 +307,12 @@ impl<C: Tally, M: Tally> Shared<C, M> {
         }
     }
 
-    /// The place before which all entries are stored and posted. The history gets to know of them.
-    pub(crate) fn mark(&self, history: &mut History<M>) -> u64
+    /// The history learns what was stored, at least as far as it is posted.
+    pub(crate) fn teach(&self, history: &mut History<M>)
         ensures this { IsPrefix history.old history.new }
-        ensures mark { result ≤ mark_of history.new }
+        ensures that { IsPrefix self.now.history history.new }
     {
         history.learn(&self.history);
-        self.mark
     }
 
     /// Why no mail comes any more for a connection whose box is empty. `None`: one may come.
@@ -412,6 +410,7 @@ impl<C: Tally, M: Tally> Shared<C, M> {
     ) -> Result<Posted, StrangeBatch>
         requires more { IsTrue (posts_more self.old.front.books batch) }
         requires stored { IsStored batch keeper.now.state }
+        requires noted { keeper.now.state.place ≤ mark_of seat.now }
         ensures refused { IsErr result ↔ (¬ IsOut self.old.front.out batch) }
         ensures step { OnOk result (FrontStep self.old.front (event.Post batch) [] self.new.front) }
         ensures durable { IfOk result (λ posted. posted.durable ≡ batch.first + length batch.entries) }
@@ -420,7 +419,6 @@ impl<C: Tally, M: Tally> Shared<C, M> {
     {
         let _ = keeper;
         self.history.learn(seat.history());
-        self.mark = seat.mark();
         let _ = self.front.state();
         match self.front.post_ringing(batch, wakes) {
             Ok(()) => Ok(Posted {
@@ -461,7 +459,6 @@ impl<C: Tally, M: Tally> Shared<C, M> {
             spare_calls,
             spare_mails,
             history,
-            mark: _,
             made: _,
             watched,
             stopped: _,

@@ -16,42 +16,37 @@ const GROUPS: u64 = 4611686018427387904;
 pub struct StoreSeat<M: Tally> {
     /// How many groups it stored.
     stored: u64,
-    /// All entries before this place are stored.
-    mark: u64,
     history: History<M>,
 }
 
 impl<M: Tally> Model for StoreSeat<M> {
-    ghost use Rattle.std.specs.Prelude.{◌≡◌, ◌≤◌, List, length};
+    ghost use Rattle.std.specs.Prelude.{◌≡◌, List, length};
     ghost use Rattle.fe_hall.specs.declared.act.Act.{Act};
-    ghost use Rattle.fe_hall.specs.Acts.{mark_of, stores_in};
+    ghost use Rattle.fe_hall.specs.Acts.{stores_in};
 
     ghost Value = { List Act };
 
     ghost view = { λ s. s.history };
 
-    ghost invariant = { λ s. (s.stored ≡ length (stores_in s.history)) × (s.mark ≤ mark_of s.history) };
+    ghost invariant = { λ s. s.stored ≡ length (stores_in s.history) };
 }
 
 impl<M: Tally> StoreSeat<M> {
-    /// The seat of a hall that just began, at this place.
-    pub(crate) fn new(history: History<M>, mark: u64) -> StoreSeat<M>
-        requires none { stores_in history ≡ [] }
-        requires mark { mark ≤ mark_of history }
+    /// The seat of a hall that just began.
+    pub(crate) fn new(history: History<M>) -> StoreSeat<M>
+        requires { stores_in history ≡ [] }
         ensures { result ≡ history }
     {
-        StoreSeat {
-            stored: 0,
-            mark,
-            history,
-        }
+        StoreSeat { stored: 0, history }
     }
 
-    /// Notes the group that a keeper has just stored. False where someone else noted a group, or this side 2^62; then nothing changes.
+    /// Notes the group that a keeper has just stored, so that the entries before the keeper's place are stored in its history. False
+    /// where someone else noted a group, or this side 2^62; then nothing changes.
     pub(crate) fn note<D: Disk>(&mut self, chronicle: &Chronicle<M>, keeper: &Keeper<D>) -> bool
         ensures this { IsPrefix self.old self.new }
         ensures noted { IsTrue result
             → stores_in self.new ≡ stores_in self.old ++ (keeper.now.state.place, D.moment keeper.now.store.disk) ∷ [] }
+        ensures marked { IsTrue result → keeper.now.state.place ≤ mark_of self.new }
         ensures unnoted { result ≡ false → self.new ≡ self.old }
     {
         if self.stored >= GROUPS {
@@ -62,16 +57,8 @@ impl<M: Tally> StoreSeat<M> {
             return false;
         }
         self.stored += 1;
-        self.mark = keeper.state().place();
         self.history = history;
         true
-    }
-
-    /// All entries before this place are stored.
-    pub(crate) fn mark(&self) -> u64
-        ensures { result ≤ mark_of self.now }
-    {
-        self.mark
     }
 
     pub(crate) fn history(&self) -> &History<M>
@@ -85,13 +72,10 @@ impl<M: Tally> StoreSeat<M> {
         ensures this { IsPrefix self result.0 }
         ensures seen { IsPrefix seen result.0 }
         ensures legal { IsLegal result.0 }
-        ensures own { MatchBool result.1 (stores_in result.0 ≡ stores_in self) (HasMore (stores_in self) (stores_in result.0)) }
+        ensures own { MatchBool result.1 (stores_in result.0 ≡ stores_in self)
+            (HasMore (stores_in self) (stores_in result.0)) }
     {
-        let StoreSeat {
-            stored,
-            mark: _,
-            history,
-        } = self;
+        let StoreSeat { stored, history } = self;
         let mut all = history;
         all.learn(&seen);
         drop(seen);

@@ -66,6 +66,7 @@ impl<C: Tally, M: Tally> Opened<C, M> {
         requires mails { (mails.name ≡ M.name) × (mails.parts ≡ M.parts) × (M.all ≡ M.parts)
             × (M.all ≡ most_connections + 1) }
         requires history { history.book ≡ M.book }
+        requires place { history.place ≡ state.now.place }
         ensures begun { IfOk result (λ opened. opened.0.begun.value ≡ state.now) }
         ensures most { IfOk result (λ opened. opened.0.house.most ≡ settings.now.connections) }
         ensures keeps { IfOk result (λ opened. opened.0.house.keeps ≡ nat_lt 0 settings.now.accepts) }

@@ -116,6 +116,7 @@ fn close_as<C: Tally, M: Tally, R: Abort + Wait>(
     requires mails { (mails.name ≡ M.name) × (mails.parts ≡ M.parts) × (M.all ≡ M.parts)
         × (M.all ≡ most_connections + 1) }
     requires history { history.book ≡ M.book }
+    requires place { history.place ≡ keeper.state.place }
 {
     let (hall, seat) = hall_over::<C, M>(alloc, keeper.state(), calls, mails, history)
         .ok()

@@ -113,6 +113,7 @@ fn store_as<C: Tally, M: Tally, R: Abort + Wait>(
     requires mails { (mails.name ≡ M.name) × (mails.parts ≡ M.parts) × (M.all ≡ M.parts)
         × (M.all ≡ most_connections + 1) }
     requires history { history.book ≡ M.book }
+    requires place { history.place ≡ keeper.old.state.place }
 {
     let (hall, mut stored) = hall_over::<C, M>(alloc, keeper.state(), calls, mails, history).ok()?;
     let end = store(rt, alloc, &hall, keeper, &mut stored);

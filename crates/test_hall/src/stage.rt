@@ -92,6 +92,7 @@ fn perform_as<
     requires mails { (mails.name ≡ M.name) × (mails.parts ≡ M.parts) × (M.all ≡ M.parts)
         × (M.all ≡ most_connections + 1) }
     requires history { history.book ≡ M.book }
+    requires place { history.place ≡ keeper.state.place }
 {
     let (hall, seat) = hall_over::<C, M>(alloc, keeper.state(), calls, mails, history)
         .ok()
@@ -146,6 +147,7 @@ pub fn hall_over<C: Tally, M: Tally>(
     requires mails { (mails.name ≡ M.name) × (mails.parts ≡ M.parts) × (M.all ≡ M.parts)
         × (M.all ≡ most_connections + 1) }
     requires history { history.book ≡ M.book }
+    requires place { history.place ≡ state.now.place }
 {
     let front = Front::new(alloc, state.copy()?)?;
     match Hall::new(alloc, front, calls, mails, history) {

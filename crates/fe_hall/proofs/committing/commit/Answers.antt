@@ -13,7 +13,7 @@ post-requires g c =
     let e = c.in-Ok.ensures.appended in
     let new = c.append.new.self in
     let stored : IsStored c.args.batch new.state = record { before = old.state; continues = e.continues; state_is = e.state } in
-    record { stored = subst (λ (b : Batch). IsStored b new.state) (sym c.in-Ok.ensures.returned) stored }
+    record { stored = subst (λ (b : Batch). IsStored b new.state) (sym c.in-Ok.ensures.returned) stored; noted = c.note.ensures.marked (search rules) }
 
 pub returns-in-Some-Ok-clause-commits : goal.returns-in-Some-Ok-clause-commits
 returns-in-Some-Ok-clause-commits g c =

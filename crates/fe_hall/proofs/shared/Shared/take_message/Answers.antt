@@ -1,4 +1,5 @@
 use Rattle.std.proofs.Common.{arith}
+use Rattle.fe_hall.proofs.Marks.{takes_marked}
 use Rattle.fe_hall.proofs.Risings.{takes_goes}
 use Rattle.fe_hall.proofs.shared.Shared.take_message.Goals as goal
 
@@ -12,7 +13,7 @@ invariant_of-self g c =
       calls_agree = omega (arith, s.calls_agree, goes.calls, c.take.ensures.book);
       mails_agree = omega (arith, s.mails_agree, goes.taken);
       few = s.few;
-      marked = s.marked;
+      marked = takes_marked s.front c.take_message.new.front c.conn-conn.result t.0 s.history c.state.ensures.front t.2.durable s.marked c.args.message t.1;
       call_parts = s.call_parts;
       mail_parts = s.mail_parts;
     }

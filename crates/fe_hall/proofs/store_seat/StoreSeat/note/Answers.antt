@@ -1,5 +1,5 @@
-use Rattle.std.proofs.Common.{◌≡◌, ℕ, ◌≤◌, List, [], ◌∷◌, ◌++◌, length, sym, ap, ◌∙◌, arith, rules, length-append}
-use Rattle.fe_hall.specs.Acts.{mark_of, stores_in}
+use Rattle.std.proofs.Common.{◌≡◌, ℕ, List, [], ◌∷◌, ◌++◌, length, sym, ap, ◌∙◌, arith, rules, length-append}
+use Rattle.fe_hall.specs.Acts.{stores_in}
 use Rattle.fe_hall.specs.declared.act.Act.{Act}
 use Rattle.fe_hall.proofs.Noted.{note_adds, note_marks}
 use Rattle.fe_hall.proofs.store_seat.StoreSeat.note.Goals as goal
@@ -10,13 +10,10 @@ invariant_of-self g c =
     let place : ℕ = keeper.state.place in
     let moment : ℕ = g.D.Disk.moment keeper.store.disk in
     let before : List Act = c.again-history.result in
-    let after : List Act = c.store.new.self in
     let s = c.store.ensures.stored (search rules) in
-    let count : c.self.inside.stored ≡ length (stores_in before) = c.self.invariant.0 ∙ ap (λ (h : List Act). length (stores_in h)) (sym c.again-history.ensures.same) in
-    let adds = note_adds before after place moment c.self.inside.stored count s.0 s.1 in
-    let marks : place ≤ mark_of after = note_marks before after place moment c.store.ensures.legal s.0 in
-    let same : c.place-self-inside.result ≡ place = search rules in
-    (omega (arith, count, ap length adds, length-append (stores_in before) ((place, moment) ∷ [])), omega (arith, marks, same))
+    let count : c.self.inside.stored ≡ length (stores_in before) = c.self.invariant ∙ ap (λ (h : List Act). length (stores_in h)) (sym c.again-history.ensures.same) in
+    let adds = note_adds before c.store.new.self place moment c.self.inside.stored count s.0 s.1 in
+    omega (arith, count, ap length adds, length-append (stores_in before) ((place, moment) ∷ []))
 
 pub returns-clause-noted : goal.returns-clause-noted
 returns-clause-noted g c = λ _.
@@ -25,6 +22,11 @@ returns-clause-noted g c = λ _.
     let moment : ℕ = g.D.Disk.moment keeper.store.disk in
     let before : List Act = c.again-history.result in
     let s = c.store.ensures.stored (search rules) in
-    let count : c.self.inside.stored ≡ length (stores_in before) = c.self.invariant.0 ∙ ap (λ (h : List Act). length (stores_in h)) (sym c.again-history.ensures.same) in
+    let count : c.self.inside.stored ≡ length (stores_in before) = c.self.invariant ∙ ap (λ (h : List Act). length (stores_in h)) (sym c.again-history.ensures.same) in
     note_adds before c.store.new.self place moment c.self.inside.stored count s.0 s.1
     ∙ ap (λ (h : List Act). stores_in h ++ (place, moment) ∷ []) (c.again-history.ensures.same ∙ c.self.view_is)
+
+pub returns-clause-marked : goal.returns-clause-marked
+returns-clause-marked g c = λ _.
+    let keeper = c.args.keeper.now in
+    note_marks c.again-history.result c.store.new.self keeper.state.place (g.D.Disk.moment keeper.store.disk) c.store.ensures.legal (c.store.ensures.stored (search rules)).0

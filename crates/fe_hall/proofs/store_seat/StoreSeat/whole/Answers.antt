@@ -16,7 +16,7 @@ returns-then-count-stored-clause-seen g c = prefix_trans c.args.seen c.learn.new
 pub returns-then-count-stored-clause-own : goal.returns-then-count-stored-clause-own
 returns-then-count-stored-clause-own g c =
     let this = prefix_trans c.self.inside.history c.learn.new.self c.count.new.self c.learn.ensures.this c.count.ensures.this in
-    let more = stores_more c.self.inside.history c.count.new.self this (λ same. c.if-count-stored.true (omega (arith, c.count.ensures.count, same, c.self.invariant.0))) in
+    let more = stores_more c.self.inside.history c.count.new.self this (λ same. c.if-count-stored.true (omega (arith, c.count.ensures.count, same, c.self.invariant))) in
     subst (λ (h : List Act). HasMore (stores_in h) (stores_in c.count.new.self)) c.self.view_is more
 
 pub returns-clause-this : goal.returns-clause-this
@@ -30,5 +30,5 @@ returns-clause-seen g c = prefix_trans c.args.seen c.learn.new.self c.count.new.
 pub returns-clause-own : goal.returns-clause-own
 returns-clause-own g c =
     let this = prefix_trans c.self.inside.history c.learn.new.self c.count.new.self c.learn.ensures.this c.count.ensures.this in
-    let count : length (stores_in c.count.new.self) ≡ length (stores_in c.self.inside.history) = omega (arith, c.count.ensures.count, c.if-count-stored.false, c.self.invariant.0) in
+    let count : length (stores_in c.count.new.self) ≡ length (stores_in c.self.inside.history) = omega (arith, c.count.ensures.count, c.if-count-stored.false, c.self.invariant) in
     stores_same c.self.inside.history c.count.new.self this count ∙ ap stores_in c.self.view_is

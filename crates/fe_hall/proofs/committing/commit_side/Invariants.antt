@@ -2,7 +2,7 @@ use Rattle.std.proofs.Common.{◌≡◌, ◌⊎◌, false, None}
 use Rattle.std.specs.Prelude.{◌↔◌}
 use Rattle.fe_keeper.specs.Stands.{EachStandsFor}
 use Rattle.fe_hall.specs.Commits.{AreNoted, Commits, IsStill}
-use Rattle.fe_hall.proofs.committing.commit_all.Given as goal
+use Rattle.fe_hall.proofs.committing.commit_side.Given as goal
 
 abbrev pub invariant-loop : goal.invariant-loop
 invariant-loop g l =

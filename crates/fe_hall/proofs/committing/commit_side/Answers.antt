@@ -3,7 +3,7 @@ use Rattle.fe_hall.specs.Commits.{AreNoted, Commits, IsStill, TellsEnd}
 use Rattle.fe_hall.specs.declared.commit_end.CommitEnd.{CommitEnd}
 use Rattle.fe_hall.specs.declared.commit_end.CommitEnd.TheVariants.{Stopped, Store}
 use Rattle.fe_hall.proofs.Committed.{kept_noted, both_commits, turn_commits, ended_noted, rests_itself, still_itself, still_both}
-use Rattle.fe_hall.proofs.committing.commit_all.Goals as goal
+use Rattle.fe_hall.proofs.committing.commit_side.Goals as goal
 
 pub loop-init : goal.loop-init
 loop-init g c =
