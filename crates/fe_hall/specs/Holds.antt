@@ -14,6 +14,10 @@ use Rattle.fe_hall.specs.declared.taking.Taking.TheVariants as taking
 abbrev pub has_mail : FrontState → ℕ → Bool
 has_mail f conn = nat_lt 0 (length (mails_on f.connections conn))
 
+-- the connection is gone, with its box and what waits of its session
+abbrev pub Leaves : FrontState → ℕ → FrontState → Type 0
+Leaves f conn g = (count : ℕ) × FrontStep f (event.Gone conn count) [] g
+
 -- Why no mail comes any more for a connection whose box is empty; `None`: one may come.
 abbrev pub Ends : FrontState → Bool → ℕ → Option Taking → Type 0
 Ends f stopped conn (Some (taking.Mail mail more)) = ⊥

@@ -1,5 +1,5 @@
 -- What a read side makes of the bytes of its stream.
-use Rattle.std.specs.Prelude.{◌≡◌, ℕ, ◌+◌, ◌<◌, ◌^◌, ◌-◌, ◌⊎◌, Bool, true, false, ◌&&◌, nat_lt, if◌then◌else◌, min, List, [], ◌∷◌, ◌++◌, length, take, filter, sum_by}
+use Rattle.std.specs.Prelude.{◌≡◌, ◌≢◌, ℕ, ◌+◌, ◌<◌, ◌^◌, ◌-◌, ◌⊎◌, Bool, true, false, ◌&&◌, nat_lt, if◌then◌else◌, min, List, [], ◌∷◌, ◌++◌, length, take, filter, sum_by}
 use Rattle.std.specs.List.{flat_map}
 use Rattle.fe_wire.specs.Spelling.{spelling}
 use Rattle.fe_wire.specs.Stream.{Decoding, HasRead, IsStream, IsUnfinished, IsBad}
@@ -91,6 +91,10 @@ EndsEarly Gone = Unit {0}
 EndsEarly Stopped = Unit {0}
 EndsEarly Spent = Unit {0}
 EndsEarly NoMemory = Unit {0}
+
+-- the side ended for what came, or for what the hall said of it, and not for its half or for the number of its reads
+abbrev pub IsOfMessages : ReadEnd → Type 0
+IsOfMessages end = (end ≢ Closed) × (end ≢ Device) × (end ≢ Turns)
 
 -- All messages of the bytes that came so far were handled, and more bytes are waited for.
 pub record IsAt (bytes : List ℕ) (before : ReadSeat) (decoder : Decoding) (after : ReadSeat) (list : List ClientMessage) : Type 0 where

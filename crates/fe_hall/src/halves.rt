@@ -1,6 +1,6 @@
 //! The two directions of a connection, and the gate that each message passes first.
 
-ghost use Rattle.std.specs.Prelude.{◌≡◌, ◌≤◌, ◌++◌, [], ℕ, List, length, take, IfOk, OnOk, OnErr};
+ghost use Rattle.std.specs.Prelude.{◌≡◌, ◌<◌, ◌≤◌, ◌++◌, [], ℕ, List, length, take, IfOk, OnOk, OnErr};
 
 use std::alloc::Global;
 use std::sync::Wait;
@@ -17,12 +17,21 @@ pub trait ReadHalf {
     /// The bytes that were read.
     ghost told: { Self → List ℕ };
 
+    /// Its stream has ended.
+    ghost ended: { Self → Type 0 };
+
+    /// A read of it failed.
+    ghost failed: { Self → Type 0 };
+
     /// Reads some bytes into the front of the buffer, and returns how many; 0 if the stream has ended.
     fn read(&mut self, buffer: &mut [u8]) -> Result<usize, LineFault>
+        requires { 0 < length buffer.old }
         ensures fits { IfOk result (λ n. n ≤ length buffer.old) }
         ensures tells { tells self.old → tells self.new }
         ensures told { tells self.old → IfOk result (λ n. told self.new ≡ told self.old ++ take n buffer.new) }
-        ensures err { tells self.old → OnErr result (told self.new ≡ told self.old) };
+        ensures err { tells self.old → OnErr result (told self.new ≡ told self.old) }
+        ensures ended { IfOk result (λ n. n ≡ 0 → ended self.new) }
+        ensures failed { OnErr result (failed self.new) };
 }
 
 /// The direction to the client.
@@ -33,12 +42,18 @@ pub trait WriteHalf {
     /// The bytes that it got.
     ghost got: { Self → List ℕ };
 
+    /// A write of it failed, or took no byte.
+    ghost failed: { Self → Type 0 };
+
     /// Writes some bytes from the front, and returns how many; 0 if it takes no more.
     fn write(&mut self, bytes: &[u8]) -> Result<usize, LineFault>
+        requires { 0 < length bytes.now }
         ensures fits { IfOk result (λ n. n ≤ length bytes.now) }
         ensures tells { tells self.old → tells self.new }
         ensures got { tells self.old → IfOk result (λ n. got self.new ≡ got self.old ++ take n bytes.now) }
-        ensures err { tells self.old → OnErr result (got self.new ≡ got self.old) };
+        ensures err { tells self.old → OnErr result (got self.new ≡ got self.old) }
+        ensures none { IfOk result (λ n. n ≡ 0 → failed self.new) }
+        ensures failed { OnErr result (failed self.new) };
 }
 
 /// What each message of a read side passes before it is handled.
@@ -87,11 +102,15 @@ impl MemoryRead {
 }
 
 impl ReadHalf for MemoryRead {
-    ghost use Rattle.std.specs.Prelude.{take};
+    ghost use Rattle.std.specs.Prelude.{◌≡◌, ◌<◌, length, take};
 
     ghost tells = { λ _. Unit {0} };
 
     ghost told = { λ r. take r.next r.bytes.items };
+
+    ghost ended = { λ r. 0 < r.piece → r.next ≡ length r.bytes.items };
+
+    ghost failed = { λ _. ⊥ };
 
     fn read(&mut self, buffer: &mut [u8]) -> Result<usize, LineFault> {
         let count = buffer
@@ -133,6 +152,8 @@ impl WriteHalf for MemoryWrite {
     ghost tells = { λ _. Unit {0} };
 
     ghost got = { λ w. w.bytes.items };
+
+    ghost failed = { λ _. Unit {0} };
 
     fn write(&mut self, bytes: &[u8]) -> Result<usize, LineFault> {
         match self.bytes.extend_from_slice(bytes) {

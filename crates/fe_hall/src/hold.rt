@@ -12,7 +12,7 @@ ghost use mathlib.Core.List.{IsPrefix};
 ghost use Rattle.fe_hall.specs.Acts.{mark_of};
 ghost use Rattle.fe_hall.specs.Marks.{MayBeTold};
 ghost use Rattle.fe_hall.specs.Commits.{IsStored};
-ghost use Rattle.fe_hall.specs.Holds.{Cuts, TakesMail};
+ghost use Rattle.fe_hall.specs.Holds.{Cuts, Leaves, TakesMail};
 ghost use Rattle.fe_hall.specs.Seats.{HasDeparted, ReadSeat, TookNoMessage, WriteSeat, first_read_seat, first_write_seat, message_answered, taking_answered, posts_more};
 
 use crate::call_seat::CallSeat;
@@ -65,7 +65,7 @@ impl<C: Tally, M: Tally> Lock<C, M> {
         }
     }
 
-    /// The standard library's `lock` sleeps at once where another thread sleeps already, so this tries for a while first.
+    /// The standard library's `lock` sleeps at once where another thread sleeps already, so this tries first.
     fn guard<R: Wait>(&self, rt: &R) -> MutexGuard<'_, Shared<C, M>> {
         for _k in 0..LOOKS {
             if let Some(shared) = self.shared.try_lock() {
@@ -151,8 +151,7 @@ impl<'a, C: Tally, M: Tally> Hold<'a, C, M> {
     pub(crate) fn leave_by_reader(&mut self, seat: &mut CallSeat<C>)
         requires fresh { self.old.used ≡ false }
         ensures used { self.new.used ≡ true }
-        ensures step { (count : ℕ)
-            × FrontStep (under self.old.shared).front (event.Gone seat.old.conn count) [] (under self.new.shared).front }
+        ensures step { Leaves (under self.old.shared).front seat.old.conn (under self.new.shared).front }
         ensures seat { seat.new ≡ record seat.old { departed = true } }
     {
         self.used = true;
@@ -163,8 +162,7 @@ impl<'a, C: Tally, M: Tally> Hold<'a, C, M> {
     pub(crate) fn leave_by_writer(&mut self, seat: &mut MailSeat<M>)
         requires fresh { self.old.used ≡ false }
         ensures used { self.new.used ≡ true }
-        ensures step { (count : ℕ)
-            × FrontStep (under self.old.shared).front (event.Gone seat.old.conn count) [] (under self.new.shared).front }
+        ensures step { Leaves (under self.old.shared).front seat.old.conn (under self.new.shared).front }
         ensures seat { seat.new ≡ record seat.old { departed = true } }
     {
         self.used = true;
@@ -178,8 +176,7 @@ impl<'a, C: Tally, M: Tally> Hold<'a, C, M> {
         ensures departed { HasDeparted seat.new }
         ensures untaken { TookNoMessage seat.old seat.new }
         ensures step { (under self.old.shared).stopped ≡ false
-            → (count : ℕ)
-            × FrontStep (under self.old.shared).front (event.Gone seat.old.conn count) [] (under self.new.shared).front }
+            → Leaves (under self.old.shared).front seat.old.conn (under self.new.shared).front }
         ensures stopped { (under self.old.shared).stopped ≡ true
             → (under self.new.shared).front ≡ (under self.old.shared).front }
     {

@@ -1,9 +1,9 @@
 //! The read side of a connection: the messages of its stream go to the hall, one after the other.
 
-ghost use Rattle.std.specs.Prelude.{◌≡◌, ◌≢◌, ◌↔◌, ◌++◌, [], ℕ, List, IsNone, IsSome, Some, IfNone, IfSome, OnSome, MatchOption};
+ghost use Rattle.std.specs.Prelude.{◌≡◌, ◌≢◌, ◌↔◌, ◌<◌, ◌++◌, [], ℕ, List, length, IsNone, IsSome, Some, IfNone, IfSome, OnSome, MatchOption};
 ghost use Rattle.fe_wire.specs.declared.client_message.ClientMessage.{ClientMessage as Message};
 ghost use Rattle.fe_hall.specs.Seats.{HasDeparted, ReadSeat, TookNoMessage, message_taken};
-ghost use Rattle.fe_hall.specs.Reads.{is_sent, listed_with, AreHandled, EndsEarly, EndsAmong, HandlesStream, IsAt, IsTold};
+ghost use Rattle.fe_hall.specs.Reads.{is_sent, listed_with, AreHandled, EndsEarly, EndsAmong, HandlesStream, IsAt, IsOfMessages, IsTold};
 
 use crate::call_seat::CallSeat;
 use crate::ends::ReadEnd;
@@ -42,6 +42,8 @@ pub fn read_side<C: Tally, M: Tally, H: ReadHalf, G: Gate, R: Wait>(
         → HandlesStream (H.told half.new) seat result.0 result.1.items result.2 }
     ensures tells { H.tells half.old → H.tells half.new }
     ensures turns { result.2 ≡ ReadEnd.Turns → IsSome turns }
+    ensures ended { result.2 ≡ ReadEnd.Closed → H.ended half.new }
+    ensures failed { result.2 ≡ ReadEnd.Device → H.failed half.new }
     // A side ends as `Gone`, `Stopped` or `Spent` only if that was the hall's last answer to it.
     ensures told { IsTold result.2 result.0.standing }
     ensures departed { result.2 ≢ ReadEnd.Stopped → HasDeparted result.0 }
@@ -85,11 +87,14 @@ impl<C: Tally> Reading<C> {
             → HandlesStream (H.told half.new) self.old.seat self.new.seat self.new.listed.items result }
         ensures tells { H.tells half.old → H.tells half.new }
         ensures turns { result ≡ ReadEnd.Turns → IsSome turns }
+        ensures ended { result ≡ ReadEnd.Closed → H.ended half.new }
+        ensures failed { result ≡ ReadEnd.Device → H.failed half.new }
         ensures told { IsTold result self.new.seat.standing }
     {
         let Ok(mut buffer) = vec![in self.alloc; 0u8; PIECE_BYTES] else {
             return ReadEnd::NoMemory;
         };
+        let piece = buffer.as_mut_slice();
         let mut left = turns;
         for _ in rt.forever() {
             match left {
@@ -97,7 +102,7 @@ impl<C: Tally> Reading<C> {
                 Some(count) => left = Some(count - 1),
                 None => {}
             }
-            if let Some(end) = self.read(rt, hall, half, gate, buffer.as_mut_slice()) {
+            if let Some(end) = self.read(rt, hall, half, gate, piece) {
                 return end;
             }
         }
@@ -113,12 +118,15 @@ impl<C: Tally> Reading<C> {
         gate: &G,
         buffer: &mut [u8],
     ) -> Option<ReadEnd>
+        requires { 0 < length buffer.old }
         ensures handled { (before : ReadSeat) → H.tells half.old
             → IsAt (H.told half.old) before self.old.decoder self.old.seat self.old.listed.items
             → MatchOption result (IsAt (H.told half.new) before self.new.decoder self.new.seat self.new.listed.items)
             (HandlesStream (H.told half.new) before self.new.seat self.new.listed.items) }
         ensures tells { H.tells half.old → H.tells half.new }
         ensures turns { IfSome result (λ end. end ≢ ReadEnd.Turns) }
+        ensures ended { IfSome result (λ end. end ≡ ReadEnd.Closed → H.ended half.new) }
+        ensures failed { IfSome result (λ end. end ≡ ReadEnd.Device → H.failed half.new) }
         ensures told { IfSome result (λ end. IsTold end self.new.seat.standing) }
     {
         match half.read(buffer) {
@@ -140,7 +148,7 @@ impl<C: Tally> Reading<C> {
             → IsAt bytes before self.old.decoder self.old.seat self.old.listed.items
             → MatchOption result (IsAt (bytes ++ piece.now) before self.new.decoder self.new.seat self.new.listed.items)
             (HandlesStream (bytes ++ piece.now) before self.new.seat self.new.listed.items) }
-        ensures turns { IfSome result (λ end. end ≢ ReadEnd.Turns) }
+        ensures of { IfSome result IsOfMessages }
         ensures told { IfSome result (λ end. IsTold end self.new.seat.standing) }
     {
         let Ok(fed) = self.decoder.feed(self.alloc, piece) else {
@@ -167,7 +175,7 @@ impl<C: Tally> Reading<C> {
             → AreHandled before self.old.seat self.old.listed.items earlier
             → MatchOption result (AreHandled before self.new.seat self.new.listed.items (earlier ++ messages.now))
             (EndsAmong before self.new.seat self.new.listed.items earlier messages.now) }
-        ensures turns { IfSome result (λ end. end ≢ ReadEnd.Turns) }
+        ensures of { IfSome result IsOfMessages }
         ensures told { IfSome result (λ end. IsTold end self.new.seat.standing) }
         ensures decoder { self.new.decoder ≡ self.old.decoder }
     {

@@ -48,6 +48,7 @@ pub fn write_side<C: Tally, M: Tally, H: WriteHalf, R: Wait>(
         × (H.tells half.old → IsWritten (H.got half.old) mails result.2 (H.got half.new))
         × AreTold mails result.1.history }
     ensures tells { H.tells half.old → H.tells half.new }
+    ensures failed { result.2 ≡ WriteEnd.Device → H.failed half.new }
     // A side ends as `Gone`, `Stopped` or `Spent` only if that was the hall's last answer to it.
     ensures told { IsTold result.2 result.0.standing }
     ensures departed { result.2 ≢ WriteEnd.Stopped → result.0.departed ≡ true }
@@ -96,6 +97,7 @@ impl<M: Tally> Writing<M> {
             × (H.tells half.old → IsWritten (H.got half.old) mails result (H.got half.new))
             × AreTold mails self.new.history }
         ensures tells { H.tells half.old → H.tells half.new }
+        ensures failed { result ≡ WriteEnd.Device → H.failed half.new }
         ensures told { IsTold result self.new.seat.standing }
     {
         for _ in rt.forever() {
@@ -120,6 +122,7 @@ impl<M: Tally> Writing<M> {
             (λ end. IsWritten (H.got half.old) mails end (H.got half.new))) × AreTold mails self.new.history }
         ensures frames { IfNone result (self.new.frames.items ≡ []) }
         ensures tells { H.tells half.old → H.tells half.new }
+        ensures failed { IfSome result (λ end. end ≡ WriteEnd.Device → H.failed half.new) }
         ensures this { IsPrefix self.old.history self.new.history }
         ensures told { IfSome result (λ end. IsTold end self.new.seat.standing) }
     {
@@ -251,6 +254,7 @@ fn write_whole<H: WriteHalf>(half: &mut H, bytes: &[u8]) -> Result<(), LineFault
     ensures ok { H.tells half.old → OnOk result (H.got half.new ≡ H.got half.old ++ bytes.now) }
     ensures err { H.tells half.old
         → OnErr result ((n : ℕ) × (n ≤ length bytes.now) × (H.got half.new ≡ H.got half.old ++ take n bytes.now)) }
+    ensures failed { OnErr result (H.failed half.new) }
 {
     let mut next = 0;
     while next < bytes.len() {

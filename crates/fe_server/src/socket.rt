@@ -18,11 +18,15 @@ impl<'a> SocketRead<'a> {
 }
 
 impl<'a> ReadHalf for SocketRead<'a> {
-    ghost use Rattle.std.specs.Prelude.{[]};
+    ghost use Rattle.std.specs.Prelude.{[], ⊤};
 
     ghost tells = { λ _. ⊥ };
 
     ghost told = { λ _. [] };
+
+    ghost ended = { λ _. ⊤ };
+
+    ghost failed = { λ _. ⊤ };
 
     fn read(&mut self, buffer: &mut [u8]) -> Result<usize, LineFault> {
         match read_some(&mut self.stream, buffer) {
@@ -46,11 +50,13 @@ impl<'a> SocketWrite<'a> {
 }
 
 impl<'a> WriteHalf for SocketWrite<'a> {
-    ghost use Rattle.std.specs.Prelude.{[]};
+    ghost use Rattle.std.specs.Prelude.{[], ⊤};
 
     ghost tells = { λ _. ⊥ };
 
     ghost got = { λ _. [] };
+
+    ghost failed = { λ _. ⊤ };
 
     fn write(&mut self, bytes: &[u8]) -> Result<usize, LineFault> {
         match write_some(&mut self.stream, bytes) {

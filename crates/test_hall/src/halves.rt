@@ -67,11 +67,15 @@ impl<'r, 'b, 'h, R: Clock + Wait> ClientRead<'r, 'b, 'h, R> {
 }
 
 impl<'r, 'b, 'h, R: Clock + Wait> ReadHalf for ClientRead<'r, 'b, 'h, R> {
-    ghost use Rattle.std.specs.Prelude.{[]};
+    ghost use Rattle.std.specs.Prelude.{[], ⊤};
 
     ghost tells = { λ _. ⊥ };
 
     ghost told = { λ _. [] };
+
+    ghost ended = { λ _. ⊤ };
+
+    ghost failed = { λ _. ⊤ };
 
     fn read(&mut self, buffer: &mut [u8]) -> Result<usize, LineFault> {
         if self.next >= self.line.len() && !self.wait()? {
@@ -100,11 +104,13 @@ impl<'r, 'b, R: Clock + Wait> ClientWrite<'r, 'b, R> {
 }
 
 impl<'r, 'b, R: Clock + Wait> WriteHalf for ClientWrite<'r, 'b, R> {
-    ghost use Rattle.std.specs.Prelude.{[]};
+    ghost use Rattle.std.specs.Prelude.{[], ⊤};
 
     ghost tells = { λ _. ⊥ };
 
     ghost got = { λ _. [] };
+
+    ghost failed = { λ _. ⊤ };
 
     fn write(&mut self, bytes: &[u8]) -> Result<usize, LineFault> {
         if self.board.lock(self.rt).hear(self.conn, bytes).is_err() {

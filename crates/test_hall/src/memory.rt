@@ -59,11 +59,15 @@ struct Failing {
 }
 
 impl ReadHalf for Failing {
-    ghost use Rattle.std.specs.Prelude.{[]};
+    ghost use Rattle.std.specs.Prelude.{[], ⊤};
 
     ghost tells = { λ _. ⊥ };
 
     ghost told = { λ _. [] };
+
+    ghost ended = { λ _. ⊤ };
+
+    ghost failed = { λ _. ⊤ };
 
     fn read(&mut self, buffer: &mut [u8]) -> Result<usize, LineFault> {
         match self.half.read(buffer)? {

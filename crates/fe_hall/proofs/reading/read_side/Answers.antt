@@ -13,3 +13,9 @@ returns-clause-told g c = c.depart.ensures.told c.read_all-end.ensures.told
 
 pub returns-clause-departed : goal.returns-clause-departed
 returns-clause-departed g c = c.depart.ensures.departed
+
+pub returns-clause-ended : goal.returns-clause-ended
+returns-clause-ended g c = c.read_all-end.ensures.ended
+
+pub returns-clause-failed : goal.returns-clause-failed
+returns-clause-failed g c = c.read_all-end.ensures.failed
