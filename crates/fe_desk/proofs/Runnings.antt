@@ -2,6 +2,7 @@
 use Rattle.std.proofs.Common.{◌≡◌, ℕ, ◌+◌, ◌<◌, false, List, [], ◌∷◌, ◌++◌, length, take, get_or, add-one, zero, suc, Option, Some, None, Result, Ok, Err, refl, sym, ap, subst, ◌∙◌, arith}
 use Rattle.std.specs.Prelude.{slice_get}
 use Rattle.std.proofs.lemmas.List.{take_more, append-nil, map-append}
+use Rattle.fe_disk.specs.declared.calls.Calls.{Calls}
 use Rattle.fe_disk.specs.Disk.{LeavesOnly}
 use Rattle.fe_disk.proofs.Moments.{started, joined, weaker}
 use Rattle.fe_state.specs.State.{ServerState}
@@ -78,11 +79,11 @@ module _ {D : Type 0} (honest : D → Type 0) (may_leave : D → List ℕ → Ty
 -- ---- whole runs
 
 -- a run from its parts
-module _ {D : Type 0} (honest : D → Type 0) (seen : D → List ℕ) (failures : D → ℕ) (disk : D) (steps : List Step) (t : Trace) (after : D) where
+module _ {D : Type 0} (honest : D → Type 0) (seen : D → List ℕ) (failures : D → ℕ) (calls : D → Calls) (disk : D) (steps : List Step) (t : Trace) (after : D) where
   abbrev ran : Option (ℕ × DeskFault) → Ran D
   ran fault = record { trace = t; disk = after; fault = fault }
 
-  pub run_of : (fault : Option (ℕ × DeskFault)) → IsOpened honest seen failures disk steps (ran fault) → IsRunTo honest seen failures disk steps (ran fault) fault
+  pub run_of : (fault : Option (ℕ × DeskFault)) → IsOpened honest seen failures disk steps (ran fault) → IsRunTo honest seen failures calls disk steps (ran fault) fault
   run_of None opened = opened
   run_of (Some (zero, fault)) opened = absurd opened.goes
   run_of (Some (suc k, fault)) opened = opened

@@ -28,7 +28,7 @@ pub struct Ran<D: Disk> {
 /// Opens a store and takes the steps in order, up to the first fault.
 pub fn run<D: Disk>(alloc: Global, disk: D, steps: &[Step]) -> Ran<D>
     // The run ends at the opening, at a step, or whole: what it did, what it reports, and whether the device failed.
-    ensures ran { IsRunOf D.honest D.seen D.failures disk steps.now result }
+    ensures ran { IsRunOf D.honest D.seen D.failures D.calls disk steps.now result }
     // A stop at any moment leaves a prefix of the history, which begins with the state that was there.
     ensures history { D.honest disk → (s : ServerState) → EachStandsFor D.may_leave disk s
         → IsHistory s (groups_of result.trace) }

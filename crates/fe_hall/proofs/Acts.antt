@@ -7,10 +7,10 @@ use Rattle.fe_hall.specs.declared.act.Act.{Act}
 use Rattle.fe_hall.specs.declared.act.Act.TheVariants.{Began, Stored, Told}
 use Rattle.fe_hall.specs.declared.receipt.Receipt.{Receipt}
 use Rattle.std.specs.List.{filter_map, cons_option}
-use Rattle.std.specs.Prelude.{zero, suc, take, slice_get, Option, Some, None, IfSome, Result, Ok, Err, if◌then◌else◌, is_ok}
+use Rattle.std.specs.Prelude.{zero, suc, take, slice_get, Option, Some, None, IfSome, Result, Ok, Err, OnOk, OnErr, false}
 use Rattle.fe_mail.specs.declared.mail.Mail.{Mail}
 use Rattle.fe_hall.specs.Writes.{receipt_of}
-use Rattle.fe_hall.specs.Acts.{GoesOn, HasMore, IsLegal, mark_from, mark_of, stores_in, StandsIn, EachTold, WasTold, AreTold}
+use Rattle.fe_hall.specs.Acts.{GoesOn, HasMore, IsLegal, ReceiptList, mark_from, mark_of, stores_in, StandsIn, EachTold, WasTold, AreTold}
 
 told_goes : (mark : ℕ) (log : List Act) (r : Receipt) → GoesOn mark log → r.place < mark_from mark log → GoesOn mark (log ++ Told r ∷ [])
 told_goes mark [] r legal below = (below, tt)
@@ -162,8 +162,10 @@ pub receipts_told : (kept : List Receipt) (ms : List Mail) (acts : List Act) →
 receipts_told kept ms acts is told = subst (λ (rs : List Receipt). EachTold rs acts) (sym is) (each_first 1024 (filter_map receipt_of ms) acts (each_of ms acts told))
 
 -- the receipts of another side, added to those of one
-pub added_told : {A E : Type 0} (added : Result A E) (mine others slice all : List Receipt) (xs ys zs : List Act) → slice ≡ others → all ≡ (if is_ok added then mine ++ slice else mine) → IsPrefix xs zs → IsPrefix ys zs
-    → EachTold mine xs → EachTold others ys → EachTold all zs
-added_told (Ok a) mine others slice all xs ys zs same is p q one two =
-    subst (λ (rs : List Receipt). EachTold rs zs) (ap (λ (rs : List Receipt). mine ++ rs) (sym same) ∙ sym is) (each_both mine others zs (each_later mine xs zs p one) (each_later others ys zs q two))
-added_told (Err e) mine others slice all xs ys zs same is p q one two = subst (λ (rs : List Receipt). EachTold rs zs) (sym is) (each_later mine xs zs p one)
+pub gathered_told : {A E : Type 0} (added : Result A E) (old new : ReceiptList) (others slice : List Receipt) (xs ys zs : List Act) → slice ≡ others → OnOk added (new ≡ record old { items = old.items ++ slice })
+    → OnErr added (new ≡ record old { whole = false }) → IsPrefix xs zs → IsPrefix ys zs → EachTold old.items xs → EachTold others ys → EachTold new.items zs
+gathered_told (Ok a) old new others slice xs ys zs same ok err p q one two =
+    subst (λ (rs : List Receipt). EachTold rs zs) (ap (λ (rs : List Receipt). old.items ++ rs) (sym same) ∙ sym (ap (λ (l : ReceiptList). l.items) ok))
+    (each_both old.items others zs (each_later old.items xs zs p one) (each_later others ys zs q two))
+gathered_told (Err e) old new others slice xs ys zs same ok err p q one two =
+    subst (λ (rs : List Receipt). EachTold rs zs) (sym (ap (λ (l : ReceiptList). l.items) err)) (each_later old.items xs zs p one)

@@ -69,9 +69,21 @@ TakingTold taking.Gone acts = Unit {0}
 TakingTold taking.Stopped acts = Unit {0}
 TakingTold taking.Spent acts = Unit {0}
 
--- receipts, and a history in which their answers were told
+-- the receipts of the write side of a connection, and a history in which their answers were told
 pub record Receipts : Type 0 where
+  pub conn : ℕ
   pub items : List Receipt
+  pub history : List Act
+
+-- receipts of write sides, and whether they are those of each side that was added
+pub record ReceiptList : Type 0 where
+  pub items : List Receipt
+  pub whole : Bool
+
+-- such receipts, and a history in which their answers were told
+pub record Gathered : Type 0 where
+  pub items : List Receipt
+  pub whole : Bool
   pub history : List Act
 
 -- there are more of these than of those, which come first

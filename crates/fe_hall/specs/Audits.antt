@@ -1,17 +1,30 @@
 -- What is reported of a hall that was closed.
-use Rattle.std.specs.Prelude.{true, List, Result, Ok, Err}
-use Rattle.fe_mail.specs.Books.{Books}
+use Rattle.std.specs.Prelude.{◌≡◌, Bool, true, false, List, Result, Ok, Err}
+use Rattle.fe_mail.specs.Books.{AddUp, Books}
 use Rattle.fe_wire.specs.declared.client_message.ClientMessage.{ClientMessage}
 use Rattle.fe_hall.specs.Acts.{Account}
+use Rattle.fe_hall.specs.Seats.{Seats}
 use Rattle.fe_hall.specs.declared.act.Act.{Act}
 use Rattle.fe_hall.specs.declared.receipt.Receipt.{Receipt}
 
--- its books, what its connections sent, the receipts for the answers that they took, and what happened in it
+-- its books, what its connections sent, the receipts for the answers that they took, whether they are those of each write side, and
+-- what happened in it
 pub record Audited : Type 0 where
   pub books : Books
   pub sent : List (List ClientMessage)
   pub receipts : List Receipt
+  pub whole : Bool
   pub history : List Act
+
+-- The audit of a hall: its books have what the seats of all connections booked, and add up; the lists and the receipts are those that
+-- were handed in.
+pub record IsAudit (calls mails : Seats) (sent : List (List ClientMessage)) (whole : Bool) (audit : Audited) : Type 0 where
+  pub booked_calls : audit.books.calls ≡ calls.amount
+  pub booked_mails : audit.books.taken ≡ mails.amount
+  pub add_up : AddUp audit.books
+  pub unspent : audit.books.spent ≡ false
+  pub lists : audit.sent ≡ sent
+  pub all_receipts : audit.whole ≡ whole
 
 -- the account that a hall leaves, closed or not
 abbrev pub account_left : {U : Type 0} → Result Audited (U × Account) → Account

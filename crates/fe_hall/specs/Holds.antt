@@ -36,6 +36,6 @@ TakesMail f stopped conn None g = FrontStep f (event.TakeMail conn None) [] g ×
 
 -- A batch was cut; or none was, and where the hall is stopped all that was made is durable, so that nothing is left to store.
 abbrev pub Cuts : FrontState → Bool → Option Cutting → FrontState → Type 0
-Cuts f stopped (Some (cutting.Batch batch)) g = FrontStep f (event.Cut (Some batch)) [] g
+Cuts f stopped (Some (cutting.Batch cut)) g = FrontStep f (event.Cut (Some cut.batch)) [] g
 Cuts f stopped (Some (cutting.Stopped all)) g = FrontStep f (event.Cut None) [] g × (stopped ≡ true) × (g.durable ≡ g.service.state.place)
 Cuts f stopped None g = FrontStep f (event.Cut None) [] g

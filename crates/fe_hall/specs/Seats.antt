@@ -48,12 +48,12 @@ first_read_seat conn = record { conn = conn; calls = 0; taken = 0; last = None; 
 abbrev pub first_write_seat : ℕ → WriteSeat
 first_write_seat conn = record { conn = conn; mails = 0; more = false; standing = Served; departed = false }
 
--- the seats of one connection, which booked this many, and of one connection more
+-- the seats of one connection, which booked this many, and of the connections of both
 abbrev pub one_seat : ℕ → Seats
 one_seat amount = record { connections = 1; amount = amount }
 
-abbrev pub with_seat : Seats → ℕ → Seats
-with_seat s amount = record { connections = s.connections + 1; amount = s.amount + amount }
+abbrev pub both_seats : Seats → Seats → Seats
+both_seats s t = record { connections = s.connections + t.connections; amount = s.amount + t.amount }
 
 -- how many connections a hall makes at most
 abbrev pub most_connections : ℕ

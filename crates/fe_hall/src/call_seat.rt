@@ -1,6 +1,7 @@
 ghost use Rattle.std.specs.Prelude.{◌≡◌, ◌+◌, ◌-◌, ◌^◌, true, IsTrue, nat_lt};
-ghost use Rattle.fe_hall.specs.Seats.{calls_in, first_read_seat, message_taken, most_connections};
+ghost use Rattle.fe_hall.specs.Seats.{calls_in, first_read_seat, message_taken, most_connections, one_seat};
 
+use crate::seats::Seats;
 use crate::standing::Standing;
 use crate::tally::Tally;
 use fe_wire::ClientMessage;
@@ -99,14 +100,12 @@ impl<C: Tally> CallSeat<C> {
         self.departed = true;
     }
 
-    /// The part of the ledger, with the calls.
-    pub(crate) fn into_share(self) -> Share<C>
-        ensures parts { result.parts ≡ 1 }
-        ensures amount { result.amount ≡ self.calls }
-        ensures all { C.all ≡ most_connections + 1 }
+    /// The seats of its connection alone.
+    pub fn into_seats(self) -> Seats<C>
+        ensures { result ≡ one_seat self.calls }
     {
         let CallSeat { share, .. } = self;
-        share
+        Seats::of(share)
     }
 }
 

@@ -3,16 +3,16 @@
 ghost use Rattle.std.specs.Prelude.{◌≡◌, ◌≢◌, ◌↔◌, ℕ, false, map, All, Any, Err, IfOk, IfErr, IsErr};
 ghost use Rattle.fe_mail.specs.Books.{AddUp};
 ghost use Rattle.fe_hall.specs.Acts.{IsAccountOf};
-ghost use Rattle.fe_hall.specs.Audits.{account_left};
+ghost use Rattle.fe_hall.specs.Audits.{IsAudit, account_left};
 ghost use Rattle.fe_hall.specs.Receipts.{IsBorneOut, IsFirstStrange, IsStrange};
 ghost use Rattle.fe_hall.specs.declared.closing.Unclosed.TheVariants.{SeatMissing, StrangeReceipt};
 
 use crate::account::Account;
-use crate::call_seats::CallSeats;
 use crate::hall::Hall;
 use crate::history::History;
-use crate::mail_seats::MailSeats;
 use crate::receipt::Receipt;
+use crate::receipt_list::ReceiptList;
+use crate::seats::Seats;
 use crate::store_seat::StoreSeat;
 use crate::strange::first_strange;
 use crate::tally::Tally;
@@ -46,6 +46,7 @@ pub struct Audit {
     books: Books,
     sent: Vec<Vec<ClientMessage>>,
     account: Account,
+    whole: bool,
 }
 
 impl Model for Audit {
@@ -59,6 +60,7 @@ impl Model for Audit {
       books = a.books;
       sent = map (λ v. v.items) a.sent.items;
       receipts = a.account.receipts;
+      whole = a.whole;
       history = a.account.history;
     } };
 
@@ -86,14 +88,14 @@ impl Audit {
 pub fn account_of<C: Tally, M: Tally>(
     hall: Hall<C, M>,
     seat: StoreSeat<M>,
-    receipts: Vec<Receipt>,
+    receipts: ReceiptList,
     history: History<M>,
 ) -> Account
     ensures { IsAccountOf seat receipts.items history result }
 {
     let (shared, chronicle) = hall.into_shared();
     drop(shared);
-    let account = Account::of(&chronicle, seat, receipts, history);
+    let account = Account::of(&chronicle, seat, receipts.into_items(), history);
     drop(chronicle);
     account
 }
@@ -106,21 +108,17 @@ pub fn account_of<C: Tally, M: Tally>(
 /// also with the lists, until one is found that has its call. Where the hall is not closed its account comes back.
 pub fn settle<C: Tally, M: Tally>(
     hall: Hall<C, M>,
-    calls: CallSeats<C>,
-    mails: MailSeats<M>,
+    calls: Seats<C>,
+    mails: Seats<M>,
     sent: Vec<Vec<ClientMessage>>,
-    receipts: Vec<Receipt>,
+    receipts: ReceiptList,
     history: History<M>,
     seat: StoreSeat<M>,
     state: &State,
 ) -> Result<Audit, (Unclosed, Account)>
     requires calls { C.all ≡ C.parts }
     requires mails { M.all ≡ M.parts }
-    ensures calls { IfOk result (λ audit. audit.books.calls ≡ calls.amount) }
-    ensures mails { IfOk result (λ audit. audit.books.taken ≡ mails.amount) }
-    ensures add_up { IfOk result (λ audit. AddUp audit.books) }
-    ensures unspent { IfOk result (λ audit. audit.books.spent ≡ false) }
-    ensures sent { IfOk result (λ audit. audit.sent ≡ map (λ v. v.items) sent.items) }
+    ensures audit { IfOk result (IsAudit calls mails (map (λ v. v.items) sent.items) receipts.whole) }
     // The receipts are these. The history goes on from that of the committing side and from the other one, with no other groups than
     // the side noted.
     ensures leaves { IsAccountOf seat receipts.items history (account_left result) }
@@ -132,7 +130,8 @@ pub fn settle<C: Tally, M: Tally>(
         → IsErr result ↔ Any (IsStrange state.now (map (λ v. v.items) sent.items)) receipts.items }
 {
     let (shared, chronicle) = hall.into_shared();
-    let account = Account::of(&chronicle, seat, receipts, history);
+    let whole = receipts.is_whole();
+    let account = Account::of(&chronicle, seat, receipts.into_items(), history);
     drop(chronicle);
     let Some(books) = shared.audit(calls, mails) else {
         drop(sent);
@@ -152,6 +151,7 @@ pub fn settle<C: Tally, M: Tally>(
             books,
             sent,
             account,
+            whole,
         }),
     }
 }
@@ -159,10 +159,10 @@ pub fn settle<C: Tally, M: Tally>(
 /// Closes a hall over the state that the keeper has.
 pub fn close<C: Tally, M: Tally, D: Disk + Drop>(
     hall: Hall<C, M>,
-    calls: CallSeats<C>,
-    mails: MailSeats<M>,
+    calls: Seats<C>,
+    mails: Seats<M>,
     sent: Vec<Vec<ClientMessage>>,
-    receipts: Vec<Receipt>,
+    receipts: ReceiptList,
     history: History<M>,
     seat: StoreSeat<M>,
     keeper: Keeper<D>,

@@ -4,16 +4,15 @@ ghost use Rattle.std.specs.Prelude.{◌≡◌, ◌≢◌, ◌↔◌, true, false
 ghost use Rattle.fe_keeper.specs.Ends.{Rests};
 ghost use Rattle.fe_keeper.specs.Stands.{EachStandsFor};
 ghost use Rattle.fe_keeper.specs.declared.fault.Fault.TheVariants.{Device};
-ghost use Rattle.fe_hall.specs.Commits.{AreNoted, Commits, IsStill, HasFailed, TellsEnd, end_of};
+ghost use Rattle.fe_hall.specs.Commits.{AreNoted, Commits, IsStill, IsStored, HasFailed, TellsEnd, end_of};
 
 use crate::commit_end::CommitEnd;
 use crate::hall::Hall;
-use crate::shared::Cutting;
+use crate::shared::{CutBatch, Cutting};
 use crate::store_seat::StoreSeat;
 use crate::tally::Tally;
 use fe_disk::Disk;
 use fe_keeper::{Fault, Keeper};
-use fe_state::Batch;
 use std::sync::Wait;
 
 /// A checkpoint is begun once more bytes of the journal are used than these.
@@ -40,10 +39,10 @@ pub fn commit_side<C: Tally, M: Tally, D: Disk, R: Wait>(
     let _ = keeper.state();
     let mut slices = true;
     for _ in rt.forever() {
-        let Cutting::Batch(batch) = hall.next_batch(rt) else {
+        let Cutting::Batch(cut) = hall.next_batch(rt) else {
             return CommitEnd::Stopped;
         };
-        if let Some(end) = commit(rt, hall, keeper, seat, batch) {
+        if let Some(end) = commit(rt, hall, keeper, seat, cut) {
             hall.stop(rt);
             return end;
         }
@@ -64,7 +63,7 @@ fn commit<C: Tally, M: Tally, D: Disk, R: Wait>(
     hall: &Hall<C, M>,
     keeper: &mut Keeper<D>,
     seat: &mut StoreSeat<M>,
-    batch: Batch,
+    cut: CutBatch,
 ) -> Option<CommitEnd>
     ensures commits { (all : Commits D.honest D.moment D.left_since keeper.old keeper.new result)
         × AreNoted D.moment all.appends result seat.old seat.new }
@@ -72,11 +71,13 @@ fn commit<C: Tally, M: Tally, D: Disk, R: Wait>(
         → EachStandsFor D.may_leave keeper.new.store.disk keeper.new.state }
     ensures tells { TellsEnd D.failures keeper.old keeper.new result }
     ensures works { result ≡ None → keeper.old.store.has_failed ≡ false }
+    // It goes on only if it stored what was cut.
+    ensures stored { result ≡ None → IsStored cut.batch keeper.new.state }
     // What was not stored, or not posted, is not told as stopped.
     ensures unstopped { result ≢ Some CommitEnd.Stopped }
     ensures honesty { D.honest keeper.new.store.disk ↔ D.honest keeper.old.store.disk }
 {
-    match keeper.append(batch) {
+    match keeper.append(cut.into_batch()) {
         Ok(batch) => {
             if !hall.note(keeper, seat) {
                 drop(batch);

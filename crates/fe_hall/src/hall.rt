@@ -7,11 +7,11 @@ ghost use Rattle.fe_hall.specs.Marks.{IsBegun, MayBeTold};
 ghost use Rattle.fe_hall.specs.declared.act.Act.TheVariants as act;
 
 use crate::call_seat::CallSeat;
+use crate::gathered::Gathered;
 use crate::history::{Chronicle, History, NewHistory};
 use crate::hold::Lock;
 use crate::mail_seat::MailSeat;
 use crate::receipt::Receipt;
-use crate::receipts::Receipts;
 use crate::shared::{Cutting, Posted, Shared, Unconnected};
 use crate::standing::Standing;
 use crate::store_seat::StoreSeat;
@@ -299,11 +299,12 @@ impl<C: Tally, M: Tally> Hall<C, M> {
         self.begun.again()
     }
 
-    /// Receipts of this hall, none yet.
-    pub fn no_receipts(&self, alloc: Global) -> Receipts<M>
-        ensures { result.items ≡ [] }
+    /// The receipts of the write sides of this hall, none yet.
+    pub fn no_receipts(&self, alloc: Global) -> Gathered<M>
+        ensures items { result.items ≡ [] }
+        ensures whole { result.whole ≡ true }
     {
-        Receipts::none(alloc, self.begun.again())
+        Gathered::none(alloc, self.begun.again())
     }
 
     /// Rings for the sides of a connection that wait for its box.

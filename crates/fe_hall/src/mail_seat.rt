@@ -1,6 +1,7 @@
 ghost use Rattle.std.specs.Prelude.{◌≡◌, ◌+◌, true};
-ghost use Rattle.fe_hall.specs.Seats.{first_write_seat, mail_taken, most_connections};
+ghost use Rattle.fe_hall.specs.Seats.{first_write_seat, mail_taken, most_connections, one_seat};
 
+use crate::seats::Seats;
 use crate::standing::Standing;
 use crate::tally::Tally;
 use std::marker::Model;
@@ -92,13 +93,11 @@ impl<M: Tally> MailSeat<M> {
         self.departed = true;
     }
 
-    /// The part of the ledger, with the mails.
-    pub(crate) fn into_share(self) -> Share<M>
-        ensures parts { result.parts ≡ 1 }
-        ensures amount { result.amount ≡ self.mails }
-        ensures all { M.all ≡ most_connections + 1 }
+    /// The seats of its connection alone.
+    pub fn into_seats(self) -> Seats<M>
+        ensures { result ≡ one_seat self.mails }
     {
         let MailSeat { share, .. } = self;
-        share
+        Seats::of(share)
     }
 }

@@ -18,10 +18,9 @@ ghost use Rattle.fe_hall.specs.Holds.{Cuts, Ends, TakesMail};
 ghost use Rattle.fe_hall.specs.Seats.{HasDeparted, IsOpen, ReadSeat, TookNoMessage, WriteSeat, first_read_seat, first_write_seat, message_taken, message_answered, taking_answered, takes_more, posts_more, most_connections};
 
 use crate::call_seat::CallSeat;
-use crate::call_seats::CallSeats;
 use crate::history::History;
 use crate::mail_seat::MailSeat;
-use crate::mail_seats::MailSeats;
+use crate::seats::Seats;
 use crate::standing::Standing;
 use crate::store_seat::StoreSeat;
 use crate::taking::Taking;
@@ -73,6 +72,22 @@ pub(crate) struct AllDurable {
     place: u64,
 }
 
+/// A batch as it was cut, still to be stored. Only a cut makes one, and nothing changes it.
+#[derive(Drop)]
+pub(crate) struct CutBatch {
+    batch: Batch,
+}
+
+impl CutBatch {
+    /// The batch, for the keeper.
+    pub(crate) fn into_batch(self) -> Batch
+        ensures { result ≡ self.batch }
+    {
+        let CutBatch { batch } = self;
+        batch
+    }
+}
+
 /// Shows that a batch was posted. Only a post makes one.
 #[derive(Clone, Copy)]
 pub(crate) struct Posted {
@@ -83,7 +98,7 @@ pub(crate) struct Posted {
 /// What a cut gave.
 #[derive(Drop)]
 pub(crate) enum Cutting {
-    Batch(Batch),
+    Batch(CutBatch),
     /// The hall is stopped, and nothing is left to store.
     Stopped(AllDurable),
 }
@@ -382,7 +397,7 @@ impl<C: Tally, M: Tally> Shared<C, M> {
         ensures { Cuts self.old.front self.old.stopped result self.new.front }
     {
         if let Some(batch) = self.front.cut() {
-            return Some(Cutting::Batch(batch));
+            return Some(Cutting::Batch(CutBatch { batch }));
         }
         let place = self.place();
         if self.stopped && self.front.durable() == place {
@@ -429,14 +444,14 @@ impl<C: Tally, M: Tally> Shared<C, M> {
     }
 
     // Whether the seats are those of all connections that were made.
-    fn made_all(&self, calls: &CallSeats<C>, mails: &MailSeats<M>) -> bool
+    fn made_all(&self, calls: &Seats<C>, mails: &Seats<M>) -> bool
         ensures { IsTrue result ↔ ((calls.now.connections ≡ self.now.made) × (mails.now.connections ≡ self.now.made)) }
     {
         calls.connections() == self.made && mails.connections() == self.made
     }
 
     /// The books, once all seats of the hall are here.
-    pub(crate) fn audit(self, calls: CallSeats<C>, mails: MailSeats<M>) -> Option<Books>
+    pub(crate) fn audit(self, calls: Seats<C>, mails: Seats<M>) -> Option<Books>
         requires calls { C.all ≡ C.parts }
         requires mails { M.all ≡ M.parts }
         ensures all { IfSome result

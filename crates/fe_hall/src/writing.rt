@@ -47,6 +47,7 @@ pub fn write_side<C: Tally, M: Tally, H: WriteHalf, R: Wait>(
     ensures wrote { (mails : List Told) × AreTaken seat result.0 result.1.items mails
         × (H.tells half.old → IsWritten (H.got half.old) mails result.2 (H.got half.new))
         × AreTold mails result.1.history }
+    ensures own { result.1.conn ≡ result.0.conn }
     ensures tells { H.tells half.old → H.tells half.new }
     ensures failed { result.2 ≡ WriteEnd.Device → H.failed half.new }
     // A side ends as `Gone`, `Stopped` or `Spent` only if that was the hall's last answer to it.
@@ -67,7 +68,8 @@ pub fn write_side<C: Tally, M: Tally, H: WriteHalf, R: Wait>(
         history,
         ..
     } = writing;
-    (seat, Receipts::of(receipts, history), end)
+    let conn = seat.conn();
+    (seat, Receipts::of(conn, receipts, history), end)
 }
 
 /// A write side at work.

@@ -1,13 +1,17 @@
 -- How serving a store ends.
-use Rattle.std.proofs.Common.{◌≡◌, ◌⊎◌, ℕ, false, List, [], ◌∷◌, Some, None, sym}
+use Rattle.std.proofs.Common.{◌≡◌, ◌⊎◌, ℕ, ◌<◌, Bool, true, false, refl, List, [], ◌∷◌, Some, None, Result, Ok, Err, sym, ◌∙◌}
+use Rattle.std.proofs.lemmas.Bool.{lt-ltb}
+use Rattle.std.specs.Prelude.{IfOk, IsTrue, nat_lt}
 use Rattle.fe_keeper.specs.Keeper.{KeeperState}
 use Rattle.fe_keeper.specs.Stands.{EachStandsFor}
 use Rattle.fe_hall.proofs.Committed.{kept_noted, rests_itself, still_itself}
 use Rattle.fe_hall.specs.declared.act.Act.TheVariants.{Began}
 use Rattle.fe_hall.specs.declared.commit_end.CommitEnd.{CommitEnd}
 use Rattle.fe_hall.specs.declared.commit_end.CommitEnd.TheVariants.{Stopped, Store, Strange, Spent}
+use Rattle.fe_server.specs.declared.served.Served.{Served}
 use Rattle.fe_server.specs.declared.stop_fault.StopFault.{StopFault}
 use Rattle.fe_server.specs.declared.stop_fault.StopFault.TheVariants as fault
+use Rattle.fe_server.specs.Ended.{lacks}
 use Rattle.fe_server.specs.Serving.{HasNoted, IsAnswerAt, fault_of_end}
 
 module _ {D : Type 0} (honest : D → Type 0) (may_leave : D → List ℕ → Type 0) (moment : D → ℕ) (left_since : D → ℕ → List ℕ → Type 0) (failures : D → ℕ) where
@@ -39,3 +43,16 @@ fault_answers Stopped told is = absurd (cc is)
 fault_answers (Store why) told is = sym is
 fault_answers Strange told is = sym is
 fault_answers Spent told is = sym is
+
+-- where the number of connections is bounded, receipts are kept, and are whole
+pub all_whole : {D E : Type 0} (answer : Result (Served D) E) (keeps : Bool) (accepts : ℕ) → keeps ≡ nat_lt 0 accepts → IfOk answer (λ (s : Served D). IsTrue keeps → IsTrue s.audit.whole)
+    → IfOk answer (λ (s : Served D). 0 < accepts → IsTrue s.audit.whole)
+all_whole (Err e) keeps accepts is all = tt
+all_whole (Ok s) keeps accepts is all = λ some. all (is ∙ lt-ltb 0 accepts some)
+
+-- where nothing lacks and receipts are kept, they are whole
+pub kept_whole : (short keeps whole : Bool) → lacks short keeps whole ≡ false → IsTrue keeps → IsTrue whole
+kept_whole true keeps whole is keep = absurd (cc is)
+kept_whole false true true is keep = refl
+kept_whole false true false is keep = absurd (cc is)
+kept_whole false false whole is keep = absurd (cc keep)

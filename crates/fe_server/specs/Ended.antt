@@ -1,8 +1,19 @@
 -- What the connections that ended leave.
-use Rattle.std.specs.Prelude.{ℕ, Option, Some, None}
-use Rattle.fe_hall.specs.Seats.{Seats, one_seat, with_seat}
+use Rattle.std.specs.Prelude.{◌≡◌, ℕ, Bool, false, ◌&&◌, ◌||◌, not, Option, Some, None}
+use Rattle.fe_mail.specs.Books.{AddUp}
+use Rattle.fe_hall.specs.Audits.{Audited}
+use Rattle.fe_hall.specs.Seats.{Seats, both_seats, one_seat}
 
 -- the seats of all connections that ended, with that of one more, which booked this many calls or mails
 abbrev pub joined_to : Option Seats → ℕ → Option Seats
 joined_to None amount = Some (one_seat amount)
-joined_to (Some all) amount = Some (with_seat all amount)
+joined_to (Some all) amount = Some (both_seats all (one_seat amount))
+
+-- something that the closing needs is not there: memory was short for it, or receipts are to be kept, and some are missing
+abbrev pub lacks : Bool → Bool → Bool → Bool
+lacks short keeps whole = short || (keeps && not whole)
+
+-- the books of an audit add up, and are not spent
+pub record IsClean (audit : Audited) : Type 0 where
+  pub add_up : AddUp audit.books
+  pub unspent : audit.books.spent ≡ false

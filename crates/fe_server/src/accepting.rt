@@ -1,15 +1,16 @@
 //! Connections are taken from a listener.
 
-ghost use Rattle.std.specs.Prelude.{◌≡◌};
+ghost use Rattle.std.specs.Prelude.{◌≡◌, ◌<◌, ◌≤◌};
 
 use crate::connection::{STACK, attend, turn_away};
+use crate::entrance::Entrance;
 use crate::house::House;
 use crate::register::Newcomer;
 use fe_hall::{Gate, Tally};
 use fe_options::Settings;
 use std::alloc::Global;
 use std::io::ErrorKind;
-use std::os::unix::net::{UnixListener, UnixStream};
+use std::os::unix::net::UnixStream;
 use std::sync::{Arc, Wait};
 use std::thread::{Builder, Scope, Threads};
 use std::time::{Clock, Duration};
@@ -24,7 +25,7 @@ pub(crate) fn serve_clients<
     M: Tally + Send + Sync,
     G: Gate + Sync,
     R: Clock + Threads + Wait + Sync,
->(rt: &R, alloc: Global, house: &House<C, M>, listener: UnixListener, settings: &Settings, gate: &G)
+>(rt: &R, alloc: Global, house: &House<C, M>, entrance: Entrance, settings: &Settings, gate: &G)
     requires calls { C.all ≡ C.parts }
     requires mails { M.all ≡ M.parts }
 {
@@ -41,14 +42,14 @@ pub(crate) fn serve_clients<
                 gate,
                 turns: settings.turns,
             };
-            porter.accept_all(scope, &listener, settings.accepts);
+            let _ = porter.accept_all(scope, &entrance, settings.accepts);
             house.close_door(rt);
-            drop(listener);
+            drop(entrance);
         },
     );
 }
 
-/// Takes connections from a listener, and begins to serve them.
+/// Takes connections, and begins to serve them.
 #[derive(Clone, Copy)]
 struct Porter<'s, C: Tally, M: Tally, G: Gate, R: Clock> {
     rt: &'s R,
@@ -66,29 +67,30 @@ impl<
     G: Gate + Sync,
     R: Clock + Threads + Wait + Sync,
 > Porter<'s, C, M, G, R> {
-    /// Takes connections from the listener: this many, where it is not 0.
-    fn accept_all<E>(&self, scope: &Scope<'s, E>, listener: &UnixListener, accepts: u64)
+    /// Takes connections: this many, where it is not 0. How many came.
+    fn accept_all<E>(&self, scope: &Scope<'s, E>, entrance: &Entrance, accepts: u64) -> u64
         requires calls { C.all ≡ C.parts }
         requires mails { M.all ≡ M.parts }
+        ensures { 0 < accepts → result ≤ accepts }
     {
-        let mut left = accepts;
+        let mut came = 0;
         for conn in 0..u64::MAX {
-            if self.house.is_over(self.rt) {
-                return;
-            }
-            match listener.accept() {
+            let Some(running) = self.house.running(self.rt) else {
+                return came;
+            };
+            match entrance.accept(running) {
                 Err(error) => pause(self.rt, error),
-                Ok((stream, _)) => {
-                    let came = self.welcome(scope, conn, stream);
-                    if came && left == 1 {
-                        return;
+                Ok(stream) => {
+                    if self.welcome(scope, conn, stream) {
+                        came += 1;
                     }
-                    if came {
-                        left = left.saturating_sub(1);
+                    if came == accepts && accepts > 0 {
+                        return came;
                     }
                 }
             }
         }
+        came
     }
 
     /// Begins to serve a connection. Whether it was made: it is closed where too many are there and none is about to end, or the hall
@@ -100,17 +102,20 @@ impl<
         let (rt, alloc, house, gate, turns) = (
             self.rt, self.alloc, self.house, self.gate, self.turns,
         );
-        if !house.has_place(rt) {
+        let Some(place) = house.enter(rt) else {
             return false;
-        }
+        };
         let Ok(stream) = Arc::new(alloc, stream) else {
+            house.leave(rt, conn, place);
             return false;
         };
         let Ok((calls, mails)) = house.hall.connect(rt, conn) else {
+            house.leave(rt, conn, place);
             return false;
         };
         let newcomer = Newcomer {
             conn,
+            place,
             stream,
             calls,
             mails,

@@ -33,6 +33,7 @@ pub(crate) fn attend<
     };
     let Newcomer {
         conn,
+        place,
         stream,
         calls,
         mails,
@@ -58,7 +59,7 @@ pub(crate) fn attend<
     );
     // Where no writer could be started its seat is still here.
     write_once(rt, alloc, house, &seat, &stream);
-    house.ended(rt, conn);
+    house.leave(rt, conn, place);
 }
 
 /// Ends a connection that came and for which no thread can be started.
@@ -74,13 +75,14 @@ pub(crate) fn turn_away<C: Tally, M: Tally, G: Gate, R: Wait>(
 {
     let Newcomer {
         conn,
+        place,
         stream,
         calls,
         mails,
     } = newcomer;
     read(rt, alloc, house, calls, &stream, gate, 0);
     write(rt, alloc, house, mails, &stream);
-    house.ended(rt, conn);
+    house.leave(rt, conn, place);
 }
 
 /// The read side of a connection. Where its stream ended, or its reads are used up, the write side still writes what it took;

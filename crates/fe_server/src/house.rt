@@ -1,16 +1,17 @@
 //! What the threads of a server share.
 
-ghost use Rattle.std.specs.Prelude.{◌≡◌, ◌+◌, ◌⊎◌, ◌∷◌, [], false, All, IfOk, IfErr, nat_lt};
+ghost use Rattle.std.specs.Prelude.{◌≡◌, ◌+◌, ◌⊎◌, ◌∷◌, [], false, IsTrue, All, IfOk, IfErr, IfSome, nat_lt};
 ghost use Rattle.fe_front.specs.Front.{IsFirst};
-ghost use Rattle.fe_mail.specs.Books.{AddUp};
-ghost use Rattle.fe_hall.specs.Acts.{EachTold, IsAccountOf, Receipts as Kept};
+ghost use Rattle.fe_hall.specs.Acts.{EachTold, Gathered as Kept, IsAccountOf};
 ghost use Rattle.fe_hall.specs.Audits.{account_left};
 ghost use Rattle.fe_hall.specs.Receipts.{IsBorneOut};
 ghost use Rattle.fe_hall.specs.Seats.{most_connections};
 ghost use Rattle.fe_hall.specs.declared.act.Act.TheVariants as act;
+ghost use Rattle.fe_server.specs.Ended.{IsClean};
 ghost use Rattle.fe_server.specs.declared.stop_fault.StopFault.TheVariants as fault;
 
-use crate::register::{Newcomer, Over, Register};
+use crate::entrance::Entrance;
+use crate::register::{Newcomer, Over, Place, Register, Running};
 use crate::stop_fault::StopFault;
 use fe_front::Front;
 use fe_hall::{Account, Audit, CallSeat, Hall, MailSeat, NewHistory, Receipts, StoreSeat, Tally};
@@ -18,7 +19,6 @@ use fe_options::Settings;
 use fe_state::State;
 use fe_wire::ClientMessage;
 use std::alloc::{AllocError, Global};
-use std::os::unix::net::UnixStream;
 use std::snapshot::Snapshot;
 use std::sync::ledger::Blank;
 use std::sync::{Condvar, CondvarTimeouts, Mutex, Wait};
@@ -51,14 +51,14 @@ pub(crate) struct Opened<C: Tally, M: Tally> {
 }
 
 impl<C: Tally, M: Tally> Opened<C, M> {
-    /// A house with no connection, whose front begins with a copy of a state. `door` is a handle of its listener.
+    /// A house with no connection, whose front begins with a copy of a state.
     pub(crate) fn new(
         alloc: Global,
         state: &State,
         calls: Blank,
         mails: Blank,
         history: NewHistory,
-        door: UnixStream,
+        entrance: &Entrance,
         settings: &Settings,
     ) -> Result<(Opened<C, M>, StoreSeat<M>), AllocError>
         requires calls { (calls.name ≡ C.name) × (calls.parts ≡ C.parts) × (C.all ≡ C.parts)
@@ -72,6 +72,10 @@ impl<C: Tally, M: Tally> Opened<C, M> {
         ensures keeps { IfOk result (λ opened. opened.0.house.keeps ≡ nat_lt 0 settings.now.accepts) }
         ensures seat { IfOk result (λ opened. opened.1 ≡ act.Began history.place ∷ []) }
     {
+        let Ok(door) = entrance.door() else {
+            drop(history);
+            return Err(AllocError);
+        };
         let Ok(front) = front_over(alloc, state) else {
             drop(history);
             drop(door);
@@ -123,32 +127,40 @@ impl<C: Tally, M: Tally> Opened<C, M> {
     ) -> Result<Audit, (StopFault, Account)>
         requires calls { C.all ≡ C.parts }
         requires mails { M.all ≡ M.parts }
-        ensures add_up { IfOk result (λ audit. AddUp audit.books) }
-        ensures unspent { IfOk result (λ audit. audit.books.spent ≡ false) }
+        ensures clean { IfOk result IsClean }
         ensures borne_out { IfOk result (λ audit. All (IsBorneOut state.now audit.sent) audit.receipts) }
+        // Where they are to be kept, no receipt is missing.
+        ensures whole { IfOk result (λ audit. IsTrue self.house.keeps → IsTrue audit.whole) }
         ensures leaves { (kept : Kept) × IsAccountOf seat kept.items kept.history (account_left result) }
         ensures told { EachTold (account_left result).receipts (account_left result).history }
         ensures faults { IfErr result (λ e. (e.0 ≡ fault.Memory) ⊎ (e.0 ≡ fault.Strange)) }
     {
         drop(over);
         let Opened { house, .. } = self;
-        let House { hall, register, .. } = house;
-        register.into_inner().close(hall, seat, state)
+        let House {
+            hall,
+            register,
+            keeps,
+            ..
+        } = house;
+        register.into_inner().close(hall, seat, state, keeps)
     }
 }
 
 impl<C: Tally, M: Tally> House<C, M> {
-    /// Whether one connection more may come. Where all are there it waits for one that is about to end.
-    pub(crate) fn has_place<R: Clock + Wait>(&self, rt: &R) -> bool {
+    /// A place for one connection more, if one is free. Where none is it waits for a connection that is about to end.
+    pub(crate) fn enter<R: Clock + Wait>(&self, rt: &R) -> Option<Place>
+        ensures { IfSome result (λ place. place.most ≡ self.now.most) }
+    {
         let most = self.most;
         let register = self.register.lock(rt);
-        let waited = self.freed.wait_timeout_while(
+        let (mut register, _) = self.freed.wait_timeout_while(
             rt,
             register,
             Duration::from_millis(PLACE_WAIT),
             |register| !register.has_place(most) && register.has_ending(),
         );
-        waited.0.has_place(most)
+        register.enter(most)
     }
 
     pub(crate) fn put<R: Wait>(
@@ -156,17 +168,16 @@ impl<C: Tally, M: Tally> House<C, M> {
         rt: &R,
         newcomer: Newcomer<C, M>,
     ) -> Result<(), Newcomer<C, M>> {
-        let mut register = self.register.lock(rt);
-        register.came();
-        register.put(newcomer)
+        self.register.lock(rt).put(newcomer)
     }
 
     pub(crate) fn take<R: Wait>(&self, rt: &R) -> Option<Newcomer<C, M>> {
         self.register.lock(rt).take()
     }
 
-    pub(crate) fn ended<R: Wait>(&self, rt: &R, conn: u64) {
-        self.register.lock(rt).ended(conn);
+    /// A connection has ended.
+    pub(crate) fn leave<R: Wait>(&self, rt: &R, conn: u64, place: Place) {
+        self.register.lock(rt).leave(conn, place);
         self.freed.notify_all();
     }
 
@@ -190,8 +201,9 @@ impl<C: Tally, M: Tally> House<C, M> {
         self.register.lock(rt).close_door();
     }
 
-    pub(crate) fn is_over<R: Wait>(&self, rt: &R) -> bool {
-        self.register.lock(rt).is_over()
+    /// Whether the server has not ended.
+    pub(crate) fn running<R: Wait>(&self, rt: &R) -> Option<Running> {
+        self.register.lock(rt).running()
     }
 
     /// A book of the hall is full, so no side takes more.
@@ -213,6 +225,7 @@ impl<C: Tally, M: Tally> House<C, M> {
 
     pub(crate) fn add_mails<R: Wait>(&self, rt: &R, seat: MailSeat<M>, receipts: Receipts<M>)
         requires ledger { M.all ≡ M.parts }
+        requires own { receipts.conn ≡ seat.conn }
     {
         self.register.lock(rt).add_mails(seat, receipts, self.keeps);
     }

@@ -8,6 +8,7 @@ mod accepting;
 mod binding;
 mod books;
 mod connection;
+mod entrance;
 mod failed;
 mod house;
 mod register;

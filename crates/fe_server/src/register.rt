@@ -1,17 +1,17 @@
 //! What the connections of a server that ended did, and how many are there.
 
-ghost use Rattle.std.specs.Prelude.{◌≡◌, ◌⊎◌, ◌∷◌, ◌++◌, [], true, false, IsTrue, All, IfOk, IfErr, IfSome, IsOk, IsSome, map, nat_lt};
-ghost use Rattle.fe_mail.specs.Books.{AddUp};
+ghost use Rattle.std.specs.Prelude.{◌≡◌, ◌⊎◌, ◌+◌, ◌-◌, ◌≤◌, ◌↔◌, ◌∷◌, ◌++◌, [], true, false, Some, None, IsTrue, All, IfOk, IfErr, IfSome, IsSome, map, nat_lt};
 ghost use mathlib.Core.List.{IsPrefix};
 ghost use Rattle.fe_hall.specs.Acts.{EachTold, IsAccountOf};
-ghost use Rattle.fe_hall.specs.Audits.{account_left};
+ghost use Rattle.fe_hall.specs.Audits.{IsAudit, account_left};
+ghost use Rattle.fe_hall.specs.Seats.{Seats as Totals, first_read_seat, first_write_seat};
 ghost use Rattle.fe_hall.specs.Receipts.{IsBorneOut};
 ghost use Rattle.fe_server.specs.declared.stop_fault.StopFault.TheVariants as fault;
-ghost use Rattle.fe_server.specs.Ended.{joined_to};
+ghost use Rattle.fe_server.specs.Ended.{IsClean, joined_to, lacks};
 
 use crate::stop_fault::StopFault;
 use fe_hall::{
-    Account, Audit, CallSeat, CallSeats, Hall, MailSeat, MailSeats, Receipts, StoreSeat, Tally,
+    Account, Audit, CallSeat, Gathered, Hall, MailSeat, Receipts, Seats, StoreSeat, Tally,
     account_of, settle,
 };
 use fe_state::State;
@@ -26,10 +26,23 @@ use std::sync::Arc;
 #[derive(Drop)]
 pub(crate) struct Newcomer<C: Tally, M: Tally> {
     pub(crate) conn: u64,
+    pub(crate) place: Place,
     pub(crate) stream: Arc<UnixStream, Global>,
     pub(crate) calls: CallSeat<C>,
     pub(crate) mails: MailSeat<M>,
+    ghost reads: { calls ≡ first_read_seat conn },
+    ghost writes: { mails ≡ first_write_seat conn },
 }
+
+/// The place of a connection, of at most this many at once. Only `Register::enter` makes it, and no connection comes without one.
+#[derive(Drop)]
+pub(crate) struct Place {
+    most: u64,
+}
+
+/// Shows that a server had not ended. Only `Register::running` makes it, and no connection is taken from a listener without it.
+#[derive(Drop)]
+pub(crate) struct Running(());
 
 /// Shows that a server has ended. Only `Register::end` makes it, and a house gives neither its books nor its account without it.
 #[derive(Drop)]
@@ -53,16 +66,16 @@ pub(crate) struct Register<C: Tally, M: Tally> {
     /// A book of the hall is full.
     pub(crate) spent: bool,
     /// The seats of all connections that ended.
-    calls: Option<CallSeats<C>>,
-    mails: Option<MailSeats<M>>,
+    calls: Option<Seats<C>>,
+    mails: Option<Seats<M>>,
     /// The list of each read side that ended, and the receipts of the write sides.
     sent: Vec<Vec<ClientMessage>>,
-    receipts: Receipts<M>,
+    receipts: Gathered<M>,
 }
 
 impl<C: Tally, M: Tally> Register<C, M> {
     /// No connection came.
-    pub(crate) fn new(alloc: Global, door: UnixStream, receipts: Receipts<M>) -> Register<C, M> {
+    pub(crate) fn new(alloc: Global, door: UnixStream, receipts: Gathered<M>) -> Register<C, M> {
         Register {
             newcomers: Vec::new(alloc),
             present: 0,
@@ -112,11 +125,28 @@ impl<C: Tally, M: Tally> Register<C, M> {
         self.sockets.iter().any(|(_, socket)| has_ended(socket))
     }
 
-    pub(crate) fn came(&mut self) {
-        self.present = self.present.saturating_add(1);
+    /// A place for one connection more, with at most this many at once. `None` where all are taken, or the server has ended.
+    pub(crate) fn enter(&mut self, most: u64) -> Option<Place>
+        ensures place { IfSome result (λ place. place.most ≡ most) }
+        ensures few { IsSome result → (self.new.present ≡ self.old.present + 1) × (self.new.present ≤ most) }
+        ensures running { IsSome result → self.old.over ≡ false }
+        ensures none { result ≡ None → (self.new ≡ self.old) × ((self.old.over ≡ true) ⊎ (most ≤ self.old.present)) }
+    {
+        if self.over {
+            return None;
+        }
+        if self.present >= most {
+            return None;
+        }
+        self.present += 1;
+        Some(Place { most })
     }
 
-    pub(crate) fn ended(&mut self, conn: u64) {
+    /// A connection has ended, and its place is free.
+    pub(crate) fn leave(&mut self, conn: u64, place: Place)
+        ensures { self.new.present ≡ self.old.present - 1 }
+    {
+        drop(place);
         self.present = self.present.saturating_sub(1);
         if let Some(at) = self.sockets.iter().position(|(other, _)| *other == conn) {
             drop(self.sockets.swap_remove(at));
@@ -150,8 +180,11 @@ impl<C: Tally, M: Tally> Register<C, M> {
         }
     }
 
-    pub(crate) fn is_over(&self) -> bool {
-        self.over
+    /// Whether the server has not ended.
+    pub(crate) fn running(&self) -> Option<Running>
+        ensures { IsSome result ↔ (self.now.over ≡ false) }
+    {
+        if self.over { None } else { Some(Running(())) }
     }
 
     /// Adds what the read side of a connection did; its list only where `keeps`.
@@ -166,8 +199,8 @@ impl<C: Tally, M: Tally> Register<C, M> {
         ensures receipts { self.new.receipts ≡ self.old.receipts }
     {
         match &mut self.calls {
-            Some(calls) => calls.add(seat),
-            None => self.calls = Some(CallSeats::of(seat)),
+            Some(calls) => calls.add(seat.into_seats()),
+            None => self.calls = Some(seat.into_seats()),
         }
         if keeps && self.sent.push(sent).is_err() {
             self.short = true;
@@ -177,9 +210,12 @@ impl<C: Tally, M: Tally> Register<C, M> {
     /// Adds what the write side of a connection did and saw; its receipts only where `keeps`.
     pub(crate) fn add_mails(&mut self, seat: MailSeat<M>, receipts: Receipts<M>, keeps: bool)
         requires ledger { M.all ≡ M.parts }
+        requires own { receipts.conn ≡ seat.conn }
         ensures joined { self.new.mails ≡ joined_to self.old.mails seat.mails }
+        // Receipts that are to be kept are kept, or memory is told to be short.
         ensures receipts { IsTrue keeps → self.new.short ≡ false
-            → self.new.receipts.items ≡ self.old.receipts.items ++ receipts.items }
+            → (self.new.receipts.items ≡ self.old.receipts.items ++ receipts.items)
+            × (self.new.receipts.whole ≡ self.old.receipts.whole) }
         ensures none { keeps ≡ false → self.new.receipts.items ≡ self.old.receipts.items }
         ensures saw { IsPrefix self.old.receipts.history self.new.receipts.history
             × IsPrefix receipts.history self.new.receipts.history }
@@ -188,8 +224,8 @@ impl<C: Tally, M: Tally> Register<C, M> {
         ensures sent { self.new.sent.items ≡ self.old.sent.items }
     {
         match &mut self.mails {
-            Some(mails) => mails.add(seat),
-            None => self.mails = Some(MailSeats::of(seat)),
+            Some(mails) => mails.add(seat.into_seats()),
+            None => self.mails = Some(seat.into_seats()),
         }
         if !keeps {
             self.receipts.learn(receipts);
@@ -210,6 +246,13 @@ impl<C: Tally, M: Tally> Register<C, M> {
         account_of(hall, seat, receipts, history)
     }
 
+    /// Whether something that the closing needs is not there: receipts only where `keeps`.
+    fn lacks(&self, keeps: bool) -> bool
+        ensures { result ≡ lacks self.now.short keeps self.now.receipts.whole }
+    {
+        self.short || keeps && !self.receipts.is_whole()
+    }
+
     /// Closes a hall with what its connections did. `state` is what is stored. `Memory` where not all of that could be kept; `Strange`
     /// where a book is full, a seat is missing or a receipt is strange.
     pub(crate) fn close(
@@ -217,23 +260,24 @@ impl<C: Tally, M: Tally> Register<C, M> {
         hall: Hall<C, M>,
         seat: StoreSeat<M>,
         state: &State,
+        keeps: bool,
     ) -> Result<Audit, (StopFault, Account)>
         requires calls { C.all ≡ C.parts }
         requires mails { M.all ≡ M.parts }
-        ensures calls { IfOk result (λ audit. IfSome self.calls (λ seat. audit.books.calls ≡ seat.amount)) }
-        ensures mails { IfOk result (λ audit. IfSome self.mails (λ seat. audit.books.taken ≡ seat.amount)) }
-        ensures sent { IfOk result (λ audit. audit.sent ≡ map (λ v. v.items) self.sent.items) }
+        // Its books are those of all seats, its lists the register's.
+        ensures audit { IfOk result (λ audit. (calls : Totals) × (mails : Totals)
+            × ((self.calls ≡ Some calls) × (self.mails ≡ Some mails) × (self.spent ≡ false))
+            × IsAudit calls mails (map (λ v. v.items) self.sent.items) self.receipts.whole audit) }
+        ensures clean { IfOk result IsClean }
         ensures borne_out { IfOk result (λ audit. All (IsBorneOut state.now audit.sent) audit.receipts) }
+        ensures whole { IfOk result (λ audit. IsTrue keeps → IsTrue audit.whole) }
         ensures leaves { IsAccountOf seat self.receipts.items self.receipts.history (account_left result) }
         ensures told { EachTold (account_left result).receipts (account_left result).history }
-        ensures whole { IsOk result
-            → (self.short ≡ false) × ((self.spent ≡ false) × (IsSome self.calls × IsSome self.mails)) }
-        ensures add_up { IfOk result (λ audit. AddUp audit.books) }
-        ensures unspent { IfOk result (λ audit. audit.books.spent ≡ false) }
-        ensures faults { IfErr result (λ e. ((e.0 ≡ fault.Memory) × IsTrue self.short)
-            ⊎ ((e.0 ≡ fault.Strange) × (self.short ≡ false))) }
+        ensures faults { IfErr result
+            (λ e. ((e.0 ≡ fault.Memory) × (lacks self.short keeps self.receipts.whole ≡ true))
+            ⊎ ((e.0 ≡ fault.Strange) × (lacks self.short keeps self.receipts.whole ≡ false))) }
     {
-        if self.short {
+        if self.lacks(keeps) {
             return Err((StopFault::Memory, self.account(hall, seat)));
         }
         if self.spent || self.calls.is_none() || self.mails.is_none() {
@@ -253,7 +297,8 @@ impl<C: Tally, M: Tally> Register<C, M> {
         drop(sockets);
         drop(door);
         let (receipts, history) = receipts.into_parts();
-        let (calls, mails) = (calls.unwrap(), mails.unwrap());
+        let calls = calls.unwrap();
+        let mails = mails.unwrap();
         match settle(hall, calls, mails, sent, receipts, history, seat, state) {
             Ok(audit) => Ok(audit),
             Err((_, account)) => Err((StopFault::Strange, account)),

@@ -1,7 +1,8 @@
 //! A store is served.
 
-ghost use Rattle.std.specs.Prelude.{◌≡◌, ◌≢◌, ◌+◌, ◌∷◌, ℕ, [], false, All, IfOk, IsErrOf, nat_lt};
+ghost use Rattle.std.specs.Prelude.{◌≡◌, ◌≢◌, ◌+◌, ◌<◌, ◌∷◌, ℕ, [], false, IsTrue, All, IfOk, IsErrOf, nat_lt};
 ghost use Rattle.fe_mail.specs.Books.{AddUp};
+ghost use Rattle.fe_hall.specs.Acts.{EachTold, Gathered as Kept, IsAccountOf};
 ghost use Rattle.fe_hall.specs.Receipts.{IsBorneOut};
 ghost use Rattle.fe_hall.specs.Seats.{most_connections};
 ghost use Rattle.fe_hall.specs.declared.act.Act.TheVariants as act;
@@ -16,6 +17,7 @@ ghost use Rattle.fe_server.specs.declared.stop_fault.StopFault.TheVariants as fa
 
 use crate::accepting::serve_clients;
 use crate::binding::bind;
+use crate::entrance::Entrance;
 use crate::failed::Failed;
 use crate::house::{House, Opened};
 use crate::register::Over;
@@ -31,8 +33,7 @@ use std::alloc::Global;
 use std::fs::File;
 use std::marker::Brand;
 use std::net::Net;
-use std::os::fd::OwnedFd;
-use std::os::unix::net::{UnixListener, UnixStream};
+use std::os::unix::net::UnixListener;
 use std::rt::Files;
 use std::snapshot::Snapshot;
 use std::sync::Wait;
@@ -54,6 +55,8 @@ pub fn serve<R: Files<File = File> + Net + Clock + Threads + Wait + Sync, G: Gat
 ) -> Result<Audit, ServeFault>
     ensures add_up { IfOk result (λ audit. AddUp audit.books) }
     ensures unspent { IfOk result (λ audit. audit.books.spent ≡ false) }
+    // A server of a bounded number of connections compared the receipts of each.
+    ensures whole { IfOk result (λ audit. 0 < settings.now.accepts → IsTrue audit.whole) }
     // The file is told to have another size only where it has, and to be unformatted only where no store was asked for.
     ensures wrong_size { (found : ℕ) → IsErrOf result (served.Store (store.Size found)) → found ≢ device_bytes }
     ensures unformatted { IsErrOf result (served.Store store.Unformatted) → settings.now.format ≡ false }
@@ -102,6 +105,8 @@ pub fn serve_store<D: Disk + Drop + Send, G: Gate + Sync, R: Clock + Threads + W
     // What its clients were told is stored.
     ensures borne_out { IfOk result
         (λ served. All (IsBorneOut served.keeper.state served.audit.sent) served.audit.receipts) }
+    // Where the number of connections is bounded, these are the receipts of each of them.
+    ensures whole { IfOk result (λ served. 0 < settings.now.accepts → IsTrue served.audit.whole) }
     // Whatever a client was told is in every image that a stop may leave from then on: before an answer was told, a
     // group with its entry was stored, and each image since the end of its append stands for a state with that group.
     // After a fault this holds if the account's `own` is true.
@@ -112,7 +117,7 @@ pub fn serve_store<D: Disk + Drop + Send, G: Gate + Sync, R: Clock + Threads + W
     serve_as::<Brand, Brand, D, G, R>(
         rt,
         alloc,
-        listener,
+        Entrance::new(listener),
         settings,
         keeper,
         gate,
@@ -131,7 +136,7 @@ fn serve_as<
 >(
     rt: &R,
     alloc: Global,
-    listener: UnixListener,
+    entrance: Entrance,
     settings: &Settings,
     keeper: Keeper<D>,
     gate: &G,
@@ -152,29 +157,47 @@ fn serve_as<
     ensures unspent { IfOk result (λ served. served.audit.books.spent ≡ false) }
     ensures borne_out { IfOk result
         (λ served. All (IsBorneOut served.keeper.state served.audit.sent) served.audit.receipts) }
+    ensures whole { IfOk result (λ served. 0 < settings.now.accepts → IsTrue served.audit.whole) }
     ensures acknowledged { (end : Ended) × IsAnswerAt end (fault_in result)
         × IsAcknowledged D.honest D.moment D.left_since keeper (keeper_in result) end (account_in result) }
 {
     let nothing = history.account(alloc);
-    let Ok(door) = listener.try_clone() else {
-        drop(history);
-        return Err(unserved(keeper, nothing));
-    };
-    // The system ends an `accept` whose listener is shut, which only a stream can do here.
-    let door = UnixStream::from(OwnedFd::from(door));
     let Ok((opened, seat)) = Opened::<C, M>::new(
         alloc,
         keeper.state(),
         calls,
         mails,
         history,
-        door,
+        &entrance,
         settings,
     ) else {
         return Err(unserved(keeper, nothing));
     };
     drop(nothing);
-    let (keeper, end, over, seat) = run(rt, alloc, &opened, listener, settings, keeper, seat, gate);
+    let (keeper, end, over, seat) = run(rt, alloc, &opened, entrance, settings, keeper, seat, gate);
+    closed(opened, over, seat, keeper, end)
+}
+
+/// Closes what was served. Where the committing side ended with a fault the account comes back.
+fn closed<C: Tally, M: Tally, D: Disk>(
+    opened: Opened<C, M>,
+    over: Over,
+    seat: StoreSeat<M>,
+    keeper: Keeper<D>,
+    end: CommitEnd,
+) -> Result<Served<D>, Failed<D>>
+    requires calls { C.all ≡ C.parts }
+    requires mails { M.all ≡ M.parts }
+    ensures keeper { keeper_in result ≡ keeper }
+    ensures answer { IsAnswerAt end (fault_in result) }
+    ensures add_up { IfOk result (λ served. AddUp served.audit.books) }
+    ensures unspent { IfOk result (λ served. served.audit.books.spent ≡ false) }
+    ensures borne_out { IfOk result
+        (λ served. All (IsBorneOut served.keeper.state served.audit.sent) served.audit.receipts) }
+    ensures whole { IfOk result (λ served. IsTrue opened.house.keeps → IsTrue served.audit.whole) }
+    ensures leaves { (kept : Kept) × IsAccountOf seat kept.items kept.history (account_in result) }
+    ensures told { EachTold (account_in result).receipts (account_in result).history }
+{
     if let Some(fault) = fault_of_end(end) {
         let account = opened.account(over, seat);
         return Err(Failed {
@@ -223,7 +246,7 @@ impl<D: Disk + Drop, M: Tally> Promise<(Keeper<D>, CommitEnd, Over, StoreSeat<M>
         HasNoted D.honest D.moment D.left_since D.may_leave D.failures p.before.value r.0 r.1 r.3 };
 }
 
-/// Serves the clients of a listener, and stores what they do. The keeper comes back, and why the committing side ended.
+/// Serves clients, and stores what they do. The keeper comes back, and why the committing side ended.
 fn run<
     C: Tally + Send + Sync,
     M: Tally + Send + Sync,
@@ -234,7 +257,7 @@ fn run<
     rt: &R,
     alloc: Global,
     opened: &Opened<C, M>,
-    listener: UnixListener,
+    entrance: Entrance,
     settings: &Settings,
     keeper: Keeper<D>,
     seat: StoreSeat<M>,
@@ -257,7 +280,7 @@ fn run<
             ensures { HasNoted D.honest D.moment D.left_since D.may_leave D.failures keeper result.0 result.1 result.3 }
         {
             run_in(
-                rt, alloc, scope, house, listener, settings, keeper, seat, gate,
+                rt, alloc, scope, house, entrance, settings, keeper, seat, gate,
             )
         },
     )
@@ -277,7 +300,7 @@ fn run_in<
     alloc: Global,
     scope: &Scope<'s, E>,
     house: &'s House<C, M>,
-    listener: UnixListener,
+    entrance: Entrance,
     settings: &Settings,
     keeper: Keeper<D>,
     seat: StoreSeat<M>,
@@ -300,7 +323,7 @@ fn run_in<
     );
     match committing {
         Ok(thread) => {
-            serve_clients(rt, alloc, house, listener, settings, gate);
+            serve_clients(rt, alloc, house, entrance, settings, gate);
             house.hall.stop(rt);
             thread.join(rt)
         }

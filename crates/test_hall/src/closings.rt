@@ -9,8 +9,7 @@ use crate::stage::{PARTS, hall_over};
 use crate::tests::store_after;
 use fe_disk::MemoryDisk;
 use fe_hall::{
-    CallSeat, CallSeats, Hall, MailSeat, MailSeats, NewHistory, Receipt, Tally, Unclosed,
-    Unconnected, close,
+    CallSeat, Hall, MailSeat, NewHistory, Receipt, ReceiptList, Tally, Unclosed, Unconnected, close,
 };
 use fe_keeper::Keeper;
 use fe_state::{Answer, Request, named};
@@ -106,7 +105,7 @@ fn close_as<C: Tally, M: Tally, R: Abort + Wait>(
     keeper: Keeper<MemoryDisk>,
     connections: u64,
     sent: Vec<Vec<ClientMessage>>,
-    receipts: Vec<Receipt>,
+    receipts: ReceiptList,
     calls: Blank,
     mails: Blank,
     history: NewHistory,
@@ -122,7 +121,7 @@ fn close_as<C: Tally, M: Tally, R: Abort + Wait>(
         .ok()
         .expect(rt, "a hall");
     let (calls, mails) = connect(rt, &hall, connections).ok().expect(rt, "connected");
-    let (calls, mails) = (CallSeats::of(calls), MailSeats::of(mails));
+    let (calls, mails) = (calls.into_seats(), mails.into_seats());
     let seen = hall.history();
     match close(hall, calls, mails, sent, receipts, seen, seat, keeper) {
         Ok(closing) => {
@@ -146,7 +145,7 @@ fn closed<R: Abort + Clock + Threads + Wait + Sync>(
 ) -> Result<Result<(), Unclosed>, AllocError> {
     let mut sent = Vec::new(alloc);
     sent.push(messages(alloc, case.sent)?)?;
-    let receipts = Vec::from_slice(alloc, &[case.receipt])?;
+    let receipts = ReceiptList::of(Vec::from_slice(alloc, &[case.receipt])?);
     let keeper = stored(rt, alloc);
     let (calls, mails) = (Blank::new(PARTS), Blank::new(PARTS));
     let history = NewHistory::new(keeper.state().place());

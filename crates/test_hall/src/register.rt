@@ -2,8 +2,7 @@ ghost use Rattle.std.specs.Prelude.{◌≡◌};
 
 use fe_disk::Disk;
 use fe_hall::{
-    CallSeat, CallSeats, Closing, Hall, MailSeat, MailSeats, Receipts, StoreSeat, Tally, Unclosed,
-    close,
+    CallSeat, Closing, Gathered, Hall, MailSeat, Receipts, Seats, StoreSeat, Tally, Unclosed, close,
 };
 use fe_keeper::Keeper;
 use fe_wire::ClientMessage;
@@ -12,20 +11,20 @@ use std::alloc::Global;
 /// What the ended connections of a hall sent and got.
 #[derive(Drop)]
 pub struct Register<C: Tally, M: Tally> {
-    calls: Option<CallSeats<C>>,
-    mails: Option<MailSeats<M>>,
+    calls: Option<Seats<C>>,
+    mails: Option<Seats<M>>,
     sent: Vec<Vec<ClientMessage>>,
-    receipts: Option<Receipts<M>>,
+    receipts: Gathered<M>,
 }
 
 impl<C: Tally, M: Tally> Register<C, M> {
-    /// A register with no connections.
-    pub fn new(alloc: Global) -> Register<C, M> {
+    /// A register with no connections. `receipts` are none yet.
+    pub fn new(alloc: Global, receipts: Gathered<M>) -> Register<C, M> {
         Register {
             calls: None,
             mails: None,
             sent: Vec::new(alloc),
-            receipts: None,
+            receipts,
         }
     }
 
@@ -34,8 +33,8 @@ impl<C: Tally, M: Tally> Register<C, M> {
         requires { C.all ≡ C.parts }
     {
         match &mut self.calls {
-            Some(calls) => calls.add(seat),
-            None => self.calls = Some(CallSeats::of(seat)),
+            Some(calls) => calls.add(seat.into_seats()),
+            None => self.calls = Some(seat.into_seats()),
         }
         let _ = self.sent.push(sent);
     }
@@ -45,22 +44,14 @@ impl<C: Tally, M: Tally> Register<C, M> {
         requires { M.all ≡ M.parts }
     {
         match &mut self.mails {
-            Some(mails) => mails.add(seat),
-            None => self.mails = Some(MailSeats::of(seat)),
+            Some(mails) => mails.add(seat.into_seats()),
+            None => self.mails = Some(seat.into_seats()),
         }
-        match &mut self.receipts {
-            Some(all) => {
-                let _ = all.add(receipts);
-            }
-            None => self.receipts = Some(receipts),
-        }
+        let _ = self.receipts.add(receipts);
     }
 
     pub fn receipts(&self) -> usize {
-        match &self.receipts {
-            Some(receipts) => receipts.as_slice().len(),
-            None => 0,
-        }
+        self.receipts.as_slice().len()
     }
 
     /// Closes the hall with everything in the register.
@@ -79,7 +70,7 @@ impl<C: Tally, M: Tally> Register<C, M> {
             sent,
             receipts,
         } = self;
-        let (Some(calls), Some(mails), Some(receipts)) = (calls, mails, receipts) else {
+        let (Some(calls), Some(mails)) = (calls, mails) else {
             return Err(Unclosed::SeatMissing);
         };
         let (receipts, history) = receipts.into_parts();

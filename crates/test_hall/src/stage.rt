@@ -98,11 +98,12 @@ fn perform_as<
         .ok()
         .expect(rt, "a hall");
     let board = Board::new(alloc, play).ok().expect(rt, "a board");
+    let receipts = hall.no_receipts(alloc);
     let stage = Stage {
         play,
         hold,
         hall,
-        register: Mutex::new(Register::new(alloc)),
+        register: Mutex::new(Register::new(alloc, receipts)),
         board: Mutex::new(board),
     };
     let (keeper, commit_end, seat) = run(rt, alloc, &stage, keeper, seat);

@@ -48,7 +48,7 @@ returns-clause-ran g c =
     let parts = c.into_parts-trace in
     let fault = c.take_steps-fault.result in
     let opened = c.in-Ok.ensures in
-    run_of g.D.Disk.honest g.D.Disk.seen g.D.Disk.failures c.args.disk c.args.steps.now parts.result.0 parts.result.1 fault
+    run_of g.D.Disk.honest g.D.Disk.seen g.D.Disk.failures g.D.Disk.calls c.args.disk c.args.steps.now parts.result.0 parts.result.1 fault
     (record {
       first = first;
       last = last;

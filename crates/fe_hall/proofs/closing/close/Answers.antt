@@ -9,7 +9,7 @@ use Rattle.fe_hall.proofs.closing.close.Goals as goal
 pub returns-in-Ok-clause-receipts : goal.returns-in-Ok-clause-receipts
 returns-in-Ok-clause-receipts g c =
     let e = c.in-Ok.ensures in
-    all_as c.state.result.now c.args.keeper.state c.in-Ok.audit.sent (map (λ v. v.items) c.args.sent.items) c.in-Ok.audit.receipts c.args.receipts.items c.state.ensures.state e.sent e.leaves.same_receipts e.borne_out
+    all_as c.state.result.now c.args.keeper.state c.in-Ok.audit.sent (map (λ v. v.items) c.args.sent.items) c.in-Ok.audit.receipts c.args.receipts.items c.state.ensures.state e.audit.lists e.leaves.same_receipts e.borne_out
 
 pub returns-in-Ok-clause-refused : goal.returns-in-Ok-clause-refused
 returns-in-Ok-clause-refused g c = λ _. (

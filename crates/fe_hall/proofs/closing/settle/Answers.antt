@@ -6,7 +6,7 @@ use Rattle.fe_hall.proofs.closing.settle.Goals as goal
 
 pub returns-in-Some-strange-clause-refused : goal.returns-in-Some-strange-clause-refused
 returns-in-Some-strange-clause-refused g c = λ _. (
-  λ _. one_strange c.args.state.now c.args.state.now c.as_slice.result.now c.args.sent.items c.receipts.result.now c.args.receipts.items (λ v. v.items) refl c.as_slice.ensures.value (c.receipts.ensures ∙ c.of-account.ensures.same_receipts) c.in-Some-strange.place c.in-Some-strange.ensures.some,
+  λ _. one_strange c.args.state.now c.args.state.now c.as_slice.result.now c.args.sent.items c.receipts.result.now c.args.receipts.items (λ v. v.items) refl c.as_slice.ensures.value (c.receipts.ensures ∙ c.of-account.ensures.same_receipts ∙ c.into_items.ensures) c.in-Some-strange.place c.in-Some-strange.ensures.some,
   λ _. refl,
 )
 
@@ -17,7 +17,7 @@ returns-in-None-clause-borne_out g c =
 pub returns-in-None-clause-refused : goal.returns-in-None-clause-refused
 returns-in-None-clause-refused g c = λ _. (
   λ err. absurd (true≢false (sym err)),
-  λ one. absurd (none_is c.args.state.now c.args.state.now c.as_slice.result.now c.args.sent.items c.receipts.result.now c.args.receipts.items (λ v. v.items) refl c.as_slice.ensures.value (c.receipts.ensures ∙ c.of-account.ensures.same_receipts) c.in-None.ensures.none one),
+  λ one. absurd (none_is c.args.state.now c.args.state.now c.as_slice.result.now c.args.sent.items c.receipts.result.now c.args.receipts.items (λ v. v.items) refl c.as_slice.ensures.value (c.receipts.ensures ∙ c.of-account.ensures.same_receipts ∙ c.into_items.ensures) c.in-None.ensures.none one),
 )
 
 pub returns-in-None-clause-leaves : goal.returns-in-None-clause-leaves
@@ -26,7 +26,7 @@ returns-in-None-clause-leaves g c =
     let a = c.of-account.result in
     let alone : a.own ≡ true = search rules in
     record {
-      same_receipts = e.same_receipts;
+      same_receipts = e.same_receipts ∙ c.into_items.ensures;
       this = e.this;
       that = e.that;
       legal = e.legal;

@@ -1,6 +1,8 @@
-use Rattle.std.proofs.Common.{true}
+use Rattle.std.proofs.Common.{◌≡◌, true, false, ◌∙◌, rules}
 use Rattle.fe_hall.specs.Acts.{Account}
+use Rattle.fe_server.specs.Ended.{lacks}
 use Rattle.fe_server.proofs.Accounts.{account_told}
+use Rattle.fe_server.proofs.Ends.{kept_whole}
 use Rattle.fe_server.proofs.register.Register.close.Goals as goal
 
 pub returns-in-Ok-clause-told : goal.returns-in-Ok-clause-told
@@ -14,3 +16,17 @@ pub returns-in-Err-clause-told : goal.returns-in-Err-clause-told
 returns-in-Err-clause-told g c =
     let p = c.into_parts-receipts in
     account_told c.args.seat p.result.0.items p.result.1 c.in-Err.account c.in-Err.ensures.leaves p.ensures.told
+
+pub returns-in-Ok-clause-audit : goal.returns-in-Ok-clause-audit
+returns-in-Ok-clause-audit g c =
+    let e = c.in-Ok.ensures.audit in (
+      c.unwrap-calls.result,
+      c.unwrap-mails.result,
+      search rules,
+      record { booked_calls = e.booked_calls; booked_mails = e.booked_mails; add_up = e.add_up; unspent = e.unspent; lists = e.lists; all_receipts = e.all_receipts ∙ c.into_parts-receipts.ensures.whole },
+    )
+
+pub returns-in-Ok-clause-whole : goal.returns-in-Ok-clause-whole
+returns-in-Ok-clause-whole g c = λ keep.
+    let none : lacks c.args.self.short c.args.keeps c.args.self.receipts.whole ≡ false = search rules in
+    c.in-Ok.ensures.audit.all_receipts ∙ c.into_parts-receipts.ensures.whole ∙ kept_whole _ _ _ none keep

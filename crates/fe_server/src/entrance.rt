@@ -1,0 +1,28 @@
+use crate::register::Running;
+use std::io;
+use std::os::fd::OwnedFd;
+use std::os::unix::net::{UnixListener, UnixStream};
+
+/// The listener of a server. It gives a connection only to a caller who shows that the server has not ended.
+#[derive(Drop)]
+pub(crate) struct Entrance {
+    listener: UnixListener,
+}
+
+impl Entrance {
+    pub(crate) fn new(listener: UnixListener) -> Entrance {
+        Entrance { listener }
+    }
+
+    /// Another handle of the listener. The system ends an `accept` whose listener is shut, which only a stream can do here.
+    pub(crate) fn door(&self) -> io::Result<UnixStream> {
+        let door = self.listener.try_clone()?;
+        Ok(UnixStream::from(OwnedFd::from(door)))
+    }
+
+    /// Waits for a connection.
+    pub(crate) fn accept(&self, _running: Running) -> io::Result<UnixStream> {
+        let (stream, _) = self.listener.accept()?;
+        Ok(stream)
+    }
+}
