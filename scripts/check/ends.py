@@ -206,7 +206,8 @@ def long_paths(place):
 @within(90)
 def fault_with_silent_clients(place):
     """a device fault ends the server within a second, even with clients that send nothing or read nothing, one of them half-closed"""
-    turns = place.options.turns or 5
+    # (a fault takes most of a second, with the clients that have to be blocked first)
+    turns = min(place.options.turns, 50) or 5
     library = preload(place, "record.c")
     slowest = 0
     for turn in range(turns):
