@@ -191,7 +191,7 @@ impl<C: Tally, M: Tally> Register<C, M> {
     pub(crate) fn add_calls(&mut self, seat: CallSeat<C>, sent: Vec<ClientMessage>, keeps: bool)
         requires ledger { C.all ≡ C.parts }
         ensures joined { self.new.calls ≡ joined_to self.old.calls seat.calls }
-        // A list that is to be kept is kept, or memory is told to be short.
+        // A list that has to be kept is kept, or the register says that it is short.
         ensures sent { IsTrue keeps → self.new.short ≡ false → self.new.sent.items ≡ self.old.sent.items ++ sent ∷ [] }
         ensures none { keeps ≡ false → self.new.sent.items ≡ self.old.sent.items }
         ensures short { IsTrue self.old.short → IsTrue self.new.short }
@@ -212,7 +212,7 @@ impl<C: Tally, M: Tally> Register<C, M> {
         requires ledger { M.all ≡ M.parts }
         requires own { receipts.conn ≡ seat.conn }
         ensures joined { self.new.mails ≡ joined_to self.old.mails seat.mails }
-        // Receipts that are to be kept are kept, or memory is told to be short.
+        // Receipts that have to be kept are kept, or the register says that it is short.
         ensures receipts { IsTrue keeps → self.new.short ≡ false
             → (self.new.receipts.items ≡ self.old.receipts.items ++ receipts.items)
             × (self.new.receipts.whole ≡ self.old.receipts.whole) }
