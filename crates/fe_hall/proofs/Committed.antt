@@ -1,5 +1,5 @@
 -- How the keeper of a committing side goes on, over calls one after the other.
-use Rattle.std.proofs.Common.{◌≡◌, ◌⊎◌, inl, inr, ⊎_elim, ℕ, suc, ◌+◌, ◌≤◌, Bool, true, false, Option, Some, None, List, [], ◌∷◌, ◌++◌, length, take, refl, sym, ap, subst, ◌∙◌, zero-add, arith}
+use Rattle.std.proofs.Common.{◌≡◌, inl, inr, ⊎_elim, ℕ, suc, ◌+◌, ◌≤◌, Bool, true, false, Option, Some, None, List, [], ◌∷◌, ◌++◌, length, take, refl, sym, ap, subst, ◌∙◌, zero-add, arith}
 use Rattle.std.specs.Prelude.{◌↔◌, if◌then◌else◌, Result, Ok, Err, IsErrAnd, IfErr}
 use Rattle.std.proofs.lemmas.List.{length-append, take-append-le, take_all}
 use Rattle.fe_disk.specs.Disk.{LeavesOnly}
@@ -8,9 +8,8 @@ use Rattle.fe_state.specs.State.{ServerState, after_all}
 use Rattle.fe_state.specs.History.{IsHistory, AreLegal, after_groups}
 use Rattle.fe_state.specs.declared.entry.Entry.{Entry}
 use Rattle.fe_state.proofs.Histories.{history-append}
-use Rattle.fe_replica.specs.Taking.{Continues}
 use Rattle.std.specs.Option.{option_map_or}
-use Rattle.fe_keeper.specs.Ends.{Rests, IsDurable, StopsLeave, Works, Breaks, Refuses, Fails, ForBatch}
+use Rattle.fe_keeper.specs.Ends.{Rests, StopsLeave, Works, Breaks, Fails, ForBatch}
 use Rattle.fe_keeper.specs.Keeper.{KeeperState, StoreState, Progress, fits, must_begin, made_room, renewed, appended, stepped, stepped_by, finished, finished_by}
 use Rattle.fe_keeper.specs.Prefix.{LeavesPrefix}
 use Rattle.fe_keeper.specs.Stands.{StandsFor, StandsForEither, EachStandsFor}

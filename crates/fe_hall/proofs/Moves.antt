@@ -6,7 +6,7 @@ use mathlib.Core.List.{IsPrefix}
 use prog.Atomic.{either}
 use Rattle.logbook.specs.Pages.{Cell, cell, keeps, no_nib, step, Moves, Goes}
 use Rattle.fe_hall.specs.declared.act.Act.{Act}
-use Rattle.fe_hall.specs.declared.act.Act.TheVariants.{Began, Stored, Told}
+use Rattle.fe_hall.specs.declared.act.Act.TheVariants.{Stored, Told}
 use Rattle.fe_hall.specs.declared.receipt.Receipt.{Receipt}
 use Rattle.fe_hall.specs.Acts.{IsLegal, mark_of, stores_in}
 use Rattle.fe_hall.specs.Rules.{IsKept, Adds, AddsNext, Counts}

@@ -18,6 +18,8 @@ use Rattle.fe_hall.specs.declared.standing.Standing.{Standing}
 use Rattle.fe_hall.specs.declared.standing.Standing.TheVariants as standing
 use Rattle.fe_hall.specs.declared.taking.Taking.{Taking}
 use Rattle.fe_hall.specs.declared.taking.Taking.TheVariants as taking
+use Rattle.fe_hall.specs.declared.brief.Brief.{Brief}
+use Rattle.fe_hall.specs.Briefs.{brief_of, last_of}
 use Rattle.fe_hall.specs.Seats.{WriteSeat, TookNoMail, mail_taken, taking_answered}
 use Rattle.fe_hall.specs.Writes.{receipt_of, receipts_with, IsBatch, BreaksOff, MayLackLast, IsWritten, AreTaken, TakesOn, IsNoFault, IsTold, AreSpelled, end_of}
 
@@ -43,10 +45,16 @@ spelled-append xs ys = flat_map-append (λ m. reply_spelling (reply_of m)) xs ys
 
 -- ---- seat and receipts
 
+-- the last of some mails and then of others
+last_among : (last : Option Brief) (ms ns : List Mail) → last_of (last_of last ms) ns ≡ last_of last (ms ++ ns)
+last_among last [] ns = refl
+last_among last (m ∷ ms) ns = last_among (Some (brief_of m)) ms ns
+
 pub takes_none : (s : WriteSeat) (kept : List Receipt) → length kept ≤ 1024 → TakesOn s s kept kept []
 takes_none s kept few = record {
   conn = refl;
   count = let same : s.mails ≡ s.mails + 0 = omega arith in same;
+  last = refl;
   receipts = sym (ap (λ t. take 1024 t) (append-nil kept) ∙ take_all 1024 kept few);
 }
 
@@ -54,6 +62,7 @@ pub takes_on : (a b c : WriteSeat) (kept more all : List Receipt) (ms ns : List 
 takes_on a b c kept more all ms ns one two = record {
   conn = two.conn ∙ one.conn;
   count = omega (arith, one.count, two.count, length-append ms ns);
+  last = two.last ∙ ap (λ (l : Option Brief). last_of l ns) one.last ∙ last_among a.last ms ns;
   receipts =
       two.receipts
       ∙ ap (λ (rs : List Receipt). receipts_with rs ns) one.receipts
@@ -63,37 +72,38 @@ takes_on a b c kept more all ms ns one two = record {
 
 pub takes_same : (a b : WriteSeat) (kept same : List Receipt) → length kept ≤ 1024 → TookNoMail a b → same ≡ kept → TakesOn a b kept same []
 takes_same a b kept same few still receipts =
-    let none = takes_none a kept few in record { conn = still.conn; count = still.mails ∙ none.count; receipts = receipts ∙ none.receipts }
+    let none = takes_none a kept few in record { conn = still.conn; count = still.mails ∙ none.count; last = still.last; receipts = receipts ∙ none.receipts }
 
 -- the seat of a side that took none, after one that is the same
 pub none_since : (a b c : WriteSeat) → b ≡ a → TookNoMail b c → TookNoMail a c
-none_since a b c same none = record { conn = none.conn ∙ ap (λ (s : WriteSeat). s.conn) same; mails = none.mails ∙ ap (λ (s : WriteSeat). s.mails) same }
+none_since a b c same none = record { conn = none.conn ∙ ap (λ (s : WriteSeat). s.conn) same; mails = none.mails ∙ ap (λ (s : WriteSeat). s.mails) same; last = none.last ∙ ap (λ (s : WriteSeat). s.last) same }
 
 -- a mail is taken, and its receipt kept
-pub takes_one : (a b c d : WriteSeat) (kept same all : List Receipt) (m : Mail) (more : Bool) → b ≡ a → same ≡ kept → c ≡ mail_taken b more → d ≡ c → all ≡ receipts_with same (m ∷ [])
+pub takes_one : (a b c d : WriteSeat) (kept same all : List Receipt) (m : Mail) (more : Bool) → b ≡ a → same ≡ kept → c ≡ mail_taken b m more → d ≡ c → all ≡ receipts_with same (m ∷ [])
     → TakesOn a d kept all (m ∷ [])
 takes_one a b c d kept same all m more seat receipts taken as_it_was keeps =
-    let took : d ≡ mail_taken a more = as_it_was ∙ taken ∙ ap (λ (s : WriteSeat). mail_taken s more) seat in
+    let took : d ≡ mail_taken a m more = as_it_was ∙ taken ∙ ap (λ (s : WriteSeat). mail_taken s m more) seat in
     record {
       conn = ap (λ (s : WriteSeat). s.conn) took;
       count = ap (λ (s : WriteSeat). s.mails) took;
+      last = ap (λ (s : WriteSeat). s.last) took;
       receipts = keeps ∙ ap (λ (rs : List Receipt). receipts_with rs (m ∷ [])) receipts;
     }
 
 -- all that a side took, and that it took when it leaves
 pub as_taken : {before after left : WriteSeat} {none kept : List Receipt} {mails : List Mail} → TakesOn before after none kept mails → none ≡ [] → TookNoMail after left → AreTaken before left kept mails
 as_taken {mails} takes is still =
-    record { conn = still.conn ∙ takes.conn; count = still.mails ∙ takes.count; receipts = takes.receipts ∙ ap (λ (rs : List Receipt). receipts_with rs mails) is }
+    record { conn = still.conn ∙ takes.conn; count = still.mails ∙ takes.count; last = still.last ∙ takes.last; receipts = takes.receipts ∙ ap (λ (rs : List Receipt). receipts_with rs mails) is }
 
 -- ---- what the hall told
 
 -- a mail came
-pub answered_mail : (s t : WriteSeat) (given : Taking) (m : Mail) (more : Bool) → t ≡ taking_answered s given → given ≡ taking.Mail m more → t ≡ mail_taken s more
+pub answered_mail : (s t : WriteSeat) (given : Taking) (m : Mail) (more : Bool) → t ≡ taking_answered s given → given ≡ taking.Mail m more → t ≡ mail_taken s m more
 answered_mail s t given m more answered is = answered ∙ ap (λ (g : Taking). taking_answered s g) is
 
 -- the seat of a side that is told how it stands
 none_at : (s t : WriteSeat) (told : Standing) → t ≡ record s { standing = told } → TookNoMail s t
-none_at s t told is = record { conn = ap (λ (u : WriteSeat). u.conn) is; mails = ap (λ (u : WriteSeat). u.mails) is }
+none_at s t told is = record { conn = ap (λ (u : WriteSeat). u.conn) is; mails = ap (λ (u : WriteSeat). u.mails) is; last = ap (λ (u : WriteSeat). u.last) is }
 
 -- none came, for this reason
 pub record EndsSo (s t : WriteSeat) (end : WriteEnd) : Type 0 where

@@ -1,5 +1,5 @@
 -- What happened in a hall, in one order: groups were stored, and answers were told.
-use Rattle.std.specs.Prelude.{◌≡◌, ℕ, ◌<◌, ◌≤◌, max, Bool, List, [], ◌∷◌, ◌++◌, length, slice_get, Option, Some, None, IfSome, MatchBool}
+use Rattle.std.specs.Prelude.{◌≡◌, ℕ, ◌<◌, max, Bool, List, [], ◌∷◌, ◌++◌, slice_get, Some, IfSome, MatchBool}
 use mathlib.Core.List.{IsPrefix}
 use Rattle.fe_mail.specs.declared.mail.Mail.{Mail}
 use Rattle.fe_hall.specs.declared.receipt.Receipt.{Receipt}

@@ -5,6 +5,8 @@ use Rattle.fe_wire.specs.declared.client_message.ClientMessage.{ClientMessage}
 use Rattle.fe_hall.specs.Acts.{Account}
 use Rattle.fe_hall.specs.Seats.{Seats}
 use Rattle.fe_hall.specs.declared.act.Act.{Act}
+use Rattle.fe_hall.specs.declared.closing.Unclosed.{Unclosed}
+use Rattle.fe_hall.specs.declared.closing.Unclosed.TheVariants.{SeatMissing, StrangeReceipt}
 use Rattle.fe_hall.specs.declared.receipt.Receipt.{Receipt}
 
 -- its books, what its connections sent, the receipts for the answers that they took, whether they are those of each write side, and
@@ -25,6 +27,11 @@ pub record IsAudit (calls mails : Seats) (sent : List (List ClientMessage)) (who
   pub unspent : audit.books.spent ≡ false
   pub lists : audit.sent ≡ sent
   pub all_receipts : audit.whole ≡ whole
+
+-- a hall is not closed since a seat is missing
+abbrev pub IsMissing : Unclosed → Type 0
+IsMissing (SeatMissing missing) = Unit {0}
+IsMissing (StrangeReceipt place) = ⊥
 
 -- the account that a hall leaves, closed or not
 abbrev pub account_left : {U : Type 0} → Result Audited (U × Account) → Account

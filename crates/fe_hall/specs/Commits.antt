@@ -1,5 +1,5 @@
 -- What the committing side of a hall does to the keeper that it is lent.
-use Rattle.std.specs.Prelude.{◌≡◌, ◌⊎◌, ◌↔◌, ℕ, ◌+◌, ◌≤◌, true, false, List, [], ◌∷◌, ◌++◌, length, map, take, Option, Some, None}
+use Rattle.std.specs.Prelude.{◌≡◌, ◌⊎◌, ℕ, ◌+◌, ◌≤◌, true, false, List, [], ◌∷◌, ◌++◌, length, map, take, Option, Some, None}
 use mathlib.Core.List.{IsPrefix}
 use Rattle.fe_disk.specs.Disk.{LeavesOnly, Rises}
 use Rattle.fe_state.specs.State.{ServerState, after_all}
@@ -12,6 +12,8 @@ use Rattle.fe_keeper.specs.Prefix.{LeavesPrefix}
 use Rattle.fe_keeper.specs.declared.fault.Fault.{Fault}
 use Rattle.fe_keeper.specs.declared.fault.Fault.TheVariants.{Device, Failed, NoMemory, Mismatch, Damaged, Unformatted}
 use Rattle.fe_hall.specs.Acts.{stores_in}
+use Rattle.fe_hall.specs.declared.shared.Unposted.{Unposted}
+use Rattle.fe_hall.specs.declared.shared.Unposted.TheVariants as unposted
 use Rattle.fe_hall.specs.declared.act.Act.{Act}
 use Rattle.fe_hall.specs.declared.commit_end.CommitEnd.{CommitEnd}
 use Rattle.fe_hall.specs.declared.commit_end.CommitEnd.TheVariants.{Stopped, Store, Strange, Spent}
@@ -82,6 +84,11 @@ end_of NoMemory = Store NoMemory
 end_of (Mismatch place) = Strange
 end_of (Damaged offset) = Store (Damaged offset)
 end_of Unformatted = Store Unformatted
+
+-- what a batch that was not posted is to the side
+abbrev pub end_of_post : Unposted → CommitEnd
+end_of_post (unposted.Full full) = Spent
+end_of_post (unposted.Strange strange) = Strange
 
 -- no call of the disk failed
 pub record IsStill {D : Type 0} (failures : D → ℕ) (old new : KeeperState D) : Type 0 where

@@ -1,12 +1,16 @@
 -- What a hold of a hall's lock did to the front, and why it did nothing.
-use Rattle.std.specs.Prelude.{◌≡◌, ℕ, ◌≤◌, Bool, true, false, [], length, nat_lt, Option, Some, None}
+use Rattle.std.specs.Prelude.{◌≡◌, ◌⊎◌, ℕ, ◌≤◌, Bool, true, false, [], length, nat_lt, Option, Some, None}
 use Rattle.fe_mail.specs.Connections.{mails_on}
 use Rattle.fe_front.specs.Event as event
 use Rattle.fe_front.specs.Front.{FrontState, is_connected}
 use Rattle.fe_front.specs.Step.{FrontStep}
-use Rattle.fe_hall.specs.Seats.{most_counted}
+use Rattle.fe_state.specs.declared.batch.Batch.{Batch}
+use Rattle.fe_front.specs.Posting.{IsOut}
+use Rattle.fe_hall.specs.Seats.{most_counted, posts_more}
 use Rattle.fe_hall.specs.declared.shared.Cutting.{Cutting}
 use Rattle.fe_hall.specs.declared.shared.Cutting.TheVariants as cutting
+use Rattle.fe_hall.specs.declared.shared.Unposted.{Unposted}
+use Rattle.fe_hall.specs.declared.shared.Unposted.TheVariants as unposted
 use Rattle.fe_hall.specs.declared.taking.Taking.{Taking}
 use Rattle.fe_hall.specs.declared.taking.Taking.TheVariants as taking
 
@@ -33,6 +37,19 @@ TakesMail f stopped conn (Some taking.Gone) g = FrontStep f (event.TakeMail conn
 TakesMail f stopped conn (Some taking.Stopped) g = FrontStep f (event.TakeMail conn None) [] g × Ends g stopped conn (Some taking.Stopped)
 TakesMail f stopped conn (Some taking.Spent) g = FrontStep f (event.TakeMail conn None) [] g × Ends g stopped conn (Some taking.Spent)
 TakesMail f stopped conn None g = FrontStep f (event.TakeMail conn None) [] g × Ends g stopped conn None
+
+-- Nothing more comes for a connection: it is gone, or the hall is stopped.
+abbrev pub IsOver : FrontState → Bool → ℕ → Type 0
+IsOver f stopped conn = (stopped ≡ true) ⊎ (is_connected f conn ≡ false)
+
+-- Nothing more comes for a connection of what was made before this place: it is over, or all that is durable and its box is empty.
+abbrev pub IsDrained : FrontState → Bool → ℕ → ℕ → Type 0
+IsDrained f stopped conn place = IsOver f stopped conn ⊎ ((place ≤ f.durable) × (has_mail f conn ≡ false))
+
+-- Why a batch was not posted: a book has no room for its mails, or it is not as the one that is out.
+abbrev pub IsUnposted : FrontState → Batch → Unposted → Type 0
+IsUnposted f batch (unposted.Full full) = posts_more f.books batch ≡ false
+IsUnposted f batch (unposted.Strange strange) = (posts_more f.books batch ≡ true) × (¬ IsOut f.out batch)
 
 -- A batch was cut; or none was, and where the hall is stopped all that was made is durable, so that nothing is left to store.
 abbrev pub Cuts : FrontState → Bool → Option Cutting → FrontState → Type 0

@@ -1,3 +1,4 @@
+pub mod Briefs
 pub mod Receipts
 pub mod Seats
 pub mod Holds

@@ -64,6 +64,10 @@ pub record HandlesStream (bytes : List ℕ) (before after : ReadSeat) (list : Li
   pub handled : AreHandled before after list (take count messages)
   pub ends : EndsAt end messages rest count
 
+-- an end that comes of no fault: the stream ended, or the reads are used up
+abbrev pub IsQuietEnd : ReadEnd → Type 0
+IsQuietEnd end = (end ≡ Closed) ⊎ (end ≡ Turns)
+
 -- an end that the hall told the side
 abbrev pub IsTold : ReadEnd → Standing → Type 0
 IsTold Closed s = Unit {0}

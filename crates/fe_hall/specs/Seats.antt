@@ -4,6 +4,9 @@ use Rattle.fe_state.specs.declared.batch.Batch.{Batch}
 use Rattle.fe_mail.specs.Books.{Books}
 use Rattle.fe_wire.specs.declared.client_message.ClientMessage.{ClientMessage}
 use Rattle.fe_wire.specs.declared.client_message.ClientMessage.TheVariants.{Attach, Call, Cancel, Settle, Bye, Report}
+use Rattle.fe_mail.specs.declared.mail.Mail.{Mail}
+use Rattle.fe_hall.specs.declared.brief.Brief.{Brief}
+use Rattle.fe_hall.specs.Briefs.{brief_of}
 use Rattle.fe_hall.specs.declared.standing.Standing.{Standing}
 use Rattle.fe_hall.specs.declared.standing.Standing.TheVariants.{Served, Gone, Stopped, Spent}
 use Rattle.fe_hall.specs.declared.taking.Taking.{Taking}
@@ -22,13 +25,16 @@ pub record ReadSeat : Type 0 where
   pub standing : Standing
   -- whether it made its connection gone
   pub departed : Bool
+  -- whether it did so once it need not wait for what came of its messages
+  pub rested : Bool
 
 -- what the write side of a connection did
 pub record WriteSeat : Type 0 where
   -- the connection's number
   pub conn : ℕ
-  -- how many mails it took
+  -- how many mails it took, and the last of them
   pub mails : ℕ
+  pub last : Option Brief
   -- whether more were in its box then
   pub more : Bool
   -- how it stood when the hall last answered it
@@ -43,10 +49,10 @@ pub record Seats : Type 0 where
 
 -- the seats of the two sides of a connection just made
 abbrev pub first_read_seat : ℕ → ReadSeat
-first_read_seat conn = record { conn = conn; calls = 0; taken = 0; last = None; standing = Served; departed = false }
+first_read_seat conn = record { conn = conn; calls = 0; taken = 0; last = None; standing = Served; departed = false; rested = false }
 
 abbrev pub first_write_seat : ℕ → WriteSeat
-first_write_seat conn = record { conn = conn; mails = 0; more = false; standing = Served; departed = false }
+first_write_seat conn = record { conn = conn; mails = 0; last = None; more = false; standing = Served; departed = false }
 
 -- the seats of one connection, which booked this many, and of the connections of both
 abbrev pub one_seat : ℕ → Seats
@@ -90,12 +96,12 @@ message_answered s m Stopped = record s { standing = Stopped }
 message_answered s m Spent = record s { standing = Spent }
 
 -- a mail was taken for a write side, and whether more are in its box
-abbrev pub mail_taken : WriteSeat → Bool → WriteSeat
-mail_taken s more = record s { mails = s.mails + 1; more = more; standing = Served }
+abbrev pub mail_taken : WriteSeat → Mail → Bool → WriteSeat
+mail_taken s mail more = record s { mails = s.mails + 1; last = Some (brief_of mail); more = more; standing = Served }
 
 -- the seat of a write side whose box was looked into with this outcome
 abbrev pub taking_answered : WriteSeat → Taking → WriteSeat
-taking_answered s (taking.Mail mail more) = mail_taken s more
+taking_answered s (taking.Mail mail more) = mail_taken s mail more
 taking_answered s taking.Gone = record s { standing = Gone }
 taking_answered s taking.Stopped = record s { standing = Stopped }
 taking_answered s taking.Spent = record s { standing = Spent }
@@ -110,10 +116,15 @@ pub record TookNoMessage (s t : ReadSeat) : Type 0 where
 pub record TookNoMail (s t : WriteSeat) : Type 0 where
   pub conn : t.conn ≡ s.conn
   pub mails : t.mails ≡ s.mails
+  pub last : t.last ≡ s.last
 
 -- the side made its connection gone, or was told that the hall is stopped
 abbrev pub HasDeparted : ReadSeat → Type 0
 HasDeparted s = (s.departed ≡ true) ⊎ (s.standing ≡ Stopped)
+
+-- the side made its connection gone once it need not wait, or was told that the hall is stopped
+abbrev pub HasRested : ReadSeat → Type 0
+HasRested s = ((s.departed ≡ true) × (s.rested ≡ true)) ⊎ (s.standing ≡ Stopped)
 
 -- one message more may be taken
 abbrev pub takes_more : Books → Bool

@@ -2,6 +2,7 @@ ghost use Rattle.std.specs.Prelude.{◌≡◌, ◌+◌, ◌-◌, ◌^◌, true, 
 ghost use Rattle.fe_hall.specs.Seats.{calls_in, first_read_seat, message_taken, most_connections, one_seat};
 
 use crate::seats::Seats;
+use crate::shared::Rest;
 use crate::standing::Standing;
 use crate::tally::Tally;
 use fe_wire::ClientMessage;
@@ -22,6 +23,8 @@ pub struct CallSeat<C: Tally> {
     standing: Standing,
     /// The side made its connection gone.
     departed: bool,
+    /// It did so once it need not wait for what came of its messages.
+    rested: bool,
 }
 
 impl<C: Tally> Model for CallSeat<C> {
@@ -37,6 +40,7 @@ impl<C: Tally> Model for CallSeat<C> {
       last = s.last;
       standing = s.standing;
       departed = s.departed;
+      rested = s.rested;
     } };
 
     ghost invariant = { λ s. (s.share.parts ≡ 1) × (C.all ≡ most_connections + 1) };
@@ -57,6 +61,7 @@ impl<C: Tally> CallSeat<C> {
             last: None,
             standing: Standing::Served,
             departed: false,
+            rested: false,
         }
     }
 
@@ -98,6 +103,15 @@ impl<C: Tally> CallSeat<C> {
         ensures { self.new ≡ record self.old { departed = true } }
     {
         self.departed = true;
+    }
+
+    /// The side makes its connection gone, since it need not wait.
+    pub(crate) fn rest(&mut self, _book: &Book<C>, _rest: Rest)
+        requires own { _rest.conn ≡ self.old.conn }
+        ensures { self.new ≡ record self.old { departed = true; rested = true } }
+    {
+        self.departed = true;
+        self.rested = true;
     }
 
     /// The seats of its connection alone.

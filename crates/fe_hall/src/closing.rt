@@ -3,9 +3,9 @@
 ghost use Rattle.std.specs.Prelude.{◌≡◌, ◌≢◌, ◌↔◌, ℕ, false, map, All, Any, Err, IfOk, IfErr, IsErr};
 ghost use Rattle.fe_mail.specs.Books.{AddUp};
 ghost use Rattle.fe_hall.specs.Acts.{IsAccountOf};
-ghost use Rattle.fe_hall.specs.Audits.{IsAudit, account_left};
+ghost use Rattle.fe_hall.specs.Audits.{IsAudit, IsMissing, account_left};
 ghost use Rattle.fe_hall.specs.Receipts.{IsBorneOut, IsFirstStrange, IsStrange};
-ghost use Rattle.fe_hall.specs.declared.closing.Unclosed.TheVariants.{SeatMissing, StrangeReceipt};
+ghost use Rattle.fe_hall.specs.declared.closing.Unclosed.TheVariants.{StrangeReceipt};
 
 use crate::account::Account;
 use crate::hall::Hall;
@@ -13,6 +13,7 @@ use crate::history::History;
 use crate::receipt::Receipt;
 use crate::receipt_list::ReceiptList;
 use crate::seats::Seats;
+use crate::shared::SeatMissing;
 use crate::store_seat::StoreSeat;
 use crate::strange::first_strange;
 use crate::tally::Tally;
@@ -34,7 +35,7 @@ pub struct Closing<D: Disk> {
 #[derive(Clone, Copy, PartialEq, Eq)]
 pub enum Unclosed {
     /// The seats are not those of all connections that were made, or not that of the side that stored all groups.
-    SeatMissing,
+    SeatMissing(SeatMissing),
     /// What the keeper's replica keeps, or what was sent, speaks against the receipt of this place, the first such one.
     StrangeReceipt { place: u64 },
 }
@@ -126,20 +127,23 @@ pub fn settle<C: Tally, M: Tally>(
     ensures strange { IfErr result (λ e. (place : ℕ) → e.0 ≡ StrangeReceipt place
         → IsFirstStrange state.now (map (λ v. v.items) sent.items) receipts.items place) }
     // Where all seats are here, it is refused just where some receipt is strange.
-    ensures refused { IfErr result (λ e. e.0 ≢ SeatMissing)
+    ensures refused { IfErr result (λ e. ¬ IsMissing e.0)
         → IsErr result ↔ Any (IsStrange state.now (map (λ v. v.items) sent.items)) receipts.items }
 {
     let (shared, chronicle) = hall.into_shared();
     let whole = receipts.is_whole();
     let account = Account::of(&chronicle, seat, receipts.into_items(), history);
     drop(chronicle);
-    let Some(books) = shared.audit(calls, mails) else {
-        drop(sent);
-        return Err((Unclosed::SeatMissing, account));
+    let books = match shared.audit(calls, mails) {
+        Ok(books) => books,
+        Err(missing) => {
+            drop(sent);
+            return Err((Unclosed::SeatMissing(missing), account));
+        }
     };
-    if !account.own() {
+    if let Some(missing) = SeatMissing::in_account(&account) {
         drop(sent);
-        return Err((Unclosed::SeatMissing, account));
+        return Err((Unclosed::SeatMissing(missing), account));
     }
     let strange = first_strange(state, sent.as_slice(), account.receipts());
     match strange {
@@ -179,7 +183,7 @@ pub fn close<C: Tally, M: Tally, D: Disk + Drop>(
     ensures strange { (place : ℕ) → result ≡ Err (StrangeReceipt place)
         → IsFirstStrange keeper.state (map (λ v. v.items) sent.items) receipts.items place }
     // Where all seats are here, it is refused just where some receipt is strange.
-    ensures refused { result ≢ Err SeatMissing
+    ensures refused { IfErr result (λ why. ¬ IsMissing why)
         → IsErr result ↔ Any (IsStrange keeper.state (map (λ v. v.items) sent.items)) receipts.items }
 {
     match settle(

@@ -4,9 +4,11 @@ ghost use Rattle.std.specs.Prelude.{◌≡◌, ◌≢◌, ◌↔◌, true, false
 ghost use Rattle.fe_keeper.specs.Ends.{Rests};
 ghost use Rattle.fe_keeper.specs.Stands.{EachStandsFor};
 ghost use Rattle.fe_keeper.specs.declared.fault.Fault.TheVariants.{Device};
-ghost use Rattle.fe_hall.specs.Commits.{AreNoted, Commits, IsStill, IsStored, HasFailed, TellsEnd, end_of};
+ghost use Rattle.fe_hall.specs.Commits.{AreNoted, Commits, IsStill, IsStored, HasFailed, TellsEnd};
+ghost use Rattle.fe_hall.specs.declared.commit_end.CommitEnd.{CommitEnd};
 
-use crate::commit_end::CommitEnd;
+use crate::breaking::Break;
+use crate::ended::Ended;
 use crate::hall::Hall;
 use crate::shared::{CutBatch, Cutting};
 use crate::store_seat::StoreSeat;
@@ -27,7 +29,7 @@ pub fn commit_side<C: Tally, M: Tally, D: Disk, R: Wait>(
     hall: &Hall<C, M>,
     keeper: &mut Keeper<D>,
     seat: &mut StoreSeat<M>,
-) -> CommitEnd
+) -> Ended
     ensures commits { (all : Commits D.honest D.moment D.left_since keeper.old keeper.new (Some result))
         × AreNoted D.moment all.appends (Some result) seat.old seat.new }
     ensures stands { D.honest keeper.new.store.disk → keeper.new.store.has_failed ≡ false
@@ -39,19 +41,16 @@ pub fn commit_side<C: Tally, M: Tally, D: Disk, R: Wait>(
     let _ = keeper.state();
     let mut slices = true;
     for _ in rt.forever() {
-        let Cutting::Batch(cut) = hall.next_batch(rt) else {
-            return CommitEnd::Stopped;
+        let cut = match hall.next_batch(rt) {
+            Cutting::Batch(cut) => cut,
+            Cutting::Stopped(all) => return Ended::stopped(all),
         };
-        if let Some(end) = commit(rt, hall, keeper, seat, cut) {
-            hall.stop(rt);
-            return end;
+        if let Some(why) = commit(rt, hall, keeper, seat, cut) {
+            return Ended::broken(why, hall.stop(rt));
         }
         match tend(keeper, slices) {
             Ok(left) => slices = left,
-            Err(fault) => {
-                hall.stop(rt);
-                return CommitEnd::Store(fault);
-            }
+            Err(fault) => return Ended::broken(Break::of_store(fault), hall.stop(rt)),
         }
     }
     unreachable!()
@@ -64,7 +63,7 @@ fn commit<C: Tally, M: Tally, D: Disk, R: Wait>(
     keeper: &mut Keeper<D>,
     seat: &mut StoreSeat<M>,
     cut: CutBatch,
-) -> Option<CommitEnd>
+) -> Option<Break>
     ensures commits { (all : Commits D.honest D.moment D.left_since keeper.old keeper.new result)
         × AreNoted D.moment all.appends result seat.old seat.new }
     ensures stands { D.honest keeper.new.store.disk → keeper.new.store.has_failed ≡ false
@@ -77,30 +76,19 @@ fn commit<C: Tally, M: Tally, D: Disk, R: Wait>(
     ensures unstopped { result ≢ Some CommitEnd.Stopped }
     ensures honesty { D.honest keeper.new.store.disk ↔ D.honest keeper.old.store.disk }
 {
-    match keeper.append(cut.into_batch()) {
+    let batch = cut.into_batch(keeper);
+    match keeper.append(batch) {
         Ok(batch) => {
-            if !hall.note(keeper, seat) {
+            if let Err(why) = hall.note(keeper, seat) {
                 drop(batch);
-                return Some(CommitEnd::Strange);
+                return Some(Break::of_note(why));
             }
             match hall.post(rt, batch, keeper, seat) {
-                Some(Ok(_)) => None,
-                Some(Err(_)) => Some(CommitEnd::Strange),
-                None => Some(CommitEnd::Spent),
+                Ok(_) => None,
+                Err(why) => Some(Break::of_post(why)),
             }
         }
-        Err((fault, _)) => Some(end_of(fault)),
-    }
-}
-
-/// What a fault of an append is to the side.
-fn end_of(fault: Fault) -> CommitEnd
-    ensures end { result ≡ end_of fault }
-    ensures unstopped { result ≢ CommitEnd.Stopped }
-{
-    match fault {
-        Fault::Mismatch { .. } => CommitEnd::Strange,
-        _ => CommitEnd::Store(fault),
+        Err((fault, _)) => Some(Break::of_store(fault)),
     }
 }
 

@@ -1,25 +1,25 @@
-ghost use Rattle.std.specs.Prelude.{◌≡◌, ◌≤◌, ◌∷◌, ◌++◌, [], ◌+◌, IsTrue, IfOk, IfErr, IfSome, length, true, false};
-ghost use Rattle.fe_hall.specs.Seats.{HasDeparted, ReadSeat, TookNoMessage, WriteSeat, first_read_seat, first_write_seat, message_answered, taking_answered, most_connections};
+ghost use Rattle.std.specs.Prelude.{◌≡◌, ◌≤◌, ◌∷◌, ◌++◌, [], ◌+◌, IfOk, IfErr, OnOk, OnErr, length, true};
+ghost use Rattle.fe_hall.specs.Seats.{HasRested, ReadSeat, TookNoMessage, WriteSeat, first_read_seat, first_write_seat, message_answered, taking_answered, most_connections};
 ghost use mathlib.Core.List.{IsPrefix};
 ghost use Rattle.fe_hall.specs.Acts.{TakingTold, mark_of, stores_in};
 ghost use Rattle.fe_hall.specs.Commits.{IsStored};
 ghost use Rattle.fe_hall.specs.Marks.{IsBegun, MayBeTold};
 ghost use Rattle.fe_hall.specs.declared.act.Act.TheVariants as act;
 
+use crate::baton::{Baton, Grip};
 use crate::call_seat::CallSeat;
 use crate::gathered::Gathered;
 use crate::history::{Chronicle, History, NewHistory};
 use crate::hold::Lock;
 use crate::mail_seat::MailSeat;
 use crate::receipt::Receipt;
-use crate::shared::{Cutting, Posted, Shared, Unconnected};
+use crate::shared::{Cutting, HasStopped, Posted, Shared, Unconnected, Unposted};
 use crate::standing::Standing;
-use crate::store_seat::StoreSeat;
+use crate::store_seat::{StoreSeat, Unnoted};
 use crate::taking::Taking;
 use crate::tally::Tally;
-use crate::turn::{Turn, Turned};
 use fe_disk::Disk;
-use fe_front::{BELLS, Front, StrangeBatch};
+use fe_front::{BELLS, Front};
 use fe_keeper::Keeper;
 use fe_state::Batch;
 use fe_wire::ClientMessage;
@@ -33,7 +33,7 @@ use std::sync::{Condvar, Wait};
 #[derive(Drop)]
 pub struct Hall<C: Tally, M: Tally> {
     lock: Lock<C, M>,
-    turn: Turn,
+    baton: Baton,
     /// The word of its history, and that history as it began.
     chronicle: Chronicle<M>,
     begun: History<M>,
@@ -71,7 +71,7 @@ impl<C: Tally, M: Tally> Hall<C, M> {
                 let (seen, stored) = (begun.again(), begun.again());
                 let hall = Hall {
                     lock: Lock::new(Shared::new(alloc, front, calls, mails, seen)),
-                    turn: Turn::new(),
+                    baton: Baton::new(),
                     chronicle,
                     begun,
                     work: Condvar::new(),
@@ -100,13 +100,14 @@ impl<C: Tally, M: Tally> Hall<C, M> {
     }
 
     /// Tells all sides to end. Entries that are pending are still stored.
-    pub fn stop<R: Wait>(&self, rt: &R) {
-        self.lock.enter(rt).stop();
+    pub fn stop<R: Wait>(&self, rt: &R) -> HasStopped {
+        let stopped = self.lock.enter(rt).stop();
         self.work.notify_all();
         self.room.notify_all();
         for bell in &self.bells {
             bell.notify_all();
         }
+        stopped
     }
 
     /// Handles a message once there is room for it, or records in the seat why it does not.
@@ -116,7 +117,7 @@ impl<C: Tally, M: Tally> Hall<C, M> {
         alloc: Global,
         message: &ClientMessage,
         seat: &mut CallSeat<C>,
-        turned: &mut Turned<'_>,
+        grip: &mut Grip<'_>,
     ) -> Standing
         ensures { seat.new ≡ message_answered seat.old message.now result }
     {
@@ -132,8 +133,7 @@ impl<C: Tally, M: Tally> Hall<C, M> {
                 }
                 return standing;
             }
-            turned.end();
-            hold = hold.wait(rt, &self.room);
+            hold = hold.wait(rt, &self.room, grip);
         }
         unreachable!()
     }
@@ -148,12 +148,13 @@ impl<C: Tally, M: Tally> Hall<C, M> {
         }
         // A write side that rests already says so too.
         self.ring(conn);
+        let mut grip = Grip::none();
         for _ in rt.forever() {
             if hold.is_over(conn) || !hold.is_watched(conn) {
                 let _ = hold.unwatch(conn);
                 return;
             }
-            hold = hold.wait(rt, &self.bells[(conn % BELLS) as usize]);
+            hold = hold.wait(rt, &self.bells[(conn % BELLS) as usize], &mut grip);
         }
         unreachable!()
     }
@@ -162,21 +163,22 @@ impl<C: Tally, M: Tally> Hall<C, M> {
     /// No more messages of it come. If the hall is stopped, its write side goes on, and takes what is in the box.
     pub(crate) fn drain<R: Wait>(&self, rt: &R, seat: &mut CallSeat<C>)
         ensures untaken { TookNoMessage seat.old seat.new }
-        ensures departed { HasDeparted seat.new }
+        ensures rested { HasRested seat.new }
     {
         let conn = seat.conn();
+        let mut grip = Grip::none();
         let mut hold = self.lock.enter(rt);
-        let place = hold.place();
+        let made = hold.made();
         for _ in rt.forever() {
-            if hold.is_drained(conn, place) || !hold.watch(conn) {
-                break;
+            if let Some(rest) = hold.rest(seat, made) {
+                hold.depart(seat, rest);
+                hold.end();
+                self.ring(conn);
+                return;
             }
-            hold = hold.wait(rt, &self.bells[(conn % BELLS) as usize]);
+            hold = hold.wait(rt, &self.bells[(conn % BELLS) as usize], &mut grip);
         }
-        let _ = hold.unwatch(conn);
-        hold.depart(seat);
-        hold.end();
-        self.ring(conn);
+        unreachable!()
     }
 
     /// The read side makes its connection gone, if that is still there.
@@ -201,7 +203,7 @@ impl<C: Tally, M: Tally> Hall<C, M> {
         rt: &R,
         seat: &mut MailSeat<M>,
         history: &mut History<M>,
-        turned: &mut Turned<'_>,
+        grip: &mut Grip<'_>,
     ) -> Taking
         ensures seat { seat.new ≡ taking_answered seat.old result }
         ensures this { IsPrefix history.old history.new }
@@ -223,54 +225,50 @@ impl<C: Tally, M: Tally> Hall<C, M> {
             if hold.unwatch(conn) {
                 self.ring(conn);
             }
-            turned.end();
-            hold = hold.wait(rt, &self.bells[(conn % BELLS) as usize]);
+            hold = hold.wait(rt, &self.bells[(conn % BELLS) as usize], grip);
         }
         unreachable!()
     }
 
-    /// Waits for the turn, if the side has several events to make.
-    pub(crate) fn take_turn<'a, R: Wait>(
+    /// Waits for the baton, if the side has several events to make.
+    pub(crate) fn take_baton<'a, R: Wait>(
         &'a self,
         rt: &R,
-        turned: &mut Turned<'a>,
+        grip: &mut Grip<'a>,
         has_several: bool,
     ) {
         if has_several {
-            turned.take(rt, &self.turn);
+            grip.take(rt, &self.baton);
         }
     }
 
     /// Waits for entries and cuts them, or says that the hall is stopped and nothing is left to store.
     pub(crate) fn next_batch<R: Wait>(&self, rt: &R) -> Cutting {
+        let mut grip = Grip::none();
         let mut hold = self.lock.enter(rt);
         for _ in rt.forever() {
             if let Some(cutting) = hold.cut() {
                 return cutting;
             }
-            hold = hold.wait(rt, &self.work);
+            hold = hold.wait(rt, &self.work, &mut grip);
         }
         unreachable!()
     }
 
-    /// Posts the batch that the keeper stored last, and rings for each connection with mail. `None` if a book is full.
+    /// Posts the batch that the keeper stored last, and rings for each connection with mail.
     pub(crate) fn post<D: Disk, R: Wait>(
         &self,
         rt: &R,
         batch: Batch,
         keeper: &Keeper<D>,
         seat: &StoreSeat<M>,
-    ) -> Option<Result<Posted, StrangeBatch>>
+    ) -> Result<Posted, Unposted>
         requires stored { IsStored batch keeper.now.state }
         requires noted { keeper.now.state.place ≤ mark_of seat.now }
-        ensures { IfSome result
-            (λ outcome. IfOk outcome (λ posted. posted.durable ≡ batch.first + length batch.entries)) }
+        ensures { IfOk result (λ posted. posted.durable ≡ batch.first + length batch.entries) }
     {
         let mut wakes = [false; BELLS as usize];
         let mut hold = self.lock.enter(rt);
-        if !hold.posts_more(&batch) {
-            return None;
-        }
         let outcome = hold.post(batch, keeper, seat, &mut wakes);
         hold.mark_watched(&mut wakes);
         hold.end();
@@ -280,16 +278,20 @@ impl<C: Tally, M: Tally> Hall<C, M> {
                 self.bells[at].notify_all();
             }
         }
-        Some(outcome)
+        outcome
     }
 
     /// Adds the group that a keeper has just stored to the history (`StoreSeat::note`).
-    pub(crate) fn note<D: Disk>(&self, keeper: &Keeper<D>, seat: &mut StoreSeat<M>) -> bool
+    pub(crate) fn note<D: Disk>(
+        &self,
+        keeper: &Keeper<D>,
+        seat: &mut StoreSeat<M>,
+    ) -> Result<(), Unnoted>
         ensures this { IsPrefix seat.old seat.new }
-        ensures noted { IsTrue result
-            → stores_in seat.new ≡ stores_in seat.old ++ (keeper.now.state.place, D.moment keeper.now.store.disk) ∷ [] }
-        ensures marked { IsTrue result → keeper.now.state.place ≤ mark_of seat.new }
-        ensures unnoted { result ≡ false → seat.new ≡ seat.old }
+        ensures noted { OnOk result
+            (stores_in seat.new ≡ stores_in seat.old ++ (keeper.now.state.place, D.moment keeper.now.store.disk) ∷ []) }
+        ensures marked { OnOk result (keeper.now.state.place ≤ mark_of seat.new) }
+        ensures unnoted { OnErr result (seat.new ≡ seat.old) }
     {
         seat.note(&self.chronicle, keeper)
     }

@@ -7,7 +7,7 @@ use std::sync::Wait;
 
 /// A read or a write of a connection failed.
 #[derive(Clone, Copy, PartialEq, Eq)]
-pub struct LineFault;
+pub struct HalfFault;
 
 /// The direction from the client.
 pub trait ReadHalf {
@@ -24,7 +24,7 @@ pub trait ReadHalf {
     ghost failed: { Self → Type 0 };
 
     /// Reads some bytes into the front of the buffer, and returns how many; 0 if the stream has ended.
-    fn read(&mut self, buffer: &mut [u8]) -> Result<usize, LineFault>
+    fn read(&mut self, buffer: &mut [u8]) -> Result<usize, HalfFault>
         requires { 0 < length buffer.old }
         ensures fits { IfOk result (λ n. n ≤ length buffer.old) }
         ensures tells { tells self.old → tells self.new }
@@ -46,7 +46,7 @@ pub trait WriteHalf {
     ghost failed: { Self → Type 0 };
 
     /// Writes some bytes from the front, and returns how many; 0 if it takes no more.
-    fn write(&mut self, bytes: &[u8]) -> Result<usize, LineFault>
+    fn write(&mut self, bytes: &[u8]) -> Result<usize, HalfFault>
         requires { 0 < length bytes.now }
         ensures fits { IfOk result (λ n. n ≤ length bytes.now) }
         ensures tells { tells self.old → tells self.new }
@@ -112,7 +112,7 @@ impl ReadHalf for MemoryRead {
 
     ghost failed = { λ _. ⊥ };
 
-    fn read(&mut self, buffer: &mut [u8]) -> Result<usize, LineFault> {
+    fn read(&mut self, buffer: &mut [u8]) -> Result<usize, HalfFault> {
         let count = buffer
             .len()
             .min(self.piece)
@@ -155,10 +155,10 @@ impl WriteHalf for MemoryWrite {
 
     ghost failed = { λ _. Unit {0} };
 
-    fn write(&mut self, bytes: &[u8]) -> Result<usize, LineFault> {
+    fn write(&mut self, bytes: &[u8]) -> Result<usize, HalfFault> {
         match self.bytes.extend_from_slice(bytes) {
             Ok(()) => Ok(bytes.len()),
-            Err(_) => Err(LineFault),
+            Err(_) => Err(HalfFault),
         }
     }
 }

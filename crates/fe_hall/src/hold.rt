@@ -1,7 +1,7 @@
 //! A hold of a hall's lock, in which at most one event of the front is made.
 
 ghost use Rattle.std.specs.Sync.Mutex.{mutex_guard_value as under};
-ghost use Rattle.std.specs.Prelude.{◌≡◌, ◌≢◌, ◌+◌, ◌≤◌, ◌↔◌, ℕ, List, [], true, false, Ok, Err, Some, None, IsTrue, IsErr, IfOk, IfSome, OnOk, OnErr, MatchOption, length};
+ghost use Rattle.std.specs.Prelude.{IfErr, ◌≡◌, ◌≢◌, ◌+◌, ◌≤◌, ◌↔◌, ℕ, List, [], true, false, Ok, Err, Some, None, IsTrue, IsErr, IfOk, IfSome, OnOk, OnErr, MatchOption, length};
 ghost use Rattle.fe_state.specs.declared.entry.Entry.{Entry};
 ghost use Rattle.fe_front.specs.Event as event;
 ghost use Rattle.fe_front.specs.Posting.{IsOut};
@@ -12,19 +12,20 @@ ghost use mathlib.Core.List.{IsPrefix};
 ghost use Rattle.fe_hall.specs.Acts.{mark_of};
 ghost use Rattle.fe_hall.specs.Marks.{MayBeTold};
 ghost use Rattle.fe_hall.specs.Commits.{IsStored};
-ghost use Rattle.fe_hall.specs.Holds.{Cuts, Leaves, TakesMail};
-ghost use Rattle.fe_hall.specs.Seats.{HasDeparted, ReadSeat, TookNoMessage, WriteSeat, first_read_seat, first_write_seat, message_answered, taking_answered, posts_more};
+ghost use Rattle.fe_hall.specs.Holds.{Cuts, IsDrained, IsUnposted, Leaves, TakesMail};
+ghost use Rattle.fe_hall.specs.Seats.{HasRested, ReadSeat, TookNoMessage, WriteSeat, first_read_seat, first_write_seat, message_answered, taking_answered, posts_more};
 
+use crate::baton::Grip;
 use crate::call_seat::CallSeat;
 use crate::history::History;
 use crate::mail_seat::MailSeat;
-use crate::shared::{Cutting, Posted, Shared, Unconnected};
+use crate::shared::{Cutting, HasStopped, Made, Posted, Rest, Shared, Unconnected, Unposted};
 use crate::standing::Standing;
 use crate::store_seat::StoreSeat;
 use crate::taking::Taking;
 use crate::tally::Tally;
 use fe_disk::Disk;
-use fe_front::{BELLS, StrangeBatch};
+use fe_front::BELLS;
 use fe_keeper::Keeper;
 use fe_state::Batch;
 use fe_wire::ClientMessage;
@@ -83,10 +84,11 @@ impl<C: Tally, M: Tally> Lock<C, M> {
 }
 
 impl<'a, C: Tally, M: Tally> Hold<'a, C, M> {
-    /// Releases the lock until a bell is rung, and takes it again, for one event.
-    pub(crate) fn wait<R: Wait>(self, rt: &R, bell: &Condvar) -> Hold<'a, C, M>
+    /// Releases the lock until a bell is rung, and takes it again, for one event. A side that waits has no baton.
+    pub(crate) fn wait<R: Wait>(self, rt: &R, bell: &Condvar, grip: &mut Grip<'_>) -> Hold<'a, C, M>
         ensures { result.used ≡ false }
     {
+        grip.give_up();
         let Hold { shared, used: _ } = self;
         Hold {
             shared: bell.wait(rt, shared),
@@ -169,11 +171,12 @@ impl<'a, C: Tally, M: Tally> Hold<'a, C, M> {
         self.shared.leave_by_writer(seat);
     }
 
-    /// The event that a read side makes its connection gone, unless the hall is stopped (`Shared::depart`).
-    pub(crate) fn depart(&mut self, seat: &mut CallSeat<C>)
+    /// The event that a read side that need not wait makes its connection gone, unless the hall is stopped (`Shared::depart`).
+    pub(crate) fn depart(&mut self, seat: &mut CallSeat<C>, rest: Rest)
         requires fresh { self.old.used ≡ false }
+        requires own { rest.conn ≡ seat.old.conn }
         ensures used { self.new.used ≡ true }
-        ensures departed { HasDeparted seat.new }
+        ensures rested { HasRested seat.new }
         ensures untaken { TookNoMessage seat.old seat.new }
         ensures step { (under self.old.shared).stopped ≡ false
             → Leaves (under self.old.shared).front seat.old.conn (under self.new.shared).front }
@@ -181,7 +184,7 @@ impl<'a, C: Tally, M: Tally> Hold<'a, C, M> {
             → (under self.new.shared).front ≡ (under self.old.shared).front }
     {
         self.used = true;
-        self.shared.depart(seat);
+        self.shared.depart(seat, rest);
     }
 
     /// The event that the pending entries are handed out (`Shared::cut`).
@@ -202,13 +205,12 @@ impl<'a, C: Tally, M: Tally> Hold<'a, C, M> {
         keeper: &Keeper<D>,
         seat: &StoreSeat<M>,
         wakes: &mut [bool; BELLS as usize],
-    ) -> Result<Posted, StrangeBatch>
+    ) -> Result<Posted, Unposted>
         requires fresh { self.old.used ≡ false }
-        requires more { IsTrue (posts_more (under self.old.shared).front.books batch) }
         requires stored { IsStored batch keeper.now.state }
         requires noted { keeper.now.state.place ≤ mark_of seat.now }
         ensures used { self.new.used ≡ true }
-        ensures refused { IsErr result ↔ (¬ IsOut (under self.old.shared).front.out batch) }
+        ensures refused { IfErr result (IsUnposted (under self.old.shared).front batch) }
         ensures step { OnOk result
             (FrontStep (under self.old.shared).front (event.Post batch) [] (under self.new.shared).front) }
         ensures durable { IfOk result (λ posted. posted.durable ≡ batch.first + length batch.entries) }
@@ -220,14 +222,14 @@ impl<'a, C: Tally, M: Tally> Hold<'a, C, M> {
     }
 
     /// Stops the hall. This is no event of the front, and the hold makes none after it.
-    pub(crate) fn stop(&mut self)
+    pub(crate) fn stop(&mut self) -> HasStopped
         requires fresh { self.old.used ≡ false }
         ensures used { self.new.used ≡ true }
         ensures stopped { (under self.new.shared).stopped ≡ true }
         ensures front { (under self.new.shared).front ≡ (under self.old.shared).front }
     {
         self.used = true;
-        self.shared.stop();
+        self.shared.stop()
     }
 
     /// Notes that the read side of a connection waits for its box. This and `unwatch` are no events of the front.
@@ -256,13 +258,19 @@ impl<'a, C: Tally, M: Tally> Hold<'a, C, M> {
     }
 
     /// The place after all that was made so far.
-    pub(crate) fn place(&self) -> u64 {
-        self.shared.place()
+    pub(crate) fn made(&self) -> Made {
+        self.shared.made()
     }
 
-    /// Whether nothing is left to take for a connection of what was made before this place (`Shared::is_drained`).
-    pub(crate) fn is_drained(&self, conn: u64, place: u64) -> bool {
-        self.shared.is_drained(conn, place)
+    /// Whether a read side need not wait for what was made before (`Shared::rest`). This is no event of the front.
+    pub(crate) fn rest(&mut self, seat: &CallSeat<C>, made: Made) -> Option<Rest>
+        ensures same { self.new.used ≡ self.old.used }
+        ensures own { IfSome result (λ rest. rest.conn ≡ seat.now.conn) }
+        ensures drained { IfSome result (λ rest. rest.short ≡ false
+            → IsDrained (under self.old.shared).front (under self.old.shared).stopped seat.now.conn made.place) }
+        ensures front { (under self.new.shared).front ≡ (under self.old.shared).front }
+    {
+        self.shared.rest(seat, made)
     }
 
     /// The history learns what was stored (`Shared::teach`).
@@ -276,13 +284,6 @@ impl<'a, C: Tally, M: Tally> Hold<'a, C, M> {
     /// How many mails were made, also those that met a full box.
     pub(crate) fn mails_made(&self) -> u64 {
         self.shared.mails_made()
-    }
-
-    /// Whether the mails of a batch stay within the books of a hall.
-    pub(crate) fn posts_more(&self, batch: &Batch) -> bool
-        ensures { result ≡ posts_more (under self.now.shared).front.books batch.now }
-    {
-        self.shared.posts_more(batch)
     }
 
     /// Marks the bells of the read sides that wait for their boxes (`Shared::mark_watched`).

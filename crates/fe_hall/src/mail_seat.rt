@@ -1,9 +1,11 @@
 ghost use Rattle.std.specs.Prelude.{◌≡◌, ◌+◌, true};
 ghost use Rattle.fe_hall.specs.Seats.{first_write_seat, mail_taken, most_connections, one_seat};
 
+use crate::brief::Brief;
 use crate::seats::Seats;
 use crate::standing::Standing;
 use crate::tally::Tally;
+use fe_front::Mail;
 use std::marker::Model;
 use std::sync::ledger::{Book, Share};
 
@@ -14,6 +16,8 @@ use std::sync::ledger::{Book, Share};
 pub struct MailSeat<M: Tally> {
     share: Share<M>,
     conn: u64,
+    /// The last mail that was taken.
+    last: Option<Brief>,
     /// Whether more mails were in the box when one was taken.
     more: bool,
     standing: Standing,
@@ -30,6 +34,7 @@ impl<M: Tally> Model for MailSeat<M> {
     ghost view = { λ s. record {
       conn = s.conn;
       mails = s.share.amount;
+      last = s.last;
       more = s.more;
       standing = s.standing;
       departed = s.departed;
@@ -49,6 +54,7 @@ impl<M: Tally> MailSeat<M> {
         MailSeat {
             share,
             conn,
+            last: None,
             more: false,
             standing: Standing::Served,
             departed: false,
@@ -70,11 +76,12 @@ impl<M: Tally> MailSeat<M> {
     }
 
     /// A mail is taken. It is counted here and in the book. `more`: others are in the box.
-    pub(crate) fn take(&mut self, book: &mut Book<M>, more: bool)
-        ensures seat { self.new ≡ mail_taken self.old more }
+    pub(crate) fn take(&mut self, book: &mut Book<M>, mail: &Mail, more: bool)
+        ensures seat { self.new ≡ mail_taken self.old mail.now more }
         ensures book { book.new.total ≡ book.old.total + 1 }
     {
         book.add(&mut self.share, 1);
+        self.last = Some(Brief::of(mail));
         self.more = more;
         self.standing = Standing::Served;
     }

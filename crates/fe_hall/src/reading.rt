@@ -2,16 +2,16 @@
 
 ghost use Rattle.std.specs.Prelude.{◌≡◌, ◌≢◌, ◌↔◌, ◌<◌, ◌++◌, [], ℕ, List, length, IsNone, IsSome, Some, IfNone, IfSome, OnSome, MatchOption};
 ghost use Rattle.fe_wire.specs.declared.client_message.ClientMessage.{ClientMessage as Message};
-ghost use Rattle.fe_hall.specs.Seats.{HasDeparted, ReadSeat, TookNoMessage, message_taken};
-ghost use Rattle.fe_hall.specs.Reads.{is_sent, listed_with, AreHandled, EndsEarly, EndsAmong, HandlesStream, IsAt, IsOfMessages, IsTold};
+ghost use Rattle.fe_hall.specs.Seats.{HasDeparted, HasRested, ReadSeat, TookNoMessage, message_taken};
+ghost use Rattle.fe_hall.specs.Reads.{IsQuietEnd, is_sent, listed_with, AreHandled, EndsEarly, EndsAmong, HandlesStream, IsAt, IsOfMessages, IsTold};
 
+use crate::baton::Grip;
 use crate::call_seat::CallSeat;
 use crate::ends::ReadEnd;
 use crate::hall::Hall;
 use crate::halves::{Gate, ReadHalf};
 use crate::standing::Standing;
 use crate::tally::Tally;
-use crate::turn::Turned;
 use fe_wire::{ClientMessage, Decoder, Version};
 use std::alloc::Global;
 use std::sync::Wait;
@@ -47,6 +47,8 @@ pub fn read_side<C: Tally, M: Tally, H: ReadHalf, G: Gate, R: Wait>(
     // A side ends as `Gone`, `Stopped` or `Spent` only if that was the hall's last answer to it.
     ensures told { IsTold result.2 result.0.standing }
     ensures departed { result.2 ≢ ReadEnd.Stopped → HasDeparted result.0 }
+    // At the end of the stream, and after the last read, the connection goes only once nothing more comes of what was read.
+    ensures rested { IsQuietEnd result.2 → HasRested result.0 }
 {
     let decoder = Decoder::with_version(Version::Two);
     let listed = Vec::new(alloc);
@@ -179,11 +181,11 @@ impl<C: Tally> Reading<C> {
         ensures told { IfSome result (λ end. IsTold end self.new.seat.standing) }
         ensures decoder { self.new.decoder ≡ self.old.decoder }
     {
-        let mut turned = Turned::none();
+        let mut grip = Grip::none();
         for message in messages {
             // A message that had to wait gave it up.
-            hall.take_turn(rt, &mut turned, messages.len() > 1);
-            if let Some(end) = self.take(rt, hall, gate, message, &mut turned) {
+            hall.take_baton(rt, &mut grip, messages.len() > 1);
+            if let Some(end) = self.take(rt, hall, gate, message, &mut grip) {
                 return Some(end);
             }
         }
@@ -197,7 +199,7 @@ impl<C: Tally> Reading<C> {
         hall: &Hall<C, M>,
         gate: &G,
         message: &ClientMessage,
-        turned: &mut Turned<'_>,
+        grip: &mut Grip<'_>,
     ) -> Option<ReadEnd>
         ensures seat { IfNone result (self.new.seat ≡ message_taken self.old.seat message.now) }
         ensures listed { IfNone result (self.new.listed.items ≡ listed_with self.old.listed.items message.now) }
@@ -212,15 +214,15 @@ impl<C: Tally> Reading<C> {
             return Some(ReadEnd::NoMemory);
         }
         if !gate.passes_at_once(self.seat.conn()) {
-            turned.end();
+            grip.give_up();
             gate.pass(rt, self.seat.conn());
         }
         // A report may be long, and a client may ask for many and read none.
         if matches!(message, ClientMessage::Report) {
-            turned.end();
+            grip.give_up();
             hall.await_rest(rt, &self.seat);
         }
-        let standing = hall.handle(rt, self.alloc, message, &mut self.seat, turned);
+        let standing = hall.handle(rt, self.alloc, message, &mut self.seat, grip);
         if let Some(end) = end_of(standing) {
             return Some(end);
         }
@@ -241,6 +243,7 @@ fn depart<C: Tally, M: Tally, R: Wait>(
     ensures untaken { TookNoMessage seat.old seat.new }
     ensures told { IsTold end seat.old.standing → IsTold end seat.new.standing }
     ensures departed { end ≢ ReadEnd.Stopped → HasDeparted seat.new }
+    ensures rested { IsQuietEnd end → HasRested seat.new }
 {
     match end {
         ReadEnd::Closed => hall.drain(rt, seat),

@@ -1,6 +1,6 @@
 //! What is under the lock of a hall: the front, with a ledger of its calls and one of the mails that were taken.
 
-ghost use Rattle.std.specs.Prelude.{◌≡◌, ◌≢◌, ◌+◌, ◌-◌, ◌^◌, ◌≤◌, ◌⊎◌, ◌↔◌, ℕ, List, [], true, false, Ok, Err, Some, None, IsTrue, IsErr, IfOk, IfErr, OnOk, OnErr, IfSome, MatchOption, slice_get, length, nat_lt};
+ghost use Rattle.std.specs.Prelude.{IsNone, ◌≡◌, ◌≢◌, ◌+◌, ◌-◌, ◌^◌, ◌≤◌, ◌⊎◌, ◌↔◌, ℕ, List, [], true, false, Ok, Err, Some, None, IsTrue, IsErr, IfOk, IfErr, OnOk, OnErr, IfSome, MatchOption, slice_get, length, nat_lt};
 ghost use Rattle.std.specs.FinMap.{get};
 ghost use Rattle.fe_state.specs.declared.entry.Entry.{Entry};
 ghost use Rattle.fe_front.specs.Front.{has_room, is_connected};
@@ -14,9 +14,10 @@ ghost use mathlib.Core.List.{IsPrefix};
 ghost use Rattle.fe_hall.specs.Acts.{mark_of};
 ghost use Rattle.fe_hall.specs.Marks.{IsBegun, IsMarked, MayBeTold};
 ghost use Rattle.fe_hall.specs.Commits.{IsStored};
-ghost use Rattle.fe_hall.specs.Holds.{Cuts, Ends, TakesMail};
-ghost use Rattle.fe_hall.specs.Seats.{HasDeparted, IsOpen, ReadSeat, TookNoMessage, WriteSeat, first_read_seat, first_write_seat, message_taken, message_answered, taking_answered, takes_more, posts_more, most_connections};
+ghost use Rattle.fe_hall.specs.Holds.{Cuts, Ends, IsDrained, IsOver, IsUnposted, TakesMail};
+ghost use Rattle.fe_hall.specs.Seats.{HasRested, IsOpen, ReadSeat, TookNoMessage, WriteSeat, first_read_seat, first_write_seat, message_taken, message_answered, taking_answered, takes_more, posts_more, most_connections};
 
+use crate::account::Account;
 use crate::call_seat::CallSeat;
 use crate::history::History;
 use crate::mail_seat::MailSeat;
@@ -25,8 +26,9 @@ use crate::standing::Standing;
 use crate::store_seat::StoreSeat;
 use crate::taking::Taking;
 use crate::tally::Tally;
+use crate::watchers::Watchers;
 use fe_disk::Disk;
-use fe_front::{BELLS, Books, Front, StrangeBatch};
+use fe_front::{BELLS, Books, Front};
 use fe_keeper::Keeper;
 use fe_messages::take_message;
 use fe_state::Batch;
@@ -52,8 +54,7 @@ pub(crate) struct Shared<C: Tally, M: Tally> {
     history: History<M>,
     /// How many connections were made.
     made: u64,
-    /// Those whose read side waits for their box.
-    watched: Vec<u64>,
+    watchers: Watchers,
     stopped: bool,
     ghost open: { IsOpen front.books },
     ghost calls_agree: { calls.total ≡ front.books.calls },
@@ -72,20 +73,27 @@ pub(crate) struct AllDurable {
     place: u64,
 }
 
-/// A batch as it was cut, still to be stored. Only a cut makes one, and nothing changes it.
-#[derive(Drop)]
+/// A batch as it was cut, still to be stored. Only a cut makes one, and nothing changes it. It is not `Drop`, so whoever has one
+/// hands it to a keeper.
 pub(crate) struct CutBatch {
     batch: Batch,
 }
 
 impl CutBatch {
-    /// The batch, for the keeper.
-    pub(crate) fn into_batch(self) -> Batch
+    /// The batch, for this keeper.
+    pub(crate) fn into_batch<D: Disk>(self, _keeper: &Keeper<D>) -> Batch
         ensures { result ≡ self.batch }
     {
         let CutBatch { batch } = self;
         batch
     }
+}
+
+/// What a cut gave.
+pub(crate) enum Cutting {
+    Batch(CutBatch),
+    /// The hall is stopped, and nothing is left to store.
+    Stopped(AllDurable),
 }
 
 /// Shows that a batch was posted. Only a post makes one.
@@ -95,12 +103,56 @@ pub(crate) struct Posted {
     durable: u64,
 }
 
-/// What a cut gave.
-#[derive(Drop)]
-pub(crate) enum Cutting {
-    Batch(CutBatch),
-    /// The hall is stopped, and nothing is left to store.
-    Stopped(AllDurable),
+/// Shows that a book has no room for the mails of a batch. Only a post makes one.
+#[derive(Clone, Copy)]
+pub(crate) struct FullBook(());
+
+/// Shows that a batch is not as the one that is out. Only a post makes one.
+#[derive(Clone, Copy)]
+pub(crate) struct NotOut(());
+
+/// Why a batch was not posted.
+#[derive(Clone, Copy)]
+pub(crate) enum Unposted {
+    Full(FullBook),
+    Strange(NotOut),
+}
+
+/// Shows that a hall was stopped. Only `Shared::stop` makes one.
+#[derive(Clone, Copy)]
+pub struct HasStopped(());
+
+/// The place after all entries that were made when a read side looked. Only `Shared::made` makes one.
+#[derive(Clone, Copy)]
+pub(crate) struct Made {
+    place: u64,
+}
+
+/// Shows that a read side need not wait for what comes of its messages. Only `Shared::rest` makes one.
+#[derive(Clone, Copy)]
+pub(crate) struct Rest {
+    /// The connection's number.
+    conn: u64,
+    /// There was no memory to note that it waits.
+    short: bool,
+}
+
+/// Shows that the seats handed in were not those of all connections that were made, or that another side stored groups. Only the
+/// audit of a hall makes one.
+#[derive(Clone, Copy, PartialEq, Eq)]
+pub struct SeatMissing(());
+
+impl SeatMissing {
+    /// Whether another side than the hall's own stored groups in this account.
+    pub(crate) fn in_account(account: &Account) -> Option<SeatMissing>
+        ensures { IsNone result ↔ (account.now.own ≡ true) }
+    {
+        if account.own() {
+            None
+        } else {
+            Some(SeatMissing(()))
+        }
+    }
 }
 
 /// Why no connection was made.
@@ -139,7 +191,7 @@ impl<C: Tally, M: Tally> Shared<C, M> {
             spare_mails,
             history,
             made: 0,
-            watched: Vec::new(alloc),
+            watchers: Watchers::new(alloc),
             stopped: false,
         }
     }
@@ -241,9 +293,7 @@ impl<C: Tally, M: Tally> Shared<C, M> {
 
     /// Marks the bells of the read sides that wait for their boxes.
     pub(crate) fn mark_watched(&self, wakes: &mut [bool; BELLS as usize]) {
-        for conn in &self.watched {
-            wakes[(*conn % BELLS) as usize] = true;
-        }
+        self.watchers.mark(wakes);
     }
 
     /// The read side of a connection waits for its box. Whether that is noted, for which there may be no memory.
@@ -251,7 +301,7 @@ impl<C: Tally, M: Tally> Shared<C, M> {
         ensures front { self.new.front ≡ self.old.front }
         ensures still { self.new.stopped ≡ self.old.stopped }
     {
-        self.is_watched(conn) || self.watched.push(conn).is_ok()
+        self.watchers.add(conn)
     }
 
     /// The read side of a connection waits no more. Whether it was noted as waiting.
@@ -259,43 +309,63 @@ impl<C: Tally, M: Tally> Shared<C, M> {
         ensures front { self.new.front ≡ self.old.front }
         ensures still { self.new.stopped ≡ self.old.stopped }
     {
-        match self.watched.iter().position(|other| *other == conn) {
-            Some(at) => {
-                let _ = self.watched.swap_remove(at);
-                true
-            }
-            None => false,
-        }
+        self.watchers.remove(conn)
     }
 
     /// Whether it is noted that the read side of a connection waits for its box.
     pub(crate) fn is_watched(&self, conn: u64) -> bool {
-        self.watched.iter().any(|other| *other == conn)
+        self.watchers.has(conn)
     }
 
     /// The hall is stopped.
-    pub(crate) fn stop(&mut self)
+    pub(crate) fn stop(&mut self) -> HasStopped
         ensures stopped { self.new.stopped ≡ true }
         ensures front { self.new.front ≡ self.old.front }
     {
         self.stopped = true;
+        HasStopped(())
     }
 
     /// Whether a connection gets nothing more: it is gone, or the hall is stopped.
-    pub(crate) fn is_over(&self, conn: u64) -> bool {
+    pub(crate) fn is_over(&self, conn: u64) -> bool
+        ensures { IsTrue result ↔ IsOver self.now.front self.now.stopped conn }
+    {
         self.stopped || !self.front.connected(conn)
     }
 
     /// The place after all entries made so far.
-    pub(crate) fn place(&self) -> u64
-        ensures { result ≡ self.now.front.service.state.place }
+    pub(crate) fn made(&self) -> Made
+        ensures { result.place ≡ self.now.front.service.state.place }
     {
-        self.front.state().place()
+        Made {
+            place: self.front.state().place(),
+        }
     }
 
     /// Whether nothing is left to take for a connection of what was made before this place: that is durable, and its box is empty.
-    pub(crate) fn is_drained(&self, conn: u64, place: u64) -> bool {
+    fn is_drained(&self, conn: u64, place: u64) -> bool
+        ensures { IsTrue result ↔ IsDrained self.now.front self.now.stopped conn place }
+    {
         self.is_over(conn) || self.front.durable() >= place && !self.front.has_mail(conn)
+    }
+
+    /// Whether the read side of a connection need not wait for what comes of what was made before. `None`: it is noted that it waits.
+    pub(crate) fn rest(&mut self, seat: &CallSeat<C>, made: Made) -> Option<Rest>
+        ensures own { IfSome result (λ rest. rest.conn ≡ seat.now.conn) }
+        ensures drained { IfSome result (λ rest. rest.short ≡ false
+            → IsDrained self.old.front self.old.stopped seat.now.conn made.place) }
+        ensures front { self.new.front ≡ self.old.front }
+        ensures still { self.new.stopped ≡ self.old.stopped }
+    {
+        let conn = seat.conn();
+        if self.is_drained(conn, made.place) {
+            let _ = self.watchers.remove(conn);
+            return Some(Rest { conn, short: false });
+        }
+        if !self.watchers.add(conn) {
+            return Some(Rest { conn, short: true });
+        }
+        None
     }
 
     /// How many mails were made, also those that met a full box.
@@ -315,7 +385,7 @@ impl<C: Tally, M: Tally> Shared<C, M> {
         match self.front.take_mail(conn) {
             Some(mail) => {
                 let more = self.front.has_mail(conn);
-                seat.take(&mut self.mails, more);
+                seat.take(&mut self.mails, &mail, more);
                 Some(Taking::Mail { mail, more })
             }
             None => self.end_of_mails(seat),
@@ -377,9 +447,11 @@ impl<C: Tally, M: Tally> Shared<C, M> {
         seat.depart(&self.mails);
     }
 
-    /// A read side makes its connection gone, unless the hall is stopped: then the hall says so, and the write side goes on.
-    pub(crate) fn depart(&mut self, seat: &mut CallSeat<C>)
-        ensures departed { HasDeparted seat.new }
+    /// A read side that need not wait makes its connection gone, unless the hall is stopped: then the hall says so, and the write side
+    /// goes on.
+    pub(crate) fn depart(&mut self, seat: &mut CallSeat<C>, rest: Rest)
+        requires own { rest.conn ≡ seat.old.conn }
+        ensures rested { HasRested seat.new }
         ensures untaken { TookNoMessage seat.old seat.new }
         ensures step { self.old.stopped ≡ false
             → (count : ℕ) × FrontStep self.old.front (event.Gone seat.old.conn count) [] self.new.front }
@@ -389,7 +461,8 @@ impl<C: Tally, M: Tally> Shared<C, M> {
             seat.tell(&self.calls, Standing::Stopped);
             return;
         }
-        self.leave_by_reader(seat);
+        self.drop_connection(seat.conn());
+        seat.rest(&self.calls, rest);
     }
 
     /// Hands all pending entries out, if there are some and no batch is out. `None`: there may be some later.
@@ -399,7 +472,7 @@ impl<C: Tally, M: Tally> Shared<C, M> {
         if let Some(batch) = self.front.cut() {
             return Some(Cutting::Batch(CutBatch { batch }));
         }
-        let place = self.place();
+        let place = self.front.state().place();
         if self.stopped && self.front.durable() == place {
             return Some(Cutting::Stopped(AllDurable { place }));
         }
@@ -407,7 +480,7 @@ impl<C: Tally, M: Tally> Shared<C, M> {
     }
 
     /// Whether the mails of a batch stay within the books of a hall.
-    pub(crate) fn posts_more(&self, batch: &Batch) -> bool
+    fn posts_more(&self, batch: &Batch) -> bool
         ensures { result ≡ posts_more self.now.front.books batch.now }
     {
         let count = batch.entries.as_slice().len() as u64;
@@ -415,31 +488,37 @@ impl<C: Tally, M: Tally> Shared<C, M> {
     }
 
     /// The batch that is out, which the keeper stored last, is durable now: mails its entries, and marks the bells of the connections
-    /// whose boxes change.
+    /// whose boxes change. It is not posted where a book has no room for its mails.
     pub(crate) fn post<D: Disk>(
         &mut self,
         batch: Batch,
         keeper: &Keeper<D>,
         seat: &StoreSeat<M>,
         wakes: &mut [bool; BELLS as usize],
-    ) -> Result<Posted, StrangeBatch>
-        requires more { IsTrue (posts_more self.old.front.books batch) }
+    ) -> Result<Posted, Unposted>
         requires stored { IsStored batch keeper.now.state }
         requires noted { keeper.now.state.place ≤ mark_of seat.now }
-        ensures refused { IsErr result ↔ (¬ IsOut self.old.front.out batch) }
+        ensures refused { IfErr result (IsUnposted self.old.front batch) }
         ensures step { OnOk result (FrontStep self.old.front (event.Post batch) [] self.new.front) }
         ensures durable { IfOk result (λ posted. posted.durable ≡ batch.first + length batch.entries) }
         ensures rings { Rings self.old.front self.new.front wakes.old wakes.new }
         ensures err { OnErr result (self.new.front ≡ self.old.front) }
     {
         let _ = keeper;
+        if !self.posts_more(&batch) {
+            drop(batch);
+            return Err(Unposted::Full(FullBook(())));
+        }
         self.history.learn(seat.history());
         let _ = self.front.state();
         match self.front.post_ringing(batch, wakes) {
             Ok(()) => Ok(Posted {
                 durable: self.front.durable(),
             }),
-            Err(strange) => Err(strange),
+            Err(strange) => {
+                drop(strange);
+                Err(Unposted::Strange(NotOut(())))
+            }
         }
     }
 
@@ -451,21 +530,21 @@ impl<C: Tally, M: Tally> Shared<C, M> {
     }
 
     /// The books, once all seats of the hall are here.
-    pub(crate) fn audit(self, calls: Seats<C>, mails: Seats<M>) -> Option<Books>
+    pub(crate) fn audit(self, calls: Seats<C>, mails: Seats<M>) -> Result<Books, SeatMissing>
         requires calls { C.all ≡ C.parts }
         requires mails { M.all ≡ M.parts }
-        ensures all { IfSome result
+        ensures all { IfOk result
             (λ books. (books.calls ≡ calls.amount) × (books.taken ≡ mails.amount) × (books ≡ self.front.books)) }
-        ensures add_up { IfSome result (λ books. AddUp books) }
-        ensures unspent { IfSome result (λ books. books.spent ≡ false) }
+        ensures add_up { IfOk result (λ books. AddUp books) }
+        ensures unspent { IfOk result (λ books. books.spent ≡ false) }
         // No book is kept back where the seats are those of all connections that were made.
-        ensures missing { result ≡ None → calls.connections ≡ self.made → mails.connections ≡ self.made → ⊥ }
+        ensures missing { IsErr result → calls.connections ≡ self.made → mails.connections ≡ self.made → ⊥ }
     {
         if !self.made_all(&calls, &mails) {
             drop(self);
             drop(calls);
             drop(mails);
-            return None;
+            return Err(SeatMissing(()));
         }
         let Shared {
             front,
@@ -475,10 +554,10 @@ impl<C: Tally, M: Tally> Shared<C, M> {
             spare_mails,
             history,
             made: _,
-            watched,
+            watchers,
             stopped: _,
         } = self;
-        drop(watched);
+        drop(watchers);
         drop(history);
         let books = front.books();
         drop(front);
@@ -486,6 +565,6 @@ impl<C: Tally, M: Tally> Shared<C, M> {
         drop(called);
         mails.audit(&mut taken, spare_mails);
         drop(taken);
-        Some(books)
+        Ok(books)
     }
 }

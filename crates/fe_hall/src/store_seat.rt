@@ -1,4 +1,4 @@
-ghost use Rattle.std.specs.Prelude.{◌≡◌, ◌≤◌, ◌∷◌, ◌++◌, [], false, IsTrue, MatchBool};
+ghost use Rattle.std.specs.Prelude.{◌≡◌, ◌≤◌, ◌∷◌, ◌++◌, [], MatchBool, OnOk, OnErr};
 ghost use mathlib.Core.List.{IsPrefix};
 ghost use Rattle.fe_hall.specs.Acts.{HasMore, IsLegal, mark_of, stores_in};
 
@@ -10,6 +10,10 @@ use std::marker::Model;
 
 /// How many groups a side stores at most, 2^62.
 const GROUPS: u64 = 4611686018427387904;
+
+/// Shows that another side noted a group in the history, or this one 2^62. Only `StoreSeat::note` makes one.
+#[derive(Clone, Copy)]
+pub(crate) struct Unnoted(());
 
 /// The seat of a hall's committing side: contracts see the history, with the groups that it stored.
 #[derive(Drop)]
@@ -40,25 +44,29 @@ impl<M: Tally> StoreSeat<M> {
         StoreSeat { stored: 0, history }
     }
 
-    /// Notes the group that a keeper has just stored, so that the entries before the keeper's place are stored in its history. False
-    /// where someone else noted a group, or this side 2^62; then nothing changes.
-    pub(crate) fn note<D: Disk>(&mut self, chronicle: &Chronicle<M>, keeper: &Keeper<D>) -> bool
+    /// Notes the group that a keeper has just stored, so that the entries before the keeper's place are stored in its history. If another
+    /// side noted a group, or this one 2^62, nothing changes.
+    pub(crate) fn note<D: Disk>(
+        &mut self,
+        chronicle: &Chronicle<M>,
+        keeper: &Keeper<D>,
+    ) -> Result<(), Unnoted>
         ensures this { IsPrefix self.old self.new }
-        ensures noted { IsTrue result
-            → stores_in self.new ≡ stores_in self.old ++ (keeper.now.state.place, D.moment keeper.now.store.disk) ∷ [] }
-        ensures marked { IsTrue result → keeper.now.state.place ≤ mark_of self.new }
-        ensures unnoted { result ≡ false → self.new ≡ self.old }
+        ensures noted { OnOk result
+            (stores_in self.new ≡ stores_in self.old ++ (keeper.now.state.place, D.moment keeper.now.store.disk) ∷ []) }
+        ensures marked { OnOk result (keeper.now.state.place ≤ mark_of self.new) }
+        ensures unnoted { OnErr result (self.new ≡ self.old) }
     {
         if self.stored >= GROUPS {
-            return false;
+            return Err(Unnoted(()));
         }
         let mut history = self.history.again();
         if !history.store(chronicle, self.stored, keeper) {
-            return false;
+            return Err(Unnoted(()));
         }
         self.stored += 1;
         self.history = history;
-        true
+        Ok(())
     }
 
     pub(crate) fn history(&self) -> &History<M>

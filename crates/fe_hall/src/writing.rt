@@ -9,15 +9,15 @@ ghost use Rattle.fe_hall.specs.Acts.{AreTold};
 ghost use Rattle.fe_hall.specs.Seats.{TookNoMail};
 ghost use Rattle.fe_hall.specs.declared.taking.Taking.TheVariants as Taken;
 
+use crate::baton::Grip;
 use crate::hall::Hall;
-use crate::halves::{LineFault, WriteHalf};
+use crate::halves::{HalfFault, WriteHalf};
 use crate::history::History;
 use crate::mail_seat::MailSeat;
 use crate::receipt::Receipt;
 use crate::receipts::Receipts;
 use crate::taking::Taking;
 use crate::tally::Tally;
-use crate::turn::Turned;
 use crate::write_end::WriteEnd;
 use fe_front::Mail;
 use fe_messages::Reply;
@@ -146,14 +146,14 @@ impl<M: Tally> Writing<M> {
         ensures this { IsPrefix self.old.history self.new.history }
         ensures told { IfErr result (λ end. IsTold end self.new.seat.standing) }
     {
-        let mut turned = Turned::none();
+        let mut grip = Grip::none();
         let mut more = true;
         for _ in rt.forever() {
             if !more || self.frames.len() >= BATCH_BYTES {
                 return Ok(());
             }
-            more = self.take_mail(rt, hall, &mut turned)?;
-            hall.take_turn(rt, &mut turned, more);
+            more = self.take_mail(rt, hall, &mut grip)?;
+            hall.take_baton(rt, &mut grip, more);
         }
         unreachable!()
     }
@@ -163,7 +163,7 @@ impl<M: Tally> Writing<M> {
         &mut self,
         rt: &R,
         hall: &Hall<C, M>,
-        turned: &mut Turned<'_>,
+        grip: &mut Grip<'_>,
     ) -> Result<bool, WriteEnd>
         // It may wait, so nothing that was taken is left to write, or more mails are in the box.
         requires { (self.old.frames.items ≡ []) ⊎ (self.old.seat.more ≡ true) }
@@ -178,7 +178,7 @@ impl<M: Tally> Writing<M> {
         if self.make_room().is_err() {
             return Err(WriteEnd::NoMemory);
         }
-        let (mail, more) = mail_in(hall.take_mail(rt, &mut self.seat, &mut self.history, turned))?;
+        let (mail, more) = mail_in(hall.take_mail(rt, &mut self.seat, &mut self.history, grip))?;
         self.keep_receipt(&mail);
         match Reply::of(mail).put(&mut self.frames) {
             Ok(()) => Ok(more),
@@ -251,7 +251,7 @@ fn depart<C: Tally, M: Tally, R: Wait>(
 }
 
 /// Writes all of these bytes, in one write if the half takes them at once.
-fn write_whole<H: WriteHalf>(half: &mut H, bytes: &[u8]) -> Result<(), LineFault>
+fn write_whole<H: WriteHalf>(half: &mut H, bytes: &[u8]) -> Result<(), HalfFault>
     ensures tells { H.tells half.old → H.tells half.new }
     ensures ok { H.tells half.old → OnOk result (H.got half.new ≡ H.got half.old ++ bytes.now) }
     ensures err { H.tells half.old
@@ -262,7 +262,7 @@ fn write_whole<H: WriteHalf>(half: &mut H, bytes: &[u8]) -> Result<(), LineFault
     while next < bytes.len() {
         let count = half.write(&bytes[next..])?;
         if count == 0 {
-            return Err(LineFault);
+            return Err(HalfFault);
         }
         next += count;
     }

@@ -29,7 +29,15 @@ struct Case {
     connections: u64,
     sent: &'static [Say],
     receipt: Receipt,
-    closed: Result<(), Unclosed>,
+    closed: Closes,
+}
+
+/// What closing the hall answers.
+#[derive(Clone, Copy, PartialEq, Eq)]
+enum Closes {
+    Well,
+    Strange { place: u64 },
+    Missing,
 }
 
 /// The receipt for the first path's write.
@@ -53,25 +61,25 @@ const CASES: [Case; 4] = [
         connections: 1,
         sent: &[],
         receipt: AHEAD,
-        closed: Err(Unclosed::StrangeReceipt { place: 5 }),
+        closed: Closes::Strange { place: 5 },
     },
     Case {
         connections: 1,
         sent: &[],
         receipt: WRITTEN,
-        closed: Err(Unclosed::StrangeReceipt { place: 2 }),
+        closed: Closes::Strange { place: 2 },
     },
     Case {
         connections: 1,
         sent: &[Say::Attach(7), Say::Does(2, 0, Op::WriteEf(42))],
         receipt: WRITTEN,
-        closed: Ok(()),
+        closed: Closes::Well,
     },
     Case {
         connections: 2,
         sent: &[Say::Attach(7), Say::Does(2, 0, Op::WriteEf(42))],
         receipt: WRITTEN,
-        closed: Err(Unclosed::SeatMissing),
+        closed: Closes::Missing,
     },
 ];
 
@@ -109,7 +117,7 @@ fn close_as<C: Tally, M: Tally, R: Abort + Wait>(
     calls: Blank,
     mails: Blank,
     history: NewHistory,
-) -> Result<(), Unclosed>
+) -> Closes
     requires calls { (calls.name ≡ C.name) × (calls.parts ≡ C.parts) × (C.all ≡ C.parts)
         × (C.all ≡ most_connections + 1) }
     requires mails { (mails.name ≡ M.name) × (mails.parts ≡ M.parts) × (M.all ≡ M.parts)
@@ -126,9 +134,10 @@ fn close_as<C: Tally, M: Tally, R: Abort + Wait>(
     match close(hall, calls, mails, sent, receipts, seen, seat, keeper) {
         Ok(closing) => {
             drop(closing);
-            Ok(())
+            Closes::Well
         }
-        Err(why) => Err(why),
+        Err(Unclosed::StrangeReceipt { place }) => Closes::Strange { place },
+        Err(Unclosed::SeatMissing(_)) => Closes::Missing,
     }
 }
 
@@ -142,7 +151,7 @@ fn closed<R: Abort + Clock + Threads + Wait + Sync>(
     rt: &R,
     alloc: Global,
     case: &Case,
-) -> Result<Result<(), Unclosed>, AllocError> {
+) -> Result<Closes, AllocError> {
     let mut sent = Vec::new(alloc);
     sent.push(messages(alloc, case.sent)?)?;
     let receipts = ReceiptList::of(Vec::from_slice(alloc, &[case.receipt])?);

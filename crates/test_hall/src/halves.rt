@@ -2,7 +2,7 @@
 
 use crate::board::{Board, Told};
 use fe_disk::Hold;
-use fe_hall::{LineFault, ReadHalf, WriteHalf};
+use fe_hall::{HalfFault, ReadHalf, WriteHalf};
 use std::alloc::Global;
 use std::sync::{Mutex, Wait};
 use std::thread;
@@ -46,7 +46,7 @@ impl<'r, 'b, 'h, R: Clock + Wait> ClientRead<'r, 'b, 'h, R> {
     }
 
     /// Waits until there is something to send. Returns whether there is.
-    fn wait(&mut self) -> Result<bool, LineFault> {
+    fn wait(&mut self) -> Result<bool, HalfFault> {
         self.next = 0;
         self.line.clear();
         for _ in 0..TURNS {
@@ -58,11 +58,11 @@ impl<'r, 'b, 'h, R: Clock + Wait> ClientRead<'r, 'b, 'h, R> {
                 Ok(Told::Line) => return Ok(true),
                 Ok(Told::End) => return Ok(false),
                 Ok(Told::Nothing) => {}
-                Err(_) => return Err(LineFault),
+                Err(_) => return Err(HalfFault),
             }
             thread::sleep(self.rt, Duration::from_millis(1));
         }
-        Err(LineFault)
+        Err(HalfFault)
     }
 }
 
@@ -77,7 +77,7 @@ impl<'r, 'b, 'h, R: Clock + Wait> ReadHalf for ClientRead<'r, 'b, 'h, R> {
 
     ghost failed = { λ _. ⊤ };
 
-    fn read(&mut self, buffer: &mut [u8]) -> Result<usize, LineFault> {
+    fn read(&mut self, buffer: &mut [u8]) -> Result<usize, HalfFault> {
         if self.next >= self.line.len() && !self.wait()? {
             return Ok(0);
         }
@@ -112,9 +112,9 @@ impl<'r, 'b, R: Clock + Wait> WriteHalf for ClientWrite<'r, 'b, R> {
 
     ghost failed = { λ _. ⊤ };
 
-    fn write(&mut self, bytes: &[u8]) -> Result<usize, LineFault> {
+    fn write(&mut self, bytes: &[u8]) -> Result<usize, HalfFault> {
         if self.board.lock(self.rt).hear(self.conn, bytes).is_err() {
-            return Err(LineFault);
+            return Err(HalfFault);
         }
         for _ in 0..TURNS {
             if self.board.lock(self.rt).takes(self.conn) {
@@ -122,6 +122,6 @@ impl<'r, 'b, R: Clock + Wait> WriteHalf for ClientWrite<'r, 'b, R> {
             }
             thread::sleep(self.rt, Duration::from_millis(1));
         }
-        Err(LineFault)
+        Err(HalfFault)
     }
 }

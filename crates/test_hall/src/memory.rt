@@ -11,7 +11,7 @@ use crate::saying::{Say, put_said};
 use crate::stage::{PARTS, hall_over};
 use fe_disk::Liar;
 use fe_hall::{
-    CallSeat, CommitEnd, Hall, LineFault, MemoryRead, NewHistory, Open, ReadEnd, ReadHalf,
+    CallSeat, CommitEnd, HalfFault, Hall, MemoryRead, NewHistory, Open, ReadEnd, ReadHalf,
     StoreSeat, Tally, commit_side, read_side,
 };
 use fe_keeper::{Fault, Keeper};
@@ -69,9 +69,9 @@ impl ReadHalf for Failing {
 
     ghost failed = { λ _. ⊤ };
 
-    fn read(&mut self, buffer: &mut [u8]) -> Result<usize, LineFault> {
+    fn read(&mut self, buffer: &mut [u8]) -> Result<usize, HalfFault> {
         match self.half.read(buffer)? {
-            0 => Err(LineFault),
+            0 => Err(HalfFault),
             count => Ok(count),
         }
     }
@@ -95,7 +95,7 @@ fn store<C: Tally, M: Tally, R: Abort + Wait>(
     match end {
         ReadEnd::Device => {
             hall.stop(rt);
-            Some(commit_side(rt, hall, keeper, stored))
+            Some(commit_side(rt, hall, keeper, stored).end())
         }
         _ => {
             assert!(rt; end == ReadEnd::NoMemory);

@@ -2,7 +2,7 @@ ghost use Rattle.std.specs.Prelude.{◌≡◌};
 
 use fe_disk::Disk;
 use fe_hall::{
-    CallSeat, Closing, Gathered, Hall, MailSeat, Receipts, Seats, StoreSeat, Tally, Unclosed, close,
+    CallSeat, Closing, Gathered, Hall, MailSeat, Receipts, Seats, StoreSeat, Tally, close,
 };
 use fe_keeper::Keeper;
 use fe_wire::ClientMessage;
@@ -54,13 +54,13 @@ impl<C: Tally, M: Tally> Register<C, M> {
         self.receipts.as_slice().len()
     }
 
-    /// Closes the hall with everything in the register.
+    /// Closes the hall with everything in the register. `None` if it is not closed.
     pub fn close<D: Disk + Drop>(
         self,
         hall: Hall<C, M>,
         seat: StoreSeat<M>,
         keeper: Keeper<D>,
-    ) -> Result<Closing<D>, Unclosed>
+    ) -> Option<Closing<D>>
         requires calls { C.all ≡ C.parts }
         requires mails { M.all ≡ M.parts }
     {
@@ -71,9 +71,9 @@ impl<C: Tally, M: Tally> Register<C, M> {
             receipts,
         } = self;
         let (Some(calls), Some(mails)) = (calls, mails) else {
-            return Err(Unclosed::SeatMissing);
+            return None;
         };
         let (receipts, history) = receipts.into_parts();
-        close(hall, calls, mails, sent, receipts, history, seat, keeper)
+        close(hall, calls, mails, sent, receipts, history, seat, keeper).ok()
     }
 }

@@ -10,8 +10,8 @@ use crate::register::Register;
 use fe_disk::{Disk, Hold};
 use fe_front::Front;
 use fe_hall::{
-    CallSeat, Closing, CommitEnd, Hall, MailSeat, NewHistory, Open, StoreSeat, Tally, Unclosed,
-    commit_side, read_side, write_side,
+    CallSeat, Closing, CommitEnd, Hall, MailSeat, NewHistory, Open, StoreSeat, Tally, commit_side,
+    read_side, write_side,
 };
 use fe_keeper::Keeper;
 use fe_state::State;
@@ -47,7 +47,8 @@ pub struct Played<D: Disk + Drop> {
     pub commit_end: CommitEnd,
     /// The number of answers taken.
     pub receipts: usize,
-    pub closed: Result<Closing<D>, Unclosed>,
+    /// `None` if the hall was not closed.
+    pub closed: Option<Closing<D>>,
 }
 
 /// Performs a play over the store of a keeper. The hold holds back its syncs when a step says so. At the end the hall
@@ -225,7 +226,7 @@ fn commit<C: Tally, M: Tally, D: Disk, R: Wait>(
 ) -> (Keeper<D>, CommitEnd, StoreSeat<M>) {
     let mut keeper = keeper;
     let mut seat = seat;
-    let end = commit_side(rt, &stage.hall, &mut keeper, &mut seat);
+    let end = commit_side(rt, &stage.hall, &mut keeper, &mut seat).end();
     stage.board.lock(rt).over = true;
     (keeper, end, seat)
 }

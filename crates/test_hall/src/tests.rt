@@ -59,8 +59,8 @@ fn check<D: Disk + Drop>(rt: &impl Abort, alloc: Global, play: &Play, played: &P
     assert!(rt; played.commit_end == play.commit_end);
     assert!(rt; played.receipts == play.receipts);
     match &played.closed {
-        Ok(closing) => assert!(rt; are_booked(&closing.books, play)),
-        Err(_) => assert!(rt; false),
+        Some(closing) => assert!(rt; are_booked(&closing.books, play)),
+        None => assert!(rt; false),
     }
 }
 
@@ -76,7 +76,7 @@ fn keeper_after<D: Disk + Drop + Send, R: Abort + Clock + Threads + Wait + Sync>
     check(rt, alloc, play, &played);
     let Played { closed, board, .. } = played;
     drop(board);
-    closed.ok().expect(rt, "closed").keeper
+    closed.expect(rt, "closed").keeper
 }
 
 /// The store after a play on a new one.

@@ -1,4 +1,4 @@
-use Rattle.std.proofs.Common.{◌≡◌, Err, map, refl, sym, ap, subst, true≢false}
+use Rattle.std.proofs.Common.{◌≡◌, map, refl, sym, subst, true≢false}
 use Rattle.std.specs.Prelude.{Any}
 use Rattle.fe_state.specs.State.{ServerState}
 use Rattle.fe_hall.specs.Receipts.{IsStrange, IsFirstStrange}
@@ -25,7 +25,7 @@ returns-in-Err-clause-strange g c = λ place is.
 
 pub returns-in-Err-clause-refused : goal.returns-in-Err-clause-refused
 returns-in-Err-clause-refused g c = λ other.
-    let here = c.in-Err.ensures.refused (λ same. other (ap (λ u. Err u) same)) in (
+    let here = c.in-Err.ensures.refused other in (
       λ err. subst (λ (s : ServerState). Any (IsStrange s (map (λ v. v.items) c.args.sent.items)) c.args.receipts.items) c.state.ensures.state (here.0 err),
       λ one. refl,
     )

@@ -1,4 +1,4 @@
-use Rattle.std.proofs.Common.{◌≡◌, ◌∙◌, Bool, true, List, refl, sym, subst, true≢false, rules}
+use Rattle.std.proofs.Common.{◌≡◌, ◌∙◌, Bool, true, refl, sym, subst, true≢false, rules}
 use Rattle.std.specs.Prelude.{MatchBool}
 use Rattle.fe_hall.proofs.BorneOut.{one_strange, all_borne_out, none_is}
 use Rattle.fe_hall.specs.Acts.{HasMore, stores_in}

@@ -1,8 +1,8 @@
-use Rattle.std.proofs.Common.{inl, inr, Some, None, refl, sym, subst, rules}
+use Rattle.std.proofs.Common.{Some, None, sym, subst, rules}
 use Rattle.fe_state.specs.declared.batch.Batch.{Batch}
 use Rattle.fe_hall.specs.Commits.{AreNoted, Commits, IsStored, TellsEnd, end_of}
 use Rattle.fe_hall.specs.declared.commit_end.CommitEnd.{CommitEnd}
-use Rattle.fe_hall.specs.declared.commit_end.CommitEnd.TheVariants.{Strange, Spent}
+use Rattle.fe_hall.specs.declared.commit_end.CommitEnd.TheVariants.{Strange}
 use Rattle.fe_hall.proofs.Committed.{group_noted, commits_fault, fault_tells, appended_works}
 use Rattle.fe_hall.proofs.Noted.{none_noted, one_noted, one_unnoted}
 use Rattle.fe_hall.proofs.committing.commit.Goals as goal
@@ -12,63 +12,57 @@ post-requires g c =
     let old = c.args.keeper.now in
     let e = c.in-Ok.ensures.appended in
     let new = c.append.new.self in
-    let stored : IsStored c.into_batch.result new.state = record { before = old.state; continues = e.continues; state_is = e.state } in
-    record { stored = subst (λ (b : Batch). IsStored b new.state) (sym c.in-Ok.ensures.returned) stored; noted = c.note.ensures.marked (search rules) }
+    let stored : IsStored c.into_batch-batch.result new.state = record { before = old.state; continues = e.continues; state_is = e.state } in
+    record { stored = subst (λ (b : Batch). IsStored b new.state) (sym c.in-Ok.ensures.returned) stored; noted = search rules }
 
-pub returns-in-Some-Ok-clause-commits : goal.returns-in-Some-Ok-clause-commits
-returns-in-Some-Ok-clause-commits g c =
+pub returns-in-Ok-post-clause-commits : goal.returns-in-Ok-post-clause-commits
+returns-in-Ok-post-clause-commits g c =
     let e = c.in-Ok.ensures.appended in
     let old = c.args.keeper.now in
     let new = c.append.new.self in
-    group_noted g.D.Disk.honest g.D.Disk.moment g.D.Disk.left_since g.D.Disk.may_leave g.met.D.Disk.only_now old new None c.into_batch.result.entries c.args.seat.now c.note.new.seat e.continues.some e.continues.legal e.state
-    (appended_works old.store new.store c.into_batch.result.entries new.store.disk e.store) c.append.ensures.honesty c.append.ensures.durable c.append.ensures.any_moment
-    (one_noted g.D.Disk.moment (record { before = old; after = new }) _ c.args.seat.now c.note.new.seat c.note.ensures.this (c.note.ensures.noted (search rules)))
-
-pub returns-in-Some-Err-clause-commits : goal.returns-in-Some-Err-clause-commits
-returns-in-Some-Err-clause-commits g c =
-    let e = c.in-Ok.ensures.appended in
-    let old = c.args.keeper.now in
-    let new = c.append.new.self in
-    group_noted g.D.Disk.honest g.D.Disk.moment g.D.Disk.left_since g.D.Disk.may_leave g.met.D.Disk.only_now old new (Some Strange) c.into_batch.result.entries c.args.seat.now c.note.new.seat e.continues.some e.continues.legal e.state
-    (appended_works old.store new.store c.into_batch.result.entries new.store.disk e.store) c.append.ensures.honesty c.append.ensures.durable c.append.ensures.any_moment
-    (one_noted g.D.Disk.moment (record { before = old; after = new }) _ c.args.seat.now c.note.new.seat c.note.ensures.this (c.note.ensures.noted (search rules)))
+    group_noted g.D.Disk.honest g.D.Disk.moment g.D.Disk.left_since g.D.Disk.may_leave g.met.D.Disk.only_now old new None c.into_batch-batch.result.entries c.args.seat.now c.note.new.seat e.continues.some e.continues.legal e.state
+    (appended_works old.store new.store c.into_batch-batch.result.entries new.store.disk e.store) c.append.ensures.honesty c.append.ensures.durable c.append.ensures.any_moment
+    (one_noted g.D.Disk.moment (record { before = old; after = new }) _ c.args.seat.now c.note.new.seat c.note.ensures.this (search rules))
 
 pub returns-in-Ok-clause-commits : goal.returns-in-Ok-clause-commits
 returns-in-Ok-clause-commits g c =
     let e = c.in-Ok.ensures.appended in
     let old = c.args.keeper.now in
     let new = c.append.new.self in
-    group_noted g.D.Disk.honest g.D.Disk.moment g.D.Disk.left_since g.D.Disk.may_leave g.met.D.Disk.only_now old new (Some Spent) c.into_batch.result.entries c.args.seat.now c.note.new.seat e.continues.some e.continues.legal e.state
-    (appended_works old.store new.store c.into_batch.result.entries new.store.disk e.store) c.append.ensures.honesty c.append.ensures.durable c.append.ensures.any_moment
-    (one_noted g.D.Disk.moment (record { before = old; after = new }) _ c.args.seat.now c.note.new.seat c.note.ensures.this (c.note.ensures.noted (search rules)))
+    group_noted g.D.Disk.honest g.D.Disk.moment g.D.Disk.left_since g.D.Disk.may_leave g.met.D.Disk.only_now old new (Some c.of_post.result) c.into_batch-batch.result.entries c.args.seat.now c.note.new.seat e.continues.some e.continues.legal e.state
+    (appended_works old.store new.store c.into_batch-batch.result.entries new.store.disk e.store) c.append.ensures.honesty c.append.ensures.durable c.append.ensures.any_moment
+    (one_noted g.D.Disk.moment (record { before = old; after = new }) _ c.args.seat.now c.note.new.seat c.note.ensures.this (search rules))
+
+pub returns-in-Err-note-clause-commits : goal.returns-in-Err-note-clause-commits
+returns-in-Err-note-clause-commits g c =
+    let e = c.in-Ok.ensures.appended in
+    let old = c.args.keeper.now in
+    let new = c.append.new.self in
+    let seat = c.args.seat.now in
+    subst (λ (end : CommitEnd). (all : Commits g.D.Disk.honest g.D.Disk.moment g.D.Disk.left_since old new (Some end)) × AreNoted g.D.Disk.moment all.appends (Some end) seat c.note.new.seat)
+    (sym c.of_note.ensures)
+    (group_noted g.D.Disk.honest g.D.Disk.moment g.D.Disk.left_since g.D.Disk.may_leave g.met.D.Disk.only_now old new (Some Strange) c.into_batch-batch.result.entries c.args.seat.now c.note.new.seat e.continues.some e.continues.legal e.state
+    (appended_works old.store new.store c.into_batch-batch.result.entries new.store.disk e.store) c.append.ensures.honesty c.append.ensures.durable c.append.ensures.any_moment
+    (one_unnoted g.D.Disk.moment (record { before = old; after = new }) c.args.seat.now c.note.new.seat c.in-Err-note.ensures.unnoted))
 
 pub returns-clause-commits : goal.returns-clause-commits
 returns-clause-commits g c =
     let e = c.in-Err.ensures in
     let all =
     commits_fault g.D.Disk.honest g.D.Disk.may_leave g.D.Disk.moment g.D.Disk.left_since g.met.D.Disk.only_now c.args.keeper.now c.append.new.self c.append.ensures.durable g.D.Disk.failures c.in-Err.fault
-    c.into_batch.result.first c.into_batch.result.entries e.ends e.err c.append.ensures.any_moment in
+    c.into_batch-batch.result.first c.into_batch-batch.result.entries e.ends e.err c.append.ensures.any_moment in
     let seat = c.args.seat.now in
     subst (λ (end : CommitEnd). (all : Commits g.D.Disk.honest g.D.Disk.moment g.D.Disk.left_since c.args.keeper.now c.append.new.self (Some end)) × AreNoted g.D.Disk.moment all.appends (Some end) seat seat)
-    (sym c.end_of.ensures.end) (all.0, none_noted g.D.Disk.moment all.0.appends (Some (end_of c.in-Err.fault)) seat all.1)
+    (sym c.of_store.ensures.end) (all.0, none_noted g.D.Disk.moment all.0.appends (Some (end_of c.in-Err.fault)) seat all.1)
 
 pub returns-clause-tells : goal.returns-clause-tells
 returns-clause-tells g c =
-    subst (λ (end : CommitEnd). TellsEnd g.D.Disk.failures c.args.keeper.now c.append.new.self (Some end)) (sym c.end_of.ensures.end)
-    (fault_tells g.D.Disk.failures c.args.keeper.now c.append.new.self c.in-Err.fault c.into_batch.result.first c.into_batch.result.entries c.in-Err.ensures.ends)
+    subst (λ (end : CommitEnd). TellsEnd g.D.Disk.failures c.args.keeper.now c.append.new.self (Some end)) (sym c.of_store.ensures.end)
+    (fault_tells g.D.Disk.failures c.args.keeper.now c.append.new.self c.in-Err.fault c.into_batch-batch.result.first c.into_batch-batch.result.entries c.in-Err.ensures.ends)
 
-pub returns-then-not-note-clause-commits : goal.returns-then-not-note-clause-commits
-returns-then-not-note-clause-commits g c =
-    let e = c.in-Ok.ensures.appended in
-    let old = c.args.keeper.now in
-    let new = c.append.new.self in
-    group_noted g.D.Disk.honest g.D.Disk.moment g.D.Disk.left_since g.D.Disk.may_leave g.met.D.Disk.only_now old new (Some Strange) c.into_batch.result.entries c.args.seat.now c.note.new.seat e.continues.some e.continues.legal e.state
-    (appended_works old.store new.store c.into_batch.result.entries new.store.disk e.store) c.append.ensures.honesty c.append.ensures.durable c.append.ensures.any_moment
-    (one_unnoted g.D.Disk.moment (record { before = old; after = new }) c.args.seat.now c.note.new.seat (c.note.ensures.unnoted (search rules)))
-
-pub returns-in-Some-Ok-clause-stored : goal.returns-in-Some-Ok-clause-stored
-returns-in-Some-Ok-clause-stored g c = λ none.
+pub returns-in-Ok-post-clause-stored : goal.returns-in-Ok-post-clause-stored
+returns-in-Ok-post-clause-stored g c = λ none.
     let e = c.in-Ok.ensures.appended in
     let new = c.append.new.self in
-    let stored : IsStored c.into_batch.result new.state = record { before = c.args.keeper.now.state; continues = e.continues; state_is = e.state } in
-    subst (λ (b : Batch). IsStored b new.state) c.into_batch.ensures stored
+    let stored : IsStored c.into_batch-batch.result new.state = record { before = c.args.keeper.now.state; continues = e.continues; state_is = e.state } in
+    subst (λ (b : Batch). IsStored b new.state) c.into_batch-batch.ensures stored

@@ -1,7 +1,6 @@
-use Rattle.std.proofs.Common.{◌≡◌, inl, inr, [], Option, Some, None, refl, subst, ◌∙◌, rules}
+use Rattle.std.proofs.Common.{◌≡◌, sym, inl, inr, Option, Some, None, refl, subst, ◌∙◌, rules}
 use Rattle.fe_hall.specs.Commits.{AreNoted, Commits, IsStill, TellsEnd}
 use Rattle.fe_hall.specs.declared.commit_end.CommitEnd.{CommitEnd}
-use Rattle.fe_hall.specs.declared.commit_end.CommitEnd.TheVariants.{Stopped, Store}
 use Rattle.fe_hall.proofs.Committed.{kept_noted, both_commits, turn_commits, ended_noted, rests_itself, still_itself, still_both}
 use Rattle.fe_hall.proofs.committing.commit_side.Goals as goal
 
@@ -23,8 +22,12 @@ pub returns-in-Some-commit-clause-commits : goal.returns-in-Some-commit-clause-c
 returns-in-Some-commit-clause-commits g c =
     let here = c.loop.invariant in
     let stored = c.in-Some-commit.ensures.commits in
-    both_commits g.D.Disk.honest g.D.Disk.moment g.D.Disk.left_since c.args.keeper.now c.loop.keeper c.commit.new.keeper (Some c.in-Some-commit.end) c.args.seat.now c.loop.seat c.commit.new.seat
-    here.still.works here.honesty here.commits.0 here.commits.1 stored.0 stored.1
+    let old = c.args.keeper.now in
+    let new = c.commit.new.keeper in
+    subst (λ (end : CommitEnd). (all : Commits g.D.Disk.honest g.D.Disk.moment g.D.Disk.left_since old new (Some end)) × AreNoted g.D.Disk.moment all.appends (Some end) c.args.seat.now c.commit.new.seat)
+    (sym c.broken.ensures)
+    (both_commits g.D.Disk.honest g.D.Disk.moment g.D.Disk.left_since old c.loop.keeper new (Some c.in-Some-commit.why) c.args.seat.now c.loop.seat c.commit.new.seat here.still.works here.honesty
+    here.commits.0 here.commits.1 stored.0 stored.1)
 
 pub loop-preserved : goal.loop-preserved
 loop-preserved g c =
@@ -62,10 +65,10 @@ returns-in-Err-clause-commits g c =
     subst (λ (end : Option CommitEnd). (all : Commits g.D.Disk.honest g.D.Disk.moment g.D.Disk.left_since before after end) × AreNoted g.D.Disk.moment all.appends end c.loop.seat c.commit.new.seat) none
     c.commit.ensures.commits in
     let still : IsStill g.D.Disk.failures before after = subst (λ (end : Option CommitEnd). TellsEnd g.D.Disk.failures before after end) none c.commit.ensures.tells in
-    turn_commits g.D.Disk.honest g.D.Disk.moment g.D.Disk.left_since c.args.keeper.now before after c.tend.new.keeper (Some (Store c.in-Err.fault)) c.args.seat.now c.loop.seat c.commit.new.seat
+    turn_commits g.D.Disk.honest g.D.Disk.moment g.D.Disk.left_since c.args.keeper.now before after c.tend.new.keeper (Some c.broken-in-Err.result) c.args.seat.now c.loop.seat c.commit.new.seat
     here.still.works still.works here.honesty c.commit.ensures.honesty here.commits.0 here.commits.1 stored.0 stored.1 c.tend.ensures.rests
 
-pub returns-in_default-clause-commits : goal.returns-in_default-clause-commits
-returns-in_default-clause-commits g c =
+pub returns-in-Stopped-clause-commits : goal.returns-in-Stopped-clause-commits
+returns-in-Stopped-clause-commits g c =
     let here = c.loop.invariant.commits in
-    ended_noted g.D.Disk.honest g.D.Disk.moment g.D.Disk.left_since c.args.keeper.now c.loop.keeper (Some Stopped) c.args.seat.now c.loop.seat here.0 here.1
+    ended_noted g.D.Disk.honest g.D.Disk.moment g.D.Disk.left_since c.args.keeper.now c.loop.keeper (Some c.stopped.result) c.args.seat.now c.loop.seat here.0 here.1

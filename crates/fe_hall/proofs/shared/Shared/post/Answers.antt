@@ -1,5 +1,7 @@
-use Rattle.std.proofs.Common.{◌≡◌, ◌≤◌, ap, arith}
+use Rattle.std.proofs.Common.{◌≡◌, ◌≤◌, ap, arith, rules}
+use Rattle.std.specs.Prelude.{IsTrue}
 use Rattle.fe_hall.specs.Acts.{mark_of}
+use Rattle.fe_hall.specs.Seats.{posts_more}
 use Rattle.fe_hall.proofs.Acts.{mark_rises}
 use Rattle.fe_hall.proofs.Marks.{posted_marked}
 use Rattle.fe_hall.proofs.Risings.{posted_goes, posted_steps}
@@ -10,7 +12,8 @@ invariant_of-self g c =
     let s = c.args.self.now in
     let e = c.post_ringing.ensures in
     let front = c.state.ensures.front in
-    let goes = posted_goes s.front c.post_ringing.new.self c.args.batch c.post_ringing.result front s.open c.requires.more e.refused e.posted e.err in
+    let more : IsTrue (posts_more s.front.books c.args.batch) = search rules in
+    let goes = posted_goes s.front c.post_ringing.new.self c.args.batch c.post_ringing.result front s.open more e.refused e.posted e.err in
     let later = c.learn.new.self in
     let rises = mark_rises c.history.result.now later c.learn.ensures.that in
     let same : mark_of c.history.result.now ≡ mark_of c.args.seat.now = ap mark_of c.history.ensures in

@@ -1,5 +1,5 @@
 use Rattle.std.proofs.Common.{Some, sym, ◌∙◌, arith}
-use Rattle.fe_hall.proofs.Marks.{first_may, taken_marked}
+use Rattle.fe_hall.proofs.Marks.{taken_marked}
 use Rattle.fe_hall.proofs.Risings.{taken_goes}
 use Rattle.fe_hall.proofs.shared.Shared.take_mail.Goals as goal
 

@@ -16,7 +16,7 @@ invariant_of-self g c =
     omega (arith, count, ap length adds, length-append (stores_in before) ((place, moment) ∷ []))
 
 pub returns-clause-noted : goal.returns-clause-noted
-returns-clause-noted g c = λ _.
+returns-clause-noted g c =
     let keeper = c.args.keeper.now in
     let place : ℕ = keeper.state.place in
     let moment : ℕ = g.D.Disk.moment keeper.store.disk in
@@ -27,6 +27,6 @@ returns-clause-noted g c = λ _.
     ∙ ap (λ (h : List Act). stores_in h ++ (place, moment) ∷ []) (c.again-history.ensures.same ∙ c.self.view_is)
 
 pub returns-clause-marked : goal.returns-clause-marked
-returns-clause-marked g c = λ _.
+returns-clause-marked g c =
     let keeper = c.args.keeper.now in
     note_marks c.again-history.result c.store.new.self keeper.state.place (g.D.Disk.moment keeper.store.disk) c.store.ensures.legal (c.store.ensures.stored (search rules)).0
