@@ -83,7 +83,7 @@ def cited(_place):
                 for clause in found:
                     if not any(has(it, name, clause) or not clause and is_named(it, name) for it in crates):
                         missing.append(f"{page}:{number}: {' or '.join(crates)}: no {name} {clause}")
-    for page in ("README.md", "docs/headline.md"):
+    for page in ("README.md", "docs/headline.md", "docs/rules.md"):
         for number, line in split(text_of(page))[0]:
             for crate, path, listed in PATHED.findall(line):
                 names = NAME.findall(listed)
