@@ -66,7 +66,7 @@ def clauses(_place):
 
 
 def cited(_place):
-    """each function with its clauses that the promise's table, the layers and the README name is in the crate named with it"""
+    """each function with its clauses that the promise's table, the layers, the README, headline.md and rules.md name is in its crate"""
     missing = []
     count = 0
     tables = [("docs/proved.md", "## The promise", 1), ("ARCHITECTURE.md", "## Layers", 2)]
