@@ -66,7 +66,7 @@ serve: $(PROGRAM) ## starts a server with the settings of examples/femem.toml, a
 examples: $(PROGRAM) ## runs every schedule of examples/, and compares its output
 	@scripts/run_examples $(PROGRAM)
 
-faults: $(PROGRAM) ## the same, with each allocation refused in turn, and the tests of refused memory
+faults: $(PROGRAM) ## runs every schedule with each allocation refused in turn, and the tests of refused memory
 	@scripts/refuse_each $(PROGRAM)
 	@scripts/refuse_test
 

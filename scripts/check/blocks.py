@@ -37,12 +37,7 @@ BLOCKS = {
         ("  printf 'attach 7", HERE),
     ),
     "docs/patterns.md": (("femem run < examples/queue_of_one.txt", "runs.py runs each schedule of examples/"),),
-    "docs/performance.md": (
-        ("make bench-serve", "not run: minutes of measuring, on a quiet machine"),
-        ("bench/serve/profile", "not run: the same, with linux-perf"),
-        ("bench/serve/growth", "not run: the same"),
-        ("bench/clients/run", "not run: the same"),
-    ),
+    "docs/performance.md": (("make bench-serve", "not run: minutes of measuring, on a quiet machine"),),
     "docs/replication.md": (("# on both", "hosts.py does the same; not run here: root and packages"),),
     "clients/c/README.md": (
         ("make ", HERE),

@@ -66,7 +66,7 @@ def clauses(_place):
 
 
 def cited(_place):
-    """each function with its clauses that the promise's table, the layers and the README name is in the crate named with it"""
+    """each function with its clauses that the promise's table, the layers, the README, headline.md and rules.md name is in its crate"""
     missing = []
     count = 0
     tables = [("docs/proved.md", "## The promise", 1), ("ARCHITECTURE.md", "## Layers", 2)]
@@ -83,7 +83,7 @@ def cited(_place):
                 for clause in found:
                     if not any(has(it, name, clause) or not clause and is_named(it, name) for it in crates):
                         missing.append(f"{page}:{number}: {' or '.join(crates)}: no {name} {clause}")
-    for page in ("README.md", "docs/headline.md"):
+    for page in ("README.md", "docs/headline.md", "docs/rules.md"):
         for number, line in split(text_of(page))[0]:
             for crate, path, listed in PATHED.findall(line):
                 names = NAME.findall(listed)

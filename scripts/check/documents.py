@@ -16,7 +16,10 @@ sys.path.insert(0, os.path.normpath(os.path.join(os.path.dirname(os.path.realpat
 
 from release import pages  # noqa: E402
 
-MOST_WORDS = {"README.md": 1500, "docs/proved.md": 5000, "docs/DECISIONS.md": 4000, "docs/model.md": 4900}
+MOST_WORDS = {
+    "README.md": 1500, "ARCHITECTURE.md": 1200, "docs/proved.md": 5000, "docs/DECISIONS.md": 4000, "docs/model.md": 4900,
+    "docs/performance.md": 1700,
+}
 
 
 def listed(heading):
@@ -92,10 +95,10 @@ def versions(_place):
 
 
 def lengths(_place):
-    """the README, docs/proved.md, docs/DECISIONS.md and docs/model.md keep to their limits of words"""
+    """each document with a limit of words keeps to it"""
     found = {name: len(text_of(name).split()) for name in MOST_WORDS}
     missing = [f"{name} has {found[name]} words, and may have {most}" for name, most in MOST_WORDS.items() if found[name] > most]
-    return told(missing, len(found), 4, "documents")
+    return told(missing, len(found), 6, "documents")
 
 
 LINK = re.compile(r"\[([^\]]*)\]\(([^)\s]+)\)")

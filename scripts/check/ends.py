@@ -1,4 +1,4 @@
-"""How connections and servers begin and end: half-closed clients, freed places, sockets, device faults."""
+"""How connections and servers begin and end: half-closed clients, admissions given back, sockets, device faults."""
 
 import fcntl
 import os
