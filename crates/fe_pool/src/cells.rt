@@ -12,7 +12,7 @@ use std::mem;
 
 // One node: free, with the next free node after it, or taken.
 #[derive(Drop)]
-enum Place<T> {
+enum Cell<T> {
     Free(Option<Node>),
     Taken(Entry<T>),
 }
@@ -26,7 +26,7 @@ struct Entry<T> {
 }
 
 impl<T> Entry<T> {
-    ghost use Rattle.fe_pool.specs.within.Places.{with_link};
+    ghost use Rattle.fe_pool.specs.within.Cells.{with_link};
 
     fn set_link(&mut self, family: Family, to: Option<Neighbours>)
         ensures { self.new ≡ with_link self.old family to }
@@ -40,44 +40,44 @@ impl<T> Entry<T> {
 
 /// The one vector of a pool, read and written one node at a time.
 #[derive(Drop)]
-pub(crate) struct Places<T> {
-    places: Vec<Place<T>>,
+pub(crate) struct Cells<T> {
+    cells: Vec<Cell<T>>,
 }
 
-impl<T> Model for Places<T> {
+impl<T> Model for Cells<T> {
     ghost use Rattle.fe_pool.specs.Columns.{Columns, columns_code};
 
     ghost Value = { Columns T };
 
     ghost coded = { columns_code T.code };
 
-    ghost use Rattle.fe_pool.specs.within.Places.{columns_of};
+    ghost use Rattle.fe_pool.specs.within.Cells.{columns_of};
 
-    ghost view = { λ p. columns_of p.places.items };
+    ghost view = { λ p. columns_of p.cells.items };
 }
 
-impl<T: Drop> Places<T> {
+impl<T: Drop> Cells<T> {
     // This many free nodes, each followed by the next lower one. Fails only if memory runs out.
-    pub(crate) fn with_count(alloc: Global, count: u32) -> Result<Places<T>, AllocError>
+    pub(crate) fn with_count(alloc: Global, count: u32) -> Result<Cells<T>, AllocError>
         ensures items { IfOk result (λ p. p.items ≡ replicate count None) }
         ensures of_word { IfOk result (λ p. p.of_word ≡ replicate count None) }
         ensures of_session { IfOk result (λ p. p.of_session ≡ replicate count None) }
         ensures followers { IfOk result (λ p. p.followers ≡ before_each count) }
     {
-        let mut places = Vec::with_capacity(alloc, count as usize)?;
+        let mut cells = Vec::with_capacity(alloc, count as usize)?;
         let mut before = None;
-        for place in 0..count {
-            places.push(Place::Free(before))?;
-            before = Some(Node::at(place));
+        for index in 0..count {
+            cells.push(Cell::Free(before))?;
+            before = Some(Node::at(index));
         }
-        Ok(Places { places })
+        Ok(Cells { cells })
     }
 
     pub(crate) fn count(&self) -> u32
         requires { length self.now.items < 2 ^ 32 }
         ensures { result ≡ length self.now.items }
     {
-        self.places.len() as u32
+        self.cells.len() as u32
     }
 
     // Puts an item into a free node, and returns the free node that followed it.
@@ -96,9 +96,9 @@ impl<T: Drop> Places<T> {
             of_word: None,
             of_session: None,
         };
-        match mem::replace(&mut self.places[node.place()], Place::Taken(entry)) {
-            Place::Free(follower) => follower,
-            Place::Taken(_) => unreachable!(),
+        match mem::replace(&mut self.cells[node.index()], Cell::Taken(entry)) {
+            Cell::Free(follower) => follower,
+            Cell::Taken(_) => unreachable!(),
         }
     }
 
@@ -113,9 +113,9 @@ impl<T: Drop> Places<T> {
               followers = slice_set self.old.followers node follower;
             } }
     {
-        match mem::replace(&mut self.places[node.place()], Place::Free(follower)) {
-            Place::Taken(entry) => entry.item,
-            Place::Free(_) => unreachable!(),
+        match mem::replace(&mut self.cells[node.index()], Cell::Free(follower)) {
+            Cell::Taken(entry) => entry.item,
+            Cell::Free(_) => unreachable!(),
         }
     }
 
@@ -123,9 +123,9 @@ impl<T: Drop> Places<T> {
         requires { IsSome (slice_index_or self.now.items node None) }
         ensures { slice_index_or self.now.items node None ≡ Some result.now }
     {
-        match &self.places[node.place()] {
-            Place::Taken(entry) => &entry.item,
-            Place::Free(_) => unreachable!(),
+        match &self.cells[node.index()] {
+            Cell::Taken(entry) => &entry.item,
+            Cell::Free(_) => unreachable!(),
         }
     }
 
@@ -134,10 +134,10 @@ impl<T: Drop> Places<T> {
         requires { node < length self.now.items }
         ensures { result ≡ link_at (links_of self.now family) node }
     {
-        match (&self.places[node.place()], family) {
-            (Place::Taken(entry), Family::OfWord) => entry.of_word,
-            (Place::Taken(entry), Family::OfSession) => entry.of_session,
-            (Place::Free(_), _) => None,
+        match (&self.cells[node.index()], family) {
+            (Cell::Taken(entry), Family::OfWord) => entry.of_word,
+            (Cell::Taken(entry), Family::OfSession) => entry.of_session,
+            (Cell::Free(_), _) => None,
         }
     }
 
@@ -145,9 +145,9 @@ impl<T: Drop> Places<T> {
         requires { IsSome (slice_index_or self.old.items node None) }
         ensures { self.new ≡ with_links self.old family (slice_set (links_of self.old family) node to) }
     {
-        match &mut self.places[node.place()] {
-            Place::Taken(entry) => entry.set_link(family, to),
-            Place::Free(_) => unreachable!(),
+        match &mut self.cells[node.index()] {
+            Cell::Taken(entry) => entry.set_link(family, to),
+            Cell::Free(_) => unreachable!(),
         }
     }
 

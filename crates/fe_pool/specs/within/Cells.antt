@@ -3,27 +3,27 @@ use Rattle.std.specs.Prelude.{ℕ, List, map, Option, Some, None}
 use Rattle.fe_pool.specs.Columns.{Link, Columns}
 use Rattle.fe_pool.specs.declared.family.Family.{Family}
 use Rattle.fe_pool.specs.declared.family.Family.TheVariants.{OfWord, OfSession}
-use Rattle.fe_pool.specs.declared.places.Entry.{Entry}
-use Rattle.fe_pool.specs.declared.places.Place.{Place}
-use Rattle.fe_pool.specs.declared.places.Place.TheVariants.{Free, Taken}
+use Rattle.fe_pool.specs.declared.cells.Entry.{Entry}
+use Rattle.fe_pool.specs.declared.cells.Cell.{Cell}
+use Rattle.fe_pool.specs.declared.cells.Cell.TheVariants.{Free, Taken}
 
 module _ {T : Type 0} where
   -- the item of a taken node
-  abbrev pub item_of : Place T → Option T
+  abbrev pub item_of : Cell T → Option T
   item_of (Free _) = None
   item_of (Taken entry) = Some entry.item
 
   -- the next free node after a free one
-  abbrev pub follower_of : Place T → Option ℕ
+  abbrev pub follower_of : Cell T → Option ℕ
   follower_of (Free follower) = follower
   follower_of (Taken _) = None
 
   -- the neighbours of a taken node
-  abbrev pub word_link_of : Place T → Link
+  abbrev pub word_link_of : Cell T → Link
   word_link_of (Free _) = None
   word_link_of (Taken entry) = entry.of_word
 
-  abbrev pub session_link_of : Place T → Link
+  abbrev pub session_link_of : Cell T → Link
   session_link_of (Free _) = None
   session_link_of (Taken entry) = entry.of_session
 
@@ -33,10 +33,10 @@ module _ {T : Type 0} where
   with_link entry OfSession to = record entry { of_session = to }
 
   -- the columns of the vector
-  abbrev pub columns_of : List (Place T) → Columns T
-  columns_of places = record {
-    items = map item_of places;
-    followers = map follower_of places;
-    of_word = map word_link_of places;
-    of_session = map session_link_of places;
+  abbrev pub columns_of : List (Cell T) → Columns T
+  columns_of cells = record {
+    items = map item_of cells;
+    followers = map follower_of cells;
+    of_word = map word_link_of cells;
+    of_session = map session_link_of cells;
   }
