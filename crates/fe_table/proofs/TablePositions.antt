@@ -1,4 +1,4 @@
--- A key at a place: its value, and the map with a new value there.
+-- A key at a position: its value, and the map with a new value there.
 use Rattle.std.proofs.Common.{◌≡◌, ℕ, zero, suc, List, [], ◌∷◌, get_or, set, map, slice_get, Option, Some, None, IsSome, is_some, true≢false, refl, sym, ap, ◌∙◌}
 use Rattle.std.proofs.lemmas.Option.{unwrap_or-slice_get}
 use Rattle.std.specs.FinMap.{FinMap, get, insert, keys, entries, entries_sorted}
@@ -30,7 +30,7 @@ module _ {X : Type 0} (m : FinMap nat_cmp X) (k i : ℕ) (at : IsAt (entries m) 
   there : (o : Option (ℕ × X)) → slice_get (entries m) i ≡ o → IsSome o
   there o is = sym (ap is_some is) ∙ is_some-slice_get (entries m) i at.in_range
 
-  -- a new value at the place is a new value for the key, and keeps the order
+  -- a new value at the position is a new value for the key, and keeps the order
   pub put_here : (x : X) → (put_at m i x ≡ insert m k x) × (keys (put_at m i x) ≡ keys m)
   put_here x = by (slice_get (entries m) i) refl
     where
@@ -38,7 +38,7 @@ module _ {X : Type 0} (m : FinMap nat_cmp X) (k i : ℕ) (at : IsAt (entries m) 
       by None h = absurd (true≢false (sym (there None h)))
       by (Some e) h = let w = written e h x in (w.0, ap keys w.0 ∙ w.1)
 
-  -- the value at the place is the key's
+  -- the value at the position is the key's
   pub get_lent : (x : X) → option_map (λ e. e.1) (slice_get (entries m) i) ≡ Some x → get m k ≡ Some x
   get_lent x lent = by (slice_get (entries m) i) refl
     where
