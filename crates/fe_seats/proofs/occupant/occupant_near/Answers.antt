@@ -4,9 +4,9 @@ use Rattle.std.specs.FinMap.{entries}
 use Rattle.std.specs.Option.{unwrap_or}
 use Rattle.std.specs.Prelude.{slice_get}
 use Rattle.fe_table.specs.Table.{IsAt}
-use Rattle.fe_table.proofs.TablePlaces.{get_here}
-use Rattle.fe_seats.specs.declared.place.Place.{Place}
-use Rattle.fe_seats.proofs.place.place_near.Goals as goal
+use Rattle.fe_table.proofs.TablePositions.{get_here}
+use Rattle.fe_seats.specs.declared.occupant.Occupant.{Occupant}
+use Rattle.fe_seats.proofs.occupant.occupant_near.Goals as goal
 
 within : {A : Type 0} (xs : List A) (i : ℕ) (x : A) → slice_get xs i ≡ Some x → i < length xs
 within [] i x e = absurd (true≢false (ap is_some (sym e)))
@@ -15,11 +15,11 @@ within (y ∷ ys) (suc i) x e = omega (arith, within ys i x e)
 
 pub returns-then-here-session : goal.returns-then-here-session
 returns-then-here-session c =
-    let es = entries c.args.places.now in
-    let e : ℕ × Place = (c.in-Some.here, c.in-Some.place.now) in
-    let there : slice_get (entries c.args.places.now) c.args.guess ≡ Some e = sym c.in-Some.ensures.entry in
-    let at : IsAt (entries c.args.places.now) c.args.session c.args.guess = record {
+    let es = entries c.args.occupants.now in
+    let e : ℕ × Occupant = (c.in-Some.here, c.in-Some.occupant.now) in
+    let there : slice_get (entries c.args.occupants.now) c.args.guess ≡ Some e = sym c.in-Some.ensures.entry in
+    let at : IsAt (entries c.args.occupants.now) c.args.session c.args.guess = record {
       in_range = within es c.args.guess e there;
-      has_key = λ d. ap (λ (x : ℕ × Place). x.0) (sym (unwrap_or-slice_get es c.args.guess d) ∙ ap (λ o. unwrap_or o d) there) ∙ c.if-here-session.true;
+      has_key = λ d. ap (λ (x : ℕ × Occupant). x.0) (sym (unwrap_or-slice_get es c.args.guess d) ∙ ap (λ o. unwrap_or o d) there) ∙ c.if-here-session.true;
     } in
-    sym (get_here c.args.places.now c.args.session c.args.guess at e there)
+    sym (get_here c.args.occupants.now c.args.session c.args.guess at e there)
