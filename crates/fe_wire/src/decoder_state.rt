@@ -1,6 +1,6 @@
 ghost use Rattle.std.specs.Prelude.{◌≡◌, ◌+◌, ◌<◌, ◌≤◌, ◌++◌, ℕ, List, false, length, take, option_to_list};
 ghost use Rattle.fe_wire.specs.Stream.{length_field, fault_of};
-ghost use Rattle.fe_wire.specs.Place.{IsPlace, GoesOn, held_of, decoding, wanted_of};
+ghost use Rattle.fe_wire.specs.DecoderState.{IsDecoderState, Consumes, held_of, decoding, wanted_of};
 
 use crate::client_message::ClientMessage;
 use crate::fed::BadFrame;
@@ -10,9 +10,9 @@ use crate::version::Version;
 /// The length of the longest frame from a client, in bytes.
 pub const FRAME_BYTES: usize = 51;
 
-/// A decoder's position in its stream.
+/// What a decoder keeps between two pieces of its stream.
 #[derive(Clone, Copy)]
-pub struct Place {
+pub struct DecoderState {
     /// The offset of the current frame's first byte, at most 2^64 - 1: offsets beyond that stay there.
     pub offset: u64,
     /// The first `len` of these are the bytes of the current frame that have come.
@@ -35,10 +35,10 @@ fn wanted(held: &[u8]) -> usize
     }
 }
 
-impl Place {
+impl DecoderState {
     /// Copies bytes of the piece, up to the known end of the current frame, and returns how many.
     fn fill(&mut self, piece: &[u8]) -> usize
-        requires place { IsPlace self.old }
+        requires state { IsDecoderState self.old }
         requires good { self.old.is_bad ≡ false }
         requires more { 0 < length piece.now }
         ensures some { 0 < result }
@@ -59,14 +59,14 @@ impl Place {
     }
 
     /// `step` when bytes of the current frame are stored already: reads the frame in `cells`.
-    fn step_in_place(&mut self, piece: &[u8]) -> (usize, Option<ClientMessage>)
-        requires place { IsPlace self.old }
+    fn step_in_cells(&mut self, piece: &[u8]) -> (usize, Option<ClientMessage>)
+        requires state { IsDecoderState self.old }
         requires good { self.old.is_bad ≡ false }
         requires more { 0 < length piece.now }
-        ensures place { IsPlace self.new }
+        ensures state { IsDecoderState self.new }
         ensures some { 0 < result.0 }
         ensures within { result.0 ≤ length piece.now }
-        ensures reads { GoesOn self.old self.new (take result.0 piece.now) (option_to_list result.1) }
+        ensures reads { Consumes self.old self.new (take result.0 piece.now) (option_to_list result.1) }
     {
         let count = self.fill(piece);
         match head_of(self.version, &self.cells[..self.len]) {
@@ -88,16 +88,16 @@ impl Place {
     /// how many bytes it read, and the frame's message. A frame that is complete in the piece is read there, without
     /// a copy.
     pub fn step(&mut self, piece: &[u8]) -> (usize, Option<ClientMessage>)
-        requires place { IsPlace self.old }
+        requires state { IsDecoderState self.old }
         requires good { self.old.is_bad ≡ false }
         requires more { 0 < length piece.now }
-        ensures place { IsPlace self.new }
+        ensures state { IsDecoderState self.new }
         ensures some { 0 < result.0 }
         ensures within { result.0 ≤ length piece.now }
-        ensures reads { GoesOn self.old self.new (take result.0 piece.now) (option_to_list result.1) }
+        ensures reads { Consumes self.old self.new (take result.0 piece.now) (option_to_list result.1) }
     {
         if self.len > 0 {
-            return self.step_in_place(piece);
+            return self.step_in_cells(piece);
         }
         match head_of(self.version, piece) {
             Head::Unfinished => {

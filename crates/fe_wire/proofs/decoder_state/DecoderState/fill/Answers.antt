@@ -1,7 +1,7 @@
 use Rattle.std.proofs.Common.{◌≡◌, ◌≤◌, length, ℕ, ◌+◌, ◌-◌, List, ◌++◌, take, arith, ap, ◌∙◌, length-take-le}
 use Rattle.std.proofs.lemmas.Slice.{take-put_mid}
 use borrow.Rule.Slice.PartMut.{put_mid}
-use Rattle.fe_wire.proofs.place.Place.fill.Goals as goal
+use Rattle.fe_wire.proofs.decoder_state.DecoderState.fill.Goals as goal
 
 -- bytes written after the stored ones are stored after them
 filled : (len count k : ℕ) (cells piece new : List ℕ) → new ≡ take count piece → count ≤ length piece → len ≤ length cells → take (len + count) (put_mid len k cells new) ≡ take len cells ++ take count piece

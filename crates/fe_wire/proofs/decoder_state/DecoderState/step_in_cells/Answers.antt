@@ -2,10 +2,10 @@ use Rattle.std.proofs.Common.{◌≡◌, length, ℕ, ◌+◌, ◌-◌, ◌^◌,
 use Rattle.fe_wire.specs.declared.version.Version.{Version}
 use Rattle.fe_wire.specs.Stream.{IsUnfinished, IsBad}
 use Rattle.fe_wire.specs.Spelling.{FitsIn}
-use Rattle.fe_wire.specs.Place.{held_of}
+use Rattle.fe_wire.specs.DecoderState.{held_of}
 use Rattle.fe_wire.proofs.StreamLaws.{whole_is_held}
 use Rattle.fe_wire.proofs.Pieces.{goes_unfinished, goes_bad, goes_whole}
-use Rattle.fe_wire.proofs.place.Place.step_in_place.Goals as goal
+use Rattle.fe_wire.proofs.decoder_state.DecoderState.step_in_cells.Goals as goal
 
 pub returns-in-Unfinished-clause-reads : goal.returns-in-Unfinished-clause-reads
 returns-in-Unfinished-clause-reads c =

@@ -1,13 +1,13 @@
 use Rattle.std.proofs.Common.{◌≡◌, ℕ, ◌+◌, ◌^◌, ◌-◌, ◌≤◌, min, List, [], ◌++◌, take, length, refl, sym, ap, ◌∙◌, arith, length-take-le}
 use Rattle.std.proofs.lemmas.List.{take_all, take_at}
-use Rattle.fe_wire.specs.Place.{held_of}
-use Rattle.fe_wire.specs.declared.place.Place.{Place}
+use Rattle.fe_wire.specs.DecoderState.{held_of}
+use Rattle.fe_wire.specs.declared.decoder_state.DecoderState.{DecoderState}
 use Rattle.fe_wire.proofs.Pieces.{goes_unfinished, goes_bad, goes_whole}
-use Rattle.fe_wire.proofs.place.Place.step.Goals as goal
+use Rattle.fe_wire.proofs.decoder_state.DecoderState.step.Goals as goal
 
 -- nothing is stored
-empty : (place : Place) → place.len ≤ 0 → held_of place ≡ []
-empty place none = let zero : place.len ≡ 0 = omega arith in ap (λ (n : ℕ). take n place.cells) zero
+empty : (state : DecoderState) → state.len ≤ 0 → held_of state ≡ []
+empty state none = let zero : state.len ≡ 0 = omega arith in ap (λ (n : ℕ). take n state.cells) zero
 
 -- what is read after nothing is everything that was read
 alone : (held more piece : List ℕ) → held ≡ [] → piece ≡ more → piece ≡ held ++ more
