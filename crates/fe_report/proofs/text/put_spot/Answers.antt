@@ -1,7 +1,7 @@
 use Rattle.std.proofs.Common.{◌≤◌, length, arith, subst, sym}
 use Rattle.std.specs.Fmt.{decimal}
 use Rattle.fe_report.proofs.Lengths.{long, short}
-use Rattle.fe_report.proofs.text.put_place.Goals as goal
+use Rattle.fe_report.proofs.text.put_spot.Goals as goal
 
 pub write_digits-at-requires : goal.write_digits-at-requires
 write_digits-at-requires c =
