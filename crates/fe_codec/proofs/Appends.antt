@@ -59,7 +59,7 @@ pub failed : {A E : Type 0} (r : Result A E) (a b : List ℕ) (room room' : ℕ)
 failed (Err e) a b room room' text is h = h
 failed (Ok x) a b room room' text is h = absurd cc
 
--- an item that is found at its place
+-- an item that is found at its position
 module _ {X : Type 0} (f : X → List ℕ) (xs : List X) (i : ℕ) (x : X) (found : slice_get xs i ≡ Some x) (a b c : List ℕ) (r r' r'' : ℕ) where
   pub found_appended : (ok : Bool) → Appends a b r r' true (flat_map f (take i xs)) → Appends b c r' r'' ok (f x) → Appends a c r r'' ok (flat_map f (take (i + 1) xs))
   found_appended ok h s = item_appended f xs a b c r r' r'' ok i x (slice_get_within xs i x found) h (subst (λ (y : X). Appends b c r' r'' ok (f y)) (sym (get_or_from_slice_get xs i x x found)) s)

@@ -1,4 +1,4 @@
--- Elements of lists by their places.
+-- Elements of lists by their positions.
 use Rattle.std.proofs.Common.{◌≡◌, ℕ, zero, suc, ◌+◌, ◌<◌, ◌≤◌, List, [], ◌∷◌, ◌++◌, length, take, drop, get_or, Option, Some, None, sym, ap, subst, ◌∙◌, arith}
 use Rattle.std.specs.Prelude.{slice_get}
 use Rattle.std.specs.List.{AllByRecursion}
@@ -6,7 +6,7 @@ use Rattle.std.specs.Option.{option_map}
 use Rattle.std.proofs.lemmas.List.{take_more, take_all, drop_more, length-drop}
 use Rattle.std.proofs.lemmas.Option.{same_Some, none-some, slice_get-get_or, slice_get_within, get_or_from_slice_get}
 
--- what holds of each element holds of the one at a place
+-- what holds of each element holds of the one at a position
 pub all_at : {X : Type 0} (P : X → Type 0) (xs : List X) (i : ℕ) (x : X) → AllByRecursion P xs → slice_get xs i ≡ Some x → P x
 all_at P [] i x h e = absurd (none-some x e)
 all_at P (y ∷ ys) zero x h e = subst P (same_Some y x e) h.0
@@ -18,7 +18,7 @@ found_within f (Some x) xs i e lt none = none-some x (sym none)
 found_within f None [] i e lt none = omega arith
 found_within f None (y ∷ ys) i e lt none = none-some _ (e ∙ slice_get-get_or (y ∷ ys) i y lt)
 
--- what is left of a list begins with the element at its place, and goes on with the rest
+-- what is left of a list begins with the element at its position, and goes on with the rest
 module _ {X : Type 0} (xs : List X) (k : ℕ) (x : X) (rest : List X) (is : drop k xs ≡ x ∷ rest) where
   pub front_within : k < length xs
   front_within = omega (arith, ap length is, length-drop k xs)

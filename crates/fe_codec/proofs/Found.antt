@@ -74,7 +74,7 @@ module _ {X : Type 0} where
         h q x (find_there q e es (λ same. omega (arith, later, same)) ∙ is)),
   )
 
--- the entry at a place is what the map has at its number
+-- the entry at a position is what the map has at its number
 pub get_at : {X : Type 0} (m : FinMap nat_cmp X) (k : ℕ) (e : ℕ × X) → slice_get (entries m) k ≡ Some e → get m e.0 ≡ Some e.1
 get_at m k e is =
     get-entries m e.0 ∙ all_at (λ d. find nat_cmp d.0 (entries m) ≡ Some d.1) (entries m) k e (holds_each _ (entries m) (entries_sorted m) (λ q x found. found)) is

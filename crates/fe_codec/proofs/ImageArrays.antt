@@ -18,7 +18,7 @@ use Rattle.fe_state.specs.State.{ServerState, with_arrays, IsWithinLimits}
 use Rattle.fe_state.specs.declared.array.Array.{Array}
 use Rattle.fe_codes.specs.Bytes.{IsBytes}
 use Rattle.fe_format.specs.Layout.{name_bytes}
-use Rattle.fe_codec.specs.Loading.{IsFresh}
+use Rattle.fe_codec.specs.Loading.{HasNoneAfter}
 use Rattle.fe_codec.specs.Record.{name_field, IsShort}
 use Rattle.fe_codec.specs.Image.{array_spelling, word_spelling, ArrayOfFormat, ArrayFits}
 use Rattle.fe_format.specs.declared.format.Format.{Format}
@@ -132,7 +132,7 @@ not_named name (e ∷ es) h =
 -- arrays that are to come: those of a whole map that were not loaded yet
 pub record Remains (format : Format) (whole : ServerState) (previous : Option ℕ) (s : ServerState) (es : List (ℕ × Array)) : Type 0 where
   pub rises : Rises previous es
-  pub fresh : IsFresh previous s.arrays
+  pub fresh : HasNoneAfter previous s.arrays
   pub next_id : s.next_id ≡ whole.next_id
   pub loaded : (q : ℕ) (a : Array) → get s.arrays q ≡ Some a → get whole.arrays q ≡ Some a
   pub there : AllByRecursion (λ e. get whole.arrays e.0 ≡ Some e.1) es

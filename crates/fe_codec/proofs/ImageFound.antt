@@ -13,7 +13,7 @@ use Rattle.fe_codes.specs.Bytes.{IsBytes}
 use Rattle.fe_codec.specs.Given.{ImageGives}
 use Rattle.fe_codec.specs.Laws.{ImageIsSpelled}
 use Rattle.fe_codec.specs.declared.fault.ImageFault.{ImageFault}
-use Rattle.fe_codec.specs.Image.{array_spelling, session_spelling, image_spelling, ArrayOfFormat, SessionOfFormat, HasRoomFor, ArrayFits, SessionFits, FitsImage}
+use Rattle.fe_codec.specs.Image.{array_spelling, session_spelling, image_spelling, ArrayOfFormat, SessionOfFormat, HasRoomForState, ArrayFits, SessionFits, FitsImage}
 use Rattle.fe_format.specs.declared.format.Format.{Format}
 use Rattle.fe_codec.specs.declared.header.Header.{Header}
 use Rattle.fe_codec.specs.FirstFault.{◌followed_by◌, repeated, number_in, header_at, starting, next_array, next_session, ended, state_at, told_at, image_at}
@@ -56,7 +56,7 @@ spelled format h es fs arrays sessions es_is many fs_is some = rw (← es_is, �
 
 pub record IsFound (format : Format) (bytes : List ℕ) (s : ServerState) : Type 0 where
   pub text : bytes ≡ image_spelling format s
-  pub room : HasRoomFor format s
+  pub room : HasRoomForState format s
   pub arrays : AllByRecursion ArrayFits (entries s.arrays)
   pub sessions : AllByRecursion SessionFits (entries s.sessions)
 
@@ -87,7 +87,7 @@ state_found format bytes s fits e =
     ∙ ap (λ (t : List ℕ). (header_spelling h ++ flat_map (array_spelling format) es.entries ++ flat_map (session_spelling format) fs.entries) ++ t) end.1
     ∙ append-nil _
     ∙ spelled format h es.entries fs.entries arrays sessions e_is (len-in_order es.entries es.rises ∙ es.count) f_is (len-in_order fs.entries fs.rises ∙ fs.count) in
-    let room : HasRoomFor format whole = record {
+    let room : HasRoomForState format whole = record {
       arrays = subst (λ (t : List (ℕ × Array)). AllByRecursion (ArrayOfFormat format) t) (sym e_is) (all_so _ _ (λ e good. good.0) es.entries es.good);
       sessions = subst (λ (t : List (ℕ × Session)). AllByRecursion (SessionOfFormat format) t) (sym f_is) (all_so _ _ (λ f good. good.0) fs.entries fs.good);
     } in

@@ -46,7 +46,7 @@ set_behind : (front back : List Word) (b w : Word) → set (front ++ b ∷ back)
 set_behind [] back b w = refl
 set_behind (x ∷ front) back b w = ap (λ (t : List Word). x ∷ t) (set_behind front back b w)
 
--- an array of which the first words are loaded, and this many are to come
+-- an array whose first words are loaded, with this many to come
 abbrev pub in_part : List ℕ → List Word → ℕ → Array
 in_part name front n = record { name = name; words = front ++ replicate n blank }
 

@@ -19,9 +19,9 @@ use Rattle.fe_state.specs.Sessions.{Session, keeping, put_session}
 use Rattle.fe_state.specs.declared.array.Array.{Array}
 use Rattle.fe_state.specs.declared.kept.Kept.{Kept}
 use Rattle.fe_codec.specs.FirstFault.{is_after}
-use Rattle.fe_codec.specs.Loading.{IsFresh, KeepsKeys, KeepsIds}
+use Rattle.fe_codec.specs.Loading.{HasNoneAfter, KeepsKeys, KeepsIds}
 
--- ---- places of lists
+-- ---- positions in lists
 
 pub there_within : {X : Type 0} (xs : List X) (i : ℕ) → is_some (slice_get xs i) ≡ true → i < length xs
 there_within xs i h = by (slice_get xs i) refl h
@@ -44,8 +44,8 @@ pub above_next : (previous : Option ℕ) (id q : ℕ) → is_after previous id �
 above_next None id q one two = refl
 above_next (Some p) id q one two = lt-ltb p q (omega (arith, ltb-true p id one, ltb-true id q two))
 
--- what is free stays so, but for a key that comes
-pub fresh_next : {X : Type 0} (previous : Option ℕ) (m : FinMap nat_cmp X) (id : ℕ) (v : X) → IsFresh previous m → is_after previous id ≡ true → IsFresh (Some id) (insert m id v)
+-- a key that is free stays free unless it is the new key
+pub fresh_next : {X : Type 0} (previous : Option ℕ) (m : FinMap nat_cmp X) (id : ℕ) (v : X) → HasNoneAfter previous m → is_after previous id ≡ true → HasNoneAfter (Some id) (insert m id v)
 fresh_next previous m id v fresh one q two = get_beside m id v q (λ same. omega (arith, ltb-true id q two, same)) ∙ fresh q (above_next previous id q one two)
 
 pub replaced : {X : Type 0} (m : FinMap nat_cmp X) (k : ℕ) (v w : X) → get m k ≡ Some w → KeepsKeys m (insert m k v)
@@ -63,7 +63,7 @@ keys_same m = record { free = λ q none. none; count = refl }
 pub keys_then : {X : Type 0} (a b c : FinMap nat_cmp X) → KeepsKeys a b → KeepsKeys b c → KeepsKeys a c
 keys_then a b c f g = record { free = λ q none. g.free q (f.free q none); count = g.count ∙ f.count }
 
-pub fresh_kept : {X : Type 0} (previous : Option ℕ) (m n : FinMap nat_cmp X) → IsFresh previous m → KeepsKeys m n → IsFresh previous n
+pub fresh_kept : {X : Type 0} (previous : Option ℕ) (m n : FinMap nat_cmp X) → HasNoneAfter previous m → KeepsKeys m n → HasNoneAfter previous n
 fresh_kept previous m n fresh same q above = same.free q (fresh q above)
 
 -- ---- words
@@ -95,7 +95,7 @@ pub new_words : (m : FinMap nat_cmp Array) (id : ℕ) (name : List ℕ) (size i 
 new_words m id name size i lt = rw (get_inserted m id (new_array name size Empty)) (within_there (new_array name size Empty).words i (rw length-replicate lt))
 
 -- a new array may come
-pub may_come : (d : Directory) (previous : Option ℕ) (id : ℕ) (name : List ℕ) (size : ℕ) → IsFresh previous d.arrays → is_after previous id ≡ true → 1 ≤ id → id < d.next_id → is_plain name ≡ true
+pub may_come : (d : Directory) (previous : Option ℕ) (id : ℕ) (name : List ℕ) (size : ℕ) → HasNoneAfter previous d.arrays → is_after previous id ≡ true → 1 ≤ id → id < d.next_id → is_plain name ≡ true
     → is_some (named d.arrays name) ≡ false → len d.arrays < 64 → 1 ≤ size → word_count d.arrays + size ≤ 65536 → MayCome d id (new_array name size Empty)
 may_come d previous id name size fresh above least older plain free few some room = record {
   array = record {

@@ -16,7 +16,7 @@ use Rattle.fe_codes.specs.Codes.{tag_code, op_code, operand_of, answer_code, ans
 use Rattle.fe_codes.specs.Reading.{tag_of, op_of, answer_of}
 use Rattle.fe_codes.proofs.CodeLaws.{tag_again, op_again, answer_again}
 use Rattle.fe_format.specs.Layout.{name_bytes, record_bytes}
-use Rattle.fe_codec.specs.Record.{flag_code, codes_field, name_row, array_row, record_spelling, short_spelling, entry_spelling, request_codes, request_row, request_size, FitsRecord, IsShort, HasRow, HasRoom, IsOfFormat, RequestFits}
+use Rattle.fe_codec.specs.Record.{flag_code, codes_field, name_row, array_row, record_spelling, short_spelling, entry_spelling, request_codes, request_row, request_size, FitsRecord, IsShort, HasRow, HasRoomForEntry, IsOfFormat, RequestFits}
 use Rattle.fe_codes.specs.Binding.{◌>>=◌}
 use Rattle.fe_codec.specs.Reading.{field_at, name_of, create_of, find_of, access_of, request_of, finished_of, entry_of}
 use Rattle.fe_format.specs.declared.format.Format.{Format}
@@ -175,7 +175,7 @@ row_of_two (Find name) = tt
 row_of_two (Remove array) = tt
 row_of_two (Access array index op no_wait) = tt
 
-pub entry_room : (format : Format) (entry : Entry) → IsOfFormat format entry → HasRoom format entry
+pub entry_room : (format : Format) (entry : Entry) → IsOfFormat format entry → HasRoomForEntry format entry
 entry_room format (Attached session floor) fits = tt
 entry_room format (Closed session) fits = tt
 entry_room format (Settled session floor) fits = tt

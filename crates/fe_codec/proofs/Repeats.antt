@@ -3,7 +3,7 @@ use Rattle.std.proofs.Common.{◌≡◌, ℕ, suc, ◌-◌, ◌+◌, ◌≤◌, 
 use Rattle.fe_codec.specs.declared.fault.Fault.{Fault}
 use Rattle.fe_codec.specs.declared.fault.Fault.TheVariants.{Left, NoMemory}
 use Rattle.fe_codec.specs.FirstFault.{repeated}
-use Rattle.fe_codec.specs.Given.{Fails}
+use Rattle.fe_codec.specs.Given.{GivesFault}
 
 module _ {X : Type 0} (step : X → Result X ℕ) (count i : ℕ) (x : X) (total : Result X ℕ) (so_far : repeated step (count - i) x ≡ total) where
   pub goes_on : (y : X) → i < count → step x ≡ Ok y → repeated step (count - (i + 1)) y ≡ total
@@ -13,7 +13,7 @@ module _ {X : Type 0} (step : X → Result X ℕ) (count i : ℕ) (x : X) (total
       let one : repeated step (count - i) x ≡ repeated step (count - (i + 1)) y = rw (k, h) refl in
       sym one ∙ so_far
 
-  pub stops : (fault : Fault) → i < count → Fails fault (step x) → Fails fault total
+  pub stops : (fault : Fault) → i < count → GivesFault fault (step x) → GivesFault fault total
   unfolding repeated
   stops NoMemory lt h = tt
   stops (Left left) lt h =

@@ -38,7 +38,7 @@ abbrev pub or_fault : {A : Type 0} → ℕ → Option A → Result A ℕ
 or_fault left (Some x) = Ok x
 or_fault left None = Err left
 
--- the same step as often as is said
+-- the same step this many times
 unfoldable pub repeated : {X : Type 0} → (X → Result X ℕ) → ℕ → X → Result X ℕ
 repeated step zero x = Ok x
 repeated step (suc n) x = step x followed_by repeated step n
@@ -151,7 +151,7 @@ kept_of session floor previous place (Some (Finished owner n request answer)) =
     if owner == session && is_next_number floor previous n then Some (n, record { request = request; answer = answer; place = place }) else None
 kept_of session floor previous place _ = None
 
--- a place below the image's, and the record of what is kept, whose faults are told at its first byte
+-- a place below the image's, and the record of what is kept, whose faults are at its first byte
 unfoldable pub kept_at : Format → ℕ → ℕ → ℕ → Option ℕ → List ℕ → Result ((ℕ × Kept) × List ℕ) ℕ
 kept_at format limit session floor previous bytes =
     number_in w64 0 limit bytes followed_by λ place.

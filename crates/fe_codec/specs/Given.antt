@@ -6,16 +6,16 @@ use Rattle.fe_codec.specs.declared.fault.ImageFault.{ImageFault}
 use Rattle.fe_codec.specs.declared.fault.ImageFault.TheVariants as image
 
 -- a fault is the one that the rule gives, unless memory ran out
-abbrev pub Fails : {Y : Type 0} → Fault → Result Y ℕ → Type 0
-Fails NoMemory given = Unit {0}
-Fails (Left left) given = given ≡ Err left
+abbrev pub GivesFault : {Y : Type 0} → Fault → Result Y ℕ → Type 0
+GivesFault NoMemory given = Unit {0}
+GivesFault (Left left) given = given ≡ Err left
 
 -- what a step returned, seen by view, is what the rule gives, unless memory ran out
 abbrev pub Gives : {X Y : Type 0} → (X → Y) → Result X Fault → Result Y ℕ → Type 0
 Gives view (Ok x) given = given ≡ Ok (view x)
-Gives view (Err fault) given = Fails fault given
+Gives view (Err fault) given = GivesFault fault given
 
--- the same of a whole image, whose fault is told by its offset
+-- the same for a whole image, whose fault is an offset
 abbrev pub ImageFails : {Y : Type 0} → ImageFault → Result Y ℕ → Type 0
 ImageFails image.NoMemory given = Unit {0}
 ImageFails (image.Damaged offset) given = given ≡ Err offset

@@ -54,13 +54,13 @@ abbrev pub SessionOfFormat : Format → ℕ × Session → Type 0
 SessionOfFormat format e = AllByRecursion (KeptOfFormat format e.0) (entries e.1.kept)
 
 -- the format has room for each array and each session of a state
-pub record HasRoomFor (format : Format) (s : ServerState) : Type 0 where
+pub record HasRoomForState (format : Format) (s : ServerState) : Type 0 where
   pub arrays : AllByRecursion (ArrayOfFormat format) (entries s.arrays)
   pub sessions : AllByRecursion (SessionOfFormat format) (entries s.sessions)
 
 -- a state that the format has room for, as format 2 has for every state
 abbrev pub StateOfFormat : Format → ServerState → Type 0
-StateOfFormat One s = HasRoomFor One s
+StateOfFormat One s = HasRoomForState One s
 StateOfFormat Two s = Unit {0}
 
 -- the words of an array, and the fields of a session and of what it keeps, fit the bytes that they have
@@ -73,6 +73,6 @@ SessionFits e = (e.0 < 2 ^ 64) × AllByRecursion (λ k. FieldsFit (entry_of_kept
 -- a state that has an image in the format
 pub record FitsImage (format : Format) (s : ServerState) : Type 0 where
   pub limits : IsWithinLimits s
-  pub room : HasRoomFor format s
+  pub room : HasRoomForState format s
   pub arrays : AllByRecursion ArrayFits (entries s.arrays)
   pub sessions : AllByRecursion SessionFits (entries s.sessions)

@@ -4,7 +4,7 @@ use Rattle.fe_state.specs.declared.entry.Entry.{Entry}
 use Rattle.fe_codec.specs.Record.{entry_spelling, group_spelling, FitsRecord, FitsGroup}
 use Rattle.fe_state.specs.State.{ServerState}
 use Rattle.fe_codes.specs.Bytes.{IsBytes}
-use Rattle.fe_codec.specs.Image.{image_spelling, HasRoomFor, FitsImage}
+use Rattle.fe_codec.specs.Image.{image_spelling, HasRoomForState, FitsImage}
 use Rattle.fe_codec.specs.FirstFault.{image_at}
 use Rattle.fe_format.specs.declared.format.Format.{Format}
 
@@ -18,7 +18,7 @@ GroupHasOneSpelling = (format : Format) (group other : List Entry) → FitsGroup
 
 -- Bytes that stand for a state are the state's spelling.
 abbrev pub ImageIsSpelled : Type 0
-ImageIsSpelled = (format : Format) (bytes : List ℕ) (s : ServerState) → IsBytes bytes → image_at format bytes ≡ Ok s → HasRoomFor format s × (bytes ≡ image_spelling format s)
+ImageIsSpelled = (format : Format) (bytes : List ℕ) (s : ServerState) → IsBytes bytes → image_at format bytes ≡ Ok s → HasRoomForState format s × (bytes ≡ image_spelling format s)
 
 -- The spelling of a state stands for it.
 abbrev pub SpellingIsRead : Type 0

@@ -7,8 +7,8 @@ use Rattle.fe_state.specs.declared.array.Array.{Array}
 use Rattle.fe_codec.specs.FirstFault.{is_after}
 
 -- no key above the one before is in the map yet
-abbrev pub IsFresh : {X : Type 0} → Option ℕ → FinMap nat_cmp X → Type 0
-IsFresh previous m = (q : ℕ) → is_after previous q ≡ true → get m q ≡ None
+abbrev pub HasNoneAfter : {X : Type 0} → Option ℕ → FinMap nat_cmp X → Type 0
+HasNoneAfter previous m = (q : ℕ) → is_after previous q ≡ true → get m q ≡ None
 
 -- no key comes
 pub record KeepsKeys {X : Type 0} (old new : FinMap nat_cmp X) : Type 0 where

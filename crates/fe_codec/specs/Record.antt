@@ -56,7 +56,8 @@ request_size (Find name) = 0
 request_size (Remove array) = 0
 request_size (Access array index op no_wait) = index
 
--- a record: codes, session, number or floor, row, length or index, the answer's length and number, and eight unused bytes
+-- a record: codes, session, number or floor, row, length or index, the answer's length and number, and eight unused
+-- bytes
 abbrev pub record_spelling : List ℕ → ℕ → ℕ → List ℕ → ℕ → ℕ → ℕ → List ℕ
 record_spelling codes session number row size answer_size answer_value =
     codes ++ to_be_bytes w64 session ++ to_be_bytes w64 number ++ row ++ to_be_bytes w32 size ++ to_be_bytes w32 answer_size ++ to_be_bytes w64 answer_value ++ replicate 8 0
@@ -91,11 +92,11 @@ HasRow format (Remove array) = Unit {0}
 HasRow format (Access array index op no_wait) = Unit {0}
 
 -- the same of an entry's request, if it has one
-abbrev pub HasRoom : Format → Entry → Type 0
-HasRoom format (Attached session floor) = Unit {0}
-HasRoom format (Closed session) = Unit {0}
-HasRoom format (Settled session floor) = Unit {0}
-HasRoom format (Finished session number request answer) = HasRow format request
+abbrev pub HasRoomForEntry : Format → Entry → Type 0
+HasRoomForEntry format (Attached session floor) = Unit {0}
+HasRoomForEntry format (Closed session) = Unit {0}
+HasRoomForEntry format (Settled session floor) = Unit {0}
+HasRoomForEntry format (Finished session number request answer) = HasRow format request
 
 -- the entry's number or floor is below 2^63
 abbrev pub IsNumbered : Entry → Type 0

@@ -9,7 +9,7 @@ ghost use Rattle.fe_state.specs.Directory.{named, word_in, word_count};
 ghost use Rattle.fe_format.specs.Layout.{name_bytes};
 ghost use Rattle.fe_codec.specs.FirstFault.{number_in, is_after, id_at, name_length_at, is_name_row, name_at, new_name_at, tag_at, word_at, next_word, next_array, repeated, with_new_array};
 ghost use Rattle.fe_codec.specs.Given.{Gives};
-ghost use Rattle.fe_codec.specs.Loading.{KeepsIds, IsFresh};
+ghost use Rattle.fe_codec.specs.Loading.{KeepsIds, HasNoneAfter};
 
 use crate::Format;
 use crate::fault::Fault;
@@ -211,11 +211,11 @@ fn next_array<'a>(
     state: &mut State,
     bytes: &'a [u8],
 ) -> Result<(u64, &'a [u8]), Fault>
-    requires fresh { IsFresh previous state.old.arrays }
+    requires fresh { HasNoneAfter previous state.old.arrays }
     requires few { len state.old.arrays < ARRAYS }
     ensures given { Gives
         (λ x. (Some x.0, state.new, x.1.now)) result (next_array format (previous, state.old, bytes.now)) }
-    ensures fresh { IfOk result (λ x. IsFresh (Some x.0) state.new.arrays) }
+    ensures fresh { IfOk result (λ x. HasNoneAfter (Some x.0) state.new.arrays) }
     ensures few { OnOk result (len state.new.arrays ≤ len state.old.arrays + 1) }
     ensures sessions { OnOk result (state.new.sessions ≡ state.old.sessions) }
 {
@@ -237,7 +237,7 @@ pub fn read_arrays<'a>(
     state: &mut State,
     bytes: &'a [u8],
 ) -> Result<(Option<u64>, &'a [u8]), Fault>
-    requires fresh { IsFresh None state.old.arrays }
+    requires fresh { HasNoneAfter None state.old.arrays }
     requires none { len state.old.arrays ≡ 0 }
     requires few { count ≤ ARRAYS }
     ensures given { Gives

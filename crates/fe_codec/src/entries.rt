@@ -24,7 +24,7 @@ pub fn put_entry(format: Format, entry: &Entry, out: &mut Vec<u8>) -> Result<(),
     ensures full { OnErr result (vec_capacity out.old < vec_len out.old + record_bytes format) }
     ensures room { vec_len out.old + record_bytes format ≤ vec_capacity out.old → IsOk result }
     ensures capacity { vec_capacity out.old ≤ vec_capacity out.new }
-    // What is put is in the grammar, so that it is read again.
+    // The entry has a record in the grammar, so it can be read again.
     ensures fits { FitsRecord format entry.now }
 {
     out.extend_from_slice(record_of(format, entry).bytes())
@@ -64,9 +64,9 @@ fn is_record(format: Format, entry: &Entry, bytes: &[u8]) -> bool
 /// The entry whose record the bytes are, or `None` if they are no entry's record.
 #[tactic(auto, unfolding(crate::specs::Reading::record_entry))]
 pub fn read_entry(format: Format, bytes: &[u8]) -> Option<Entry>
-    // What is read is spelled so.
+    // What is read has this record.
     ensures found { IfSome result (λ entry. FitsRecord format entry × (bytes.now ≡ entry_spelling format entry)) }
-    // What is spelled so is read, so that `None` comes only outside the grammar.
+    // Every record in the grammar is read, so `None` means that the bytes are outside it.
     ensures only { (entry : Step) → FitsRecord format entry → bytes.now ≡ entry_spelling format entry
         → result ≡ Some entry }
     ensures exact { result ≡ record_entry format bytes.now }

@@ -47,7 +47,7 @@ pub fn put_group(format: Format, entries: &[Entry], out: &mut Vec<u8>) -> Result
     ensures full { OnErr result (vec_capacity out.old < vec_len out.old + length entries.now * record_bytes format) }
     ensures room { vec_len out.old + length entries.now * record_bytes format ≤ vec_capacity out.old → IsOk result }
     ensures capacity { vec_capacity out.old ≤ vec_capacity out.new }
-    // What is put is in the grammar, so that it is read again.
+    // The group is in the grammar, so it can be read again.
     ensures fits { OnOk result (FitsGroup format entries.now) }
 {
     out.reserve(entries.len() * format.record_bytes())?;
@@ -108,12 +108,12 @@ pub fn read_group(
     format: Format,
     bytes: &[u8],
 ) -> Result<Option<Vec<Entry>>, AllocError>
-    // What is read is spelled so.
+    // What is read has these bytes.
     ensures found { IfOk result (λ read. IfSome read (λ entries. IsGroupOf format entries.items bytes.now)) }
-    // What is spelled so is read, so that `None` comes only outside the grammar.
+    // Every group in the grammar is read, so `None` means that the bytes are outside it.
     ensures only { (entries : List Step) → IsGroupOf format entries bytes.now
         → IfOk result (λ read. option_map (λ v. v.items) read ≡ Some entries) }
-    // It takes memory only if a group may have this length.
+    // Memory can run out only if a group may have this length.
     ensures memory { OnErr result (IsGroupSize format (length bytes.now)) }
 {
     if is_group_size(format, bytes.len()) {

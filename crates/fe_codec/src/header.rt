@@ -103,7 +103,7 @@ pub fn header_at(bytes: &[u8]) -> Result<(Header, &[u8]), Fault>
     ensures most { IfOk result (λ x. x.0.next_id ≤ x.0.place + 1) }
     ensures arrays { IfOk result (λ x. x.0.arrays ≤ ARRAYS) }
     ensures sessions { IfOk result (λ x. x.0.sessions ≤ SESSIONS) }
-    // None is taken here.
+    // Nothing is allocated here.
     ensures memory { IfErr result (λ fault. fault ≢ Fault.NoMemory) }
 {
     let (place, rest) = u64_in(0, PLACE_LIMIT, bytes)?;

@@ -53,16 +53,16 @@ fn image_of(alloc: Global, format: Format, bytes: &[u8]) -> Result<State, ImageF
 /// image (`docs/formats.md`, "Image"), and `NoMemory` if memory runs out for the state or the words of an
 /// array.
 pub fn read_image(alloc: Global, format: Format, bytes: &[u8]) -> Result<State, ImageFault>
-    // What is read is spelled so.
+    // What is read has this image.
     ensures found { IfOk result (λ state. FitsImage format state × (bytes.now ≡ image_spelling format state)) }
-    // What is spelled so is read, unless memory runs out.
+    // Every image of a state is read, unless memory runs out.
     ensures only { (state : ServerState) → FitsImage format state → bytes.now ≡ image_spelling format state
         → ImageGives result (Ok state) }
     // Which state it is, and which fault.
     ensures exact { ImageGives result (image_at format bytes.now) }
     // The offset of a fault lies within the image, or at its end.
     ensures within { (offset : ℕ) → result ≡ Err (ImageFault.Damaged offset) → offset ≤ length bytes.now }
-    // Memory is taken only where the first four fields are right.
+    // Memory can run out only if the first four fields are right.
     ensures memory { result ≡ Err ImageFault.NoMemory → IsOk (header_at bytes.now) }
 {
     image_of(alloc, format, bytes)

@@ -2,7 +2,7 @@ ghost use Rattle.std.specs.Prelude.{◌≡◌, ℕ, ◌+◌, ◌≤◌, [], ◌�
 ghost use Rattle.std.specs.Int.{w32, w64, to_be_bytes};
 ghost use Rattle.fe_codes.specs.Codes.{answer_code, answer_length, answer_number};
 ghost use Rattle.fe_format.specs.Layout.{name_bytes, record_bytes};
-ghost use Rattle.fe_codec.specs.Record.{flag_code, codes_field, name_field, name_row, array_row, request_row, request_codes, request_size, record_spelling, short_spelling, entry_spelling, IsShort, HasRoom, HasRow, RequestFits, FieldsFit};
+ghost use Rattle.fe_codec.specs.Record.{flag_code, codes_field, name_field, name_row, array_row, request_row, request_codes, request_size, record_spelling, short_spelling, entry_spelling, IsShort, HasRoomForEntry, HasRow, RequestFits, FieldsFit};
 
 use crate::Format;
 use fe_codes::{answer_code, answer_length, answer_number, op_code, operand_of, tag_code};
@@ -122,7 +122,7 @@ fn finished_record(
 
 /// The record of an entry. If it has a name, that is no longer than a row of the format.
 pub fn record_of(format: Format, entry: &Entry) -> Record
-    requires { HasRoom format entry.now }
+    requires { HasRoomForEntry format entry.now }
     ensures bytes { result ≡ entry_spelling format entry.now }
     ensures length { length result ≡ record_bytes format }
     ensures fits { FieldsFit entry.now }

@@ -6,7 +6,7 @@ ghost use Rattle.std.specs.FinMap.{get, len};
 ghost use Rattle.fe_state.specs.Sessions.{IsInWindow};
 ghost use Rattle.fe_codec.specs.FirstFault.{is_after, is_next_number, kept_of, kept_at, next_kept, session_at, next_session, repeated};
 ghost use Rattle.fe_codec.specs.Given.{Gives};
-ghost use Rattle.fe_codec.specs.Loading.{KeepsKeys, IsFresh};
+ghost use Rattle.fe_codec.specs.Loading.{KeepsKeys, HasNoneAfter};
 
 use crate::Format;
 use crate::entries::read_entry;
@@ -162,11 +162,11 @@ fn next_session<'a>(
     state: &mut State,
     bytes: &'a [u8],
 ) -> Result<(u64, &'a [u8]), Fault>
-    requires fresh { IsFresh previous state.old.sessions }
+    requires fresh { HasNoneAfter previous state.old.sessions }
     requires few { len state.old.sessions < SESSIONS }
     ensures given { Gives
         (λ x. (Some x.0, state.new, x.1.now)) result (next_session format (previous, state.old, bytes.now)) }
-    ensures fresh { IfOk result (λ x. IsFresh (Some x.0) state.new.sessions) }
+    ensures fresh { IfOk result (λ x. HasNoneAfter (Some x.0) state.new.sessions) }
     ensures few { OnOk result (len state.new.sessions ≤ len state.old.sessions + 1) }
 {
     let (session, rest) = session_at(previous, bytes)?;
@@ -184,7 +184,7 @@ pub fn read_sessions<'a>(
     state: &mut State,
     bytes: &'a [u8],
 ) -> Result<(Option<u64>, &'a [u8]), Fault>
-    requires fresh { IsFresh None state.old.sessions }
+    requires fresh { HasNoneAfter None state.old.sessions }
     requires none { len state.old.sessions ≡ 0 }
     requires few { count ≤ SESSIONS }
     ensures { Gives (λ x. (x.0, state.new, x.1.now)) result

@@ -7,7 +7,7 @@ ghost use Rattle.fe_state.specs.declared.array.Array.{Array as Held};
 ghost use Rattle.fe_codec.specs.Appending.{Appends};
 ghost use Rattle.fe_format.specs.Layout.{longest_image};
 ghost use Rattle.fe_codec.specs.Record.{IsShort, IsOfFormat, FieldsFit};
-ghost use Rattle.fe_codec.specs.Image.{array_spelling, kept_spelling, session_spelling, image_spelling, ArrayOfFormat, KeptOfFormat, SessionOfFormat, HasRoomFor, StateOfFormat, entry_of_kept, ArrayFits, SessionFits, FitsImage};
+ghost use Rattle.fe_codec.specs.Image.{array_spelling, kept_spelling, session_spelling, image_spelling, ArrayOfFormat, KeptOfFormat, SessionOfFormat, HasRoomForState, StateOfFormat, entry_of_kept, ArrayFits, SessionFits, FitsImage};
 
 use crate::Format;
 use crate::appending::{put_bytes, put_u32, put_u64, put_words};
@@ -122,7 +122,7 @@ fn put_sessions(format: Format, state: &State, out: &mut Vec<u8>) -> Result<(), 
 }
 
 fn put_state(format: Format, state: &State, out: &mut Vec<u8>) -> Result<(), AllocError>
-    requires { HasRoomFor format state.now }
+    requires { HasRoomForState format state.now }
     ensures appends { Appends out.old.items out.new.items (vec_capacity out.old) (vec_capacity out.new) (is_ok result)
         (image_spelling format state.now) }
     ensures fits { OnOk result (FitsImage format state.now) }
@@ -146,7 +146,7 @@ pub fn put_image(format: Format, state: &State, out: &mut Vec<u8>) -> Result<(),
     ensures capacity { vec_capacity out.old ≤ vec_capacity out.new }
     ensures least { OnOk result (24 ≤ length (image_spelling format state.now)) }
     ensures most { OnOk result (length (image_spelling format state.now) ≤ longest_image format) }
-    // What is put has its image in the grammar, so that it is read again.
+    // The state has an image in the grammar, so it can be read again.
     ensures fits { OnOk result (FitsImage format state.now) }
 {
     let start = out.len();

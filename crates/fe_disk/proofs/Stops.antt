@@ -2,25 +2,25 @@
 use Rattle.std.proofs.Common.{refl, ◌≡◌, ◌⊎◌, ℕ, ◌+◌, ◌-◌, ◌^◌, ◌<◌, ◌≤◌, List, ◌∷◌, length, get_or, inl, inr, ⊎_elim, sym, ◌∙◌, ap, subst, arith, Result, OnOk, OnErr}
 use Rattle.std.proofs.lemmas.Bool.{cases_lt}
 use Rattle.fe_disk.specs.Disk.{IsImage, IsTorn, Follows, Elapses, bytes_at, after_write}
-use Rattle.fe_disk.specs.Memory.{Event, Write, MemoryState, MayLeave, LeftSince, LeavesNow, LeavesSince, moment_of, image_before, disk_after_write, disk_after_fault}
+use Rattle.fe_disk.specs.Memory.{DiskEvent, Write, MemoryState, MayLeave, LeftSince, LeavesNow, LeavesSince, moment_of, image_before, disk_after_write, disk_after_fault}
 use Rattle.fe_disk.specs.declared.calls.Calls.{Calls}
 use Rattle.fe_disk.specs.Ranges.{AreWithin}
 use Rattle.fe_disk.proofs.Outcomes.{either}
 use Rattle.fe_disk.proofs.Images.{length-bytes_at, get_or-bytes_at, length-after_write, after_write_below, after_write_inside, after_write_above, written_back, IsImage-after_write, small_at, IsTorn-same, IsTorn-back, IsTorn-after_write}
 
 -- a write keeps what is true of every disk in memory
-pub put_keeps : (old new : List ℕ) (events later : List Event) (at : ℕ) (bytes : List ℕ) → at + length bytes ≤ length old → ((i : ℕ) → get_or bytes i 0 < 2 ^ 8) → IsImage (length old) old
+pub put_keeps : (old new : List ℕ) (events later : List DiskEvent) (at : ℕ) (bytes : List ℕ) → at + length bytes ≤ length old → ((i : ℕ) → get_or bytes i 0 < 2 ^ 8) → IsImage (length old) old
     → AreWithin (length old) events → new ≡ after_write old at bytes → later ≡ Write at (bytes_at old at (length bytes)) ∷ events → IsImage (length new) new × AreWithin (length new) later
 put_keeps old new events later at bytes fits small is within now then =
     let same : length new ≡ length old = ap length now ∙ length-after_write old at bytes fits in
     let wrote = subst (λ (l : List ℕ). IsImage (length old) l) (sym now) (IsImage-after_write old at bytes fits small is) in
     let lies : AreWithin (length old) (Write at (bytes_at old at (length bytes)) ∷ events) = (omega (arith, length-bytes_at old at (length bytes) fits), within) in (
       subst (λ (n : ℕ). IsImage n new) (sym same) wrote,
-      subst (λ (n : ℕ). AreWithin n later) (sym same) (subst (λ (l : List Event). AreWithin (length old) l) (sym then) lies),
+      subst (λ (n : ℕ). AreWithin n later) (sym same) (subst (λ (l : List DiskEvent). AreWithin (length old) l) (sym then) lies),
     )
 
 -- the step back in time that a new call adds
-elapses_push : (old : MemoryState) (image : List ℕ) (event : Event) (calls : Calls) → length image ≡ length old.image → image_before event image ≡ old.image
+elapses_push : (old : MemoryState) (image : List ℕ) (event : DiskEvent) (calls : Calls) → length image ≡ length old.image → image_before event image ≡ old.image
     → Elapses moment_of LeavesSince LeavesNow old (record { image = image; events = event ∷ old.events; calls = calls; failures = old.failures })
 elapses_push old image event calls whole back =
     record {

@@ -5,11 +5,11 @@ use Rattle.std.proofs.lemmas.List.{ext_get_or, length-replicate, get_or-replicat
 use Rattle.fe_disk.specs.Disk.{IsImage, after_write, LeavesJust}
 use Rattle.fe_disk.specs.declared.memory_disk.Torn.{Torn}
 use Rattle.fe_disk.specs.declared.memory_disk.Torn.TheVariants.{Kept, Lost, Byte}
-use Rattle.fe_disk.specs.Memory.{Event, Write, Sync, MayLeave, IsSettledAt, IsLeftBy, synced_image}
+use Rattle.fe_disk.specs.Memory.{DiskEvent, Write, Sync, MayLeave, IsSettledAt, IsLeftBy, synced_image}
 use Rattle.fe_disk.specs.Ranges.{AreWithin, image_with_tear, image_with_tears}
 use Rattle.fe_disk.proofs.Images.{length-after_write, after_write_below, after_write_inside, after_write_above}
 
-settled_or_not : (events : List Event) (i : ℕ) → IsSettledAt events i ⊎ (IsSettledAt events i → ⊥)
+settled_or_not : (events : List DiskEvent) (i : ℕ) → IsSettledAt events i ⊎ (IsSettledAt events i → ⊥)
 settled_or_not [] i = inl tt
 settled_or_not (Sync ∷ earlier) i = inl tt
 settled_or_not (Write at before ∷ earlier) i = elim (settled_or_not earlier i) [
@@ -49,33 +49,33 @@ filled_inside byte image at before fits i high inside =
     after_write_inside image at (replicate (length before) byte) (omega (arith, n)) (i - at) (omega (arith, n)) ∙ get_or-replicate (length before) (i - at) byte 0 (omega arith) in
     subst (λ (k : ℕ). get_or (image_with_tear (Byte byte) image at before) k 0 ≡ byte) there step
 
-within_same : (torn : Torn) (image : List ℕ) (at : ℕ) (before : List ℕ) (earlier : List Event) → at + length before ≤ length image → AreWithin (length image) earlier → AreWithin (length (image_with_tear torn image at before)) earlier
+within_same : (torn : Torn) (image : List ℕ) (at : ℕ) (before : List ℕ) (earlier : List DiskEvent) → at + length before ≤ length image → AreWithin (length image) earlier → AreWithin (length (image_with_tear torn image at before)) earlier
 within_same torn image at before earlier fits within = subst (λ (n : ℕ). AreWithin n earlier) (sym (length-image_with_tear torn image at before fits)) within
 
-pub length-image_with_tears : (torn : Torn) (image : List ℕ) (events : List Event) → AreWithin (length image) events → length (image_with_tears torn image events) ≡ length image
+pub length-image_with_tears : (torn : Torn) (image : List ℕ) (events : List DiskEvent) → AreWithin (length image) events → length (image_with_tears torn image events) ≡ length image
 length-image_with_tears torn image [] within = refl
 length-image_with_tears torn image (Sync ∷ earlier) within = refl
 length-image_with_tears torn image (Write at before ∷ earlier) within =
     length-image_with_tears torn (image_with_tear torn image at before) earlier (within_same torn image at before earlier within.0 within.1) ∙ length-image_with_tear torn image at before within.0
 
-pub settled_stays : (torn : Torn) (image : List ℕ) (events : List Event) → AreWithin (length image) events → (i : ℕ) → IsSettledAt events i → get_or (image_with_tears torn image events) i 0 ≡ get_or image i 0
+pub settled_stays : (torn : Torn) (image : List ℕ) (events : List DiskEvent) → AreWithin (length image) events → (i : ℕ) → IsSettledAt events i → get_or (image_with_tears torn image events) i 0 ≡ get_or image i 0
 settled_stays torn image [] within i settled = refl
 settled_stays torn image (Sync ∷ earlier) within i settled = refl
 settled_stays torn image (Write at before ∷ earlier) within i settled =
     settled_stays torn (image_with_tear torn image at before) earlier (within_same torn image at before earlier within.0 within.1) i settled.1
     ∙ tear_elsewhere torn image at before within.0 i settled.0
 
-kept_is : (image : List ℕ) (events : List Event) → image_with_tears Kept image events ≡ image
+kept_is : (image : List ℕ) (events : List DiskEvent) → image_with_tears Kept image events ≡ image
 kept_is image [] = refl
 kept_is image (Sync ∷ earlier) = refl
 kept_is image (Write at before ∷ earlier) = kept_is image earlier
 
-lost_is : (image : List ℕ) (events : List Event) → image_with_tears Lost image events ≡ synced_image image events
+lost_is : (image : List ℕ) (events : List DiskEvent) → image_with_tears Lost image events ≡ synced_image image events
 lost_is image [] = refl
 lost_is image (Sync ∷ earlier) = refl
 lost_is image (Write at before ∷ earlier) = lost_is (after_write image at before) earlier
 
-filled_all : (byte : ℕ) (image : List ℕ) (events : List Event) → AreWithin (length image) events → (i : ℕ) → (IsSettledAt events i → ⊥) → get_or (image_with_tears (Byte byte) image events) i 0 ≡ byte
+filled_all : (byte : ℕ) (image : List ℕ) (events : List DiskEvent) → AreWithin (length image) events → (i : ℕ) → (IsSettledAt events i → ⊥) → get_or (image_with_tears (Byte byte) image events) i 0 ≡ byte
 filled_all byte image [] within i unsettled = absurd (unsettled tt)
 filled_all byte image (Sync ∷ earlier) within i unsettled = absurd (unsettled tt)
 filled_all byte image (Write at before ∷ earlier) within i unsettled =
@@ -92,7 +92,7 @@ filled_all byte image (Write at before ∷ earlier) within i unsettled =
       ]
     ]
 
-pub left_by_tear : (torn : Torn) (image : List ℕ) (events : List Event) → AreWithin (length image) events → IsLeftBy torn image events (image_with_tears torn image events)
+pub left_by_tear : (torn : Torn) (image : List ℕ) (events : List DiskEvent) → AreWithin (length image) events → IsLeftBy torn image events (image_with_tears torn image events)
 left_by_tear Kept image events within = kept_is image events
 left_by_tear Lost image events within = lost_is image events
 left_by_tear (Byte byte) image events within =
@@ -102,7 +102,7 @@ left_by_tear (Byte byte) image events within =
       filled = λ i low unsettled. filled_all byte image events within i unsettled;
     }
 
-pub allowed_tear : (torn : Torn) (image : List ℕ) (events : List Event) (left : List ℕ) → AreWithin (length image) events → left ≡ image_with_tears torn image events → IsImage (length image) left
+pub allowed_tear : (torn : Torn) (image : List ℕ) (events : List DiskEvent) (left : List ℕ) → AreWithin (length image) events → left ≡ image_with_tears torn image events → IsImage (length image) left
     → MayLeave (length image) image events left
 allowed_tear torn image events left within is bytes =
     record {

@@ -11,11 +11,11 @@ pub record IsImage (size : ℕ) (image : List ℕ) : Type 0 where
 abbrev pub bytes_at : List ℕ → ℕ → ℕ → List ℕ
 bytes_at image at n = take n (drop at image)
 
--- the image with these bytes in the place of those from `at` on
+-- the image with these bytes instead of those from `at` on
 abbrev pub after_write : List ℕ → ℕ → List ℕ → List ℕ
 after_write image at bytes = take at image ++ (bytes ++ drop (at + length bytes) image)
 
--- any bytes at the n places from `at` on, and the same byte at each other place
+-- any bytes at the n offsets from `at` on, and the same byte at each other offset
 pub record IsTorn (at n : ℕ) (old new : List ℕ) : Type 0 where
   pub whole : length new ≡ length old
   pub below : (i : ℕ) → i < at → slice_index new i ≡ slice_index old i
@@ -33,7 +33,8 @@ AddsNone old new = (image : List ℕ) → new image → old image
 abbrev pub LeavesJust : List ℕ → (List ℕ → Type 0) → Type 0
 LeavesJust image may_leave = (left : List ℕ) → may_leave left → left ≡ image
 
--- Time goes on through a call: what a stop since a moment before it may have left is what it might have left then already, or what it may leave now.
+-- Time goes on through a call: what a stop since a moment before it may have left is what it might have left then
+-- already, or what it may leave now.
 pub record Elapses {D : Type 0} (moment : D → ℕ) (left_since : D → ℕ → List ℕ → Type 0) (may_leave : D → List ℕ → Type 0) (old new : D) : Type 0 where
   pub later : moment old ≤ moment new
   pub nothing_else : (t : ℕ) (image : List ℕ) → t ≤ moment old → left_since new t image → left_since old t image ⊎ may_leave new image

@@ -22,7 +22,8 @@ policy_of disk = disk.policy
 abbrev pub fault_count : {D P : Type 0} → Guarded D P → ℕ
 fault_count disk = disk.failures
 
--- The policy counts each call. A call that it doesn't pass on fails and leaves the disk as it is; any other call fails exactly where the disk's fails.
+-- The policy counts each call. A call that it doesn't pass on fails and leaves the disk as it is; any other call
+-- fails exactly where the disk's fails.
 pub record Guards {D P T E : Type 0} (passes : P → Type 0) (next : P → P) (failures : D → ℕ) (result : Result T E) (old new : Guarded D P) : Type 0 where
   pub counted : policy_of new ≡ next (policy_of old)
   pub refused : (passes (policy_of old) → ⊥) → IsErr result × (disk_of new ≡ disk_of old)

@@ -6,15 +6,16 @@ use Rattle.fe_disk.specs.declared.calls.Calls.{Calls}
 use Rattle.fe_disk.specs.declared.memory_disk.Torn.{Torn}
 use Rattle.fe_disk.specs.declared.memory_disk.Torn.TheVariants.{Kept, Lost, Byte}
 
--- a call that succeeded: a write, by its place and the bytes that were there before it, or a sync
-pub data Event : Type 0 where
-  Write : (at : ℕ) → (before : List ℕ) → Event
-  Sync : Event
+-- a call that succeeded: a write, by its offset and the bytes that were there before it, or a sync
+pub data DiskEvent : Type 0 where
+  Write : (at : ℕ) → (before : List ℕ) → DiskEvent
+  Sync : DiskEvent
 
--- what a disk in memory is: its bytes, the writes and syncs since it was made with the last of them first, how many calls of each kind succeeded, and its count of faults
+-- what a disk in memory is: its bytes, the writes and syncs since it was made with the last of them first, how many
+-- calls of each kind succeeded, and its count of faults
 pub record MemoryState : Type 0 where
   pub image : List ℕ
-  pub events : List Event
+  pub events : List DiskEvent
   pub calls : Calls
   pub failures : ℕ
 
@@ -36,23 +37,23 @@ abbrev pub moment_of : MemoryState → ℕ
 moment_of disk = length disk.events
 
 -- the image before a call, from the one after it
-abbrev pub image_before : Event → List ℕ → List ℕ
+abbrev pub image_before : DiskEvent → List ℕ → List ℕ
 image_before (Write at before) image = after_write image at before
 image_before Sync image = image
 
--- the place lies in the range of no write since the last sync
-abbrev pub IsSettledAt : List Event → ℕ → Type 0
+-- the offset is in the range of no write since the last sync
+abbrev pub IsSettledAt : List DiskEvent → ℕ → Type 0
 IsSettledAt [] i = Unit {0}
 IsSettledAt (Sync ∷ earlier) i = Unit {0}
 IsSettledAt (Write at before ∷ earlier) i = ((i < at) ⊎ (at + length before ≤ i)) × IsSettledAt earlier i
 
 -- A stop leaves any bytes in the ranges written since the last sync, and those that a read gives elsewhere.
-pub record MayLeave (size : ℕ) (image : List ℕ) (events : List Event) (left : List ℕ) : Type 0 where
+pub record MayLeave (size : ℕ) (image : List ℕ) (events : List DiskEvent) (left : List ℕ) : Type 0 where
   pub bytes : IsImage size left
   pub elsewhere : (i : ℕ) → IsSettledAt events i → slice_index left i ≡ slice_index image i
 
 -- A stop left it when t of the calls, or more, had been made.
-abbrev pub LeftSince : ℕ → List ℕ → List Event → ℕ → List ℕ → Type 0
+abbrev pub LeftSince : ℕ → List ℕ → List DiskEvent → ℕ → List ℕ → Type 0
 LeftSince size image [] t left = (t ≤ 0) × MayLeave size image [] left
 LeftSince size image (event ∷ earlier) t left =
     ((t ≤ length (event ∷ earlier)) × MayLeave size image (event ∷ earlier) left) ⊎ LeftSince size (image_before event image) earlier t left
@@ -70,19 +71,19 @@ abbrev pub LeavesSince : MemoryState → ℕ → List ℕ → Type 0
 LeavesSince disk = LeftSince (length disk.image) disk.image disk.events
 
 -- the image at the last sync
-abbrev pub synced_image : List ℕ → List Event → List ℕ
+abbrev pub synced_image : List ℕ → List DiskEvent → List ℕ
 synced_image image [] = image
 synced_image image (Sync ∷ earlier) = image
 synced_image image (Write at before ∷ earlier) = synced_image (after_write image at before) earlier
 
 -- the ranges written since the last sync have this byte throughout
-pub record IsFilled (byte : ℕ) (image : List ℕ) (events : List Event) (left : List ℕ) : Type 0 where
+pub record IsFilled (byte : ℕ) (image : List ℕ) (events : List DiskEvent) (left : List ℕ) : Type 0 where
   pub whole : length left ≡ length image
   pub elsewhere : (i : ℕ) → IsSettledAt events i → slice_index left i ≡ slice_index image i
   pub filled : (i : ℕ) → i < length image → (IsSettledAt events i → ⊥) → slice_index left i ≡ byte
 
 -- which image a stop leaves that does this to the ranges written since the last sync
-abbrev pub IsLeftBy : Torn → List ℕ → List Event → List ℕ → Type 0
+abbrev pub IsLeftBy : Torn → List ℕ → List DiskEvent → List ℕ → Type 0
 IsLeftBy Kept image events left = left ≡ image
 IsLeftBy Lost image events left = left ≡ synced_image image events
 IsLeftBy (Byte byte) image events left = IsFilled byte image events left

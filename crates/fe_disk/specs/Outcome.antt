@@ -1,10 +1,11 @@
--- What a run of device calls leaves of a disk besides its bytes. Each of these records takes the members `size`, `failures`,
--- `calls` and `honest` of the trait `Disk`, and how many reads, writes and syncs were asked for.
+-- What a run of device calls leaves of a disk besides its bytes. Each of these records takes the members `size`,
+-- `failures`, `calls` and `honest` of the trait `Disk`, and how many reads, writes and syncs were asked for.
 use Rattle.std.specs.Prelude.{◌≡◌, ◌↔◌, ℕ, ◌+◌, ◌≤◌, Result, Ok, Err, IsErr, IsErrOf, OnOk}
 use Rattle.fe_disk.specs.Disk.{Rises, MakesAtMost, MakesJust}
 use Rattle.fe_disk.specs.declared.calls.Calls.{Calls}
 
--- Exactly this many calls were made where it succeeds, and at most this many where it fails. It fails exactly where the count of faults rose.
+-- Exactly this many calls were made where it succeeds, and at most this many where it fails. It fails exactly where
+-- the count of faults rose.
 pub record Asks {D T E : Type 0} (size failures : D → ℕ) (calls : D → Calls) (honest : D → Type 0) (reads writes syncs : ℕ) (result : Result T E) (old new : D) : Type 0 where
   pub fault : IsErr result ↔ Rises (failures old) (failures new)
   pub still : OnOk result (failures new ≡ failures old)

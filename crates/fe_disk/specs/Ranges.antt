@@ -3,10 +3,10 @@ use Rattle.std.specs.Prelude.{ℕ, ◌+◌, ◌≤◌, List, [], ◌∷◌, leng
 use Rattle.fe_disk.specs.Disk.{after_write}
 use Rattle.fe_disk.specs.declared.memory_disk.Torn.{Torn}
 use Rattle.fe_disk.specs.declared.memory_disk.Torn.TheVariants.{Kept, Lost, Byte}
-use Rattle.fe_disk.specs.Memory.{Event, Write, Sync}
+use Rattle.fe_disk.specs.Memory.{DiskEvent, Write, Sync}
 
 -- each write lies within this many bytes
-abbrev pub AreWithin : ℕ → List Event → Type 0
+abbrev pub AreWithin : ℕ → List DiskEvent → Type 0
 AreWithin size [] = Unit {0}
 AreWithin size (Sync ∷ earlier) = AreWithin size earlier
 AreWithin size (Write at before ∷ earlier) = (at + length before ≤ size) × AreWithin size earlier
@@ -18,7 +18,7 @@ image_with_tear Lost image at before = after_write image at before
 image_with_tear (Byte byte) image at before = after_write image at (replicate (length before) byte)
 
 -- and to those of all writes since the last sync, the last of them first
-abbrev pub image_with_tears : Torn → List ℕ → List Event → List ℕ
+abbrev pub image_with_tears : Torn → List ℕ → List DiskEvent → List ℕ
 image_with_tears torn image [] = image
 image_with_tears torn image (Sync ∷ earlier) = image
 image_with_tears torn image (Write at before ∷ earlier) = image_with_tears torn (image_with_tear torn image at before) earlier

@@ -58,7 +58,7 @@ pub trait Disk {
         ensures time { honest self.old → Elapses moment left_since may_leave self.old self.new }
         ensures device { Asks size failures calls honest 1 0 0 result self.old self.new };
 
-    /// Writes the bytes from `at` on. Until a sync succeeds, a stop may leave any bytes in their place.
+    /// Writes the bytes from `at` on. Until a sync succeeds, a stop may leave any bytes instead.
     /// A write that fails may have written: in its range a read may give anything, and a stop may leave anything.
     fn write_at(&mut self, at: usize, bytes: &[u8]) -> Result<(), DeviceFault>
         requires { at + length bytes.now ≤ size self.old }

@@ -25,13 +25,13 @@ const MODE: u32 = 0o600;
 /// A disk over a file of a fixed size. Each read and write goes straight to the file at its offset, without a
 /// buffer, and a sync puts the file's bytes on its device.
 ///
-/// The first sync that succeeds also makes the system forget what it holds of the file in memory, so that later reads come
-/// from the device. After a sync that failed, in this process or an earlier one, Linux treats pages as written that are not on
-/// the device, and would give their bytes to every reader until it needs the memory.
+/// The first sync that succeeds also makes the system forget what it holds of the file in memory, so that later reads
+/// come from the device. After a sync that failed, in this process or an earlier one, Linux treats pages as written
+/// that are not on the device, and would give their bytes to every reader until it needs the memory.
 ///
-/// A disk that writes holds an advisory lock on its file for as long as it lives, so no other disk writes the file meanwhile. A
-/// sync succeeds only if the file afterwards still has its size and the path by which it was opened: what is written into a
-/// file that was cut, renamed, replaced or removed is lost.
+/// A disk that writes holds an advisory lock on its file for as long as it lives, so no other disk writes the file
+/// meanwhile. A sync succeeds only if the file afterwards still has its size and the path by which it was opened:
+/// what is written into a file that was cut, renamed, replaced or removed is lost.
 ///
 /// Nothing is claimed about what a file gives or keeps, so it is not honest.
 #[derive(Drop)]
@@ -48,8 +48,9 @@ pub struct FileDisk {
 impl FileDisk {
     ghost use Rattle.fe_disk.specs.FileDisk.{file_size, fault_count};
 
-    /// Makes a file of this many zero bytes, which only its owner may read and write, and syncs it and its folder. If a file has
-    /// the path already, it stays as it is and the call fails. If a later step fails, the new file stays, maybe with another size.
+    /// Makes a file of this many zero bytes, which only its owner may read and write, and syncs it and its folder. If
+    /// a file has the path already, it stays as it is and the call fails. If a later step fails, the new file stays,
+    /// maybe with another size.
     pub fn create<R: Files<File = File>>(
         rt: &R,
         path: &str,
@@ -135,7 +136,8 @@ impl FileDisk {
         self.has_size() && watch.is_kept() && (watch.has_path() || self.has_name())
     }
 
-    // Asks by `lseek`, since a file whose times were asked for gets new ones at its next write, and a sync may have to write those too.
+    // Asks by `lseek`, since a file whose times were asked for gets new ones at its next write, and a sync may have
+    // to write those too.
     fn has_size(&self) -> bool {
         match u64::try_from(libc::lseek(self.file.as_raw_fd(), 0, libc::SEEK_END)) {
             Ok(found) => found == self.size as u64,
@@ -171,8 +173,8 @@ fn made<R: Files<File = File>>(rt: &R, path: &str, size: u64) -> io::Result<File
     Ok(file)
 }
 
-// Writes this many zeros. A file that only has the length would have holes, and a sync of what is written into one later has
-// to find room for it.
+// Writes this many zeros. A file that only has the length would have holes, and a sync of what is written into one
+// later has to find room for it.
 fn fill(mut file: &File, size: u64) -> io::Result<()> {
     let zeros = [0; PIECE];
     for _k in 0..size / PIECE as u64 {
@@ -198,7 +200,8 @@ fn above_streams(file: File) -> io::Result<File> {
     }
 }
 
-// Syncs the file. Where it is the first time, what the system holds of it in memory is forgotten: all of it is on the device.
+// Syncs the file. The first sync also makes the system forget what it holds of the file in memory, which is all on the
+// device then.
 fn settled(file: &File, is_settled: bool) -> io::Result<()> {
     file.sync_data()?;
     if is_settled {

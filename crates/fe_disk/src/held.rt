@@ -1,4 +1,5 @@
-//! A policy that lets another thread hold the syncs of a disk back, for tests of what happens between a write and its sync.
+//! A policy that lets another thread hold the syncs of a disk back, for tests of what happens between a write and its
+//! sync.
 ghost use Rattle.std.specs.Prelude.{⊤};
 
 use crate::hold::Hold;

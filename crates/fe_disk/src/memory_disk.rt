@@ -61,7 +61,8 @@ impl MemoryDisk {
         })
     }
 
-    /// A disk with these bytes, no calls and no faults. It has room for the record of one call, which then takes no memory.
+    /// A disk with these bytes, no calls and no faults. It has room for the record of one call, which then takes no
+    /// memory.
     pub fn over(alloc: Global, bytes: Vec<u8>) -> Result<MemoryDisk, AllocError>
         ensures image { IfOk result (λ disk. disk.image ≡ bytes.items) }
         ensures fresh { IfOk result IsFresh }

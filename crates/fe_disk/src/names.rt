@@ -6,8 +6,8 @@ use std::path::Path;
 use std::rt::Files;
 use std::{fs, io};
 
-/// Gives the file at a path a second name, and syncs the folder of the new name. `false` if a file has that name already; that
-/// file stays as it is.
+/// Gives the file at a path a second name, and syncs the folder of the new name. `false` if a file has that name
+/// already; that file stays as it is.
 pub fn add_name<R: Files<File = File>>(rt: &R, path: &str, name: &str) -> io::Result<bool> {
     match fs::hard_link(rt, path, name) {
         Ok(()) => {

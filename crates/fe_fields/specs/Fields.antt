@@ -3,9 +3,9 @@ use Rattle.std.specs.Prelude.{◌≡◌, ℕ, List, [], ◌∷◌, length, take,
 use Rattle.std.specs.Int.{Width, byte_len, from_be_bytes}
 
 -- the reader returned the value that is read, seen through `view`, or None if there is nothing to read
-abbrev pub Gives : {X Y : Type 0} → (X → Y) → Option X → Option Y → Type 0
-Gives view (Some x) read = read ≡ Some (view x)
-Gives view None read = read ≡ None
+abbrev pub ReadsAs : {X Y : Type 0} → (X → Y) → Option X → Option Y → Type 0
+ReadsAs view (Some x) read = read ≡ Some (view x)
+ReadsAs view None read = read ≡ None
 
 -- the number at an offset
 abbrev pub field_at : Width → List ℕ → ℕ → ℕ

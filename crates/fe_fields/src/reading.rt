@@ -2,7 +2,7 @@
 
 ghost use Rattle.std.specs.Prelude.{◌≡◌, ◌+◌, ◌≤◌, length, IfSome};
 ghost use Rattle.std.specs.Int.{w32, w64};
-ghost use Rattle.fe_fields.specs.Fields.{Gives, field_at, next_number, next_byte, next_bytes};
+ghost use Rattle.fe_fields.specs.Fields.{ReadsAs, field_at, next_number, next_byte, next_bytes};
 
 use byteorder::{BigEndian, ByteOrder};
 
@@ -24,7 +24,7 @@ pub fn u64_at(bytes: &[u8], at: usize) -> u64
 
 /// The number in the first four bytes and the remaining bytes, or `None` if there are fewer than four.
 pub fn next_u32(bytes: &[u8]) -> Option<(u32, &[u8])>
-    ensures { Gives (λ x. (x.0, x.1.now)) result (next_number w32 bytes.now) }
+    ensures { ReadsAs (λ x. (x.0, x.1.now)) result (next_number w32 bytes.now) }
 {
     if bytes.len() < 4 {
         return None;
@@ -35,7 +35,7 @@ pub fn next_u32(bytes: &[u8]) -> Option<(u32, &[u8])>
 
 /// The number in the first eight bytes and the remaining bytes, or `None` if there are fewer than eight.
 pub fn next_u64(bytes: &[u8]) -> Option<(u64, &[u8])>
-    ensures { Gives (λ x. (x.0, x.1.now)) result (next_number w64 bytes.now) }
+    ensures { ReadsAs (λ x. (x.0, x.1.now)) result (next_number w64 bytes.now) }
 {
     if bytes.len() < 8 {
         return None;
@@ -46,7 +46,7 @@ pub fn next_u64(bytes: &[u8]) -> Option<(u64, &[u8])>
 
 /// The first byte and the remaining bytes, or `None` if there are none.
 pub fn next_byte(bytes: &[u8]) -> Option<(u8, &[u8])>
-    ensures { Gives (λ x. (x.0, x.1.now)) result (next_byte bytes.now) }
+    ensures { ReadsAs (λ x. (x.0, x.1.now)) result (next_byte bytes.now) }
 {
     match bytes {
         [] => None,
@@ -56,7 +56,7 @@ pub fn next_byte(bytes: &[u8]) -> Option<(u8, &[u8])>
 
 /// The first `count` bytes and the remaining ones, or `None` if there are fewer.
 pub fn next_bytes(count: usize, bytes: &[u8]) -> Option<(&[u8], &[u8])>
-    ensures value { Gives (λ x. (x.0.now, x.1.now)) result (next_bytes count bytes.now) }
+    ensures value { ReadsAs (λ x. (x.0.now, x.1.now)) result (next_bytes count bytes.now) }
     ensures length { IfSome result (λ x. length x.0.now ≡ count) }
 {
     if bytes.len() < count {

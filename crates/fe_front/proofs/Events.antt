@@ -27,7 +27,7 @@ use Rattle.fe_front.specs.declared.out.Out.{Out}
 abbrev pub Happens : FrontState → event.Event → FrontState → Type 0
 Happens f e g = (es : List Entry) × FrontStep f e es g
 
--- ---- what an event answered, of which a definition says the session or the refusal
+-- ---- what an event answered, where a definition gives the session or the refusal
 
 -- the clause of such an event
 abbrev pub Answers : {A : Type 0} → Result ℕ Refusal → Result A Refusal → (ℕ → FrontState) → FrontState → FrontState → Type 0

@@ -31,7 +31,7 @@ use Rattle.fe_front.specs.declared.outcome.Outcome.TheVariants as outcome
 
 -- ---- books
 
--- a count that has a place is counted
+-- a count that has room is counted
 counted : (b c : Books) (n : ℕ) → b.spent ≡ false → n < 2 ^ 63 - 1 → counting b n c ≡ c
 counted b c n unspent below =
     ap (λ (s : Bool). if s then b else if nat_lt n (2 ^ 63 - 1) then c else record b { spent = true }) unspent

@@ -10,23 +10,7 @@ use Rattle.fe_front.specs.within.Tables.{AreSound}
 use Rattle.fe_front.specs.declared.tables.Tables.{Tables}
 use Rattle.fe_front.proofs.Agreement.{Agree}
 
--- an event that makes no entry
-pub quiet_sound : (t : Tables) (service : ServiceState) (connections : FinMap nat_cmp Connection) (books : Books) → AreSound t
-    → service.state.place ≡ t.service.state.place → length service.pending ≡ length t.service.pending
-    → Agree service.seats connections → Balances books (len service.waiting) (mails_in connections)
-    → AreSound (record { service = service; connections = connections; books = books; durable = t.durable; out = t.out; spare = t.spare })
-quiet_sound t service connections books sound place pending agree balance = record {
-  tied = record {
-    agree = agree;
-    place = omega (arith, place, pending, sound.tied.place);
-    few_out = sound.tied.few_out;
-    out_first = sound.tied.out_first;
-    balance = balance;
-  };
-  spare = sound.spare;
-}
-
--- an event that makes this many
+-- an event that makes this many entries
 pub made_sound : (t : Tables) (service : ServiceState) (connections : FinMap nat_cmp Connection) (books : Books) (made : ℕ) → AreSound t
     → service.state.place ≡ t.service.state.place + made → length service.pending ≡ length t.service.pending + made
     → Agree service.seats connections → Balances books (len service.waiting) (mails_in connections)
@@ -41,3 +25,11 @@ made_sound t service connections books made sound place pending agree balance = 
   };
   spare = sound.spare;
 }
+
+-- an event that makes no entry
+pub quiet_sound : (t : Tables) (service : ServiceState) (connections : FinMap nat_cmp Connection) (books : Books) → AreSound t
+    → service.state.place ≡ t.service.state.place → length service.pending ≡ length t.service.pending
+    → Agree service.seats connections → Balances books (len service.waiting) (mails_in connections)
+    → AreSound (record { service = service; connections = connections; books = books; durable = t.durable; out = t.out; spare = t.spare })
+quiet_sound t service connections books sound place pending =
+    made_sound t service connections books 0 sound (omega (arith, place)) (omega (arith, pending))

@@ -1,5 +1,5 @@
--- What is always true of the boxes of a front: each has at most `MAILS` mails, and an answer is in one only once its entry
--- is durable.
+-- What is always true of the boxes of a front: each has at most `MAILS` mails, and an answer is in one only once its
+-- entry is durable.
 use Rattle.std.specs.Prelude.{ℕ, ◌≤◌, ◌<◌, List, length, All}
 use Rattle.fe_state.specs.State.{ServerState}
 use Rattle.fe_state.specs.declared.entry.Entry.{Entry}

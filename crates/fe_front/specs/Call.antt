@@ -1,4 +1,4 @@
--- What a call is, by what its number stands for, and what it leaves of a front.
+-- What a call is, by the request that its number belongs to, and what it leaves of a front.
 use Rattle.std.specs.Prelude.{◌≡◌, ◌≢◌, ℕ, ◌+◌, zero, suc, nat_lt, if◌then◌else◌, true, false, List, [], ◌∷◌, length, Option, Some, None, Ok, MatchOption, MatchResult}
 use Rattle.std.specs.Option.{option_map, option_map_or}
 use Rattle.std.specs.FinMap.{get}
@@ -26,12 +26,12 @@ use Rattle.fe_front.specs.declared.outcome.Outcome.TheVariants as outcome
 abbrev pub kept_at : FrontState → ℕ → ℕ → Option Kept
 kept_at f session number = kept_in (get f.service.state.sessions session) number
 
--- the request that a number of a session stands for already: it is kept with its answer, or it waits
+-- the request that a session's number belongs to already: it is kept with its answer, or it waits
 abbrev pub request_at : FrontState → ℕ → ℕ → Option Request
 request_at f session number =
     option_map_or (λ k. Some k.request) (kept_at f session number) (option_map request_of (get f.service.waiting (session, number)))
 
--- a call is refused for this, whatever memory there is: its number is not its session's, stands for another request, or
+-- a call is refused for this, whatever memory there is: its number is not its session's, belongs to another request, or
 -- is new where the history has no place left
 abbrev pub IsNumberRefused : FrontState → ℕ → Request → ℕ → Refusal → Type 0
 IsNumberRefused f number request session refusal =
@@ -41,7 +41,8 @@ abbrev pub IsCallRefused : FrontState → ℕ → ℕ → Request → Refusal �
 IsCallRefused f conn number request refusal =
     MatchResult (addressed f conn number) (λ session. IsNumberRefused f number request session refusal) (λ first. refusal ≡ first)
 
--- a call is refused because memory is short: it is the first of its number and there is a place for it, but it makes an array
+-- a call is refused because memory is short: it is the first of its number and there is a place for it, but it makes
+-- an array
 pub record WantsMemory (f : FrontState) (conn number : ℕ) (request : Request) : Type 0 where
   pub session : ℕ
   pub answer : Answer
@@ -55,7 +56,7 @@ pub record WantsMemory (f : FrontState) (conn number : ℕ) (request : Request) 
 abbrev pub call_refused_by : FrontState → FrontState
 call_refused_by f = record f { books = call_refused f.books }
 
--- what a call is that repeats what its number stands for
+-- the outcome of a call that repeats the request of its number
 abbrev pub repeat_of : FrontState → ℕ → ℕ → Outcome
 repeat_of f session number =
     option_map_or (λ k. if nat_lt k.place f.durable then outcome.SentAgain else outcome.NotYetSynced) (kept_at f session number) outcome.AlreadyWaiting
@@ -100,14 +101,14 @@ pub record Waits (f : FrontState) (session number : ℕ) (request : Request) (es
   pub entries : es ≡ []
   pub rest : f' ≡ record f { service = waited f.service session number waiter; books = call_waits f.books }
 
--- a request that its number stands for already is a repeat, whatever memory and places there are
+-- a call with the request that its number belongs to already is a repeat, whatever memory and places are left
 pub record Repeats (f : FrontState) (conn session number : ℕ) (request : Request) (o : Outcome) (es : List Entry) (f' : FrontState) : Type 0 where
   pub known : request_at f session number ≡ Some request
   pub is : o ≡ repeat_of f session number
   pub entries : es ≡ []
   pub rest : f' ≡ repeated f conn session number
 
--- what a call of a session came to
+-- the outcome of a call of a session, and what the call leaves
 abbrev pub Called : FrontState → ℕ → ℕ → ℕ → Request → Outcome → List Entry → FrontState → Type 0
 Called f conn session number request (outcome.Completed count) entries f' = Completed f session number request count entries f'
 Called f conn session number request outcome.Waits entries f' = Waits f session number request entries f'

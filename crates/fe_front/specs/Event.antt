@@ -26,7 +26,7 @@ pub data Event : Type 0 where
   Post : Batch → Event
   -- a connection, and its first mail, if it had one
   TakeMail : ℕ → Option Mail → Event
-  -- a connection and what it is told: a report or a refusal (`IsReportOrRefusal`)
+  -- a connection and the mail that it gets: a report or a refusal (`IsReportOrRefusal`)
   Tell : ℕ → Mail → Event
 
 -- a mail that answers at once: a report or a refusal

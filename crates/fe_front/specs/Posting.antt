@@ -16,7 +16,7 @@ abbrev pub IsOut : Option Out → Batch → Type 0
 IsOut None batch = ⊥
 IsOut (Some o) batch = (batch.first ≡ o.first) × (length batch.entries ≡ o.length)
 
--- an entry's mail goes to whoever has its session
+-- an entry's mail goes to the connection that has its session, if one does
 abbrev pub delivered : FrontState → Entry → ℕ → FrontState
 delivered f e place = option_map_or (λ conn. mailed f conn (mail_of e place)) (holder_of f.service.seats (session_of e)) f
 
@@ -24,7 +24,7 @@ delivered f e place = option_map_or (λ conn. mailed f conn (mail_of e place)) (
 abbrev pub vacated : FrontState → ℕ → FrontState
 vacated f session = if is_closing f.service.seats session then record f { service = left f.service session } else f
 
--- a session's close is posted: whoever has it has it no more, and its closing ends
+-- a session's close is posted: a connection that has it loses it, and its closing ends
 abbrev pub ended : FrontState → ℕ → FrontState
 ended f session = vacated (freed f session) session
 

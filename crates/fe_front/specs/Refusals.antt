@@ -68,7 +68,7 @@ settling f conn floor = and_then (own f conn) (may_settle f floor)
 abbrev pub leaving : FrontState → ℕ → Result ℕ Refusal
 leaving f conn = and_then (own f conn) (unspent f)
 
--- a session of which a request waits under the number
+-- a session with a request that waits under the number
 abbrev pub may_cancel : FrontState → ℕ → ℕ → Result ℕ Refusal
 may_cancel f number session = if is_some (get f.service.waiting (session, number)) then Ok session else Err NotWaiting
 

@@ -12,14 +12,14 @@ use Rattle.fe_front.specs.Step.{FrontStep}
 use Rattle.fe_front.specs.Steps.{mailed}
 use Rattle.fe_state.specs.declared.bounds.TheConstants.{BATCH_ENTRIES}
 
--- books that are not spent, with places for this many more calls and mails
+-- books that are not spent, with room for this many more calls and mails
 pub record HaveRoom (b : Books) (calls mails : ℕ) : Type 0 where
   pub unspent : b.spent ≡ false
   pub few_calls : b.calls + calls ≤ MOST_BOOKED
   pub few_mails : b.mails + mails ≤ MOST_BOOKED
 
--- Books go to others that are not spent, with this many calls more, this many more mails that were taken, and at most so
--- many more mails.
+-- Books become others that are not spent, with this many more calls, this many more mails that were taken, and at most
+-- this many more mails in all.
 pub record Rise (b : Books) (called took most : ℕ) (b' : Books) : Type 0 where
   pub unspent : b'.spent ≡ false
   pub calls : b'.calls ≡ b.calls + called

@@ -14,25 +14,25 @@ use Rattle.fe_front.specs.Front.{FrontState, is_connected}
 
 -- ---- building blocks
 
--- what waits of a session is withdrawn
+-- a session's waiting requests are withdrawn
 abbrev pub withdrawn_from : FrontState → ℕ → FrontState
 withdrawn_from f session =
     record f { service = withdrawn f.service session; books = waiters_withdrawn (count_of f.service.waiting session) f.books }
 
--- a connection and the session that it has let go of each other
+-- a connection loses the session that it has
 abbrev pub parted : FrontState → ℕ → ℕ → FrontState
 parted f conn session =
     record f { service = held f.service session None; connections = with_session f.connections conn None }
 
--- a connection lets go of the session that it has, if it has one
+-- a connection loses its session, if it has one
 abbrev pub released : FrontState → ℕ → FrontState
 released f conn = option_map_or (parted f conn) (session_on f.connections conn) f
 
--- whoever has a session lets go of it
+-- the connection that has a session, if one has it, loses it
 abbrev pub freed : FrontState → ℕ → FrontState
 freed f session = option_map_or (λ conn. parted f conn session) (holder_of f.service.seats session) f
 
--- a connection leaves its session, if it has one, and what waits of that is withdrawn
+-- a connection leaves its session, if it has one, and the session's waiting requests are withdrawn
 abbrev pub departed : FrontState → ℕ → FrontState
 departed f conn =
     option_map_or (λ session. parted (withdrawn_from f session) conn session) (session_on f.connections conn) f
@@ -46,7 +46,7 @@ unboxed f conn =
 abbrev pub dropped : FrontState → ℕ → FrontState
 dropped f conn = if is_connected f conn then unboxed (departed f conn) conn else f
 
--- how many waiting requests are withdrawn where a connection goes
+-- how many waiting requests are withdrawn when a connection goes
 abbrev pub departing : FrontState → ℕ → ℕ
 departing f conn = option_map_or (count_of f.service.waiting) (session_on f.connections conn) 0
 
@@ -72,12 +72,12 @@ mailed f conn mail =
 abbrev pub connected : FrontState → ℕ → FrontState
 connected f conn = record f { connections = insert f.connections conn first_connection }
 
--- a connection and a session, which have no other, have each other, with an entry of it
+-- a connection gets a session, where neither has another, and the session's entry is made
 abbrev pub joined : FrontState → ℕ → ℕ → FrontState
 joined f conn session =
     record f { service = attached f.service session conn; connections = with_session f.connections conn (Some session) }
 
--- a connection attaches a session: it leaves the one that it has, and whoever had the session has it no more
+-- a connection attaches a session: it leaves the one that it has, and a connection that had the session loses it
 abbrev pub attached_to : FrontState → ℕ → ℕ → FrontState
 attached_to f conn session = joined (freed (released f conn) session) conn session
 
@@ -85,7 +85,7 @@ attached_to f conn session = joined (freed (released f conn) session) conn sessi
 abbrev pub settled_to : FrontState → ℕ → ℕ → FrontState
 settled_to f session floor = record f { service = settled f.service session floor }
 
--- a session is closed: what waits of it is withdrawn; the connection keeps it until its entry is posted
+-- a session is closed: its waiting requests are withdrawn; the connection keeps it until its entry is posted
 abbrev pub closed_by : FrontState → ℕ → FrontState
 closed_by f session =
     record f { service = closed f.service session; books = waiters_withdrawn (count_of f.service.waiting session) f.books }
@@ -95,7 +95,7 @@ abbrev pub cancelled_from : FrontState → ℕ → ℕ → FrontState
 cancelled_from f session number =
     record f { service = cancelled f.service session number; books = waiters_withdrawn 1 f.books }
 
--- a connection cancels a waiting request of its session, and is told so
+-- a connection cancels a waiting request of its session, and gets a mail that says so
 abbrev pub cancelled_by : FrontState → ℕ → ℕ → ℕ → FrontState
 cancelled_by f conn session number = mailed (cancelled_from f session number) conn (Withdrawn number)
 

@@ -31,8 +31,8 @@ impl Tables {
         }
     }
 
-    /// The session of a connection that has one, or why an event of it is refused. The look-ups of the session and of the
-    /// request's array that follow take one comparison each.
+    /// The session of a connection that has one, or why an event of it is refused. The look-ups of the session and of
+    /// the request's array that follow take one comparison each.
     fn aimed(&mut self, conn: u64, request: &Request) -> Result<u64, Refusal>
         ensures session { result ≡ own (front_of self.old) conn }
         ensures same { self.new ≡ self.old }

@@ -1,7 +1,7 @@
 ghost use Rattle.std.specs.Prelude.{◌≡◌, ◌⊎◌, ◌+◌, ◌↔◌, ◌≤◌, ℕ, List, nat_lt, length, slice_get, Some, None, Ok, Err, IsTrue, IsOk, IsErr, IfOk, IfErr, OnOk, OnErr, MatchResult};
 ghost use Rattle.std.specs.Option.{option_map};
 ghost use Rattle.std.specs.FinMap.{get, len};
-ghost use Rattle.fe_waits.specs.Waiting.{AreTold, AreToldOnce};
+ghost use Rattle.fe_waits.specs.Waiting.{AreWaitersOf, AreListedOnce};
 ghost use Rattle.fe_seats.specs.Seating.{count_of};
 ghost use Rattle.fe_state.specs.State as states;
 ghost use Rattle.fe_state.specs.declared.entry.Entry.{Entry};
@@ -54,8 +54,8 @@ impl Model for Front {
 }
 
 impl Front {
-    /// A front over a state whose entries are all durable. Each session has a seat and no connection. Only boxes and new
-    /// arrays take memory later. The one error is that memory is short.
+    /// A front over a state whose entries are all durable. Each session has a seat and no connection. Only boxes and
+    /// new arrays take memory later. Fails only if memory runs out.
     pub fn new(alloc: Global, state: State) -> Result<Front, AllocError>
         ensures { IfOk result (IsFirst state) }
     {
@@ -96,8 +96,8 @@ impl Front {
         self.tables.service.pending_count() <= WAITING
     }
 
-    /// Gives a session to a connection, with an entry of it. The connection leaves the session that it has, and whoever
-    /// has the session loses it; what waits of either goes on waiting.
+    /// Gives a session to a connection, with an entry of it. The connection leaves the session that it has, and a
+    /// connection that has the session loses it; the requests of both sessions go on waiting.
     pub fn attach(&mut self, conn: u64, session: u64) -> Result<(), Refusal>
         requires room { IsTrue (has_room self.old) }
         ensures attached { MatchResult (attaching self.old conn session)
@@ -138,8 +138,8 @@ impl Front {
         self.tables.settle(conn, floor)
     }
 
-    /// Closes the connection's session, with an entry, and withdraws its waiting requests. The session is closing until that
-    /// entry is posted.
+    /// Closes the connection's session, with an entry, and withdraws its waiting requests. The session is closing
+    /// until that entry is posted.
     pub fn bye(&mut self, conn: u64) -> Result<(), Refusal>
         requires room { IsTrue (has_room self.old) }
         ensures closed { MatchResult (leaving self.old conn)
@@ -158,7 +158,8 @@ impl Front {
         self.tables.cancel(conn, number)
     }
 
-    /// Removes a connection with its box, and withdraws its session's waiting requests. Returns how many, 0 to `WINDOW`.
+    /// Removes a connection with its box, and withdraws its session's waiting requests. Returns how many, 0 to
+    /// `WINDOW`.
     pub fn gone(&mut self, conn: u64) -> u32
         ensures count { result ≡ departing self.old conn }
         ensures dropped { self.new ≡ dropped self.old conn }
@@ -174,9 +175,9 @@ impl Front {
         self.tables.cut()
     }
 
-    /// Takes the batch that is out as stored. Its entries become durable and are mailed to the connections that have their
-    /// sessions, and a session that it closes leaves. Any other batch is refused and handed back: one while no batch is out,
-    /// or one with another first place or length.
+    /// Takes the batch that is out as stored. Its entries become durable and are mailed to the connections that have
+    /// their sessions, and a session that it closes leaves. Any other batch is refused and handed back: one while no
+    /// batch is out, or one with another first place or length.
     pub fn post(&mut self, batch: Batch) -> Result<(), StrangeBatch>
         ensures refused { IsErr result ↔ (¬ IsOut self.old.out batch) }
         ensures returned { IfErr result (λ strange. strange.0 ≡ batch) }
@@ -186,8 +187,8 @@ impl Front {
         self.post_ringing(batch, &mut [false; BELLS as usize])
     }
 
-    /// As `post`, and rings the bell of each connection whose box the batch changed: it got a mail, or its box was full and
-    /// the connection was removed. A connection whose bell is not rung has its old box.
+    /// As `post`, and rings the bell of each connection whose box the batch changed: it got a mail, or its box was
+    /// full and the connection was removed. A connection whose bell is not rung has its old box.
     pub fn post_ringing(
         &mut self,
         batch: Batch,
@@ -229,8 +230,8 @@ impl Front {
         self.tables.mail(conn, Mail::Report(text));
     }
 
-    /// Mails a refusal to a connection. The number is that of the call or cancel, the floor or session asked for, and 0 for a
-    /// bye or a report. A connection whose box is full is removed.
+    /// Mails a refusal to a connection. The number is that of the call or cancel, the floor or session asked for, and
+    /// 0 for a bye or a report. A connection whose box is full is removed.
     pub fn mail_refusal(&mut self, conn: u64, number: u64, refusal: Refusal)
         ensures { self.new ≡ mailed self.old conn (mails.Refused number refusal) }
     {
@@ -281,14 +282,14 @@ impl Front {
     }
 
     /// The waiting requests of a session, at most `WINDOW`, in no particular order: the number of each, the array and
-    /// index of its word, and its operation. The one error is that memory is short.
+    /// index of its word, and its operation. Fails only if memory runs out.
     pub fn told(
         &self,
         alloc: Global,
         session: u64,
     ) -> Result<Vec<(u64, (u64, u32, Op))>, AllocError>
-        ensures told { IfOk result (λ told. AreTold self.now.service.waiting session told.items) }
-        ensures once { IfOk result (λ told. AreToldOnce told.items) }
+        ensures told { IfOk result (λ told. AreWaitersOf self.now.service.waiting session told.items) }
+        ensures once { IfOk result (λ told. AreListedOnce told.items) }
     {
         self.tables.service.told(alloc, session)
     }

@@ -20,8 +20,8 @@ pub fn books_rise()
     ensures { BooksRise }
 {}
 
-/// A mail that carries a place is in a box only once the entry at that place is durable. Steps are those of the clauses of
-/// `Front`: `step` of `call`, and `posted`, `attached` and the like of the other events.
+/// A mail that carries a place is in a box only once the entry at that place is durable. Steps are those of the
+/// clauses of `Front`: `step` of `call`, and `posted`, `attached` and the like of the other events.
 pub fn mails_stay_durable()
     ensures { MailsStayDurable }
 {}

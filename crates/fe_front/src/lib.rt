@@ -1,5 +1,5 @@
-//! The front of the server: it takes the events of connections, makes entries of the history, and mails what came of an
-//! entry once its batch is posted.
+//! The front of the server: it takes the events of connections, makes entries of the history, and mails the outcome
+//! of an entry once its batch is posted.
 #![tactic(auto)]
 
 mod asked;

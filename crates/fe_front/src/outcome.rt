@@ -1,6 +1,6 @@
 use fe_state::Batch;
 
-/// What came of a call that was not refused.
+/// The outcome of a call that was not refused.
 #[derive(Clone, Copy, PartialEq, Eq)]
 pub enum Outcome {
     /// The request completed. That many entries were made, its own among them.

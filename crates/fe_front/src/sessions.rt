@@ -13,7 +13,7 @@ use fe_mail::{Mail, Refusal};
 use fe_state::{GREATEST_FLOOR, SESSIONS, WINDOW};
 
 impl Tables {
-    /// The least usable number of a session, 1 where it is not there.
+    /// The least usable number of a session, 1 if the session is not there.
     pub(crate) fn floor(&self, session: u64) -> u64
         ensures { result ≡ floor_of self.now.service session }
     {
@@ -174,7 +174,8 @@ impl Tables {
         }
     }
 
-    /// Takes a waiting request of a connection's session out and mails the connection its withdrawal, or says why it may not.
+    /// Takes a waiting request of a connection's session out and mails the connection its withdrawal, or says why it
+    /// may not.
     pub(crate) fn cancel(&mut self, conn: u64, number: u64) -> Result<(), Refusal>
         requires sound { AreSound self.old }
         ensures sound { AreSound self.new }

@@ -3,27 +3,27 @@ use Rattle.std.proofs.Common.{◌≡◌, ◌⊎◌, ℕ, ◌+◌, ◌<◌, ◌�
 use Rattle.std.proofs.lemmas.Bool.{cases_lt, cases_eq}
 use Rattle.fe_disk.specs.Disk.{IsTorn, bytes_at, after_write}
 use Rattle.fe_disk.proofs.Images.{length-after_write, IsTorn-after_write}
-use Rattle.fe_journal.specs.Layout.{header_of, area_of, other_than, IsOpen, IsShut, number_at}
-use Rattle.fe_journal.specs.Groups.{IsGroup, Fits, end_of, behind_gate}
+use Rattle.fe_journal.specs.Layout.{header_of, area_of, other_than, IsGateOpen, IsGateShut, number_at}
+use Rattle.fe_journal.specs.Groups.{IsGroup, GroupFits, end_of_groups, after_gate}
 use Rattle.fe_journal.specs.Contents.{Contents, Holds, HoldsEither, with_group}
 use Rattle.fe_journal.specs.Steps.{IsLeftInCommit, after_commit}
 use Rattle.fe_journal.proofs.Bytes.{SameBytes, same_part, same_byte, same_through, same_back, torn_same, written_same}
-use Rattle.fe_journal.proofs.Frames.{groups_same, stand_same, stand_more, end_of-more, NoRise, same_no_rise, holds_as, holds_same}
-use Rattle.fe_journal.proofs.Spelled.{length-behind_gate, spelled}
+use Rattle.fe_journal.proofs.Frames.{groups_same, stand_same, stand_more, end_of_groups-more, NoRise, same_no_rise, holds_as, holds_same}
+use Rattle.fe_journal.proofs.Spelled.{length-after_gate, spelled}
 
 -- a range in the one slot is apart from the other slot
 pub slots_apart : (slot at n a m : ℕ) → slot < 2 → header_of slot ≤ at → at + n ≤ header_of slot + 2101248 → header_of (other_than slot) ≤ a → a + m ≤ header_of (other_than slot) + 2101248 → (a + m ≤ at) ⊎ (at + n ≤ a)
 slots_apart slot at n a m is_slot from to low high = ⊎_elim (λ (first : slot < 1). inr (omega arith)) (λ (second : 1 ≤ slot). inl (omega arith)) (cases_lt slot 1)
 
-shut_by_zero : (bytes : List ℕ) (at : ℕ) → get_or bytes at 0 ≡ 0 → IsShut bytes at
+shut_by_zero : (bytes : List ℕ) (at : ℕ) → get_or bytes at 0 ≡ 0 → IsGateShut bytes at
 shut_by_zero bytes at is = λ is_open. omega (arith, is, is_open)
 
 abbrev open_byte : List ℕ
 open_byte = 1 ∷ []
 
-module _ (c : Contents) (payload bytes : List ℕ) (gate : ℕ) (at_gate : gate ≡ area_of c.slot + end_of c.groups) (fits : Fits c.format (end_of c.groups) (length payload)) (bytes_are : bytes ≡ behind_gate payload) where
+module _ (c : Contents) (payload bytes : List ℕ) (gate : ℕ) (at_gate : gate ≡ area_of c.slot + end_of_groups c.groups) (fits : GroupFits c.format (end_of_groups c.groups) (length payload)) (bytes_are : bytes ≡ after_gate payload) where
   long : length bytes ≡ 5 + length payload
-  long = ap (λ (l : List ℕ). length l) bytes_are ∙ length-behind_gate payload
+  long = ap (λ (l : List ℕ). length l) bytes_are ∙ length-after_gate payload
 
   -- bytes torn in the area leave the slot's bytes before them, and the other slot
   torn_before : (at n : ℕ) (old new : List ℕ) → Holds c old → IsTorn at n old new → area_of c.slot ≤ at → at + n ≤ header_of c.slot + 2101248 → (m : ℕ) → header_of c.slot + m ≤ at → SameBytes old (header_of c.slot) new (header_of c.slot) m
@@ -46,7 +46,7 @@ module _ (c : Contents) (payload bytes : List ℕ) (gate : ℕ) (at_gate : gate 
   pub bytes_torn_holds : (was image : List ℕ) → Holds c was → IsTorn (gate + 1) (length bytes) was image → Holds c image
   bytes_torn_holds was image holds torn =
       holds_same c was image torn.whole
-      (torn_before (gate + 1) (length bytes) was image holds torn (omega arith) within (1052672 + end_of c.groups) (omega arith))
+      (torn_before (gate + 1) (length bytes) was image holds torn (omega arith) within (1052672 + end_of_groups c.groups) (omega arith))
       (λ is_open. holds.groups_are.ended (subst (λ (k : ℕ). get_or was k 0 ≡ 1) (omega arith) (sym (torn.below gate (omega arith)) ∙ subst (λ (k : ℕ). get_or image k 0 ≡ 1) (omega arith) is_open)))
       (same_no_rise was image (other_than c.slot) (other_before (gate + 1) (length bytes) was image holds torn (omega arith) within 4096 (omega arith)))
       holds
@@ -70,36 +70,36 @@ module _ (c : Contents) (payload bytes : List ℕ) (gate : ℕ) (at_gate : gate 
       other = same_no_rise staged image (other_than c.slot) (other_before gate 1 staged image staged_holds torn (omega arith) (omega (arith, within)) 4096 (omega arith))
 
       -- a gate that is not open leaves the contents
-      pub still_shut : (IsOpen image gate → ⊥) → Holds c image
+      pub still_shut : (IsGateOpen image gate → ⊥) → Holds c image
       still_shut shut =
           holds_as c staged image c.groups torn.whole (below 1052672 (omega arith)) other
-          (groups_same c.format staged image (area_of c.slot) (area_of c.slot) 0 c.groups (same_part (below (1052672 + end_of c.groups) (omega arith)) 1052672 (0 + end_of c.groups) (area_of c.slot) (area_of c.slot) (omega arith) refl refl)
+          (groups_same c.format staged image (area_of c.slot) (area_of c.slot) 0 c.groups (same_part (below (1052672 + end_of_groups c.groups) (omega arith)) 1052672 (0 + end_of_groups c.groups) (area_of c.slot) (area_of c.slot) (omega arith) refl refl)
           (λ is_open. shut (subst (λ (k : ℕ). get_or image k 0 ≡ 1) (omega arith) is_open)) staged_holds.groups_are)
           staged_holds
 
-      behind : SameBytes image (gate + 1) (behind_gate payload) 0 (5 + length payload)
+      behind : SameBytes image (gate + 1) (after_gate payload) 0 (5 + length payload)
       behind =
           let written = written_same seen (gate + 1) bytes room in
           let after = torn_same gate 1 staged image torn (gate + 1) (length bytes) (inr (omega arith)) (omega (arith, length-after_write seen (gate + 1) bytes room, room)) in
-          subst (λ (n : ℕ). SameBytes image (gate + 1) (behind_gate payload) 0 n) long
+          subst (λ (n : ℕ). SameBytes image (gate + 1) (after_gate payload) 0 n) long
           (subst (λ (l : List ℕ). SameBytes image (gate + 1) l 0 (length bytes)) bytes_are (same_through (same_back after) written))
 
       -- an open one adds the group
-      pub opened : IsOpen image gate → Holds (with_group c payload) image
+      pub opened : IsGateOpen image gate → Holds (with_group c payload) image
       opened is_open =
           let is = spelled image (gate + 1) payload (omega (arith, fits.within)) behind in
-          let group : IsGroup c.format image (area_of c.slot) (0 + end_of c.groups) payload = record {
+          let group : IsGroup c.format image (area_of c.slot) (0 + end_of_groups c.groups) payload = record {
             is_open = subst (λ (k : ℕ). get_or image k 0 ≡ 1) (omega arith) is_open;
             length_is = subst (λ (k : ℕ). number_at image k 4 ≡ length payload) (omega arith) is.length_is;
-            fits = subst (λ (k : ℕ). Fits c.format k (length payload)) (omega arith) fits;
+            fits = subst (λ (k : ℕ). GroupFits c.format k (length payload)) (omega arith) fits;
             payload_is = subst (λ (k : ℕ). bytes_at image k (length payload) ≡ payload) (omega arith) is.payload_is;
           } in
-          let stand = stand_same c.format staged image (area_of c.slot) (area_of c.slot) 0 c.groups (same_part (below (1052672 + end_of c.groups) (omega arith)) 1052672 (0 + end_of c.groups) (area_of c.slot) (area_of c.slot) (omega arith) refl refl) staged_holds.groups_are.stand in
-          let end = end_of-more c.groups payload in
+          let stand = stand_same c.format staged image (area_of c.slot) (area_of c.slot) 0 c.groups (same_part (below (1052672 + end_of_groups c.groups) (omega arith)) 1052672 (0 + end_of_groups c.groups) (area_of c.slot) (area_of c.slot) (omega arith) refl refl) staged_holds.groups_are.stand in
+          let end = end_of_groups-more c.groups payload in
           holds_as c staged image (c.groups ++ payload ∷ []) torn.whole (below 1052672 (omega arith)) other
           (record {
             stand = stand_more c.format image (area_of c.slot) 0 c.groups payload stand group;
-            ended = let there : gate + 1 + 4 + length payload ≡ area_of c.slot + (0 + end_of (c.groups ++ payload ∷ [])) = omega (arith, end) in subst (λ (k : ℕ). IsShut image k) there (shut_by_zero image (gate + 1 + 4 + length payload) is.ended);
+            ended = let there : gate + 1 + 4 + length payload ≡ area_of c.slot + (0 + end_of_groups (c.groups ++ payload ∷ [])) = omega (arith, end) in subst (λ (k : ℕ). IsGateShut image k) there (shut_by_zero image (gate + 1 + 4 + length payload) is.ended);
           })
           staged_holds
 

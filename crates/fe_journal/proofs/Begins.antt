@@ -6,10 +6,10 @@ use Rattle.fe_disk.proofs.Images.{length-after_write, IsTorn-after_write}
 use Rattle.fe_disk.proofs.Moments.{goes_on, weaker}
 use Rattle.fe_journal.specs.Layout.{header_of, gate_of, image_of, area_of, other_than}
 use Rattle.fe_format.specs.Layout.{IsImageLength}
-use Rattle.fe_journal.specs.Groups.{end_of}
+use Rattle.fe_journal.specs.Groups.{end_of_groups}
 use Rattle.fe_journal.specs.Contents.{Contents, Holds, HoldsEither}
-use Rattle.fe_journal.specs.Journal.{JournalState, Draft, IsDraft, IsLeft, Keeps, IsCatchUp, catch_up_groups, new_draft, with_slice, finished}
-use Rattle.fe_journal.specs.Steps.{header_fields, area_start, IsLeftInCommit, IsLeftInBeginning, IsHeaderTorn, IsBegun, after_commit}
+use Rattle.fe_journal.specs.Journal.{JournalState, Draft, IsDraft, IsLeft, KeepsContents, IsCatchUp, catch_up_groups, new_draft, with_slice, with_draft}
+use Rattle.fe_journal.specs.Steps.{header_fields, area_start, IsLeftInCommit, IsLeftInBeginning, IsHeaderTorn, IsSlotBegun, after_commit}
 use Rattle.fe_journal.specs.within.Fields.{state_of}
 use Rattle.fe_journal.specs.declared.journal.Journal.TheInside.{Inside}
 use Rattle.fe_format.specs.declared.format.Format.{Format}
@@ -40,7 +40,7 @@ begun_more b d slice same =
     ap more same ∙ ap so_far (sym (length-append d.bytes slice))
 
 module _ {D : Type 0} (moment : D → ℕ) (left_since : D → ℕ → List ℕ → Type 0) (seen : D → List ℕ) (may_leave : D → List ℕ → Type 0) where
-  module _ (j : JournalState D) (c : Contents) (d : Draft) (catch_up bytes : List ℕ) (at gate : ℕ) (keeps : Keeps seen may_leave j c (Some d)) (stays : may_leave j.disk (seen j.disk))
+  module _ (j : JournalState D) (c : Contents) (d : Draft) (catch_up bytes : List ℕ) (at gate : ℕ) (keeps : KeepsContents seen may_leave j c (Some d)) (stays : may_leave j.disk (seen j.disk))
       (at_is : at ≡ area_of (1 - j.slot)) (gate_is : gate ≡ gate_of (1 - j.slot)) (bytes_are : bytes ≡ area_start catch_up)
       (ready : ForSome j.begun (λ b. (b.written ≡ b.image_length) × IsCatchUp b.format catch_up)) where
     whole : (length d.bytes ≡ d.image_length) × IsCatchUp d.format catch_up
@@ -52,15 +52,15 @@ module _ {D : Type 0} (moment : D → ℕ) (left_since : D → ℕ → List ℕ 
     gate_there : gate ≡ gate_of (other_than c.slot)
     gate_there = let s : j.slot ≡ c.slot = keeps.slot_is in omega arith
 
-    pub finish_moments : (new : D) → LeavesOnly moment left_since j.disk new (IsLeftInCommit (may_leave j.disk) (seen j.disk) at bytes gate) → LeavesOnly moment left_since j.disk new (HoldsEither c (finished c d catch_up))
+    pub finish_moments : (new : D) → LeavesOnly moment left_since j.disk new (IsLeftInCommit (may_leave j.disk) (seen j.disk) at bytes gate) → LeavesOnly moment left_since j.disk new (HoldsEither c (with_draft c d catch_up))
     finish_moments new run =
-        weaker moment left_since j.disk new (IsLeftInCommit (may_leave j.disk) (seen j.disk) (area_of (other_than c.slot)) bytes (gate_of (other_than c.slot))) (HoldsEither c (finished c d catch_up))
+        weaker moment left_since j.disk new (IsLeftInCommit (may_leave j.disk) (seen j.disk) (area_of (other_than c.slot)) bytes (gate_of (other_than c.slot))) (HoldsEither c (with_draft c d catch_up))
         (left_in_finish c d catch_up bytes bytes_are (keeps.drafted d refl).1 whole.0 whole.1 (may_leave j.disk) (seen j.disk) keeps.left (keeps.left (seen j.disk) stays) (keeps.drafted d refl).0)
         (subst (λ (k : ℕ). LeavesOnly moment left_since j.disk new (IsLeftInCommit (may_leave j.disk) (seen j.disk) (area_of (other_than c.slot)) bytes k)) gate_there
         (subst (λ (k : ℕ). LeavesOnly moment left_since j.disk new (IsLeftInCommit (may_leave j.disk) (seen j.disk) k bytes gate)) at_there run))
 
-    pub finish_keeps : (new : D) (b : Begun) (used : ℕ) (failed : Bool) → j.begun ≡ Some b → used ≡ end_of (catch_up_groups catch_up) → seen new ≡ after_commit (seen j.disk) at bytes gate → LeavesJust (seen new) (may_leave new)
-        → Keeps seen may_leave (record { disk = new; slot = 1 - j.slot; format = b.format; generation = b.generation; used = used; begun = None; has_failed = failed }) (finished c d catch_up) None
+    pub finish_keeps : (new : D) (b : Begun) (used : ℕ) (failed : Bool) → j.begun ≡ Some b → used ≡ end_of_groups (catch_up_groups catch_up) → seen new ≡ after_commit (seen j.disk) at bytes gate → LeavesJust (seen new) (may_leave new)
+        → KeepsContents seen may_leave (record { disk = new; slot = 1 - j.slot; format = b.format; generation = b.generation; used = used; begun = None; has_failed = failed }) (with_draft c d catch_up) None
     finish_keeps new b used failed begun used_is committed just =
         let same = begun_same b (record { format = d.format; generation = d.generation; image_length = d.image_length; written = length d.bytes }) (sym begun ∙ keeps.begun_is) in
         let there = committed ∙ ap (λ (k : ℕ). after_commit (seen j.disk) k bytes gate) at_there ∙ ap (λ (k : ℕ). after_commit (seen j.disk) (area_of (other_than c.slot)) bytes k) gate_there in
@@ -71,12 +71,12 @@ module _ {D : Type 0} (moment : D → ℕ) (left_since : D → ℕ → List ℕ 
           generation_is = ap (λ (e : Begun). e.generation) same;
           used_is = used_is;
           begun_is = refl;
-          left = λ image left. record { holds = subst (λ (l : List ℕ). Holds (finished c d catch_up) l) (sym (just image left ∙ there)) holds; shut = λ is. cc };
+          left = λ image left. record { holds = subst (λ (l : List ℕ). Holds (with_draft c d catch_up) l) (sym (just image left ∙ there)) holds; shut = λ is. cc };
           drafted = λ e is. cc;
           settled = λ _. just;
         }
 
-  module _ (j : JournalState D) (c : Contents) (d : Draft) (slice : List ℕ) (at : ℕ) (b : Begun) (keeps : Keeps seen may_leave j c (Some d)) (stays : may_leave j.disk (seen j.disk))
+  module _ (j : JournalState D) (c : Contents) (d : Draft) (slice : List ℕ) (at : ℕ) (b : Begun) (keeps : KeepsContents seen may_leave j c (Some d)) (stays : may_leave j.disk (seen j.disk))
       (begun : j.begun ≡ Some b) (at_is : at ≡ image_of (1 - j.slot) + b.written) (fits : b.written + length slice ≤ b.image_length) where
     same : b ≡ record { format = d.format; generation = d.generation; image_length = d.image_length; written = length d.bytes }
     same = begun_same b (record { format = d.format; generation = d.generation; image_length = d.image_length; written = length d.bytes }) (sym begun ∙ keeps.begun_is)
@@ -103,7 +103,7 @@ module _ {D : Type 0} (moment : D → ℕ) (left_since : D → ℕ → List ℕ 
         (λ image now. let from = follows image now in (slice_leaves (Some d) from.0 image from.2 (keeps.left from.0 from.1)).holds)
 
     pub write_keeps : (new : D) (failed : Bool) → Follows (IsTorn at (length slice)) (may_leave j.disk) (may_leave new) → seen new ≡ after_write (seen j.disk) at slice
-        → Keeps seen may_leave (record { disk = new; slot = j.slot; format = j.format; generation = j.generation; used = j.used; begun = Some (record { format = b.format; generation = b.generation; image_length = b.image_length; written = b.written + length slice }); has_failed = failed }) c (Some (with_slice d slice))
+        → KeepsContents seen may_leave (record { disk = new; slot = j.slot; format = j.format; generation = j.generation; used = j.used; begun = Some (record { format = b.format; generation = b.generation; image_length = b.image_length; written = b.written + length slice }); has_failed = failed }) c (Some (with_slice d slice))
     write_keeps new failed follows wrote =
         let old = seen j.disk in
         let left = keeps.left old stays in
@@ -146,7 +146,7 @@ module _ {D : Type 0} (moment : D → ℕ) (left_since : D → ℕ → List ℕ 
         draft_is : (e : Draft) → Some (with_slice d slice) ≡ Some e → with_slice d slice ≡ e
         draft_is e is = cc
 
-  module _ (j : JournalState D) (c : Contents) (format : Format) (generation image_length slot : ℕ) (keeps : Keeps seen may_leave j c None) (stays : may_leave j.disk (seen j.disk))
+  module _ (j : JournalState D) (c : Contents) (format : Format) (generation image_length slot : ℕ) (keeps : KeepsContents seen may_leave j c None) (stays : may_leave j.disk (seen j.disk))
       (slot_is : slot ≡ 1 - j.slot) (next : generation ≡ j.generation + 1) (small : generation < 256 ^ 8) (allowed : IsImageLength format image_length) where
     slot_there : slot ≡ other_than c.slot
     slot_there = let s : j.slot ≡ c.slot = keeps.slot_is in omega arith
@@ -157,8 +157,8 @@ module _ {D : Type 0} (moment : D → ℕ) (left_since : D → ℕ → List ℕ 
         (λ image left. begin_holds c (seen j.disk) image (keeps.left (seen j.disk) stays).holds left)
         (subst (λ (k : ℕ). LeavesOnly moment left_since j.disk new (IsLeftInBeginning (seen j.disk) k)) slot_there run)
 
-    pub begin_keeps : (new : D) (failed : Bool) → ((image : List ℕ) → may_leave new image → IsHeaderTorn (seen j.disk) slot image) → IsBegun (seen j.disk) slot (header_fields format generation image_length) (seen new)
-        → Keeps seen may_leave (record { disk = new; slot = j.slot; format = j.format; generation = j.generation; used = j.used; begun = Some (record { format = format; generation = generation; image_length = image_length; written = 0 }); has_failed = failed }) c (Some (new_draft format generation image_length))
+    pub begin_keeps : (new : D) (failed : Bool) → ((image : List ℕ) → may_leave new image → IsHeaderTorn (seen j.disk) slot image) → IsSlotBegun (seen j.disk) slot (header_fields format generation image_length) (seen new)
+        → KeepsContents seen may_leave (record { disk = new; slot = j.slot; format = j.format; generation = j.generation; used = j.used; begun = Some (record { format = format; generation = generation; image_length = image_length; written = 0 }); has_failed = failed }) c (Some (new_draft format generation image_length))
     begin_keeps new failed lefts begun =
         let old = seen j.disk in
         let holds = (keeps.left old stays).holds in
@@ -206,33 +206,33 @@ module _ {D : Type 0} (moment : D → ℕ) (left_since : D → ℕ → List ℕ 
     ready_inside = subst (λ (s : JournalState D). ForSome s.begun (λ b. (b.written ≡ b.image_length) × IsCatchUp b.format catch_up)) (sym same) ready
 
     pub finish_run : (new : D) → (honest inside.disk → LeavesOnly moment left_since inside.disk new (IsLeftInCommit (may_leave inside.disk) (seen inside.disk) at bytes gate))
-        → honest j.disk → (c : Contents) (d : Draft) → Keeps seen may_leave j c (Some d) → LeavesOnly moment left_since j.disk new (HoldsEither c (finished c d catch_up))
+        → honest j.disk → (c : Contents) (d : Draft) → KeepsContents seen may_leave j c (Some d) → LeavesOnly moment left_since j.disk new (HoldsEither c (with_draft c d catch_up))
     finish_run new run =
-        subst (λ (s : JournalState D). honest s.disk → (c : Contents) (d : Draft) → Keeps seen may_leave s c (Some d) → LeavesOnly moment left_since s.disk new (HoldsEither c (finished c d catch_up))) same
+        subst (λ (s : JournalState D). honest s.disk → (c : Contents) (d : Draft) → KeepsContents seen may_leave s c (Some d) → LeavesOnly moment left_since s.disk new (HoldsEither c (with_draft c d catch_up))) same
         (λ is c d keeps. finish_moments moment left_since seen may_leave (state_of inside) c d catch_up bytes at gate keeps (stays is) at_is gate_is bytes_are ready_inside new (run is))
 
-    pub finish_kept : (new : D) (b : Begun) (used : ℕ) → inside.begun ≡ Some b → used ≡ end_of (catch_up_groups catch_up) → (honest inside.disk → seen new ≡ after_commit (seen inside.disk) at bytes gate) → (honest inside.disk → LeavesJust (seen new) (may_leave new))
-        → honest j.disk → (c : Contents) (d : Draft) → Keeps seen may_leave j c (Some d)
-        → Keeps seen may_leave (record { disk = new; slot = 1 - inside.slot; format = b.format; generation = b.generation; used = used; begun = None; has_failed = inside.has_failed }) (finished c d catch_up) None
+    pub finish_kept : (new : D) (b : Begun) (used : ℕ) → inside.begun ≡ Some b → used ≡ end_of_groups (catch_up_groups catch_up) → (honest inside.disk → seen new ≡ after_commit (seen inside.disk) at bytes gate) → (honest inside.disk → LeavesJust (seen new) (may_leave new))
+        → honest j.disk → (c : Contents) (d : Draft) → KeepsContents seen may_leave j c (Some d)
+        → KeepsContents seen may_leave (record { disk = new; slot = 1 - inside.slot; format = b.format; generation = b.generation; used = used; begun = None; has_failed = inside.has_failed }) (with_draft c d catch_up) None
     finish_kept new b used begun end committed just =
-        subst (λ (s : JournalState D). honest s.disk → (c : Contents) (d : Draft) → Keeps seen may_leave s c (Some d)
-        → Keeps seen may_leave (record { disk = new; slot = 1 - inside.slot; format = b.format; generation = b.generation; used = used; begun = None; has_failed = inside.has_failed }) (finished c d catch_up) None) same
+        subst (λ (s : JournalState D). honest s.disk → (c : Contents) (d : Draft) → KeepsContents seen may_leave s c (Some d)
+        → KeepsContents seen may_leave (record { disk = new; slot = 1 - inside.slot; format = b.format; generation = b.generation; used = used; begun = None; has_failed = inside.has_failed }) (with_draft c d catch_up) None) same
         (λ is c d keeps. finish_keeps moment left_since seen may_leave (state_of inside) c d catch_up bytes at gate keeps (stays is) at_is gate_is bytes_are ready_inside new b used inside.has_failed begun end (committed is) (just is))
 
   module _ (slice : List ℕ) (at : ℕ) (b : Begun) (begun : inside.begun ≡ Some b) (at_is : at ≡ image_of (1 - inside.slot) + b.written) (fits : b.written + length slice ≤ b.image_length) where
     pub write_run : (new : D) → (honest inside.disk → (image : List ℕ) → left_since inside.disk (moment inside.disk) image → may_leave inside.disk image)
         → (honest inside.disk → Follows (IsTorn at (length slice)) (may_leave inside.disk) (may_leave new)) → (honest inside.disk → Elapses moment left_since may_leave inside.disk new)
-        → honest j.disk → (c : Contents) (d : Draft) → Keeps seen may_leave j c (Some d) → LeavesOnly moment left_since j.disk new (Holds c)
+        → honest j.disk → (c : Contents) (d : Draft) → KeepsContents seen may_leave j c (Some d) → LeavesOnly moment left_since j.disk new (Holds c)
     write_run new only_now follows time =
-        subst (λ (s : JournalState D). honest s.disk → (c : Contents) (d : Draft) → Keeps seen may_leave s c (Some d) → LeavesOnly moment left_since s.disk new (Holds c)) same
+        subst (λ (s : JournalState D). honest s.disk → (c : Contents) (d : Draft) → KeepsContents seen may_leave s c (Some d) → LeavesOnly moment left_since s.disk new (Holds c)) same
         (λ is c d keeps. write_moments moment left_since seen may_leave (state_of inside) c d slice at b keeps (stays is) begun at_is fits new (only_now is) (follows is) (time is))
 
     pub write_kept : (new : D) → (honest inside.disk → Follows (IsTorn at (length slice)) (may_leave inside.disk) (may_leave new)) → (honest inside.disk → seen new ≡ after_write (seen inside.disk) at slice)
-        → honest j.disk → (c : Contents) (d : Draft) → Keeps seen may_leave j c (Some d)
-        → Keeps seen may_leave (record (state_of inside) { disk = new; begun = Some (record b { written = b.written + length slice }) }) c (Some (with_slice d slice))
+        → honest j.disk → (c : Contents) (d : Draft) → KeepsContents seen may_leave j c (Some d)
+        → KeepsContents seen may_leave (record (state_of inside) { disk = new; begun = Some (record b { written = b.written + length slice }) }) c (Some (with_slice d slice))
     write_kept new follows wrote =
-        subst (λ (s : JournalState D). honest s.disk → (c : Contents) (d : Draft) → Keeps seen may_leave s c (Some d)
-        → Keeps seen may_leave (record (state_of inside) { disk = new; begun = Some (record b { written = b.written + length slice }) }) c (Some (with_slice d slice))) same
+        subst (λ (s : JournalState D). honest s.disk → (c : Contents) (d : Draft) → KeepsContents seen may_leave s c (Some d)
+        → KeepsContents seen may_leave (record (state_of inside) { disk = new; begun = Some (record b { written = b.written + length slice }) }) c (Some (with_slice d slice))) same
         (λ is c d keeps. write_keeps moment left_since seen may_leave (state_of inside) c d slice at b keeps (stays is) begun at_is fits new inside.has_failed (follows is) (wrote is))
 
   module _ (format : Format) (generation image_length slot : ℕ) (slot_is : slot ≡ 1 - inside.slot) (next : generation ≡ j.generation + 1) (small : generation < 256 ^ 8) (allowed : IsImageLength format image_length) where
@@ -240,16 +240,16 @@ module _ {D : Type 0} (moment : D → ℕ) (left_since : D → ℕ → List ℕ 
     next_inside = next ∙ ap (λ (s : JournalState D). s.generation + 1) (sym same)
 
     pub begin_run : (new : D) → (honest inside.disk → LeavesJust (seen inside.disk) (may_leave inside.disk) → LeavesOnly moment left_since inside.disk new (IsLeftInBeginning (seen inside.disk) slot))
-        → honest j.disk → (c : Contents) → Keeps seen may_leave j c None → LeavesOnly moment left_since j.disk new (Holds c)
+        → honest j.disk → (c : Contents) → KeepsContents seen may_leave j c None → LeavesOnly moment left_since j.disk new (Holds c)
     begin_run new run =
-        subst (λ (s : JournalState D). honest s.disk → (c : Contents) → Keeps seen may_leave s c None → LeavesOnly moment left_since s.disk new (Holds c)) same
+        subst (λ (s : JournalState D). honest s.disk → (c : Contents) → KeepsContents seen may_leave s c None → LeavesOnly moment left_since s.disk new (Holds c)) same
         (λ is c keeps. begin_moments moment left_since seen may_leave (state_of inside) c format generation image_length slot keeps (stays is) slot_is next_inside small allowed new (run is (keeps.settled refl)))
 
     pub begin_kept : (new : D) → (honest inside.disk → LeavesJust (seen inside.disk) (may_leave inside.disk) → (image : List ℕ) → may_leave new image → IsHeaderTorn (seen inside.disk) slot image)
-        → (honest inside.disk → IsBegun (seen inside.disk) slot (header_fields format generation image_length) (seen new))
-        → honest j.disk → (c : Contents) → Keeps seen may_leave j c None
-        → Keeps seen may_leave (record (state_of inside) { disk = new; begun = Some (record { format = format; generation = generation; image_length = image_length; written = 0 }) }) c (Some (new_draft format generation image_length))
+        → (honest inside.disk → IsSlotBegun (seen inside.disk) slot (header_fields format generation image_length) (seen new))
+        → honest j.disk → (c : Contents) → KeepsContents seen may_leave j c None
+        → KeepsContents seen may_leave (record (state_of inside) { disk = new; begun = Some (record { format = format; generation = generation; image_length = image_length; written = 0 }) }) c (Some (new_draft format generation image_length))
     begin_kept new lefts begun =
-        subst (λ (s : JournalState D). honest s.disk → (c : Contents) → Keeps seen may_leave s c None
-        → Keeps seen may_leave (record (state_of inside) { disk = new; begun = Some (record { format = format; generation = generation; image_length = image_length; written = 0 }) }) c (Some (new_draft format generation image_length))) same
+        subst (λ (s : JournalState D). honest s.disk → (c : Contents) → KeepsContents seen may_leave s c None
+        → KeepsContents seen may_leave (record (state_of inside) { disk = new; begun = Some (record { format = format; generation = generation; image_length = image_length; written = 0 }) }) c (Some (new_draft format generation image_length))) same
         (λ is c keeps. begin_keeps moment left_since seen may_leave (state_of inside) c format generation image_length slot keeps (stays is) slot_is next_inside small allowed new inside.has_failed (lefts is (keeps.settled refl)) (begun is))

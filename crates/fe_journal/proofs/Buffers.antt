@@ -3,27 +3,27 @@ use Rattle.std.proofs.Common.{◌≡◌, ℕ, ◌+◌, ◌-◌, ◌≤◌, List,
 use Rattle.std.proofs.lemmas.List.{length-take-le, take_all, take_at, take-append-le}
 use Rattle.fe_disk.specs.Disk.{after_write}
 use Rattle.fe_disk.proofs.Images.{length-after_write}
-use Rattle.fe_journal.specs.Groups.{behind_gate, end_of}
+use Rattle.fe_journal.specs.Groups.{after_gate, end_of_groups}
 use Rattle.fe_journal.specs.Journal.{catch_up_groups}
 use Rattle.fe_journal.specs.Steps.{area_start}
 use Rattle.fe_journal.proofs.Bytes.{SameBytes, same_part, same_bytes_at, part_same}
-use Rattle.fe_journal.proofs.Spelled.{length-behind_gate, bytes_whole}
+use Rattle.fe_journal.proofs.Spelled.{length-after_gate, bytes_whole}
 
 -- the whole of a buffer that was lent whole
 pub buffer_whole : (new items : List ℕ) (len : ℕ) → length new ≡ len → take len (new ++ drop (length new) items) ≡ new
 buffer_whole new items len long = take-append-le len new (drop (length new) items) (omega arith) ∙ take_all len new (omega arith)
 
 -- what is in it after the first byte
-pub buffer_tail : (new payload : List ℕ) (m : ℕ) → 6 + length payload ≤ length new → take (6 + length payload) new ≡ 1 ∷ behind_gate payload → m ≡ 5 + length payload → take m (drop 1 new) ≡ behind_gate payload
+pub buffer_tail : (new payload : List ℕ) (m : ℕ) → 6 + length payload ≤ length new → take (6 + length payload) new ≡ 1 ∷ after_gate payload → m ≡ 5 + length payload → take m (drop 1 new) ≡ after_gate payload
 buffer_tail new payload m room staged size =
-    let long = length-behind_gate payload in
+    let long = length-after_gate payload in
     let all = subst (λ (l : List ℕ). SameBytes new 0 l 0 (6 + length payload)) staged (part_same new 0 (6 + length payload) (omega arith)) in
     let tail = same_part all 1 m 1 1 (omega arith) refl refl in
-    same_bytes_at tail ∙ bytes_whole (behind_gate payload) m (omega arith)
+    same_bytes_at tail ∙ bytes_whole (after_gate payload) m (omega arith)
 
 -- the bytes of a group after its gate, read from a buffer that was lent whole
-pub group_read : (lent new items payload : List ℕ) (len count : ℕ) → lent ≡ take len (new ++ drop (length new) items) → length new ≡ len → 6 + length payload ≤ length new → take (6 + length payload) new ≡ 1 ∷ behind_gate payload
-    → count ≡ 6 + length payload → take (count - 1) (drop 1 lent) ≡ behind_gate payload
+pub group_read : (lent new items payload : List ℕ) (len count : ℕ) → lent ≡ take len (new ++ drop (length new) items) → length new ≡ len → 6 + length payload ≤ length new → take (6 + length payload) new ≡ 1 ∷ after_gate payload
+    → count ≡ 6 + length payload → take (count - 1) (drop 1 lent) ≡ after_gate payload
 group_read lent new items payload len count is long room staged size =
     ap (λ (l : List ℕ). take (count - 1) (drop 1 l)) (is ∙ buffer_whole new items len long) ∙ buffer_tail new payload (count - 1) room staged (omega arith)
 
@@ -54,7 +54,7 @@ none_put (byte ∷ bytes) [] some none = refl
 none_put (byte ∷ bytes) (x ∷ xs) some none = absurd (omega arith)
 
 -- how many bytes a new area begins with, and where the gate after them stands
-pub start_end : (buffer catch_up : List ℕ) (count : ℕ) → count ≤ length buffer → take count buffer ≡ area_start catch_up → count - 1 ≡ end_of (catch_up_groups catch_up)
+pub start_end : (buffer catch_up : List ℕ) (count : ℕ) → count ≤ length buffer → take count buffer ≡ area_start catch_up → count - 1 ≡ end_of_groups (catch_up_groups catch_up)
 start_end buffer [] count fits is = let long : count ≡ 1 = sym (length-take-le count buffer fits) ∙ ap (λ (l : List ℕ). length l) is in omega arith
 start_end buffer (x ∷ xs) count fits is =
-    let long : count ≡ length (area_start (x ∷ xs)) = sym (length-take-le count buffer fits) ∙ ap (λ (l : List ℕ). length l) is in omega (arith, length-behind_gate (x ∷ xs))
+    let long : count ≡ length (area_start (x ∷ xs)) = sym (length-take-le count buffer fits) ∙ ap (λ (l : List ℕ). length l) is in omega (arith, length-after_gate (x ∷ xs))

@@ -1,21 +1,21 @@
 -- An image holds at most one contents.
 use Rattle.std.proofs.Common.{◌≡◌, ℕ, ◌+◌, List, [], ◌∷◌, length, sym, ◌∙◌, ap, subst, refl, arith}
 use Rattle.fe_disk.specs.Disk.{bytes_at}
-use Rattle.fe_journal.specs.Layout.{area_of, image_of, IsOpen, IsShut}
-use Rattle.fe_journal.specs.Groups.{HoldsGroups, end_of}
+use Rattle.fe_journal.specs.Layout.{area_of, image_of, IsGateOpen, IsGateShut}
+use Rattle.fe_journal.specs.Groups.{HoldsGroups, end_of_groups}
 use Rattle.fe_journal.specs.Contents.{Contents, Holds, generation_at, image_length_at}
 use Rattle.fe_format.specs.declared.format.Format.{Format}
 use Rattle.fe_journal.proofs.Founds.{slot_same, format_same}
 
 none_and_some : (format : Format) (image : List ℕ) (area at : ℕ) (payload : List ℕ) (rest : List (List ℕ)) → HoldsGroups format image area at [] → HoldsGroups format image area at (payload ∷ rest) → ⊥
 none_and_some format image area at payload rest none some =
-    let place : at ≡ at + 0 = omega arith in
-    none.ended (subst (λ (k : ℕ). IsOpen image (area + k)) place some.stand.0.is_open)
+    let same_at : at ≡ at + 0 = omega arith in
+    none.ended (subst (λ (k : ℕ). IsGateOpen image (area + k)) same_at some.stand.0.is_open)
 
 rest_of : (format : Format) (image : List ℕ) (area at : ℕ) (payload : List ℕ) (rest : List (List ℕ)) → HoldsGroups format image area at (payload ∷ rest) → HoldsGroups format image area (at + (5 + length payload)) rest
 rest_of format image area at payload rest holds =
-    let there : area + (at + (5 + length payload + end_of rest)) ≡ area + (at + (5 + length payload) + end_of rest) = omega arith in
-    record { stand = holds.stand.1; ended = subst (λ (k : ℕ). IsShut image k) there holds.ended }
+    let there : area + (at + (5 + length payload + end_of_groups rest)) ≡ area + (at + (5 + length payload) + end_of_groups rest) = omega arith in
+    record { stand = holds.stand.1; ended = subst (λ (k : ℕ). IsGateShut image k) there holds.ended }
 
 one_groups : (format : Format) (image : List ℕ) (area at : ℕ) (xs ys : List (List ℕ)) → HoldsGroups format image area at xs → HoldsGroups format image area at ys → xs ≡ ys
 one_groups format image area at [] [] a b = refl

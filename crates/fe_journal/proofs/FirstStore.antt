@@ -2,11 +2,11 @@
 use Rattle.std.proofs.Common.{◌≡◌, ℕ, ◌+◌, ◌≤◌, List, [], ◌∷◌, length, get_or, None, inl, inr, sym, ◌∙◌, ap, subst, refl, arith}
 use Rattle.fe_disk.specs.Disk.{IsTorn, LeavesJust, bytes_at, after_write}
 use Rattle.fe_disk.proofs.Images.{IsTorn-after_write, bytes_at-after_write, bytes_at_elsewhere}
-use Rattle.fe_journal.specs.Layout.{header_of, gate_of, image_of, area_of, IsOpen, IsShut}
+use Rattle.fe_journal.specs.Layout.{header_of, gate_of, image_of, area_of, IsGateOpen, IsGateShut}
 use Rattle.fe_format.specs.Layout.{IsImageLength}
 use Rattle.fe_journal.specs.Contents.{Holds, empty_image, first_contents}
-use Rattle.fe_journal.specs.Journal.{JournalState, Keeps, new_journal}
-use Rattle.fe_journal.specs.Steps.{header_fields, after_commit, IsCleared, IsFirst}
+use Rattle.fe_journal.specs.Journal.{JournalState, KeepsContents, new_journal}
+use Rattle.fe_journal.specs.Steps.{header_fields, after_commit, IsCleared, IsFirstSlot}
 use Rattle.fe_format.specs.declared.format.Format.{Format}
 use Rattle.fe_format.specs.declared.format.Format.TheVariants.{One, Two}
 use Rattle.fe_journal.proofs.Bytes.{same_back, same_through, same_byte, torn_same, written_same, known_same}
@@ -14,7 +14,7 @@ use Rattle.fe_journal.proofs.Spelled.{HasFields, fields_spelled, length-header_f
 
 -- the header and the empty image, written after closed gates
 pub first_written : (format : Format) (seen mid new fields : List ℕ) (header image : ℕ) → length seen ≡ 4202496 → IsCleared seen → header ≡ header_of 0 → image ≡ image_of 0 → fields ≡ header_fields format 1 24
-    → mid ≡ after_write seen header fields → new ≡ after_write mid image empty_image → IsFirst format new
+    → mid ≡ after_write seen header fields → new ≡ after_write mid image empty_image → IsFirstSlot format new
 first_written format seen mid new fields header image whole cleared header_is image_at fields_are mid_is new_is =
     let twenty : length fields ≡ 20 = ap (λ (l : List ℕ). length l) fields_are ∙ length-header_fields format 1 24 in
     let fits : header + length fields ≤ length seen = omega arith in
@@ -45,7 +45,7 @@ abbrev open_byte : List ℕ
 open_byte = 1 ∷ []
 
 -- an area that begins with a closed gate, and then the header gate opened
-module _ (format : Format) (seen : List ℕ) (area gate : ℕ) (whole : length seen ≡ 4202496) (first : IsFirst format seen) (area_is : area ≡ area_of 0) (gate_is : gate ≡ gate_of 0) where
+module _ (format : Format) (seen : List ℕ) (area gate : ℕ) (whole : length seen ≡ 4202496) (first : IsFirstSlot format seen) (area_is : area ≡ area_of 0) (gate_is : gate ≡ gate_of 0) where
   abbrev staged : List ℕ
   staged = after_write seen area closed_byte
 
@@ -71,16 +71,16 @@ module _ (format : Format) (seen : List ℕ) (area gate : ℕ) (whole : length s
       let after = torn_same gate 1 staged last again (header_of 0) 20 (inl (omega arith)) (omega (arith, torn.whole)) in
       fields_spelled last (header_of 0) format 1 24 (omega arith) (omega arith) (same_through (same_back after) (same_through (same_back before) known))
 
-  is_open : IsOpen last (gate_of 0)
+  is_open : IsGateOpen last (gate_of 0)
   is_open = subst (λ (k : ℕ). get_or last k 0 ≡ 1) gate_is (same_byte (written_same staged gate open_byte room) 0 gate 0 (omega arith) (omega arith) refl)
 
-  ended : IsShut last (area_of 0)
+  ended : IsGateShut last (area_of 0)
   ended =
       let zero : get_or staged area 0 ≡ 0 = same_byte (written_same seen area closed_byte fits) 0 area 0 (omega arith) (omega arith) refl in
       let still : get_or last area 0 ≡ 0 = again.above area (omega arith) ∙ zero in
-      subst (λ (k : ℕ). IsShut last k) area_is (λ one. omega (arith, still, one))
+      subst (λ (k : ℕ). IsGateShut last k) area_is (λ one. omega (arith, still, one))
 
-  second : IsShut last (gate_of 1)
+  second : IsGateShut last (gate_of 1)
   second = λ one. first.cleared.second (sym (torn.above (gate_of 1) (omega arith)) ∙ sym (again.above (gate_of 1) (omega arith)) ∙ one)
 
   holds : Holds (first_contents format) last
@@ -105,9 +105,9 @@ module _ (format : Format) (seen : List ℕ) (area gate : ℕ) (whole : length s
 -- the journal of a new store
 pub first_keeps : {D : Type 0} (seen : D → List ℕ) (may_leave : D → List ℕ → Type 0) (journal : JournalState D) (disk : D) (format : Format)
     → journal ≡ new_journal format disk
-    → Holds (first_contents format) (seen disk) → LeavesJust (seen disk) (may_leave disk) → Keeps seen may_leave journal (first_contents format) None
+    → Holds (first_contents format) (seen disk) → LeavesJust (seen disk) (may_leave disk) → KeepsContents seen may_leave journal (first_contents format) None
 first_keeps {D} seen may_leave journal disk format journal_is holds just =
-    subst (λ (j : JournalState D). Keeps seen may_leave j (first_contents format) None) (sym journal_is)
+    subst (λ (j : JournalState D). KeepsContents seen may_leave j (first_contents format) None) (sym journal_is)
     (record {
       slot_is = refl;
       format_is = refl;

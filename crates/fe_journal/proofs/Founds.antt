@@ -6,15 +6,15 @@ use Rattle.std.proofs.lemmas.Option.{none-some}
 use Rattle.fe_disk.specs.Disk.{LeavesJust, bytes_at}
 use Rattle.fe_disk.specs.declared.calls.Calls.{Calls}
 use Rattle.fe_disk.proofs.Images.{length-bytes_at}
-use Rattle.fe_journal.specs.Layout.{header_of, image_of, area_of, device_bytes, number_at, IsOpen, IsShut}
+use Rattle.fe_journal.specs.Layout.{header_of, image_of, area_of, device_bytes, number_at, IsGateOpen, IsGateShut}
 use Rattle.fe_format.specs.Layout.{magic_of, IsImageLength}
-use Rattle.fe_journal.specs.Groups.{IsGroup, StandFrom, HoldsGroups, Fits, end_of}
-use Rattle.fe_journal.specs.Contents.{Contents, Holds, IsValidAs, Counts, generation_at, image_length_at}
+use Rattle.fe_journal.specs.Groups.{IsGroup, StandFrom, HoldsGroups, GroupFits, end_of_groups}
+use Rattle.fe_journal.specs.Contents.{Contents, Holds, IsValidAs, SlotCounts, generation_at, image_length_at}
 use Rattle.fe_journal.specs.Cursor.{Cursor, Lists}
 use Rattle.fe_journal.specs.Damage.{TellsFound, HasSoundHeader, IsUnformatted, IsDamagedAt, NoGeneration, OddImage, OddGroup}
 use Rattle.fe_journal.specs.Found.{IsFound, AsksToOpen}
-use Rattle.fe_journal.specs.Journal.{JournalState, IsLeft, Keeps}
-use Rattle.fe_journal.specs.Store.{IsStore, IsWhole}
+use Rattle.fe_journal.specs.Journal.{JournalState, IsLeft, KeepsContents}
+use Rattle.fe_journal.specs.Store.{IsStore, IsWholeStore}
 use Rattle.fe_format.specs.declared.format.Format.{Format}
 use Rattle.fe_format.specs.declared.format.Format.TheVariants.{One, Two}
 use Rattle.fe_journal.specs.declared.fault.StoreFault.{StoreFault}
@@ -24,7 +24,7 @@ use Rattle.fe_journal.specs.declared.store.Store.{Store}
 use Rattle.fe_journal.proofs.Bytes.{SameBytes, same_back, same_part, same_byte, known_same}
 use Rattle.fe_journal.proofs.Frames.{groups_same, image_short}
 
-module _ (image : List ℕ) (store : Store) (whole : length image ≡ device_bytes) (sized : IsWhole store) (is : IsStore image store) where
+module _ (image : List ℕ) (store : Store) (whole : length image ≡ device_bytes) (sized : IsWholeStore store) (is : IsStore image store) where
   abbrev pub contents_of : Contents
   contents_of = record { slot = store.slot; format = store.header.format; generation = store.header.generation; image = store.parts.image.items; groups = is.read.ends.groups }
 
@@ -37,12 +37,12 @@ module _ (image : List ℕ) (store : Store) (whole : length image ≡ device_byt
   groups_there =
       let area = store.parts.area.items in
       let groups = is.read.ends.groups in
-      let end : store.parts.used ≡ end_of groups = is.read.ends.at_is in
+      let end : store.parts.used ≡ end_of_groups groups = is.read.ends.at_is in
       let low : store.parts.used < 1048576 = sized.parts_whole.within in
       let slot : store.slot < 2 = sized.is_slot in
       let s : SameBytes area 0 image (area_of store.slot) 1048576 = same_back (known_same image (area_of store.slot) 1048576 area (omega (arith, whole, slot)) (sym is.read.area_is)) in
-      groups_same store.header.format area image 0 (area_of store.slot) 0 groups (same_part s 0 (0 + end_of groups) 0 (area_of store.slot) (omega (arith, end, low)) refl (omega arith))
-      (λ is_open. is.read.ends.holds.ended (same_byte s (end_of groups) (0 + (0 + end_of groups)) (area_of store.slot + (0 + end_of groups)) (omega (arith, end, low)) (omega arith) (omega arith) ∙ is_open))
+      groups_same store.header.format area image 0 (area_of store.slot) 0 groups (same_part s 0 (0 + end_of_groups groups) 0 (area_of store.slot) (omega (arith, end, low)) refl (omega arith))
+      (λ is_open. is.read.ends.holds.ended (same_byte s (end_of_groups groups) (0 + (0 + end_of_groups groups)) (area_of store.slot + (0 + end_of_groups groups)) (omega (arith, end, low)) (omega arith) (omega arith) ∙ is_open))
       is.read.ends.holds
 
   pub store_holds : Holds contents_of image
@@ -65,11 +65,11 @@ opened_as disk store = record { disk = disk; slot = store.slot; format = store.h
 abbrev pub first_of : Store → Cursor
 first_of store = record { bytes = store.parts.area.items; start = area_of store.slot; at = 0 }
 
-module _ {D : Type 0} (seen : D → List ℕ) (may_leave : D → List ℕ → Type 0) (disk : D) (store : Store) (whole : length (seen disk) ≡ device_bytes) (sized : IsWhole store) (is : IsStore (seen disk) store) (just : LeavesJust (seen disk) (may_leave disk)) where
+module _ {D : Type 0} (seen : D → List ℕ) (may_leave : D → List ℕ → Type 0) (disk : D) (store : Store) (whole : length (seen disk) ≡ device_bytes) (sized : IsWholeStore store) (is : IsStore (seen disk) store) (just : LeavesJust (seen disk) (may_leave disk)) where
   abbrev found_contents : Contents
   found_contents = contents_of (seen disk) store whole sized is
 
-  opened_keeps : Keeps seen may_leave (opened_as disk store) found_contents None
+  opened_keeps : KeepsContents seen may_leave (opened_as disk store) found_contents None
   opened_keeps =
       record {
         slot_is = refl;
@@ -87,7 +87,7 @@ module _ {D : Type 0} (seen : D → List ℕ) (may_leave : D → List ℕ → Ty
       record {
         contents = found_contents;
         holds = store_holds (seen disk) store whole sized is;
-        keeps = subst (λ (j : JournalState D). Keeps seen may_leave j found_contents None) (sym journal_is) opened_keeps;
+        keeps = subst (λ (j : JournalState D). KeepsContents seen may_leave j found_contents None) (sym journal_is) opened_keeps;
         image_is = image_is;
         groups_are = subst (λ (s : Cursor). Lists s is.read.ends.groups) (sym groups_are) (store.header.format, is.read.ends.holds);
         start_is = ap (λ (s : Cursor). s.start) groups_are;
@@ -95,30 +95,30 @@ module _ {D : Type 0} (seen : D → List ℕ) (may_leave : D → List ℕ → Ty
       }
 
 -- groups that stand agree with those that an area holds
-odd_none : (format : Format) (image : List ℕ) (area at : ℕ) (groups payloads : List (List ℕ)) → StandFrom format image area at groups → IsOpen image (area + (at + end_of groups)) → (Fits format (at + end_of groups) (number_at image (area + (at + end_of groups) + 1) 4) → ⊥)
+odd_none : (format : Format) (image : List ℕ) (area at : ℕ) (groups payloads : List (List ℕ)) → StandFrom format image area at groups → IsGateOpen image (area + (at + end_of_groups groups)) → (GroupFits format (at + end_of_groups groups) (number_at image (area + (at + end_of_groups groups) + 1) 4) → ⊥)
     → HoldsGroups format image area at payloads → ⊥
 odd_none format image area at [] [] stand is_open odd holds = holds.ended is_open
 odd_none format image area at [] (payload ∷ payloads) stand is_open odd holds =
     let first : IsGroup format image area at payload = holds.stand.0 in
-    let place : at ≡ at + 0 = omega arith in
-    let size : number_at image (area + (at + 0) + 1) 4 ≡ length payload = subst (λ (k : ℕ). number_at image (area + k + 1) 4 ≡ length payload) place first.length_is in
-    odd (subst (λ (k : ℕ). Fits format k (number_at image (area + (at + 0) + 1) 4)) place (subst (λ (n : ℕ). Fits format at n) (sym size) first.fits))
+    let same_at : at ≡ at + 0 = omega arith in
+    let size : number_at image (area + (at + 0) + 1) 4 ≡ length payload = subst (λ (k : ℕ). number_at image (area + k + 1) 4 ≡ length payload) same_at first.length_is in
+    odd (subst (λ (k : ℕ). GroupFits format k (number_at image (area + (at + 0) + 1) 4)) same_at (subst (λ (n : ℕ). GroupFits format at n) (sym size) first.fits))
 odd_none format image area at (group ∷ groups) [] stand is_open odd holds =
-    let place : at ≡ at + 0 = omega arith in
-    holds.ended (subst (λ (k : ℕ). IsOpen image (area + k)) place stand.0.is_open)
+    let same_at : at ≡ at + 0 = omega arith in
+    holds.ended (subst (λ (k : ℕ). IsGateOpen image (area + k)) same_at stand.0.is_open)
 odd_none format image area at (group ∷ groups) (payload ∷ payloads) stand is_open odd holds =
     let same : length payload ≡ length group = sym holds.stand.0.length_is ∙ stand.0.length_is in
-    let place : at + (5 + length group + end_of groups) ≡ at + (5 + length group) + end_of groups = omega arith in
-    let end : at + (5 + length payload + end_of payloads) ≡ at + (5 + length group) + end_of payloads = omega (arith, same) in
-    odd_none format image area (at + (5 + length group)) groups payloads stand.1 (subst (λ (k : ℕ). IsOpen image (area + k)) place is_open)
-    (λ fits. odd (subst (λ (k : ℕ). Fits format k (number_at image (area + k + 1) 4)) (sym place) fits))
+    let same_at : at + (5 + length group + end_of_groups groups) ≡ at + (5 + length group) + end_of_groups groups = omega arith in
+    let end : at + (5 + length payload + end_of_groups payloads) ≡ at + (5 + length group) + end_of_groups payloads = omega (arith, same) in
+    odd_none format image area (at + (5 + length group)) groups payloads stand.1 (subst (λ (k : ℕ). IsGateOpen image (area + k)) same_at is_open)
+    (λ fits. odd (subst (λ (k : ℕ). GroupFits format k (number_at image (area + k + 1) 4)) (sym same_at) fits))
     (record {
       stand = subst (λ (n : ℕ). StandFrom format image area (at + (5 + n)) payloads) same holds.stand.1;
-      ended = subst (λ (k : ℕ). IsShut image (area + k)) end holds.ended;
+      ended = subst (λ (k : ℕ). IsGateShut image (area + k)) end holds.ended;
     })
 
 -- one slot counts, in one format
-counts_one : (image : List ℕ) (slot other : ℕ) (f g : Format) → Counts image slot f → Counts image other g → slot ≡ other
+counts_one : (image : List ℕ) (slot other : ℕ) (f g : Format) → SlotCounts image slot f → SlotCounts image other g → slot ≡ other
 counts_one image slot other f g one two =
     let low : slot < 2 = one.is_slot in
     let low_too : other < 2 = two.is_slot in
@@ -144,10 +144,10 @@ one_format Two One same = absurd (omega (arith, same))
 one_format Two Two same = refl
 
 module _ (c : Contents) (image : List ℕ) (holds : Holds c image) where
-  pub slot_same : (slot : ℕ) (f : Format) → Counts image slot f → slot ≡ c.slot
+  pub slot_same : (slot : ℕ) (f : Format) → SlotCounts image slot f → slot ≡ c.slot
   slot_same slot f counts = counts_one image slot c.slot f c.format counts holds.counts
 
-  pub format_same : (slot : ℕ) (f : Format) → Counts image slot f → f ≡ c.format
+  pub format_same : (slot : ℕ) (f : Format) → SlotCounts image slot f → f ≡ c.format
   format_same slot f counts =
       one_format f c.format (sym (subst (λ (k : ℕ). number_at image (header_of k) 8 ≡ magic_of f) (slot_same slot f counts) counts.valid.magic) ∙ holds.counts.valid.magic)
 
@@ -163,9 +163,9 @@ module _ (c : Contents) (image : List ℕ) (holds : Holds c image) where
   undamaged offset (OddGroup slot f groups counts numbered fits stand is_open odd at) =
       let held : HoldsGroups f image (area_of slot) 0 c.groups = subst (λ (g : Format). HoldsGroups g image (area_of slot) 0 c.groups) (sym (format_same slot f counts))
       (subst (λ (k : ℕ). HoldsGroups c.format image (area_of k) 0 c.groups) (sym (slot_same slot f counts)) holds.groups_are) in
-      let place : end_of groups ≡ 0 + end_of groups = omega arith in
-      odd_none f image (area_of slot) 0 groups c.groups stand (subst (λ (k : ℕ). IsOpen image (area_of slot + k)) place is_open)
-      (λ there. odd (subst (λ (k : ℕ). Fits f k (number_at image (area_of slot + k + 1) 4)) (sym place) there)) held
+      let same_at : end_of_groups groups ≡ 0 + end_of_groups groups = omega arith in
+      odd_none f image (area_of slot) 0 groups c.groups stand (subst (λ (k : ℕ). IsGateOpen image (area_of slot + k)) same_at is_open)
+      (λ there. odd (subst (λ (k : ℕ). GroupFits f k (number_at image (area_of slot + k + 1) 4)) (sym same_at) there)) held
 
   pub formatted : IsUnformatted image → ⊥
   formatted (inl odd) = odd holds.whole
@@ -205,7 +205,7 @@ opens_as size failures calls honest below device first result old new asks back 
 
 -- ---- what is reported of a store that is unformatted
 
-none_counts : (image : List ℕ) (slot : ℕ) (format : Format) → length image ≡ device_bytes → Counts image slot format → IsUnformatted image → ⊥
+none_counts : (image : List ℕ) (slot : ℕ) (format : Format) → length image ≡ device_bytes → SlotCounts image slot format → IsUnformatted image → ⊥
 none_counts image slot format whole counts (inl odd) = odd whole
 none_counts image slot format whole counts (inr none) = none slot format counts.is_slot counts.valid
 

@@ -1,9 +1,9 @@
 -- Images that agree on the bytes that contents are read from hold the same contents.
 use Rattle.std.proofs.Common.{◌≡◌, ◌⊎◌, ℕ, ◌+◌, ◌<◌, ◌≤◌, List, [], ◌∷◌, ◌++◌, length, sym, ◌∙◌, subst, refl, arith}
-use Rattle.fe_journal.specs.Layout.{header_of, gate_of, image_of, area_of, other_than, IsShut}
+use Rattle.fe_journal.specs.Layout.{header_of, gate_of, image_of, area_of, other_than, IsGateShut}
 use Rattle.fe_format.specs.Layout.{IsImageLength}
-use Rattle.fe_journal.specs.Groups.{IsGroup, StandFrom, HoldsGroups, end_of}
-use Rattle.fe_journal.specs.Contents.{Contents, IsValidAs, Counts, Holds, generation_at, image_length_at}
+use Rattle.fe_journal.specs.Groups.{IsGroup, StandFrom, HoldsGroups, end_of_groups}
+use Rattle.fe_journal.specs.Contents.{Contents, IsValidAs, SlotCounts, Holds, generation_at, image_length_at}
 use Rattle.fe_journal.specs.Journal.{Draft, IsDraft}
 use Rattle.fe_format.specs.declared.format.Format.{Format}
 use Rattle.fe_format.specs.declared.format.Format.TheVariants.{One, Two}
@@ -18,31 +18,31 @@ group_same format xs ys a b at payload s is =
       payload_is = sym (same_bytes_at (same_part s (at + 5) (length payload) (a + at + 5) (b + at + 5) (omega arith) (omega arith) (omega arith))) ∙ is.payload_is;
     }
 
-pub stand_same : (format : Format) (xs ys : List ℕ) (a b at : ℕ) (payloads : List (List ℕ)) → SameBytes xs a ys b (at + end_of payloads) → StandFrom format xs a at payloads → StandFrom format ys b at payloads
+pub stand_same : (format : Format) (xs ys : List ℕ) (a b at : ℕ) (payloads : List (List ℕ)) → SameBytes xs a ys b (at + end_of_groups payloads) → StandFrom format xs a at payloads → StandFrom format ys b at payloads
 stand_same format xs ys a b at [] s stand = tt
 stand_same format xs ys a b at (payload ∷ payloads) s stand = (
   group_same format xs ys a b at payload (same_part s 0 (at + (5 + length payload)) a b (omega arith) (omega arith) (omega arith)) stand.0,
-  stand_same format xs ys a b (at + (5 + length payload)) payloads (same_part s 0 (at + (5 + length payload) + end_of payloads) a b (omega arith) (omega arith) (omega arith)) stand.1,
+  stand_same format xs ys a b (at + (5 + length payload)) payloads (same_part s 0 (at + (5 + length payload) + end_of_groups payloads) a b (omega arith) (omega arith) (omega arith)) stand.1,
 )
 
-pub groups_same : (format : Format) (xs ys : List ℕ) (a b at : ℕ) (payloads : List (List ℕ)) → SameBytes xs a ys b (at + end_of payloads) → IsShut ys (b + (at + end_of payloads)) → HoldsGroups format xs a at payloads → HoldsGroups format ys b at payloads
+pub groups_same : (format : Format) (xs ys : List ℕ) (a b at : ℕ) (payloads : List (List ℕ)) → SameBytes xs a ys b (at + end_of_groups payloads) → IsGateShut ys (b + (at + end_of_groups payloads)) → HoldsGroups format xs a at payloads → HoldsGroups format ys b at payloads
 groups_same format xs ys a b at payloads s shut holds = record { stand = stand_same format xs ys a b at payloads s holds.stand; ended = shut }
 
 -- one group more
-pub stand_more : (format : Format) (xs : List ℕ) (a at : ℕ) (payloads : List (List ℕ)) (payload : List ℕ) → StandFrom format xs a at payloads → IsGroup format xs a (at + end_of payloads) payload → StandFrom format xs a at (payloads ++ payload ∷ [])
+pub stand_more : (format : Format) (xs : List ℕ) (a at : ℕ) (payloads : List (List ℕ)) (payload : List ℕ) → StandFrom format xs a at payloads → IsGroup format xs a (at + end_of_groups payloads) payload → StandFrom format xs a at (payloads ++ payload ∷ [])
 stand_more format xs a at [] payload stand is = (subst (λ (k : ℕ). IsGroup format xs a k payload) (omega arith) is, tt)
 stand_more format xs a at (first ∷ payloads) payload stand is =
     (stand.0, stand_more format xs a (at + (5 + length first)) payloads payload stand.1 (subst (λ (k : ℕ). IsGroup format xs a k payload) (omega arith) is))
 
-pub end_of-more : (payloads : List (List ℕ)) (payload : List ℕ) → end_of (payloads ++ payload ∷ []) ≡ end_of payloads + (5 + length payload)
-end_of-more [] payload = omega arith
-end_of-more (first ∷ payloads) payload = omega (arith, end_of-more payloads payload)
+pub end_of_groups-more : (payloads : List (List ℕ)) (payload : List ℕ) → end_of_groups (payloads ++ payload ∷ []) ≡ end_of_groups payloads + (5 + length payload)
+end_of_groups-more [] payload = omega arith
+end_of_groups-more (first ∷ payloads) payload = omega (arith, end_of_groups-more payloads payload)
 
 -- the other slot is no more than it was: where it is valid it was, with the same generation
 pub record NoRise (old new : List ℕ) (slot : ℕ) : Type 0 where
   pub none : (format : Format) → IsValidAs new slot format → IsValidAs old slot format × (generation_at new slot ≡ generation_at old slot)
 
-pub shut_no_rise : (old new : List ℕ) (slot : ℕ) → IsShut new (gate_of slot) → NoRise old new slot
+pub shut_no_rise : (old new : List ℕ) (slot : ℕ) → IsGateShut new (gate_of slot) → NoRise old new slot
 shut_no_rise old new slot shut = record { none = λ format valid. absurd (shut valid.is_open) }
 
 pub same_no_rise : (old new : List ℕ) (slot : ℕ) → SameBytes old (header_of slot) new (header_of slot) 4096 → NoRise old new slot
@@ -71,7 +71,7 @@ module _ (old new : List ℕ) (slot : ℕ) (format : Format) (s : SameBytes old 
         magic = sym (same_number_at (same_part s 0 8 (header_of slot) (header_of slot) (omega arith) (omega arith) (omega arith))) ∙ valid.magic;
       }
 
-  pub counts_same : NoRise old new (other_than slot) → Counts old slot format → Counts new slot format
+  pub counts_same : NoRise old new (other_than slot) → SlotCounts old slot format → SlotCounts new slot format
   counts_same rise counts =
       record {
         is_slot = counts.is_slot;
@@ -103,11 +103,11 @@ holds_as c old new payloads long s rise groups holds =
     }
 
 -- the same contents
-pub holds_same : (c : Contents) (old new : List ℕ) → length new ≡ length old → SameBytes old (header_of c.slot) new (header_of c.slot) (1052672 + end_of c.groups) → IsShut new (area_of c.slot + (0 + end_of c.groups))
+pub holds_same : (c : Contents) (old new : List ℕ) → length new ≡ length old → SameBytes old (header_of c.slot) new (header_of c.slot) (1052672 + end_of_groups c.groups) → IsGateShut new (area_of c.slot + (0 + end_of_groups c.groups))
     → NoRise old new (other_than c.slot) → Holds c old → Holds c new
 holds_same c old new long s shut rise holds =
     holds_as c old new c.groups long (same_part s 0 1052672 (header_of c.slot) (header_of c.slot) (omega arith) (omega arith) (omega arith)) rise
-    (groups_same c.format old new (area_of c.slot) (area_of c.slot) 0 c.groups (same_part s 1052672 (0 + end_of c.groups) (area_of c.slot) (area_of c.slot) (omega arith) refl refl) shut holds.groups_are)
+    (groups_same c.format old new (area_of c.slot) (area_of c.slot) 0 c.groups (same_part s 1052672 (0 + end_of_groups c.groups) (area_of c.slot) (area_of c.slot) (omega arith) refl refl) shut holds.groups_are)
     holds
 
 -- a draft stays where its slot's fields and what was written of its image stay

@@ -3,30 +3,30 @@ use Rattle.std.proofs.Common.{◌≡◌, ℕ, ◌+◌, Bool, List, length, Optio
 use Rattle.fe_disk.specs.Disk.{LeavesJust, LeavesOnly}
 use Rattle.fe_disk.proofs.Moments.{started, weaker}
 use Rattle.fe_journal.specs.Layout.{header_of, gate_of, image_of, area_of, other_than}
-use Rattle.fe_journal.specs.Groups.{Fits, end_of, behind_gate}
+use Rattle.fe_journal.specs.Groups.{GroupFits, end_of_groups, after_gate}
 use Rattle.fe_journal.specs.Contents.{Contents, Holds, HoldsEither, with_group}
-use Rattle.fe_journal.specs.Journal.{JournalState, Draft, IsDraft, IsLeft, Keeps}
+use Rattle.fe_journal.specs.Journal.{JournalState, Draft, IsDraft, IsLeft, KeepsContents}
 use Rattle.fe_journal.specs.Steps.{IsLeftInCommit, after_commit}
 use Rattle.fe_journal.specs.within.Fields.{state_of}
 use Rattle.fe_journal.specs.declared.journal.Journal.TheInside.{Inside}
 use Rattle.fe_format.specs.declared.format.Format.{Format}
 use Rattle.fe_journal.proofs.Bytes.{same_part, same_byte}
-use Rattle.fe_journal.proofs.Frames.{draft_same, end_of-more, image_short}
+use Rattle.fe_journal.proofs.Frames.{draft_same, end_of_groups-more, image_short}
 use Rattle.fe_journal.proofs.Appends.{left_in_append, appended_holds, appended_other}
 
 module _ {D : Type 0} (moment : D → ℕ) (left_since : D → ℕ → List ℕ → Type 0) (seen : D → List ℕ) (may_leave : D → List ℕ → Type 0) where
   -- a call that does nothing
-  pub nothing_done : (j : JournalState D) (c : Contents) (draft : Option Draft) (P : List ℕ → Type 0) → Keeps seen may_leave j c draft → ((image : List ℕ) → left_since j.disk (moment j.disk) image → may_leave j.disk image)
+  pub nothing_done : (j : JournalState D) (c : Contents) (draft : Option Draft) (P : List ℕ → Type 0) → KeepsContents seen may_leave j c draft → ((image : List ℕ) → left_since j.disk (moment j.disk) image → may_leave j.disk image)
       → ((image : List ℕ) → Holds c image → P image) → LeavesOnly moment left_since j.disk j.disk P
   nothing_done j c draft P keeps only_now has = started moment left_since j.disk P (λ image left. has image (keeps.left image (only_now image left)).holds)
 
-  module _ (j : JournalState D) (c : Contents) (draft : Option Draft) (payload bytes : List ℕ) (gate : ℕ) (keeps : Keeps seen may_leave j c draft) (stays : may_leave j.disk (seen j.disk))
-      (at_gate : gate ≡ area_of j.slot + j.used) (fits : Fits j.format j.used (length payload)) (bytes_are : bytes ≡ behind_gate payload) where
-    gate_there : gate ≡ area_of c.slot + end_of c.groups
-    gate_there = let s : j.slot ≡ c.slot = keeps.slot_is in let u : j.used ≡ end_of c.groups = keeps.used_is in omega arith
+  module _ (j : JournalState D) (c : Contents) (draft : Option Draft) (payload bytes : List ℕ) (gate : ℕ) (keeps : KeepsContents seen may_leave j c draft) (stays : may_leave j.disk (seen j.disk))
+      (at_gate : gate ≡ area_of j.slot + j.used) (fits : GroupFits j.format j.used (length payload)) (bytes_are : bytes ≡ after_gate payload) where
+    gate_there : gate ≡ area_of c.slot + end_of_groups c.groups
+    gate_there = let s : j.slot ≡ c.slot = keeps.slot_is in let u : j.used ≡ end_of_groups c.groups = keeps.used_is in omega arith
 
-    fits_there : Fits c.format (end_of c.groups) (length payload)
-    fits_there = subst (λ (f : Format). Fits f (end_of c.groups) (length payload)) keeps.format_is (subst (λ (k : ℕ). Fits j.format k (length payload)) keeps.used_is fits)
+    fits_there : GroupFits c.format (end_of_groups c.groups) (length payload)
+    fits_there = subst (λ (f : Format). GroupFits f (end_of_groups c.groups) (length payload)) keeps.format_is (subst (λ (k : ℕ). GroupFits j.format k (length payload)) keeps.used_is fits)
 
     holds_seen : Holds c (seen j.disk)
     holds_seen = (keeps.left (seen j.disk) stays).holds
@@ -37,17 +37,17 @@ module _ {D : Type 0} (moment : D → ℕ) (left_since : D → ℕ → List ℕ 
         (left_in_append c payload bytes gate gate_there fits_there bytes_are (may_leave j.disk) (seen j.disk) (λ image left. (keeps.left image left).holds) holds_seen) run
 
     pub append_keeps : (new : D) (failed : Bool) (used : ℕ) → used ≡ j.used + (5 + length payload) → seen new ≡ after_commit (seen j.disk) (gate + 1) bytes gate → LeavesJust (seen new) (may_leave new)
-        → Keeps seen may_leave (record { disk = new; slot = j.slot; format = j.format; generation = j.generation; used = used; begun = j.begun; has_failed = failed }) (with_group c payload) draft
+        → KeepsContents seen may_leave (record { disk = new; slot = j.slot; format = j.format; generation = j.generation; used = used; begun = j.begun; has_failed = failed }) (with_group c payload) draft
     append_keeps new failed used used_now committed just =
         let after = after_commit (seen j.disk) (gate + 1) bytes gate in
         let holds = appended_holds c payload bytes gate gate_there fits_there bytes_are (seen j.disk) holds_seen in
         let other = appended_other c payload bytes gate gate_there fits_there bytes_are (seen j.disk) holds_seen in
-        let was : j.used ≡ end_of c.groups = keeps.used_is in
+        let was : j.used ≡ end_of_groups c.groups = keeps.used_is in
         record {
           slot_is = keeps.slot_is;
           format_is = keeps.format_is;
           generation_is = keeps.generation_is;
-          used_is = omega (arith, end_of-more c.groups payload);
+          used_is = omega (arith, end_of_groups-more c.groups payload);
           begun_is = keeps.begun_is;
           left = λ image left. subst (λ (l : List ℕ). IsLeft (with_group c payload) draft l) (sym (just image left ∙ committed)) (record {
             holds = holds;
@@ -65,22 +65,22 @@ module _ {D : Type 0} (moment : D → ℕ) (left_since : D → ℕ → List ℕ 
 
   -- the same of the journal's own fields, which its callers see as j
   module _ (honest : D → Type 0) (inside : Inside D) (j : JournalState D) (payload bytes : List ℕ) (area : ℕ) (same : state_of inside ≡ j) (stays : honest inside.disk → may_leave inside.disk (seen inside.disk))
-      (area_is : area ≡ area_of inside.slot) (fits : Fits j.format j.used (length payload)) (bytes_are : bytes ≡ behind_gate payload) where
-    fits_inside : Fits inside.format inside.used (length payload)
-    fits_inside = subst (λ (s : JournalState D). Fits s.format s.used (length payload)) (sym same) fits
+      (area_is : area ≡ area_of inside.slot) (fits : GroupFits j.format j.used (length payload)) (bytes_are : bytes ≡ after_gate payload) where
+    fits_inside : GroupFits inside.format inside.used (length payload)
+    fits_inside = subst (λ (s : JournalState D). GroupFits s.format s.used (length payload)) (sym same) fits
 
     gate_inside : area + inside.used ≡ area_of inside.slot + inside.used
     gate_inside = ap (λ (k : ℕ). k + inside.used) area_is
 
     pub append_run : (new : D) → (honest inside.disk → LeavesOnly moment left_since inside.disk new (IsLeftInCommit (may_leave inside.disk) (seen inside.disk) (area + inside.used + 1) bytes (area + inside.used)))
-        → honest j.disk → (c : Contents) (draft : Option Draft) → Keeps seen may_leave j c draft → LeavesOnly moment left_since j.disk new (HoldsEither c (with_group c payload))
+        → honest j.disk → (c : Contents) (draft : Option Draft) → KeepsContents seen may_leave j c draft → LeavesOnly moment left_since j.disk new (HoldsEither c (with_group c payload))
     append_run new run =
-        subst (λ (s : JournalState D). honest s.disk → (c : Contents) (draft : Option Draft) → Keeps seen may_leave s c draft → LeavesOnly moment left_since s.disk new (HoldsEither c (with_group c payload))) same
+        subst (λ (s : JournalState D). honest s.disk → (c : Contents) (draft : Option Draft) → KeepsContents seen may_leave s c draft → LeavesOnly moment left_since s.disk new (HoldsEither c (with_group c payload))) same
         (λ is c draft keeps. append_moments (state_of inside) c draft payload bytes (area + inside.used) keeps (stays is) gate_inside fits_inside bytes_are new (run is))
 
     pub append_kept : (new : D) → (honest inside.disk → seen new ≡ after_commit (seen inside.disk) (area + inside.used + 1) bytes (area + inside.used)) → (honest inside.disk → LeavesJust (seen new) (may_leave new))
-        → honest j.disk → (c : Contents) (draft : Option Draft) → Keeps seen may_leave j c draft
-        → Keeps seen may_leave (record (state_of inside) { disk = new; used = inside.used + (5 + length payload) }) (with_group c payload) draft
+        → honest j.disk → (c : Contents) (draft : Option Draft) → KeepsContents seen may_leave j c draft
+        → KeepsContents seen may_leave (record (state_of inside) { disk = new; used = inside.used + (5 + length payload) }) (with_group c payload) draft
     append_kept new committed just =
-        subst (λ (s : JournalState D). honest s.disk → (c : Contents) (draft : Option Draft) → Keeps seen may_leave s c draft → Keeps seen may_leave (record (state_of inside) { disk = new; used = inside.used + (5 + length payload) }) (with_group c payload) draft) same
+        subst (λ (s : JournalState D). honest s.disk → (c : Contents) (draft : Option Draft) → KeepsContents seen may_leave s c draft → KeepsContents seen may_leave (record (state_of inside) { disk = new; used = inside.used + (5 + length payload) }) (with_group c payload) draft) same
         (λ is c draft keeps. append_keeps (state_of inside) c draft payload bytes (area + inside.used) keeps (stays is) gate_inside fits_inside bytes_are new inside.has_failed (inside.used + (5 + length payload)) refl (committed is) (just is))

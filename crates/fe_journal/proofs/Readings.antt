@@ -5,7 +5,7 @@ use Rattle.fe_disk.specs.Disk.{Rises, bytes_at}
 use Rattle.fe_disk.proofs.Moments.{joined, weaker}
 use Rattle.fe_journal.specs.Layout.{header_of, area_of, area_bytes, device_bytes, number_at}
 use Rattle.fe_format.specs.Layout.{IsImageLength}
-use Rattle.fe_journal.specs.Groups.{Fits, end_of}
+use Rattle.fe_journal.specs.Groups.{GroupFits, end_of_groups}
 use Rattle.fe_journal.specs.Contents.{IsValidAs, generation_at}
 use Rattle.fe_journal.specs.Damage.{TellsFound, HasSoundHeader, NoGeneration, OddImage, OddGroup}
 use Rattle.fe_journal.specs.Reading.{IsHeader, IsHeaderAt, IsCounting, IsOddAt, HeaderFault, GroupFault}
@@ -110,16 +110,16 @@ module _ (image : List ℕ) where
       let at = odd.0 in
       let within : at < 1048576 = odd.1 in
       let is : IsOddAt header.format area at = odd.2 in
-      let at_is : at ≡ end_of is.groups = is.at_is in
+      let at_is : at ≡ end_of_groups is.groups = is.at_is in
       let s : SameBytes area 0 image (area_of slot) 1048576 = same_back (known_same image (area_of slot) 1048576 area (omega (arith, whole, is_slot)) (sym read)) in (
         whole,
         OddGroup slot header.format is.groups counts.0 (let g = counts.1 in omega (arith, g, numbered)) (subst (λ (n : ℕ). IsImageLength header.format n) (sym counts.2) fits)
-            (stand_same header.format area image 0 (area_of slot) 0 is.groups (same_part s 0 (0 + end_of is.groups) 0 (area_of slot) (omega (arith, at_is, within)) refl (omega arith)) is.stand)
-            (sym (same_byte s at at (area_of slot + end_of is.groups) within (omega arith) (omega (arith, at_is))) ∙ is.is_open)
+            (stand_same header.format area image 0 (area_of slot) 0 is.groups (same_part s 0 (0 + end_of_groups is.groups) 0 (area_of slot) (omega (arith, at_is, within)) refl (omega arith)) is.stand)
+            (sym (same_byte s at at (area_of slot + end_of_groups is.groups) within (omega arith) (omega (arith, at_is))) ∙ is.is_open)
             (λ there.
-            let room : end_of is.groups + 6 ≤ 1048576 = let w = there.within in omega (arith, w) in
-            let same : number_at area (at + 1) 4 ≡ number_at image (area_of slot + end_of is.groups + 1) 4 = same_number_at (same_part s (at + 1) 4 (at + 1) (area_of slot + end_of is.groups + 1) (omega (arith, at_is, room)) (omega arith) (omega (arith, at_is))) in
-            is.odd (subst (λ (k : ℕ). Fits header.format k (number_at area (at + 1) 4)) (sym at_is) (subst (λ (n : ℕ). Fits header.format (end_of is.groups) n) (sym same) there)))
+            let room : end_of_groups is.groups + 6 ≤ 1048576 = let w = there.within in omega (arith, w) in
+            let same : number_at area (at + 1) 4 ≡ number_at image (area_of slot + end_of_groups is.groups + 1) 4 = same_number_at (same_part s (at + 1) 4 (at + 1) (area_of slot + end_of_groups is.groups + 1) (omega (arith, at_is, room)) (omega arith) (omega (arith, at_is))) in
+            is.odd (subst (λ (k : ℕ). GroupFits header.format k (number_at area (at + 1) 4)) (sym at_is) (subst (λ (n : ℕ). GroupFits header.format (end_of_groups is.groups) n) (sym same) there)))
             (omega (arith, odd.3, at_is)),
       )
   group_tells slot header area Unformatted whole is_slot read numbered fits counts fault = absurd fault
@@ -138,7 +138,7 @@ module _ (image : List ℕ) where
         length_fits = subst (λ (n : ℕ). IsImageLength header.format n) (sym counts.2) fits;
       }
 
-  -- of the device nothing is told, and of memory no more
+  -- faults of the device and of memory say nothing of the image
   pub nothing_told : (fault : StoreFault) → HasSoundHeader image → (fault ≡ Device) ⊎ (fault ≡ NoMemory) → TellsFound fault image
   nothing_told fault sound (inl is) = subst (λ (f : StoreFault). TellsFound f image) (sym is) tt
   nothing_told fault sound (inr is) = subst (λ (f : StoreFault). TellsFound f image) (sym is) sound

@@ -3,26 +3,26 @@ use Rattle.std.proofs.Common.{◌≡◌, ◌⊎◌, ℕ, ◌+◌, ◌<◌, ◌�
 use Rattle.std.proofs.lemmas.Bool.{cases_lt, cases_eq}
 use Rattle.fe_disk.specs.Disk.{IsTorn, bytes_at, after_write}
 use Rattle.fe_disk.proofs.Images.{length-after_write, IsTorn-after_write, IsTorn-same}
-use Rattle.fe_journal.specs.Layout.{header_of, gate_of, image_of, area_of, other_than, number_at, IsOpen, IsShut}
+use Rattle.fe_journal.specs.Layout.{header_of, gate_of, image_of, area_of, other_than, number_at, IsGateOpen, IsGateShut}
 use Rattle.fe_format.specs.Layout.{IsPayloadLength, IsImageLength}
-use Rattle.fe_journal.specs.Groups.{Fits, StandFrom, HoldsGroups, end_of, behind_gate}
-use Rattle.fe_journal.specs.Contents.{Contents, Counts, Holds, HoldsEither, generation_at}
-use Rattle.fe_journal.specs.Journal.{Draft, IsDraft, IsLeft, IsCatchUp, catch_up_groups, finished}
+use Rattle.fe_journal.specs.Groups.{GroupFits, StandFrom, HoldsGroups, end_of_groups, after_gate}
+use Rattle.fe_journal.specs.Contents.{Contents, SlotCounts, Holds, HoldsEither, generation_at}
+use Rattle.fe_journal.specs.Journal.{Draft, IsDraft, IsLeft, IsCatchUp, catch_up_groups, with_draft}
 use Rattle.fe_journal.specs.Steps.{area_start, IsLeftInCommit, IsLeftInBeginning, after_commit}
 use Rattle.fe_format.specs.declared.format.Format.{Format}
 use Rattle.fe_format.specs.declared.format.Format.TheVariants.{One, Two}
 use Rattle.fe_journal.proofs.Bytes.{SameBytes, same_part, same_byte, same_back, same_through, torn_same, written_same}
 use Rattle.fe_journal.proofs.Frames.{NoRise, shut_no_rise, same_no_rise, generation_same, holds_same, draft_same, image_short}
-use Rattle.fe_journal.proofs.Spelled.{length-behind_gate, spelled, behind_same}
+use Rattle.fe_journal.proofs.Spelled.{length-after_gate, spelled, behind_same}
 
 -- a range in one slot is apart from the other slot
 halves_apart : (slot other at n a m : ℕ) → slot + other ≡ 1 → header_of slot ≤ at → at + n ≤ header_of slot + 2101248 → header_of other ≤ a → a + m ≤ header_of other + 2101248 → (a + m ≤ at) ⊎ (at + n ≤ a)
 halves_apart slot other at n a m both from to low high = ⊎_elim (λ (first : slot < 1). inr (omega arith)) (λ (second : 1 ≤ slot). inl (omega arith)) (cases_lt slot 1)
 
-end_within : (c : Contents) (image : List ℕ) → Holds c image → 1052672 + end_of c.groups < 2101248
+end_within : (c : Contents) (image : List ℕ) → Holds c image → 1052672 + end_of_groups c.groups < 2101248
 end_within c image holds = let low = ends c.format image (area_of c.slot) 0 c.groups (omega arith) holds.groups_are.stand in omega arith
   where
-    ends : (format : Format) (bytes : List ℕ) (area at : ℕ) (payloads : List (List ℕ)) → at < 1048576 → StandFrom format bytes area at payloads → 1052672 + (at + end_of payloads) < 2101248
+    ends : (format : Format) (bytes : List ℕ) (area at : ℕ) (payloads : List (List ℕ)) → at < 1048576 → StandFrom format bytes area at payloads → 1052672 + (at + end_of_groups payloads) < 2101248
     ends format bytes area at [] low stand = omega arith
     ends format bytes area at (payload ∷ payloads) low stand =
         let more = ends format bytes area (at + (5 + length payload)) payloads (let w = stand.0.fits.within in omega arith) stand.1 in omega arith
@@ -39,12 +39,12 @@ module _ (c : Contents) (was image : List ℕ) (holds : Holds c was) (at n : ℕ
   pub other_torn : NoRise was image (other_than c.slot) → Holds c image
   other_torn rise =
       let within = end_within c was holds in
-      holds_same c was image torn.whole (same_part mine 0 (1052672 + end_of c.groups) (header_of c.slot) (header_of c.slot) (omega arith) (omega arith) (omega arith))
-      (λ is_open. holds.groups_are.ended (same_byte mine (1052672 + end_of c.groups) (area_of c.slot + (0 + end_of c.groups)) (area_of c.slot + (0 + end_of c.groups)) within (omega arith) (omega arith) ∙ is_open))
+      holds_same c was image torn.whole (same_part mine 0 (1052672 + end_of_groups c.groups) (header_of c.slot) (header_of c.slot) (omega arith) (omega arith) (omega arith))
+      (λ is_open. holds.groups_are.ended (same_byte mine (1052672 + end_of_groups c.groups) (area_of c.slot + (0 + end_of_groups c.groups)) (area_of c.slot + (0 + end_of_groups c.groups)) within (omega arith) (omega arith) ∙ is_open))
       rise holds
 
   -- a range after the header leaves a closed gate closed
-  pub stays_shut : header_of (other_than c.slot) + 4096 ≤ at → IsShut was (gate_of (other_than c.slot)) → IsShut image (gate_of (other_than c.slot))
+  pub stays_shut : header_of (other_than c.slot) + 4096 ≤ at → IsGateShut was (gate_of (other_than c.slot)) → IsGateShut image (gate_of (other_than c.slot))
   stays_shut behind shut = λ is_open. shut (sym (torn.below (gate_of (other_than c.slot)) (omega arith)) ∙ is_open)
 
 -- the other slot while it is begun
@@ -81,10 +81,10 @@ slice_left c draft d was image at n from to torn left =
 
 area_start_bytes : (format : Format) (catch_up : List ℕ) → IsCatchUp format catch_up → length (area_start catch_up) ≤ 1048576
 area_start_bytes format [] is = omega arith
-area_start_bytes One (byte ∷ bytes) is = omega (arith, length-behind_gate (byte ∷ bytes), is.within)
-area_start_bytes Two (byte ∷ bytes) is = omega (arith, length-behind_gate (byte ∷ bytes), is.within)
+area_start_bytes One (byte ∷ bytes) is = omega (arith, length-after_gate (byte ∷ bytes), is.within)
+area_start_bytes Two (byte ∷ bytes) is = omega (arith, length-after_gate (byte ∷ bytes), is.within)
 
-catch_up_fits : (format : Format) (payload : List ℕ) → IsPayloadLength format (length payload) → Fits format 0 (length payload)
+catch_up_fits : (format : Format) (payload : List ℕ) → IsPayloadLength format (length payload) → GroupFits format 0 (length payload)
 catch_up_fits One payload is = record { allowed = is; within = let w = is.within in omega arith }
 catch_up_fits Two payload is = record { allowed = is; within = let w = is.within in omega arith }
 
@@ -94,10 +94,10 @@ area_holds format image area [] is s =
     record { stand = tt; ended = λ is_open. let zero : get_or image (area + (0 + 0)) 0 ≡ 0 = same_byte s 0 (area + (0 + 0)) 0 (omega arith) (omega arith) (omega arith) in omega (arith, zero, is_open) }
 area_holds format image area (byte ∷ bytes) is s =
     let payload : List ℕ = byte ∷ bytes in
-    let long = length-behind_gate payload in
+    let long = length-after_gate payload in
     let gate : get_or image (area + 0) 0 ≡ 1 = same_byte s 0 (area + 0) 0 (omega arith) (omega arith) (omega arith) in
     let gates : List ℕ = 1 ∷ [] in
-    let behind = same_through (same_part s 1 (5 + length payload) (area + 1) 1 (omega (arith, long)) refl (omega arith)) (same_part (behind_same gates (behind_gate payload) 1 refl) 0 (5 + length payload) 1 0 (omega (arith, long)) (omega arith) (omega arith)) in
+    let behind = same_through (same_part s 1 (5 + length payload) (area + 1) 1 (omega (arith, long)) refl (omega arith)) (same_part (behind_same gates (after_gate payload) 1 refl) 0 (5 + length payload) 1 0 (omega (arith, long)) (omega arith) (omega arith)) in
     let fits = catch_up_fits format payload is in
     let is_spelled = spelled image (area + 1) payload (omega (arith, fits.within)) behind in
     let zero = is_spelled.ended in
@@ -117,7 +117,7 @@ area_holds format image area (byte ∷ bytes) is s =
 
 -- a slot whose gate opens after its draft and a new area
 finished_holds : (c : Contents) (d : Draft) (catch_up : List ℕ) (image : List ℕ) → length image ≡ 4202496 → IsDraft (other_than c.slot) d image → d.generation ≡ c.generation + 1 → length d.bytes ≡ d.image_length → IsCatchUp d.format catch_up
-    → SameBytes image (area_of (other_than c.slot)) (area_start catch_up) 0 (length (area_start catch_up)) → Counts image (other_than c.slot) d.format → Holds (finished c d catch_up) image
+    → SameBytes image (area_of (other_than c.slot)) (area_start catch_up) 0 (length (area_start catch_up)) → SlotCounts image (other_than c.slot) d.format → Holds (with_draft c d catch_up) image
 finished_holds c d catch_up image whole is next full allowed area counts =
     record {
       whole = whole;
@@ -160,7 +160,7 @@ module _ (c : Contents) (d : Draft) (catch_up bytes : List ℕ) (bytes_are : byt
       long : length staged ≡ 4202496
       long = length-after_write seen (area_of o) bytes room ∙ left.holds.whole
 
-      still_shut : IsShut image (gate_of o) → Holds c image
+      still_shut : IsGateShut image (gate_of o) → Holds c image
       still_shut shut = other_torn c staged image staged_left.holds (gate_of o) 1 torn (omega arith) (omega arith) (shut_no_rise staged image o shut)
 
       draft_first : IsDraft o d staged
@@ -189,7 +189,7 @@ module _ (c : Contents) (d : Draft) (catch_up bytes : List ℕ) (bytes_are : byt
           subst (λ (k : ℕ). generation_at image k ≡ c.generation) there
           (generation_same staged image c.slot c.format (same_part (mine c staged image staged_left.holds (gate_of o) 1 torn (omega arith) (omega arith)) 0 1052672 (header_of c.slot) (header_of c.slot) (omega arith) (omega arith) (omega arith)) ∙ staged_left.holds.generation_is)
 
-      pub now_open : IsOpen image (gate_of o) → Holds (finished c d catch_up) image
+      pub now_open : IsGateOpen image (gate_of o) → Holds (with_draft c d catch_up) image
       now_open is_open =
           let is_slot : c.slot < 2 = left.holds.counts.is_slot in
           finished_holds c d catch_up image (torn.whole ∙ long) draft_last next full allowed area_last (record {
@@ -198,17 +198,17 @@ module _ (c : Contents) (d : Draft) (catch_up bytes : List ℕ) (bytes_are : byt
             ahead = λ f valid. inl (omega (arith, older, draft_last.generation_is, next));
           })
 
-      pub left_at_gate : HoldsEither c (finished c d catch_up) image
+      pub left_at_gate : HoldsEither c (with_draft c d catch_up) image
       left_at_gate = ⊎_elim (λ is_open. inr (now_open is_open)) (λ shut. inl (still_shut shut)) (cases_eq (get_or image (gate_of o) 0) 1)
 
   -- what a stop leaves of the whole call
   pub left_in_finish : (before : List ℕ → Type 0) (seen : List ℕ) → ((image : List ℕ) → before image → IsLeft c (Some d) image) → IsLeft c (Some d) seen → IsDraft o d seen → (image : List ℕ) → IsLeftInCommit before seen (area_of o) bytes (gate_of o) image
-      → HoldsEither c (finished c d catch_up) image
+      → HoldsEither c (with_draft c d catch_up) image
   left_in_finish before seen lefts left is image (inl torn) = inl (area_torn torn.0 image torn.2 (lefts torn.0 torn.1)).holds
   left_in_finish before seen lefts left is image (inr torn) = left_at_gate seen left is image torn
 
   -- what it leaves once it succeeded
-  pub finished_last : (seen : List ℕ) → IsLeft c (Some d) seen → IsDraft o d seen → Holds (finished c d catch_up) (after_commit seen (area_of o) bytes (gate_of o))
+  pub finished_last : (seen : List ℕ) → IsLeft c (Some d) seen → IsDraft o d seen → Holds (with_draft c d catch_up) (after_commit seen (area_of o) bytes (gate_of o))
   finished_last seen left is =
       let is_slot : c.slot < 2 = left.holds.counts.is_slot in
       let fits : gate_of o + length open_byte ≤ length (after_write seen (area_of o) bytes) = omega (arith, long seen left is (after_write seen (area_of o) bytes) (IsTorn-same (gate_of o) 1 (after_write seen (area_of o) bytes))) in

@@ -7,7 +7,7 @@ use Rattle.fe_disk.specs.Disk.{bytes_at}
 use Rattle.fe_disk.proofs.Images.{length-bytes_at, get_or-bytes_at}
 use Rattle.fe_journal.specs.Layout.{number_at}
 use Rattle.fe_format.specs.Layout.{magic_of}
-use Rattle.fe_journal.specs.Groups.{behind_gate}
+use Rattle.fe_journal.specs.Groups.{after_gate}
 use Rattle.fe_journal.specs.Steps.{header_fields}
 use Rattle.fe_format.specs.declared.format.Format.{Format}
 use Rattle.fe_format.specs.declared.format.Format.TheVariants.{One, Two}
@@ -48,8 +48,8 @@ bytes_whole xs n long =
 pub number_first : (n x : ℕ) (rest : List ℕ) → x < 256 ^ n → number_at (big_bytes n x ++ rest) 0 n ≡ x
 number_first n x rest fits = big_from-take 0 n n (big_bytes n x ++ rest) (omega arith) ∙ big_number-reads_back n x rest fits
 
-pub length-behind_gate : (payload : List ℕ) → length (behind_gate payload) ≡ 5 + length payload
-length-behind_gate payload =
+pub length-after_gate : (payload : List ℕ) → length (after_gate payload) ≡ 5 + length payload
+length-after_gate payload =
     omega (arith, length-append (big_bytes 4 (length payload)) (payload ++ 0 ∷ []), length-append payload (0 ∷ []), length-big_bytes 4 (length payload))
 
 -- what stands where a group was written
@@ -58,7 +58,7 @@ pub record IsSpelled (bytes : List ℕ) (at : ℕ) (payload : List ℕ) : Type 0
   pub payload_is : bytes_at bytes (at + 4) (length payload) ≡ payload
   pub ended : get_or bytes (at + 4 + length payload) 0 ≡ 0
 
-pub spelled : (bytes : List ℕ) (at : ℕ) (payload : List ℕ) → length payload ≤ 1048576 → SameBytes bytes at (behind_gate payload) 0 (5 + length payload) → IsSpelled bytes at payload
+pub spelled : (bytes : List ℕ) (at : ℕ) (payload : List ℕ) → length payload ≤ 1048576 → SameBytes bytes at (after_gate payload) 0 (5 + length payload) → IsSpelled bytes at payload
 spelled bytes at payload short s =
     let four = length-big_bytes 4 (length payload) in
     let rest = behind_same (big_bytes 4 (length payload)) (payload ++ 0 ∷ []) 4 four in

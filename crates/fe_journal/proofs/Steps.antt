@@ -4,7 +4,7 @@ use Rattle.fe_disk.specs.Disk.{IsTorn, Follows, LeavesJust, MakesJust, bytes_at}
 use Rattle.fe_disk.specs.declared.calls.Calls.{Calls}
 use Rattle.fe_disk.proofs.Outcomes.{just_joined}
 use Rattle.fe_disk.proofs.Images.{IsTorn-same, torn_left, torn_again, torn_wider, get_or-bytes_at}
-use Rattle.fe_journal.specs.Layout.{header_of, gate_of, IsShut}
+use Rattle.fe_journal.specs.Layout.{header_of, gate_of, IsGateShut}
 use Rattle.fe_journal.specs.Steps.{IsLeftInCommit, IsLeftInShutting, IsHeaderTorn, Shuts}
 
 module _ (before : List ℕ → Type 0) (seen : List ℕ) (at : ℕ) (bytes : List ℕ) (gate : ℕ) where
@@ -34,14 +34,14 @@ byte_read seen gate buffer read =
     (sym (ap (λ (l : List ℕ). get_or l 0 0) read ∙ get_or-bytes_at seen gate 1 0 (omega arith)))
 
 -- the header's fields torn after a closed gate
-pub header_torn : (seen mid image : List ℕ) (slot n : ℕ) → n ≤ 4095 → IsTorn (gate_of slot) 1 seen mid → IsShut mid (gate_of slot) → IsTorn (header_of slot) n mid image → IsHeaderTorn seen slot image
+pub header_torn : (seen mid image : List ℕ) (slot n : ℕ) → n ≤ 4095 → IsTorn (gate_of slot) 1 seen mid → IsGateShut mid (gate_of slot) → IsTorn (header_of slot) n mid image → IsHeaderTorn seen slot image
 header_torn seen mid image slot n short torn shut fields =
     record {
       torn = torn_again (header_of slot) 4096 seen mid image (torn_wider (header_of slot) 4096 (gate_of slot) 1 seen mid (omega arith) (omega arith) torn) (torn_wider (header_of slot) 4096 (header_of slot) n mid image (omega arith) (omega arith) fields);
       shut = λ is_open. shut (sym (fields.above (gate_of slot) (omega arith)) ∙ is_open);
     }
 
-pub header_left : (seen mid : List ℕ) (slot : ℕ) (fields : List ℕ) (old new : List ℕ → Type 0) → length fields ≡ 20 → IsTorn (gate_of slot) 1 seen mid → IsShut mid (gate_of slot) → LeavesJust mid old → Follows (IsTorn (header_of slot) (length fields)) old new
+pub header_left : (seen mid : List ℕ) (slot : ℕ) (fields : List ℕ) (old new : List ℕ → Type 0) → length fields ≡ 20 → IsTorn (gate_of slot) 1 seen mid → IsGateShut mid (gate_of slot) → LeavesJust mid old → Follows (IsTorn (header_of slot) (length fields)) old new
     → (image : List ℕ) → new image → IsHeaderTorn seen slot image
 header_left seen mid slot fields old new twenty torn shut just follows image may =
     header_torn seen mid image slot (length fields) (omega arith) torn shut (torn_left mid (header_of slot) (length fields) old new just follows image may)

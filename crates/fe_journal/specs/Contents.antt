@@ -1,7 +1,7 @@
 -- What an image of a device holds: the slot that counts, and what is in it.
 use Rattle.std.specs.Prelude.{◌≡◌, ◌⊎◌, ℕ, ◌+◌, ◌<◌, ◌≤◌, List, [], ◌∷◌, ◌++◌, length}
 use Rattle.fe_disk.specs.Disk.{bytes_at}
-use Rattle.fe_journal.specs.Layout.{device_bytes, header_of, gate_of, image_of, area_of, other_than, number_at, IsOpen}
+use Rattle.fe_journal.specs.Layout.{device_bytes, header_of, gate_of, image_of, area_of, other_than, number_at, IsGateOpen}
 use Rattle.fe_format.specs.Layout.{magic_of, IsImageLength}
 use Rattle.fe_journal.specs.Groups.{HoldsGroups}
 use Rattle.fe_format.specs.declared.format.Format.{Format}
@@ -16,7 +16,7 @@ pub record Contents : Type 0 where
 
 -- A slot is valid where its magic is that of a format and its gate is open.
 pub record IsValidAs (image : List ℕ) (slot : ℕ) (format : Format) : Type 0 where
-  pub is_open : IsOpen image (gate_of slot)
+  pub is_open : IsGateOpen image (gate_of slot)
   pub magic : number_at image (header_of slot) 8 ≡ magic_of format
 
 abbrev pub generation_at : List ℕ → ℕ → ℕ
@@ -26,7 +26,7 @@ abbrev pub image_length_at : List ℕ → ℕ → ℕ
 image_length_at image slot = number_at image (header_of slot + 16) 4
 
 -- Of two valid slots the one with the greater generation counts, and of equal ones slot 0, whatever their formats.
-pub record Counts (image : List ℕ) (slot : ℕ) (format : Format) : Type 0 where
+pub record SlotCounts (image : List ℕ) (slot : ℕ) (format : Format) : Type 0 where
   pub is_slot : slot < 2
   pub valid : IsValidAs image slot format
   pub ahead : (f : Format) → IsValidAs image (other_than slot) f
@@ -35,7 +35,7 @@ pub record Counts (image : List ℕ) (slot : ℕ) (format : Format) : Type 0 whe
 -- an image of the device's size holds these contents
 pub record Holds (c : Contents) (image : List ℕ) : Type 0 where
   pub whole : length image ≡ device_bytes
-  pub counts : Counts image c.slot c.format
+  pub counts : SlotCounts image c.slot c.format
   pub generation_is : generation_at image c.slot ≡ c.generation
   pub numbered : 1 ≤ c.generation
   pub length_is : image_length_at image c.slot ≡ length c.image

@@ -1,9 +1,9 @@
 -- When an image holds no contents, and what is reported of it.
 use Rattle.std.specs.Prelude.{◌≡◌, ◌≢◌, ◌⊎◌, ℕ, ◌+◌, ◌<◌, ◌≤◌, List, length}
-use Rattle.fe_journal.specs.Layout.{device_bytes, header_of, area_of, number_at, IsOpen}
+use Rattle.fe_journal.specs.Layout.{device_bytes, header_of, area_of, number_at, IsGateOpen}
 use Rattle.fe_format.specs.Layout.{IsImageLength}
-use Rattle.fe_journal.specs.Groups.{StandFrom, end_of, Fits}
-use Rattle.fe_journal.specs.Contents.{IsValidAs, Counts, generation_at, image_length_at}
+use Rattle.fe_journal.specs.Groups.{StandFrom, end_of_groups, GroupFits}
+use Rattle.fe_journal.specs.Contents.{IsValidAs, SlotCounts, generation_at, image_length_at}
 use Rattle.fe_format.specs.declared.format.Format.{Format}
 use Rattle.fe_journal.specs.declared.fault.StoreFault.{StoreFault}
 use Rattle.fe_journal.specs.declared.fault.StoreFault.TheVariants.{Unformatted, Damaged, Device, NoMemory}
@@ -17,24 +17,25 @@ pub record HasSoundHeader (image : List ℕ) : Type 0 where
   pub slot : ℕ
   pub format : Format
   pub whole : length image ≡ device_bytes
-  pub counts : Counts image slot format
+  pub counts : SlotCounts image slot format
   pub numbered : 1 ≤ generation_at image slot
   pub length_fits : IsImageLength format (image_length_at image slot)
 
 -- The first thing wrong in the slot that counts, in this order, and its offset on the device.
 pub data IsDamagedAt (image : List ℕ) (offset : ℕ) : Type 0 where
   -- generation 0, at its field
-  NoGeneration : (slot : ℕ) (format : Format) → Counts image slot format → generation_at image slot ≡ 0 → offset ≡ header_of slot + 8 → IsDamagedAt image offset
+  NoGeneration : (slot : ℕ) (format : Format) → SlotCounts image slot format → generation_at image slot ≡ 0 → offset ≡ header_of slot + 8 → IsDamagedAt image offset
   -- an image length that the format does not allow, at its field
-  OddImage : (slot : ℕ) (format : Format) → Counts image slot format → 1 ≤ generation_at image slot → (IsImageLength format (image_length_at image slot) → ⊥)
+  OddImage : (slot : ℕ) (format : Format) → SlotCounts image slot format → 1 ≤ generation_at image slot → (IsImageLength format (image_length_at image slot) → ⊥)
       → offset ≡ header_of slot + 16 → IsDamagedAt image offset
   -- after open groups, an open gate with a length that is not allowed or does not fit, at the gate
-  OddGroup : (slot : ℕ) (format : Format) (groups : List (List ℕ)) → Counts image slot format → 1 ≤ generation_at image slot → IsImageLength format (image_length_at image slot)
-      → StandFrom format image (area_of slot) 0 groups → IsOpen image (area_of slot + end_of groups) → (Fits format (end_of groups) (number_at image (area_of slot + end_of groups + 1) 4) → ⊥)
-      → offset ≡ area_of slot + end_of groups → IsDamagedAt image offset
+  OddGroup : (slot : ℕ) (format : Format) (groups : List (List ℕ)) → SlotCounts image slot format → 1 ≤ generation_at image slot → IsImageLength format (image_length_at image slot)
+      → StandFrom format image (area_of slot) 0 groups → IsGateOpen image (area_of slot + end_of_groups groups) → (GroupFits format (end_of_groups groups) (number_at image (area_of slot + end_of_groups groups + 1) 4) → ⊥)
+      → offset ≡ area_of slot + end_of_groups groups → IsDamagedAt image offset
 
--- What a fault of opening says of the image that the disk reads: it is unformatted; it has a store's size, and is damaged
--- first at this offset; or memory ran out, which it does only once a sound header was read. A fault of the device says nothing.
+-- What a fault of opening says of the image that the disk reads: it is unformatted; it has a store's size, and is
+-- damaged first at this offset; or memory ran out, which it does only once a sound header was read. A fault of the
+-- device says nothing.
 abbrev pub TellsFound : StoreFault → List ℕ → Type 0
 TellsFound Unformatted image = IsUnformatted image
 TellsFound (Damaged offset) image = (length image ≡ device_bytes) × IsDamagedAt image offset

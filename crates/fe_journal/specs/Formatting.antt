@@ -6,8 +6,8 @@ use Rattle.fe_journal.specs.Layout.{device_bytes}
 use Rattle.fe_journal.specs.Journal.{JournalState}
 use Rattle.fe_journal.specs.declared.fault.StoreFault.{StoreFault}
 
--- Six writes and three syncs make a store. A disk of another size is refused with `unformatted`. The fault is `device` where a call of the disk failed, and
--- with any other fault nothing was done to the disk.
+-- Six writes and three syncs make a store. A disk of another size is refused with `unformatted`. The fault is
+-- `device` where a call of the disk failed, and with any other fault nothing was done to the disk.
 pub record Formats {D T E : Type 0} (size failures : D → ℕ) (calls : D → Calls) (honest : D → Type 0) (unformatted device memory : E) (result : Result T E) (old new : D) : Type 0 where
   pub wrong_size : IfErr result (λ fault. (fault ≡ unformatted) ↔ (size old ≢ device_bytes))
   pub faults : IfErr result (λ fault. (fault ≡ device) ⊎ ((fault ≡ unformatted) ⊎ (fault ≡ memory)))

@@ -5,19 +5,19 @@ use Rattle.fe_disk.specs.declared.calls.Calls.{Calls}
 use Rattle.fe_journal.specs.Layout.{area_of}
 use Rattle.fe_journal.specs.Contents.{Contents, Holds}
 use Rattle.fe_journal.specs.Cursor.{Lists}
-use Rattle.fe_journal.specs.Groups.{end_of}
-use Rattle.fe_journal.specs.Journal.{Keeps}
+use Rattle.fe_journal.specs.Groups.{end_of_groups}
+use Rattle.fe_journal.specs.Journal.{KeepsContents}
 use Rattle.fe_journal.specs.Damage.{TellsFound}
 use Rattle.fe_journal.specs.declared.opening.Found.{Found}
 use Rattle.fe_journal.specs.declared.fault.StoreFault.{StoreFault}
 use Rattle.fe_journal.specs.declared.fault.StoreFault.TheVariants.{Device, NoMemory}
 
--- What was found are the contents of the image that the disk reads: a journal that keeps them, the bytes of their image,
--- and a cursor before the first of their groups.
+-- What was found are the contents of the image that the disk reads: a journal that keeps them, the bytes of their
+-- image, and a cursor before the first of their groups.
 pub record IsFound {D : Type 0} (seen : D → List ℕ) (may_leave : D → List ℕ → Type 0) (image : List ℕ) (found : Found D) : Type 0 where
   pub contents : Contents
   pub holds : Holds contents image
-  pub keeps : Keeps seen may_leave found.journal contents None
+  pub keeps : KeepsContents seen may_leave found.journal contents None
   pub image_is : found.image.items ≡ contents.image
   pub groups_are : Lists found.groups contents.groups
   pub start_is : found.groups.start ≡ area_of contents.slot
@@ -27,20 +27,21 @@ pub record IsFound {D : Type 0} (seen : D → List ℕ) (may_leave : D → List 
 pub record AreListed {D : Type 0} (found : Found D) : Type 0 where
   pub groups : List (List ℕ)
   pub lists : Lists found.groups groups
-  pub used_is : found.journal.used ≡ end_of groups
+  pub used_is : found.journal.used ≡ end_of_groups groups
 
 -- Opening reads two headers, then the journal area, and then the image. The last of these four reads was not made.
 abbrev pub ReadsInPart : Calls → Calls → Type 0
 ReadsInPart before now = now.reads ≤ before.reads + 3
 
--- Why the store of an image is not opened: what the fault says of the image holds; one that holds contents is refused only if the device fails or memory
--- runs out; and memory runs out only before all of it was read.
+-- Why the store of an image is not opened: what the fault says of the image holds; one that holds contents is refused
+-- only if the device fails or memory runs out; and memory runs out only before all of it was read.
 pub record IsReason (image : List ℕ) (before now : Calls) (fault : StoreFault) : Type 0 where
   pub tells : TellsFound fault image
   pub valid : (c : Contents) → Holds c image → (fault ≡ Device) ⊎ (fault ≡ NoMemory)
   pub memory : fault ≡ NoMemory → ReadsInPart before now
 
--- What opening does to a disk besides what it reads: a sync and four reads at most. The fault is `device` exactly where a call of the disk failed.
+-- What opening does to a disk besides what it reads: a sync and four reads at most. The fault is `device` exactly
+-- where a call of the disk failed.
 pub record AsksToOpen {D T E : Type 0} (size failures : D → ℕ) (calls : D → Calls) (honest : D → Type 0) (device : E) (result : Result T E) (old new : D) : Type 0 where
   pub fault : IsErrOf result device ↔ Rises (failures old) (failures new)
   pub still : (IsErrOf result device → ⊥) → failures new ≡ failures old

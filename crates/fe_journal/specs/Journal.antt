@@ -2,9 +2,9 @@
 use Rattle.std.specs.Prelude.{◌≡◌, ◌↔◌, ◌+◌, ◌≤◌, ℕ, Bool, List, [], ◌∷◌, ◌++◌, length, Option, Some, None, IsSome, Result, IsTrue, IsErrOf, OnOk, OnErr, false, true}
 use Rattle.fe_disk.specs.Disk.{bytes_at, LeavesJust, Rises, MakesAtMost}
 use Rattle.fe_disk.specs.declared.calls.Calls.{Calls}
-use Rattle.fe_journal.specs.Layout.{header_of, gate_of, image_of, other_than, number_at, IsShut}
+use Rattle.fe_journal.specs.Layout.{header_of, gate_of, image_of, other_than, number_at, IsGateShut}
 use Rattle.fe_format.specs.Layout.{magic_of, IsImageLength, IsPayloadLength}
-use Rattle.fe_journal.specs.Groups.{end_of}
+use Rattle.fe_journal.specs.Groups.{end_of_groups}
 use Rattle.fe_journal.specs.Contents.{Contents, Holds, generation_at, image_length_at}
 use Rattle.fe_format.specs.declared.format.Format.{Format}
 use Rattle.fe_journal.specs.declared.begun.Begun.{Begun}
@@ -26,12 +26,13 @@ abbrev pub new_journal : {D : Type 0} → Format → D → JournalState D
 new_journal format disk = record { disk = disk; slot = 0; format = format; generation = 1; used = 0; begun = None; has_failed = false }
 
 -- no slot is begun, and no call has failed
-pub record IsReady {D : Type 0} (journal : JournalState D) : Type 0 where
+pub record IsIdle {D : Type 0} (journal : JournalState D) : Type 0 where
   pub none_begun : journal.begun ≡ None
   pub works : journal.has_failed ≡ false
 
--- How a call of a journal ends that makes at most this many device calls: after a fault of the device the journal has failed, and a journal that had failed does nothing.
-pub record Ends {D T : Type 0} (failures : D → ℕ) (calls : D → Calls) (honest : D → Type 0) (reads writes syncs : ℕ) (result : Result T JournalFault) (old new : JournalState D) : Type 0 where
+-- How a call of a journal ends that makes at most this many device calls: after a fault of the device the journal has
+-- failed, and a journal that had failed does nothing.
+pub record CallEnds {D T : Type 0} (failures : D → ℕ) (calls : D → Calls) (honest : D → Type 0) (reads writes syncs : ℕ) (result : Result T JournalFault) (old new : JournalState D) : Type 0 where
   pub device : old.has_failed ≡ false → (IsErrOf result Device ↔ Rises (failures old.disk) (failures new.disk))
   pub still : OnOk result (failures new.disk ≡ failures old.disk)
   pub failed : IsErrOf result Failed ↔ IsTrue old.has_failed
@@ -64,15 +65,15 @@ pub record IsDraft (slot : ℕ) (draft : Draft) (image : List ℕ) : Type 0 wher
 -- an image that a stop leaves while the journal is there: it holds the contents, and the gate of a slot begun is closed
 pub record IsLeft (c : Contents) (draft : Option Draft) (image : List ℕ) : Type 0 where
   pub holds : Holds c image
-  pub shut : IsSome draft → IsShut image (gate_of (other_than c.slot))
+  pub shut : IsSome draft → IsGateShut image (gate_of (other_than c.slot))
 
 -- The journal knows the slot that counts, and each image that a stop may leave now holds these contents. A slot begun
 -- stands as its draft where the disk is read, and without one all that was written is on the disk.
-pub record Keeps {D : Type 0} (seen : D → List ℕ) (may_leave : D → List ℕ → Type 0) (journal : JournalState D) (c : Contents) (draft : Option Draft) : Type 0 where
+pub record KeepsContents {D : Type 0} (seen : D → List ℕ) (may_leave : D → List ℕ → Type 0) (journal : JournalState D) (c : Contents) (draft : Option Draft) : Type 0 where
   pub slot_is : journal.slot ≡ c.slot
   pub format_is : journal.format ≡ c.format
   pub generation_is : journal.generation ≡ c.generation
-  pub used_is : journal.used ≡ end_of c.groups
+  pub used_is : journal.used ≡ end_of_groups c.groups
   pub begun_is : journal.begun ≡ begun_of draft
   pub left : (image : List ℕ) → may_leave journal.disk image → IsLeft c draft image
   pub drafted : (d : Draft) → draft ≡ Some d → IsDraft (other_than c.slot) d (seen journal.disk) × (d.generation ≡ c.generation + 1)
@@ -97,5 +98,5 @@ IsCatchUp format [] = Unit {0}
 IsCatchUp format (byte ∷ bytes) = IsPayloadLength format (length (byte ∷ bytes))
 
 -- the contents that a finished draft makes, with the catch-up
-abbrev pub finished : Contents → Draft → List ℕ → Contents
-finished c d catch_up = record { slot = other_than c.slot; format = d.format; generation = d.generation; image = d.bytes; groups = catch_up_groups catch_up }
+abbrev pub with_draft : Contents → Draft → List ℕ → Contents
+with_draft c d catch_up = record { slot = other_than c.slot; format = d.format; generation = d.generation; image = d.bytes; groups = catch_up_groups catch_up }

@@ -8,7 +8,7 @@ use Rattle.fe_journal.specs.declared.layout.TheConstants.{HEADER_BYTES, AREA_BEG
 abbrev pub header_bytes : ℕ
 header_bytes = HEADER_BYTES
 
--- where a slot's journal area begins, after its header and the place of its image
+-- where a slot's journal area begins, after its header and the room for its image
 abbrev pub area_begin : ℕ
 area_begin = AREA_BEGIN
 
@@ -53,8 +53,8 @@ abbrev pub number_at : List ℕ → ℕ → ℕ → ℕ
 number_at bytes at n = big_number n (bytes_at bytes at n)
 
 -- A gate is open only where its byte is 1.
-abbrev pub IsOpen : List ℕ → ℕ → Type 0
-IsOpen bytes gate = slice_index bytes gate ≡ 1
+abbrev pub IsGateOpen : List ℕ → ℕ → Type 0
+IsGateOpen bytes gate = slice_index bytes gate ≡ 1
 
-abbrev pub IsShut : List ℕ → ℕ → Type 0
-IsShut bytes gate = slice_index bytes gate ≢ 1
+abbrev pub IsGateShut : List ℕ → ℕ → Type 0
+IsGateShut bytes gate = slice_index bytes gate ≢ 1

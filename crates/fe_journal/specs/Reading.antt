@@ -1,8 +1,8 @@
 -- What the parts of opening read of a store.
 use Rattle.std.specs.Prelude.{◌≡◌, ◌⊎◌, ◌≤◌, ◌<◌, ◌+◌, ◌-◌, ℕ, List, Option, Some, None}
-use Rattle.fe_journal.specs.Layout.{number_at, IsOpen, header_bytes, header_of, area_of, area_bytes}
+use Rattle.fe_journal.specs.Layout.{number_at, IsGateOpen, header_bytes, header_of, area_of, area_bytes}
 use Rattle.fe_format.specs.Layout.{magic_of, IsImageLength}
-use Rattle.fe_journal.specs.Groups.{StandFrom, HoldsGroups, end_of, Fits}
+use Rattle.fe_journal.specs.Groups.{StandFrom, HoldsGroups, end_of_groups, GroupFits}
 use Rattle.fe_format.specs.declared.format.Format.{Format}
 use Rattle.fe_journal.specs.declared.header.Header.{Header}
 use Rattle.fe_journal.specs.declared.fault.StoreFault.{StoreFault}
@@ -15,13 +15,13 @@ IsFormatOf magic (Some format) = magic ≡ magic_of format
 
 -- the header that begins at `at` is valid and says this, or it is not valid
 pub record IsHeaderAt (bytes : List ℕ) (at : ℕ) (header : Header) : Type 0 where
-  pub is_open : IsOpen bytes (at + (header_bytes - 1))
+  pub is_open : IsGateOpen bytes (at + (header_bytes - 1))
   pub magic : number_at bytes at 8 ≡ magic_of header.format
   pub generation_is : number_at bytes (at + 8) 8 ≡ header.generation
   pub length_is : number_at bytes (at + 16) 4 ≡ header.image_length
 
 abbrev pub IsHeader : List ℕ → ℕ → Option Header → Type 0
-IsHeader bytes at None = (format : Format) → IsOpen bytes (at + (header_bytes - 1)) → number_at bytes at 8 ≡ magic_of format → ⊥
+IsHeader bytes at None = (format : Format) → IsGateOpen bytes (at + (header_bytes - 1)) → number_at bytes at 8 ≡ magic_of format → ⊥
 IsHeader bytes at (Some header) = IsHeaderAt bytes at header
 
 -- of two headers the one with the greater generation counts, and the first of equal ones
@@ -33,28 +33,28 @@ IsCounting first second (Some (slot, header)) =
 
 -- the length after the gate, where a group with it fits
 abbrev pub IsFitting : Format → List ℕ → ℕ → Option ℕ → Type 0
-IsFitting format bytes at None = Fits format at (number_at bytes (at + 1) 4) → ⊥
-IsFitting format bytes at (Some n) = (n ≡ number_at bytes (at + 1) 4) × Fits format at n
+IsFitting format bytes at None = GroupFits format at (number_at bytes (at + 1) 4) → ⊥
+IsFitting format bytes at (Some n) = (n ≡ number_at bytes (at + 1) 4) × GroupFits format at n
 
 -- groups stand from the area's beginning to `at`
 pub record Reaches (format : Format) (bytes : List ℕ) (at : ℕ) : Type 0 where
   pub groups : List (List ℕ)
   pub stand : StandFrom format bytes 0 0 groups
-  pub at_is : at ≡ end_of groups
+  pub at_is : at ≡ end_of_groups groups
 
 -- groups stand from the area's beginning to `at`, and after an open gate there is no group
 pub record IsOddAt (format : Format) (bytes : List ℕ) (at : ℕ) : Type 0 where
   pub groups : List (List ℕ)
   pub stand : StandFrom format bytes 0 0 groups
-  pub at_is : at ≡ end_of groups
-  pub is_open : IsOpen bytes at
-  pub odd : Fits format at (number_at bytes (at + 1) 4) → ⊥
+  pub at_is : at ≡ end_of_groups groups
+  pub is_open : IsGateOpen bytes at
+  pub odd : GroupFits format at (number_at bytes (at + 1) 4) → ⊥
 
 -- groups stand from the area's beginning to `at`, where a gate is closed
-pub record EndsAt (format : Format) (bytes : List ℕ) (at : ℕ) : Type 0 where
+pub record GroupsEndAt (format : Format) (bytes : List ℕ) (at : ℕ) : Type 0 where
   pub groups : List (List ℕ)
   pub holds : HoldsGroups format bytes 0 0 groups
-  pub at_is : at ≡ end_of groups
+  pub at_is : at ≡ end_of_groups groups
 
 -- what is wrong with the header: no generation, or an image length that the format does not allow
 abbrev pub HeaderFault : ℕ → Header → StoreFault → Type 0

@@ -3,9 +3,9 @@ use Rattle.std.specs.Prelude.{◌≡◌, ◌⊎◌, ℕ, ◌+◌, List, [], ◌�
 use Rattle.byteorder.specs.Endian.{big_bytes}
 use Rattle.fe_disk.specs.Disk.{IsTorn, AddsNone, LeavesOnly, MakesJust, bytes_at, after_write}
 use Rattle.fe_disk.specs.declared.calls.Calls.{Calls}
-use Rattle.fe_journal.specs.Layout.{IsOpen, IsShut, header_bytes, header_of, gate_of, image_of}
+use Rattle.fe_journal.specs.Layout.{IsGateOpen, IsGateShut, header_bytes, header_of, gate_of, image_of}
 use Rattle.fe_format.specs.Layout.{magic_of}
-use Rattle.fe_journal.specs.Groups.{behind_gate}
+use Rattle.fe_journal.specs.Groups.{after_gate}
 use Rattle.fe_journal.specs.Contents.{empty_image}
 use Rattle.fe_format.specs.declared.format.Format.{Format}
 
@@ -16,7 +16,7 @@ header_fields format generation image_length = big_bytes 8 (magic_of format) ++ 
 -- how a new journal area begins: with the catch-up as an open group, or with a closed gate where there is none
 abbrev pub area_start : List ℕ → List ℕ
 area_start [] = 0 ∷ []
-area_start (byte ∷ bytes) = 1 ∷ behind_gate (byte ∷ bytes)
+area_start (byte ∷ bytes) = 1 ∷ after_gate (byte ∷ bytes)
 
 -- the disk was only read: nothing is read otherwise, and no stop leaves what could not be left before
 pub record OnlyReads {D : Type 0} (seen : D → List ℕ) (may_leave : D → List ℕ → Type 0) (moment : D → ℕ) (left_since : D → ℕ → List ℕ → Type 0) (old new : D) : Type 0 where
@@ -33,37 +33,38 @@ abbrev pub IsLeftInCommit : (List ℕ → Type 0) → List ℕ → ℕ → List 
 IsLeftInCommit before seen at bytes gate image =
     ((was : List ℕ) × before was × IsTorn at (length bytes) was image) ⊎ IsTorn gate 1 (after_write seen at bytes) image
 
--- what a stop leaves while an open gate is closed: only the gate is other than it was, and it is not open where it was closed
+-- what a stop leaves while an open gate is closed: only the gate is other than it was, and it is not open where it
+-- was closed
 pub record IsLeftInShutting (seen : List ℕ) (gate : ℕ) (image : List ℕ) : Type 0 where
   pub torn : IsTorn gate 1 seen image
-  pub opens_none : IsOpen image gate → IsOpen seen gate
+  pub opens_none : IsGateOpen image gate → IsGateOpen seen gate
 
 -- which calls a gate is closed with, and this many writes after that: a read, and where it was open a write and a sync
 pub record Shuts (seen : List ℕ) (gate writes : ℕ) (before now : Calls) : Type 0 where
-  pub opened : IsOpen seen gate → MakesJust 1 (writes + 1) 1 before now
-  pub closed : IsShut seen gate → MakesJust 1 writes 0 before now
+  pub opened : IsGateOpen seen gate → MakesJust 1 (writes + 1) 1 before now
+  pub closed : IsGateShut seen gate → MakesJust 1 writes 0 before now
 
 -- the slot's header may have changed, and its gate is closed
 pub record IsHeaderTorn (seen : List ℕ) (slot : ℕ) (image : List ℕ) : Type 0 where
   pub torn : IsTorn (header_of slot) header_bytes seen image
-  pub shut : IsShut image (gate_of slot)
+  pub shut : IsGateShut image (gate_of slot)
 
 -- what a stop leaves while a slot is begun: its gate is closed first, and then its header is written
 abbrev pub IsLeftInBeginning : List ℕ → ℕ → List ℕ → Type 0
 IsLeftInBeginning seen slot image = IsLeftInShutting seen (gate_of slot) image ⊎ IsHeaderTorn seen slot image
 
 -- the slot's gate is closed, and its header has these fields
-pub record IsBegun (seen : List ℕ) (slot : ℕ) (fields : List ℕ) (image : List ℕ) : Type 0 where
+pub record IsSlotBegun (seen : List ℕ) (slot : ℕ) (fields : List ℕ) (image : List ℕ) : Type 0 where
   pub header : IsHeaderTorn seen slot image
   pub fields_are : bytes_at image (header_of slot) (length fields) ≡ fields
 
 -- both header gates are closed
 pub record IsCleared (image : List ℕ) : Type 0 where
-  pub first : IsShut image (gate_of 0)
-  pub second : IsShut image (gate_of 1)
+  pub first : IsGateShut image (gate_of 0)
+  pub second : IsGateShut image (gate_of 1)
 
 -- so they are, and the first slot has a header with generation 1 and the empty image
-pub record IsFirst (format : Format) (image : List ℕ) : Type 0 where
+pub record IsFirstSlot (format : Format) (image : List ℕ) : Type 0 where
   pub cleared : IsCleared image
   pub fields_are : bytes_at image (header_of 0) 20 ≡ header_fields format 1 24
   pub image_is : bytes_at image (image_of 0) 24 ≡ empty_image

@@ -3,8 +3,8 @@ use Rattle.std.specs.Prelude.{◌≡◌, ◌<◌, ◌≤◌, ℕ, List, Option, 
 use Rattle.fe_disk.specs.Disk.{bytes_at}
 use Rattle.fe_journal.specs.Layout.{area_of, image_of, area_bytes}
 use Rattle.fe_format.specs.Layout.{IsImageLength}
-use Rattle.fe_journal.specs.Contents.{IsValidAs, Counts, generation_at, image_length_at}
-use Rattle.fe_journal.specs.Reading.{EndsAt}
+use Rattle.fe_journal.specs.Contents.{IsValidAs, SlotCounts, generation_at, image_length_at}
+use Rattle.fe_journal.specs.Reading.{GroupsEndAt}
 use Rattle.fe_format.specs.declared.format.Format.{Format}
 use Rattle.fe_journal.specs.declared.header.Header.{Header}
 use Rattle.fe_journal.specs.declared.store.Store.{Store}
@@ -13,17 +13,17 @@ use Rattle.fe_journal.specs.declared.store.Parts.{Parts}
 -- the slot that counts and what its header says, or that no slot is valid
 abbrev pub CountsAs : List ℕ → Option (ℕ × Header) → Type 0
 CountsAs image None = (slot : ℕ) (format : Format) → slot < 2 → IsValidAs image slot format → ⊥
-CountsAs image (Some (slot, header)) = Counts image slot header.format × (generation_at image slot ≡ header.generation) × (image_length_at image slot ≡ header.image_length)
+CountsAs image (Some (slot, header)) = SlotCounts image slot header.format × (generation_at image slot ≡ header.generation) × (image_length_at image slot ≡ header.image_length)
 
 -- the slot's journal area, whose groups end there, and its image
 pub record IsSlotRead (image : List ℕ) (slot : ℕ) (header : Header) (parts : Parts) : Type 0 where
   pub area_is : parts.area.items ≡ bytes_at image (area_of slot) area_bytes
-  pub ends : EndsAt header.format parts.area.items parts.used
+  pub ends : GroupsEndAt header.format parts.area.items parts.used
   pub image_is : parts.image.items ≡ bytes_at image (image_of slot) header.image_length
 
 -- a slot, and a header that allows it to be read
-abbrev pub IsSound : ℕ × Header → Type 0
-IsSound (slot, header) = (slot < 2) × (1 ≤ header.generation) × IsImageLength header.format header.image_length
+abbrev pub IsReadable : ℕ × Header → Type 0
+IsReadable (slot, header) = (slot < 2) × (1 ≤ header.generation) × IsImageLength header.format header.image_length
 
 -- the sizes of what was read, whatever the disk said
 pub record AreParts (parts : Parts) : Type 0 where
@@ -37,8 +37,8 @@ pub record IsStore (image : List ℕ) (store : Store) : Type 0 where
   pub length_fits : IsImageLength store.header.format store.header.image_length
   pub read : IsSlotRead image store.slot store.header store.parts
 
-pub record IsWhole (store : Store) : Type 0 where
+pub record IsWholeStore (store : Store) : Type 0 where
   pub is_slot : store.slot < 2
   pub buffer_whole : vec_len store.buffer ≡ area_bytes
   pub parts_whole : AreParts store.parts
-  pub ends : EndsAt store.header.format store.parts.area.items store.parts.used
+  pub ends : GroupsEndAt store.header.format store.parts.area.items store.parts.used

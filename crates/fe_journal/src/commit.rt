@@ -2,7 +2,7 @@
 ghost use Rattle.std.specs.Prelude.{◌≡◌, ◌+◌, ◌≤◌, [], ◌∷◌, length, OnOk};
 ghost use Rattle.fe_disk.specs.Disk.{IsTorn, LeavesJust, LeavesOnly, after_write};
 ghost use Rattle.fe_disk.specs.Outcome.{Asks, AsksAtMost};
-ghost use Rattle.fe_journal.specs.Layout.{IsShut};
+ghost use Rattle.fe_journal.specs.Layout.{IsGateShut};
 ghost use Rattle.fe_journal.specs.Steps.{after_commit, IsLeftInCommit, IsLeftInShutting, Shuts};
 
 use fe_disk::{DeviceFault, Disk};
@@ -57,7 +57,7 @@ pub fn shut<D: Disk>(disk: &mut D, gate: usize) -> Result<(), DeviceFault>
     ensures settled { D.honest disk.old → LeavesJust (D.seen disk.old) (D.may_leave disk.old)
         → OnOk result (LeavesJust (D.seen disk.new) (D.may_leave disk.new)) }
 
-    ensures closed { D.honest disk.old → OnOk result (IsShut (D.seen disk.new) gate) }
+    ensures closed { D.honest disk.old → OnOk result (IsGateShut (D.seen disk.new) gate) }
     ensures torn { D.honest disk.old → IsTorn gate 1 (D.seen disk.old) (D.seen disk.new) }
 
     ensures made { D.honest disk.old

@@ -2,10 +2,10 @@ ghost use Rattle.std.specs.Prelude.{◌≡◌, None, IfOk, OnOk, vec_len};
 ghost use Rattle.fe_disk.specs.Disk.{LeavesJust};
 ghost use Rattle.fe_disk.specs.Outcome.{Asks, told};
 ghost use Rattle.fe_journal.specs.Layout.{device_bytes, area_bytes};
-ghost use Rattle.fe_journal.specs.Journal.{Keeps, new_journal};
+ghost use Rattle.fe_journal.specs.Journal.{KeepsContents, new_journal};
 ghost use Rattle.fe_journal.specs.Contents.{Holds, first_contents};
 ghost use Rattle.fe_journal.specs.Formatting.{Formats, disk_left};
-ghost use Rattle.fe_journal.specs.Steps.{IsCleared, IsFirst};
+ghost use Rattle.fe_journal.specs.Steps.{IsCleared, IsFirstSlot};
 ghost use Rattle.fe_format.specs.declared.format.Format.TheVariants.{Two};
 ghost use Rattle.fe_journal.specs.declared.fault.StoreFault.TheVariants.{Unformatted, Device, NoMemory};
 
@@ -28,7 +28,7 @@ impl<D: Disk> Journal<D> {
     /// promised about the device, and it has to be formatted again.
     pub fn format(alloc: Global, disk: D) -> Result<Journal<D>, (StoreFault, D)>
         ensures formatted { D.honest disk
-            → IfOk result (λ journal. Keeps D.seen D.may_leave journal (first_contents Two) None) }
+            → IfOk result (λ journal. KeepsContents D.seen D.may_leave journal (first_contents Two) None) }
 
         // Over any disk: a journal that is at the beginning.
         ensures value { IfOk result (λ journal. journal ≡ new_journal Two journal.disk) }
@@ -41,7 +41,7 @@ impl<D: Disk> Journal<D> {
     /// The same, in this format.
     pub fn format_in(alloc: Global, format: Format, disk: D) -> Result<Journal<D>, (StoreFault, D)>
         ensures formatted { D.honest disk
-            → IfOk result (λ journal. Keeps D.seen D.may_leave journal (first_contents format) None) }
+            → IfOk result (λ journal. KeepsContents D.seen D.may_leave journal (first_contents format) None) }
 
         // Over any disk: a journal that is at the beginning.
         ensures value { IfOk result (λ journal. journal ≡ new_journal format journal.disk) }
@@ -92,7 +92,8 @@ fn shut_both<D: Disk>(disk: &mut D) -> Result<(), DeviceFault>
 fn write_first<D: Disk>(disk: &mut D, format: Format) -> Result<(), DeviceFault>
     requires device { D.size disk.old ≡ device_bytes }
     requires settled { D.honest disk.old → LeavesJust (D.seen disk.old) (D.may_leave disk.old) }
-    ensures first { D.honest disk.old → IsCleared (D.seen disk.old) → OnOk result (IsFirst format (D.seen disk.new)) }
+    ensures first { D.honest disk.old → IsCleared (D.seen disk.old)
+        → OnOk result (IsFirstSlot format (D.seen disk.new)) }
 
     ensures device { Asks D.size D.failures D.calls D.honest 0 2 0 result disk.old disk.new }
 {

@@ -3,10 +3,10 @@ ghost use Rattle.std.specs.Option.{ForSome};
 ghost use Rattle.fe_disk.specs.Disk.{LeavesOnly, MakesJust};
 ghost use Rattle.fe_journal.specs.Layout.{device_bytes, area_bytes, slice_bytes, other_than, gate_of};
 ghost use Rattle.fe_format.specs.Layout.{IsPayloadLength, IsImageLength};
-ghost use Rattle.fe_journal.specs.Groups.{room_at, end_of};
+ghost use Rattle.fe_journal.specs.Groups.{room_at, end_of_groups};
 ghost use Rattle.fe_journal.specs.Contents.{Contents, HoldsEither, Holds, with_group};
 ghost use Rattle.fe_journal.specs.Steps.{Shuts};
-ghost use Rattle.fe_journal.specs.Journal.{Draft, Keeps, Ends, new_draft, with_slice, IsCatchUp, catch_up_groups, finished};
+ghost use Rattle.fe_journal.specs.Journal.{Draft, KeepsContents, CallEnds, new_draft, with_slice, IsCatchUp, catch_up_groups, with_draft};
 
 use crate::begun::Begun;
 use crate::commit::commit;
@@ -21,7 +21,7 @@ use std::marker::Model;
 /// other slot is written in pieces until it takes over.
 ///
 /// After a fault of the device every call returns `Failed` and makes no device call. Opening the store again
-/// tells what was stored. No call takes memory.
+/// tells what was stored. No call allocates memory.
 #[derive(Drop)]
 pub struct Journal<D: Disk> {
     disk: D,
@@ -148,16 +148,16 @@ impl<D: Disk> Journal<D> {
 
         // A stop at any moment of the call leaves the contents of before, or those with the new group at the end.
         ensures any_moment { D.honest self.old.disk
-            → (c : Contents) (draft : Option Draft) → Keeps D.seen D.may_leave self.old c draft
+            → (c : Contents) (draft : Option Draft) → KeepsContents D.seen D.may_leave self.old c draft
             → LeavesOnly D.moment D.left_since self.old.disk self.new.disk (HoldsEither c (with_group c payload.now)) }
         ensures appended { D.honest self.old.disk
-            → (c : Contents) (draft : Option Draft) → Keeps D.seen D.may_leave self.old c draft
-            → OnOk result (Keeps D.seen D.may_leave self.new (with_group c payload.now) draft) }
+            → (c : Contents) (draft : Option Draft) → KeepsContents D.seen D.may_leave self.old c draft
+            → OnOk result (KeepsContents D.seen D.may_leave self.new (with_group c payload.now) draft) }
 
         ensures value { OnOk result
             (self.new ≡ record self.old { disk = self.new.disk; used = self.old.used + (5 + length payload.now) }) }
         ensures made { OnOk result (MakesJust 0 2 2 (D.calls self.old.disk) (D.calls self.new.disk)) }
-        ensures ends { Ends D.failures D.calls D.honest 0 2 2 result self.old self.new }
+        ensures ends { CallEnds D.failures D.calls D.honest 0 2 2 result self.old self.new }
     {
         if self.has_failed {
             return Err(JournalFault::Failed);
@@ -186,10 +186,11 @@ impl<D: Disk> Journal<D> {
         requires allowed { IsImageLength format image_length }
 
         // A stop at any moment of the call leaves the contents of before.
-        ensures any_moment { D.honest self.old.disk → (c : Contents) → Keeps D.seen D.may_leave self.old c None
+        ensures any_moment { D.honest self.old.disk → (c : Contents) → KeepsContents D.seen D.may_leave self.old c None
             → LeavesOnly D.moment D.left_since self.old.disk self.new.disk (Holds c) }
-        ensures closed { D.honest self.old.disk → (c : Contents) → Keeps D.seen D.may_leave self.old c None
-            → OnOk result (Keeps D.seen D.may_leave self.new c (Some (new_draft format generation image_length))) }
+        ensures closed { D.honest self.old.disk → (c : Contents) → KeepsContents D.seen D.may_leave self.old c None
+            → OnOk result
+            (KeepsContents D.seen D.may_leave self.new c (Some (new_draft format generation image_length))) }
 
         ensures value { OnOk result (self.new ≡ record self.old {
           disk = self.new.disk;
@@ -198,7 +199,7 @@ impl<D: Disk> Journal<D> {
         ensures made { D.honest self.old.disk
             → OnOk result (Shuts (D.seen self.old.disk) (gate_of (other_than self.old.slot)) 1
             (D.calls self.old.disk) (D.calls self.new.disk)) }
-        ensures ends { Ends D.failures D.calls D.honest 1 2 1 result self.old self.new }
+        ensures ends { CallEnds D.failures D.calls D.honest 1 2 1 result self.old self.new }
     {
         if self.has_failed {
             return Err(JournalFault::Failed);
@@ -226,18 +227,18 @@ impl<D: Disk> Journal<D> {
 
         // A stop at any moment of the call leaves the contents of before.
         ensures any_moment { D.honest self.old.disk
-            → (c : Contents) (d : Draft) → Keeps D.seen D.may_leave self.old c (Some d)
+            → (c : Contents) (d : Draft) → KeepsContents D.seen D.may_leave self.old c (Some d)
             → LeavesOnly D.moment D.left_since self.old.disk self.new.disk (Holds c) }
         ensures written { D.honest self.old.disk
-            → (c : Contents) (d : Draft) → Keeps D.seen D.may_leave self.old c (Some d)
-            → OnOk result (Keeps D.seen D.may_leave self.new c (Some (with_slice d slice.now))) }
+            → (c : Contents) (d : Draft) → KeepsContents D.seen D.may_leave self.old c (Some d)
+            → OnOk result (KeepsContents D.seen D.may_leave self.new c (Some (with_slice d slice.now))) }
 
         ensures value { OnOk result (IfSome self.old.begun (λ b. self.new ≡ record self.old {
           disk = self.new.disk;
           begun = Some (record b { written = b.written + length slice.now });
         })) }
         ensures made { OnOk result (MakesJust 0 1 0 (D.calls self.old.disk) (D.calls self.new.disk)) }
-        ensures ends { Ends D.failures D.calls D.honest 0 1 0 result self.old self.new }
+        ensures ends { CallEnds D.failures D.calls D.honest 0 1 0 result self.old self.new }
     {
         if self.has_failed {
             return Err(JournalFault::Failed);
@@ -266,22 +267,22 @@ impl<D: Disk> Journal<D> {
 
         // A stop at any moment of the call leaves the contents of before or those of the new slot.
         ensures any_moment { D.honest self.old.disk
-            → (c : Contents) (d : Draft) → Keeps D.seen D.may_leave self.old c (Some d)
-            → LeavesOnly D.moment D.left_since self.old.disk self.new.disk (HoldsEither c (finished c d catch_up.now)) }
+            → (c : Contents) (d : Draft) → KeepsContents D.seen D.may_leave self.old c (Some d)
+            → LeavesOnly D.moment D.left_since self.old.disk self.new.disk (HoldsEither c (with_draft c d catch_up.now)) }
         ensures finished { D.honest self.old.disk
-            → (c : Contents) (d : Draft) → Keeps D.seen D.may_leave self.old c (Some d)
-            → OnOk result (Keeps D.seen D.may_leave self.new (finished c d catch_up.now) None) }
+            → (c : Contents) (d : Draft) → KeepsContents D.seen D.may_leave self.old c (Some d)
+            → OnOk result (KeepsContents D.seen D.may_leave self.new (with_draft c d catch_up.now) None) }
 
         ensures value { OnOk result (IfSome self.old.begun (λ b. self.new ≡ record self.old {
           disk = self.new.disk;
           slot = other_than self.old.slot;
           format = b.format;
           generation = b.generation;
-          used = end_of (catch_up_groups catch_up.now);
+          used = end_of_groups (catch_up_groups catch_up.now);
           begun = None;
         })) }
         ensures made { OnOk result (MakesJust 0 2 2 (D.calls self.old.disk) (D.calls self.new.disk)) }
-        ensures ends { Ends D.failures D.calls D.honest 0 2 2 result self.old self.new }
+        ensures ends { CallEnds D.failures D.calls D.honest 0 2 2 result self.old self.new }
     {
         if self.has_failed {
             return Err(JournalFault::Failed);

@@ -30,7 +30,7 @@ pub fn header_of(slot: usize) -> usize
     SLOT_BYTES * slot
 }
 
-/// The place of a slot's header gate.
+/// The offset of a slot's header gate on the device.
 pub fn gate_of(slot: usize) -> usize
     requires { slot < 2 }
     ensures { result ≡ gate_of slot }

@@ -3,9 +3,9 @@ ghost use Rattle.fe_disk.specs.Disk.{LeavesJust};
 ghost use Rattle.fe_disk.specs.Outcome.{told};
 ghost use Rattle.fe_journal.specs.Damage.{IsUnformatted};
 ghost use Rattle.fe_journal.specs.Layout.{device_bytes};
-ghost use Rattle.fe_journal.specs.Journal.{IsReady};
+ghost use Rattle.fe_journal.specs.Journal.{IsIdle};
 ghost use Rattle.fe_journal.specs.Steps.{OnlyReads};
-ghost use Rattle.fe_journal.specs.Store.{IsStore, IsWhole};
+ghost use Rattle.fe_journal.specs.Store.{IsStore, IsWholeStore};
 ghost use Rattle.fe_journal.specs.Found.{IsFound, IsReason, AreListed, AsksToOpen, disk_after};
 ghost use Rattle.fe_journal.specs.declared.fault.StoreFault.TheVariants.{Unformatted, Device};
 
@@ -32,8 +32,8 @@ impl<D: Disk> Journal<D> {
     /// its image's length, the lengths of its groups (`docs/formats.md`, "Device").
     pub fn find(alloc: Global, disk: D) -> Result<Found<D>, (StoreFault, D)>
         ensures found { D.honest disk → IfOk result (IsFound D.seen D.may_leave (D.seen disk)) }
-        // A reported fault is the store's. One that holds contents is refused only for its device or for memory, and memory runs
-        // out only after a sound header, before all of the store was read.
+        // A reported fault is the store's. A store that holds contents is refused only if the device fails or memory
+        // runs out, and memory runs out only after a sound header, before all of the store was read.
         ensures refused { D.honest disk → IfErr result (λ e. IsReason (D.seen disk) (D.calls disk) (D.calls e.1) e.0) }
 
         // An unformatted store is reported as such, however much memory there is.
@@ -44,7 +44,7 @@ impl<D: Disk> Journal<D> {
         ensures reads { D.honest disk → OnlyReads D.seen D.may_leave D.moment D.left_since disk (disk_after result) }
 
         // Over any disk: a journal with no slot begun that has not failed.
-        ensures ready { IfOk result (λ found. IsReady found.journal) }
+        ensures ready { IfOk result (λ found. IsIdle found.journal) }
         ensures listed { IfOk result AreListed }
         ensures device { AsksToOpen D.size D.failures D.calls D.honest Device (told result) disk (disk_after result) }
         ensures sized { IfOk result (λ found. D.size disk ≡ device_bytes) }
@@ -59,9 +59,9 @@ impl<D: Disk> Journal<D> {
 
 fn found_in<D: Disk>(store: Store, disk: D) -> Found<D>
     requires device { D.size disk ≡ device_bytes }
-    requires whole { IsWhole store }
+    requires whole { IsWholeStore store }
     ensures disk { result.journal.disk ≡ disk }
-    ensures ready { IsReady result.journal }
+    ensures ready { IsIdle result.journal }
     ensures listed { AreListed result }
     ensures found { D.honest disk → IsStore (D.seen disk) store → LeavesJust (D.seen disk) (D.may_leave disk)
         → IsFound D.seen D.may_leave (D.seen disk) result }

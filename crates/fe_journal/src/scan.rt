@@ -1,7 +1,7 @@
 // The lengths of all groups of a journal area.
 ghost use Rattle.std.specs.Prelude.{◌≡◌, ◌<◌, length, Option, Some, None, IfOk, IfErr};
 ghost use Rattle.fe_journal.specs.Layout.{area_bytes};
-ghost use Rattle.fe_journal.specs.Reading.{IsFitting, IsOddAt, EndsAt};
+ghost use Rattle.fe_journal.specs.Reading.{IsFitting, IsOddAt, GroupsEndAt};
 
 use crate::Format;
 use crate::layout::AREA_BYTES;
@@ -11,7 +11,7 @@ use byteorder::{BigEndian, ByteOrder};
 /// whose length is not allowed or does not fit.
 pub fn scan(area: &[u8], format: Format) -> Result<usize, usize>
     requires { length area.now ≡ area_bytes }
-    ensures ends { IfOk result (EndsAt format area.now) }
+    ensures ends { IfOk result (GroupsEndAt format area.now) }
     ensures within { IfOk result (λ at. at < area_bytes) }
     ensures odd { IfErr result (IsOddAt format area.now) }
     ensures odd_within { IfErr result (λ at. at < area_bytes) }

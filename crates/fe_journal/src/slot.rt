@@ -3,7 +3,7 @@ ghost use Rattle.std.specs.Prelude.{◌≡◌, ◌<◌, ◌^◌, ℕ, List, OnOk
 ghost use Rattle.fe_disk.specs.Disk.{LeavesJust, LeavesOnly};
 ghost use Rattle.fe_disk.specs.Outcome.{AsksAtMost};
 ghost use Rattle.fe_journal.specs.Layout.{device_bytes, gate_of};
-ghost use Rattle.fe_journal.specs.Steps.{header_fields, IsHeaderTorn, IsLeftInBeginning, IsBegun, Shuts};
+ghost use Rattle.fe_journal.specs.Steps.{header_fields, IsHeaderTorn, IsLeftInBeginning, IsSlotBegun, Shuts};
 
 use crate::Format;
 use crate::commit::shut;
@@ -27,7 +27,7 @@ pub fn begin_slot<D: Disk>(
     ensures any_moment { D.honest disk.old → LeavesJust (D.seen disk.old) (D.may_leave disk.old)
         → LeavesOnly D.moment D.left_since disk.old disk.new (IsLeftInBeginning (D.seen disk.old) slot) }
     ensures begun { D.honest disk.old → OnOk result
-        (IsBegun (D.seen disk.old) slot (header_fields format generation image_length) (D.seen disk.new)) }
+        (IsSlotBegun (D.seen disk.old) slot (header_fields format generation image_length) (D.seen disk.new)) }
     ensures left { D.honest disk.old → LeavesJust (D.seen disk.old) (D.may_leave disk.old)
         → OnOk result ((image : List ℕ) → D.may_leave disk.new image → IsHeaderTorn (D.seen disk.old) slot image) }
 

@@ -2,7 +2,7 @@
 ghost use Rattle.std.specs.Prelude.{◌≡◌, ◌+◌, ◌≤◌, ◌<◌, ◌^◌, ◌∷◌, ◌++◌, length, take};
 ghost use Rattle.byteorder.specs.Endian.{big_bytes};
 ghost use Rattle.fe_disk.specs.Disk.{after_write};
-ghost use Rattle.fe_journal.specs.Groups.{behind_gate};
+ghost use Rattle.fe_journal.specs.Groups.{after_gate};
 ghost use Rattle.fe_journal.specs.Steps.{header_fields, area_start};
 
 use crate::Format;
@@ -44,7 +44,7 @@ pub fn put_group(buffer: &mut [u8], payload: &[u8]) -> usize
     requires room { 6 + length payload.now ≤ length buffer.old }
     requires short { length payload.now < 2 ^ 32 }
     ensures size { result ≡ 6 + length payload.now }
-    ensures bytes { take (6 + length payload.now) buffer.new ≡ 1 ∷ behind_gate payload.now }
+    ensures bytes { take (6 + length payload.now) buffer.new ≡ 1 ∷ after_gate payload.now }
     ensures same { length buffer.new ≡ length buffer.old }
 {
     let end = 5 + payload.len();

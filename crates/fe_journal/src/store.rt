@@ -6,9 +6,9 @@ ghost use Rattle.fe_journal.specs.Layout.{device_bytes, header_bytes, area_bytes
 ghost use Rattle.fe_format.specs.Layout.{IsImageLength};
 ghost use Rattle.fe_journal.specs.Damage.{TellsFound};
 ghost use Rattle.fe_journal.specs.Found.{AsksToOpen, ReadsInPart};
-ghost use Rattle.fe_journal.specs.Reading.{IsHeader, HeaderFault, GroupFault, EndsAt};
+ghost use Rattle.fe_journal.specs.Reading.{IsHeader, HeaderFault, GroupFault, GroupsEndAt};
 ghost use Rattle.fe_journal.specs.Steps.{OnlyReads};
-ghost use Rattle.fe_journal.specs.Store.{CountsAs, IsSlotRead, AreParts, IsSound, IsStore, IsWhole};
+ghost use Rattle.fe_journal.specs.Store.{CountsAs, IsSlotRead, AreParts, IsReadable, IsStore, IsWholeStore};
 ghost use Rattle.fe_journal.specs.declared.fault.StoreFault.TheVariants.{Device, NoMemory};
 
 use crate::header::{Header, counting, header_in};
@@ -43,7 +43,7 @@ pub fn read_store<D: Disk>(alloc: Global, disk: &mut D) -> Result<Store, StoreFa
     ensures settled { D.honest disk.old → OnOk result (LeavesJust (D.seen disk.new) (D.may_leave disk.new)) }
     ensures reads { D.honest disk.old → OnlyReads D.seen D.may_leave D.moment D.left_since disk.old disk.new }
 
-    ensures whole { IfOk result IsWhole }
+    ensures whole { IfOk result IsWholeStore }
     ensures sized { OnOk result (D.size disk.new ≡ device_bytes) }
     ensures device { AsksToOpen D.size D.failures D.calls D.honest Device result disk.old disk.new }
 {
@@ -61,7 +61,7 @@ fn read_synced<D: Disk>(alloc: Global, disk: &mut D) -> Result<Store, StoreFault
     ensures store { D.honest disk.old → IfOk result (IsStore (D.seen disk.old)) }
     ensures faults { D.honest disk.old → IfErr result (λ fault. TellsFound fault (D.seen disk.old)) }
     ensures memory { IsErrOf result NoMemory → ReadsInPart (D.calls disk.old) (D.calls disk.new) }
-    ensures whole { IfOk result IsWhole }
+    ensures whole { IfOk result IsWholeStore }
     ensures reads { D.honest disk.old → OnlyReads D.seen D.may_leave D.moment D.left_since disk.old disk.new }
 
     ensures device { Runs D.size D.failures D.calls D.honest 4 0 0 Device result disk.old disk.new }
@@ -81,7 +81,7 @@ fn read_synced<D: Disk>(alloc: Global, disk: &mut D) -> Result<Store, StoreFault
 fn read_sound<D: Disk>(disk: &mut D) -> Result<(usize, Header), StoreFault>
     requires device { D.size disk.old ≡ device_bytes }
     ensures counts { D.honest disk.old → IfOk result (λ found. CountsAs (D.seen disk.old) (Some found)) }
-    ensures sound { IfOk result IsSound }
+    ensures sound { IfOk result IsReadable }
     ensures faults { D.honest disk.old → IfErr result (λ fault. TellsFound fault (D.seen disk.old)) }
     ensures reads { D.honest disk.old → OnlyReads D.seen D.may_leave D.moment D.left_since disk.old disk.new }
 
@@ -113,7 +113,8 @@ fn read_header<D: Disk>(
     Ok(header_in(bytes))
 }
 
-// The slot that counts, and its header. It takes no memory: an unformatted store is reported as such even if there is none.
+// The slot that counts, and its header. Allocates nothing, so an unformatted store is reported as such even if there is
+// no memory.
 fn read_counting<D: Disk>(disk: &mut D) -> Result<Option<(usize, Header)>, DeviceFault>
     requires device { D.size disk.old ≡ device_bytes }
     ensures counts { D.honest disk.old → IfOk result (CountsAs (D.seen disk.old)) }
@@ -172,7 +173,7 @@ fn read_bytes<D: Disk>(
 fn groups_end(slot: usize, area: &[u8], format: Format) -> Result<usize, StoreFault>
     requires is_slot { slot < 2 }
     requires area { length area.now ≡ area_bytes }
-    ensures ends { IfOk result (EndsAt format area.now) }
+    ensures ends { IfOk result (GroupsEndAt format area.now) }
     ensures within { IfOk result (λ at. at < area_bytes) }
     ensures fault { IfErr result (GroupFault slot format area.now) }
 {
@@ -200,7 +201,7 @@ fn read_slot<D: Disk>(
         → IfErr result (λ fault. TellsFound fault (D.seen disk.old)) }
     ensures memory { IsErrOf result NoMemory → (D.calls disk.new).reads ≤ (D.calls disk.old).reads + 1 }
     ensures whole { IfOk result AreParts }
-    ensures ends { IfOk result (λ parts. EndsAt header.now.format parts.area.items parts.used) }
+    ensures ends { IfOk result (λ parts. GroupsEndAt header.now.format parts.area.items parts.used) }
     ensures reads { D.honest disk.old → OnlyReads D.seen D.may_leave D.moment D.left_since disk.old disk.new }
 
     ensures device { Runs D.size D.failures D.calls D.honest 2 0 0 Device result disk.old disk.new }

@@ -20,7 +20,7 @@ use Rattle.fe_format.specs.Layout.{record_bytes, group_records, longest_payload,
 use Rattle.fe_format.specs.declared.format.Format.{Format}
 use Rattle.fe_format.specs.declared.format.Format.TheVariants.{One, Two}
 use Rattle.fe_journal.specs.Contents.{Contents, Holds, HoldsEither, with_group}
-use Rattle.fe_journal.specs.Journal.{JournalState, Draft, Keeps}
+use Rattle.fe_journal.specs.Journal.{JournalState, Draft, KeepsContents}
 use Rattle.fe_keeper.specs.within.CatchUp.{batch_bytes, HasRoomFor, HasMore, CatchesUp}
 use Rattle.fe_keeper.specs.Keeper.{Progress, StoreState, is_spellable, catches_up, fits, appended}
 use Rattle.fe_journal.specs.Groups.{room_at}
@@ -108,7 +108,7 @@ module _ {D : Type 0} (moment : D → ℕ) (left_since : D → ℕ → List ℕ 
 
   -- a stop leaves the state before, or that with the whole group
   pub append_leaves : (old : Store D) (new : D) (s : ServerState) (entries : List Entry) (payload : List ℕ) → Upholds seen may_leave old s → IsGroupOf old.journal.format entries payload → AreLegal s entries
-      → ((c : Contents) (draft : Option Draft) → Keeps seen may_leave old.journal c draft → LeavesOnly moment left_since old.journal.disk new (HoldsEither c (with_group c payload)))
+      → ((c : Contents) (draft : Option Draft) → KeepsContents seen may_leave old.journal c draft → LeavesOnly moment left_since old.journal.disk new (HoldsEither c (with_group c payload)))
       → LeavesOnly moment left_since old.journal.disk new (StandsForEither s (after_all s entries))
   append_leaves old new s entries payload u is legal run =
       let stands = stands_then u.contents s entries payload u.stands (group_there old s entries payload u is) legal in
@@ -119,7 +119,7 @@ module _ {D : Type 0} (moment : D → ℕ) (left_since : D → ℕ → List ℕ 
 
   -- and after it the store upholds the state after the batch
   pub append_upholds : (old new : Store D) (s : ServerState) (entries : List Entry) (payload : List ℕ) → Upholds seen may_leave old s → IsGroupOf old.journal.format entries payload → AreLegal s entries
-      → ((c : Contents) (draft : Option Draft) → Keeps seen may_leave old.journal c draft → Keeps seen may_leave new.journal (with_group c payload) draft)
+      → ((c : Contents) (draft : Option Draft) → KeepsContents seen may_leave old.journal c draft → KeepsContents seen may_leave new.journal (with_group c payload) draft)
       → CatchesUp entries old.checkpoint new.checkpoint → Upholds seen may_leave new (after_all s entries)
   append_upholds old new s entries payload u is legal kept caught = record {
     contents = with_group u.contents payload;

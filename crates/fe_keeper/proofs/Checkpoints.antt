@@ -8,7 +8,7 @@ use Rattle.fe_state.specs.State.{ServerState}
 use Rattle.fe_codec.specs.Image.{image_spelling, FitsImage}
 use Rattle.fe_format.specs.declared.format.Format.TheVariants.{Two}
 use Rattle.fe_journal.specs.Contents.{Contents, Holds}
-use Rattle.fe_journal.specs.Journal.{JournalState, Draft, Keeps, new_draft, with_slice}
+use Rattle.fe_journal.specs.Journal.{JournalState, Draft, KeepsContents, new_draft, with_slice}
 use Rattle.fe_keeper.specs.Stands.{Stands, StandsFor}
 use Rattle.fe_keeper.specs.within.Upholds.{IsDraftOf, IsDrafted, Upholds, progress_of}
 use Rattle.fe_keeper.specs.within.Slices.{KeepsDraft}
@@ -70,10 +70,10 @@ slice_is_draft c d s end slice more slice_is is =
     }
 
 module _ {D : Type 0} (moment : D → ℕ) (left_since : D → ℕ → List ℕ → Type 0) (seen : D → List ℕ) (may_leave : D → List ℕ → Type 0) where
-  settled : (store : Store D) (s : ServerState) → store.checkpoint ≡ None → (u : Upholds seen may_leave store s) → Keeps seen may_leave store.journal u.contents None
+  settled : (store : Store D) (s : ServerState) → store.checkpoint ≡ None → (u : Upholds seen may_leave store s) → KeepsContents seen may_leave store.journal u.contents None
   settled store s none u =
       let drafted : IsDrafted None u.draft s = subst (λ (o : Option Checkpoint). IsDrafted o u.draft s) none u.drafted in
-      subst (λ (o : Option Draft). Keeps seen may_leave store.journal u.contents o) (drafted_none u.draft s drafted) u.keeps
+      subst (λ (o : Option Draft). KeepsContents seen may_leave store.journal u.contents o) (drafted_none u.draft s drafted) u.keeps
 
   -- a store that does nothing
   pub stays : (store : Store D) (s : ServerState) → ((image : List ℕ) → left_since store.journal.disk (moment store.journal.disk) image → may_leave store.journal.disk image) → Upholds seen may_leave store s
@@ -82,13 +82,13 @@ module _ {D : Type 0} (moment : D → ℕ) (left_since : D → ℕ → List ℕ 
       started moment left_since store.journal.disk (λ image. StandsFor image s) (λ image left. holds_stand u.contents s u.stands image (u.keeps.left image (only_now image left)).holds)
 
   pub begin_moments : (store : Store D) (s : ServerState) (new : D) → store.checkpoint ≡ None → Upholds seen may_leave store s
-      → ((c : Contents) → Keeps seen may_leave store.journal c None → LeavesOnly moment left_since store.journal.disk new (Holds c))
+      → ((c : Contents) → KeepsContents seen may_leave store.journal c None → LeavesOnly moment left_since store.journal.disk new (Holds c))
       → LeavesOnly moment left_since store.journal.disk new (λ image. StandsFor image s)
   begin_moments store s new none u run =
       weaker moment left_since store.journal.disk new (Holds u.contents) (λ image. StandsFor image s) (holds_stand u.contents s u.stands) (run u.contents (settled store s none u))
 
   pub begin_upheld : (store : Store D) (s : ServerState) (j : JournalState D) (c : Checkpoint) (generation n : ℕ) → store.checkpoint ≡ None → Upholds seen may_leave store s
-      → ((k : Contents) → Keeps seen may_leave store.journal k None → Keeps seen may_leave j k (Some (new_draft Two generation n)))
+      → ((k : Contents) → KeepsContents seen may_leave store.journal k None → KeepsContents seen may_leave j k (Some (new_draft Two generation n)))
       → FitsImage Two s → c.image.items ≡ image_spelling Two s → c.written ≡ 0 → c.place ≡ s.place → c.catch_up.items ≡ []
       → Upholds seen may_leave (record { journal = j; group = store.group; place = store.place; checkpoint = Some c }) s
   begin_upheld store s j c generation n none u closed fits image_is written place empty =
@@ -105,7 +105,7 @@ module _ {D : Type 0} (moment : D → ℕ) (left_since : D → ℕ → List ℕ 
   draft_kept store s c some u =
       let drafted : IsDrafted (Some c) u.draft s = subst (λ (o : Option Checkpoint). IsDrafted o u.draft s) some u.drafted in
       let found = drafted_some c u.draft s drafted in
-      record { draft = found.0; keeps = subst (λ (o : Option Draft). Keeps seen may_leave store.journal u.contents o) found.1 u.keeps; is_draft = found.2 }
+      record { draft = found.0; keeps = subst (λ (o : Option Draft). KeepsContents seen may_leave store.journal u.contents o) found.1 u.keeps; is_draft = found.2 }
 
   pub step_moments : (store : Store D) (s : ServerState) (c : Checkpoint) (new : D) → store.checkpoint ≡ Some c → Upholds seen may_leave store s
       → ((k : Contents) → KeepsDraft seen may_leave store.journal k c s → LeavesOnly moment left_since store.journal.disk new (Holds k))
@@ -127,7 +127,7 @@ module _ {D : Type 0} (moment : D → ℕ) (left_since : D → ℕ → List ℕ 
   none_written j k c s only_now kept = started moment left_since j.disk (Holds k) (λ image left. (kept.keeps.left image (only_now image left)).holds)
 
   pub slice_kept : (j new : JournalState D) (k : Contents) (c : Checkpoint) (s : ServerState) (end : ℕ) (slice : List ℕ) → c.written ≤ end → slice ≡ take (end - c.written) (drop c.written c.image.items)
-      → KeepsDraft seen may_leave j k c s → ((d : Draft) → Keeps seen may_leave j k (Some d) → Keeps seen may_leave new k (Some (with_slice d slice)))
+      → KeepsDraft seen may_leave j k c s → ((d : Draft) → KeepsContents seen may_leave j k (Some d) → KeepsContents seen may_leave new k (Some (with_slice d slice)))
       → KeepsDraft seen may_leave new k (record c { written = end }) s
   slice_kept j new k c s end slice more slice_is kept wrote =
       record { draft = with_slice kept.draft slice; keeps = wrote kept.draft kept.keeps; is_draft = slice_is_draft c kept.draft s end slice more slice_is kept.is_draft }

@@ -15,7 +15,7 @@ use Rattle.fe_format.specs.Layout.{record_bytes, longest_payload}
 use Rattle.fe_format.specs.declared.format.Format.{Format}
 use Rattle.fe_format.specs.declared.format.Format.TheVariants.{Two}
 use Rattle.fe_journal.specs.Contents.{Contents, HoldsEither}
-use Rattle.fe_journal.specs.Journal.{JournalState, Draft, Keeps, begun_of, catch_up_groups, finished}
+use Rattle.fe_journal.specs.Journal.{JournalState, Draft, KeepsContents, begun_of, catch_up_groups, with_draft}
 use Rattle.fe_journal.specs.declared.begun.Begun.{Begun}
 use Rattle.fe_keeper.specs.Stands.{Stands, StandsFor, AreGroups, greatest_generation}
 use Rattle.fe_keeper.specs.within.Upholds.{IsDraftOf, IsUnderWay, IsCheckpoint, IsStore, Upholds, progress_of}
@@ -66,7 +66,7 @@ spelled_as_one (entry ∷ entries) (byte ∷ bytes) is fits short =
 
 -- what a finished draft stands for
 pub finished_stands : (contents : Contents) (d : Draft) (c : Checkpoint) (s : ServerState) (bytes : List ℕ) → bytes ≡ c.catch_up.items → IsDraftOf c d s → d.format ≡ Two → d.generation ≤ c.place + 2 → vec_len c.image ≤ c.written
-    → length bytes ≤ longest_payload Two → Stands (finished contents d bytes) s
+    → length bytes ≤ longest_payload Two → Stands (with_draft contents d bytes) s
 finished_stands contents d c s bytes bytes_are is format generation whole short =
     let base_place = is.place_is in
     record {
@@ -99,27 +99,27 @@ module _ {D : Type 0} (moment : D → ℕ) (left_since : D → ℕ → List ℕ 
     whole : vec_len c.image ≤ c.written
     whole = whole_there store.checkpoint c some none_left
 
-    new_stands : (contents : Contents) (kept : KeepsDraft seen may_leave store.journal contents c s) → Stands (finished contents kept.draft bytes) s
+    new_stands : (contents : Contents) (kept : KeepsDraft seen may_leave store.journal contents c s) → Stands (with_draft contents kept.draft bytes) s
     new_stands contents kept =
         let begun = begun_format store.journal kept.draft (store.journal.generation + 1) (vec_len c.image) c.written kept.keeps.begun_is under_way.begun in
         finished_stands contents kept.draft c s bytes bytes_are kept.is_draft begun.0 (omega (arith, begun.1, under_way.numbered)) whole (omega (arith, ap length bytes_are, c.catch_up.ok.0, under_way.caught_up, under_way.few))
 
     pub finish_moments : (new : D) → Upholds seen may_leave store s
-        → ((k : Contents) (d : Draft) → Keeps seen may_leave store.journal k (Some d) → LeavesOnly moment left_since store.journal.disk new (HoldsEither k (finished k d bytes)))
+        → ((k : Contents) (d : Draft) → KeepsContents seen may_leave store.journal k (Some d) → LeavesOnly moment left_since store.journal.disk new (HoldsEither k (with_draft k d bytes)))
         → LeavesOnly moment left_since store.journal.disk new (λ image. StandsFor image s)
     finish_moments new u run =
         let kept = draft_kept moment left_since seen may_leave store s c some u in
-        let next = finished u.contents kept.draft bytes in
+        let next = with_draft u.contents kept.draft bytes in
         weaker moment left_since store.journal.disk new (HoldsEither u.contents next) (λ image. StandsFor image s)
         (λ image either. ⊎_elim (holds_stand u.contents s u.stands image) (holds_stand next s (new_stands u.contents kept) image) either) (run u.contents kept.draft kept.keeps)
 
     pub finish_upheld : (j : JournalState D) → Upholds seen may_leave store s
-        → ((k : Contents) (d : Draft) → Keeps seen may_leave store.journal k (Some d) → Keeps seen may_leave j (finished k d bytes) None)
+        → ((k : Contents) (d : Draft) → KeepsContents seen may_leave store.journal k (Some d) → KeepsContents seen may_leave j (with_draft k d bytes) None)
         → Upholds seen may_leave (record { journal = j; group = store.group; place = store.place; checkpoint = None }) s
     finish_upheld j u goes =
         let kept = draft_kept moment left_since seen may_leave store s c some u in
         record {
-          contents = finished u.contents kept.draft bytes;
+          contents = with_draft u.contents kept.draft bytes;
           draft = None;
           keeps = goes u.contents kept.draft kept.keeps;
           stands = new_stands u.contents kept;

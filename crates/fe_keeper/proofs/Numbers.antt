@@ -5,7 +5,7 @@ use Rattle.fe_state.specs.declared.entry.Entry.{Entry}
 use Rattle.fe_codec.specs.Record.{group_spelling}
 use Rattle.fe_format.specs.declared.format.Format.{Format}
 use Rattle.fe_format.specs.declared.format.Format.TheVariants.{One, Two}
-use Rattle.fe_journal.specs.Groups.{end_of}
+use Rattle.fe_journal.specs.Groups.{end_of_groups}
 use Rattle.fe_journal.specs.Cursor.{Cursor, Lists}
 use Rattle.fe_journal.specs.Journal.{JournalState}
 use Rattle.fe_replica.specs.Replaying.{Replays}
@@ -38,10 +38,10 @@ places_go_up format groups payload payloads old new lists h =
 
 -- ---- the generation
 
-pub numbered : {D : Type 0} (j : JournalState D) (groups : Cursor) (image : List ℕ) (payloads : List (List ℕ)) (s : ServerState) → Lists groups payloads → j.used ≡ end_of payloads → IsRecovered j.format j.generation image payloads s → IsNumbered s.place j
+pub numbered : {D : Type 0} (j : JournalState D) (groups : Cursor) (image : List ℕ) (payloads : List (List ℕ)) (s : ServerState) → Lists groups payloads → j.used ≡ end_of_groups payloads → IsRecovered j.format j.generation image payloads s → IsNumbered s.place j
 numbered j groups image payloads s lists used h = by j.format refl payloads lists used h.base h.is_base.numbered h.replays
   where
-    by : (format : Format) → j.format ≡ format → (payloads : List (List ℕ)) → Lists groups payloads → j.used ≡ end_of payloads → (base : ServerState) → j.generation ≤ greatest_generation j.format base.place → ReplaysAll j.format payloads base s → IsNumbered s.place j
+    by : (format : Format) → j.format ≡ format → (payloads : List (List ℕ)) → Lists groups payloads → j.used ≡ end_of_groups payloads → (base : ServerState) → j.generation ≤ greatest_generation j.format base.place → ReplaysAll j.format payloads base s → IsNumbered s.place j
     by One is payloads lists used base low replays =
         let most : j.generation ≤ base.place + 1 = subst (λ (f : Format). j.generation ≤ greatest_generation f base.place) is low in
         inl (omega (arith, most, places_rise j.format payloads base s replays))

@@ -4,9 +4,9 @@ use Rattle.fe_state.specs.State.{ServerState}
 use Rattle.fe_codec.specs.Image.{image_spelling, FitsImage}
 use Rattle.fe_format.specs.declared.format.Format.{Format}
 use Rattle.fe_journal.specs.Contents.{Contents, Holds}
-use Rattle.fe_journal.specs.Groups.{end_of}
+use Rattle.fe_journal.specs.Groups.{end_of_groups}
 use Rattle.fe_journal.specs.Cursor.{Cursor, Lists}
-use Rattle.fe_journal.specs.Journal.{JournalState, Keeps}
+use Rattle.fe_journal.specs.Journal.{JournalState, KeepsContents}
 use Rattle.fe_replica.specs.Replaying.{Replays}
 use Rattle.fe_keeper.specs.Stands.{Stands, StandsFor, EachStandsFor, greatest_generation}
 use Rattle.fe_keeper.specs.Keeper.{KeeperState, StoreState}
@@ -37,7 +37,7 @@ keeper_over journal state =
 -- each image that a stop may leave holds contents that the journal knows, which stand for the state
 pub record KeepsState {D : Type 0} (seen : D → List ℕ) (may_leave : D → List ℕ → Type 0) (journal : JournalState D) (state : ServerState) : Type 0 where
   pub contents : Contents
-  pub keeps : Keeps seen may_leave journal contents None
+  pub keeps : KeepsContents seen may_leave journal contents None
   pub stands : Stands contents state
 
 -- The store of the slot that counts in the image: its format, and the bytes of its open groups.
@@ -45,7 +45,7 @@ pub record IsStoreIn {D : Type 0} (image : List ℕ) (store : StoreState D) : Ty
   pub contents : Contents
   pub holds : Holds contents image
   pub format_is : store.format ≡ contents.format
-  pub used_is : store.used ≡ end_of contents.groups
+  pub used_is : store.used ≡ end_of_groups contents.groups
 
 -- The image stands for the keeper's state, and so does each image that a stop may leave. The store is that of the slot that counts in the image.
 pub record IsOpenedFrom {D : Type 0} (may_leave : D → List ℕ → Type 0) (image : List ℕ) (keeper : KeeperState D) : Type 0 where

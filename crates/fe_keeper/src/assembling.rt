@@ -1,5 +1,5 @@
 ghost use Rattle.std.specs.Prelude.{◌≡◌, IfOk, IfErr};
-ghost use Rattle.fe_journal.specs.Journal.{IsReady};
+ghost use Rattle.fe_journal.specs.Journal.{IsIdle};
 ghost use Rattle.fe_keeper.specs.within.Upholds.{IsNumbered};
 ghost use Rattle.fe_keeper.specs.Opened.{keeper_over, KeepsState};
 ghost use Rattle.fe_keeper.specs.within.Rooms.{AreRooms};
@@ -38,7 +38,7 @@ pub(crate) fn keeper_over<D: Disk>(
     state: State,
 ) -> Keeper<D>
     requires rooms { AreRooms rooms }
-    requires ready { IsReady journal }
+    requires ready { IsIdle journal }
     requires numbered { IsNumbered state.place journal }
     requires keeps { D.honest journal.disk → KeepsState D.seen D.may_leave journal state }
     ensures { result ≡ keeper_over journal state }
@@ -60,7 +60,7 @@ pub(crate) fn keeper_with_room<D: Disk>(
     journal: Journal<D>,
     state: State,
 ) -> Result<Keeper<D>, (Fault, D)>
-    requires ready { IsReady journal }
+    requires ready { IsIdle journal }
     requires numbered { IsNumbered state.place journal }
     requires keeps { D.honest journal.disk → KeepsState D.seen D.may_leave journal state }
     ensures made { IfOk result (λ keeper. keeper ≡ keeper_over journal state) }

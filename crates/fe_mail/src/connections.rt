@@ -120,8 +120,8 @@ impl Connections {
         }
     }
 
-    /// Removes a connection and its box, and returns the number of mails in the box, 0 to `MAILS`. Returns 0 if it is not
-    /// connected.
+    /// Removes a connection and its box, and returns the number of mails in the box, 0 to `MAILS`. Returns 0 if it is
+    /// not connected.
     pub fn remove(&mut self, conn: u64) -> u32
         ensures mails { result ≡ length (mails_on self.old conn) }
         ensures few { result ≤ MAILS }

@@ -8,7 +8,7 @@ use Rattle.fe_pool.specs.declared.family.Family.{Family}
 use Rattle.fe_pool.specs.declared.neighbours.Neighbours.{Neighbours}
 use Rattle.fe_pool.specs.Pool.{first_or, list_from, lists_of, list_of, without, IsChain, IsOff, KeepsOtherChains, KeepsOtherNodes, KeepsOtherFamily}
 use Rattle.fe_pool.specs.Columns.{Columns, Link, link_at, links_of, with_links, IsLinked}
-use Rattle.fe_pool.specs.within.Runs.{IsAmong, IsWhole, lists, with_next, with_previous, IsPool, contents}
+use Rattle.fe_pool.specs.within.Runs.{IsNodeAmong, IsWholeRun, lists, with_next, with_previous, IsPool, contents}
 use Rattle.fe_pool.proofs.AmongLemmas.{among-append_left, among-append_right, among-append_cases, different-middle, without-middle}
 use Rattle.fe_pool.proofs.RunLemmas.{run-linked, whole-different, whole-length}
 use Rattle.fe_pool.proofs.ListLemmas.{Relinks, list_from_is_whole}
@@ -49,7 +49,7 @@ module _ {T : Type 0} (c c' : Columns T) (first : Option ℕ) (pool : IsPool c f
   pub is-nodes : KeepsOtherNodes (contents c) (contents c') family n
   is-nodes = changed-nodes (contents c) (contents c') family _ change.links (lists_of-contents c family) lists_after (pool-listed c first pool family) _ new n change.relinks
 
-  pub is-off : (IsAmong n new → ⊥) → IsOff (contents c') family n
+  pub is-off : (IsNodeAmong n new → ⊥) → IsOff (contents c') family n
   is-off = changed-off (contents c) (contents c') family _ change.links (lists_of-contents c family) lists_after (pool-listed c first pool family) _ new n change.relinks
 
   pub is-family : KeepsOtherFamily (contents c) (contents c') family
@@ -71,11 +71,11 @@ linked-with_next links None next m some = some
 linked-with_next links (Some a) next m some = linked-set links a m _ some
 
 module _ {T : Type 0} (c : Columns T) (first : Option ℕ) (pool : IsPool c first) (family : Family) (chain : Chain) (is : IsChain (contents c) family chain) where
-  pub chain-whole : IsWhole (links_of c family) (list_of (contents c) family chain)
-  chain-whole = subst (IsWhole (links_of c family)) (sym (ap (λ ls. list_from ls chain.first) (lists_of-contents c family))) (list_from_is_whole (links_of c family) (pool-listed c first pool family) chain.first)
+  pub chain-whole : IsWholeRun (links_of c family) (list_of (contents c) family chain)
+  chain-whole = subst (IsWholeRun (links_of c family)) (sym (ap (λ ls. list_from ls chain.first) (lists_of-contents c family))) (list_from_is_whole (links_of c family) (pool-listed c first pool family) chain.first)
 
   -- a node of the chain's list is taken and has neighbours
-  pub member-linked : (n : ℕ) → IsAmong n (list_of (contents c) family chain) → IsLinked c family n
+  pub member-linked : (n : ℕ) → IsNodeAmong n (list_of (contents c) family chain) → IsLinked c family n
   member-linked n i =
       let found = run-linked (links_of c family) None _ None n chain-whole i in
       record {
@@ -127,14 +127,14 @@ module _ {T : Type 0} (c : Columns T) (first : Option ℕ) (pool : IsPool c firs
 
   -- a node is removed
   module _ (n : ℕ) (xs ys : List ℕ) (split : list_of (contents c) family chain ≡ xs ++ n ∷ ys) where
-    split-whole : IsWhole (links_of c family) (xs ++ n ∷ ys)
-    split-whole = subst (IsWhole (links_of c family)) split chain-whole
+    split-whole : IsWholeRun (links_of c family) (xs ++ n ∷ ys)
+    split-whole = subst (IsWholeRun (links_of c family)) split chain-whole
 
     pub split-link : link_at (links_of c family) n ≡ Some (record { previous = last_or None xs; next = first_or None ys })
     split-link = unlink-link (links_of c family) xs ys n split-whole
 
-    pub split-member : (x : ℕ) → IsAmong x (xs ++ n ∷ ys) → IsLinked c family x
-    split-member x i = member-linked x (subst (IsAmong x) (sym split) i)
+    pub split-member : (x : ℕ) → IsNodeAmong x (xs ++ n ∷ ys) → IsLinked c family x
+    split-member x i = member-linked x (subst (IsNodeAmong x) (sym split) i)
 
     pub unlink-changed : (previous next : Option ℕ) (c1 c2 c3 : Columns T) → previous ≡ last_or None xs → next ≡ first_or None ys → c1 ≡ with_links c family (with_next (links_of c family) previous next) → c2 ≡ with_links c1 family (with_previous (links_of c1 family) next previous) → c3 ≡ with_links c2 family (set (links_of c2 family) n None) → IsChanged c c3 family chain (xs ++ ys) n
     unlink-changed previous next c1 c2 c3 p q one two three = record {
@@ -160,7 +160,7 @@ module _ {T : Type 0} (c : Columns T) (first : Option ℕ) (pool : IsPool c firs
     pub unlink-without : without (list_of (contents c) family chain) n ≡ xs ++ ys
     unlink-without = ap (λ zs. without zs n) split ∙ without-middle xs ys n (whole-different (links_of c family) (xs ++ n ∷ ys) split-whole)
 
-    pub unlink-gone : IsAmong n (xs ++ ys) → ⊥
+    pub unlink-gone : IsNodeAmong n (xs ++ ys) → ⊥
     unlink-gone i =
         let middle = different-middle n xs ys (whole-different (links_of c family) (xs ++ n ∷ ys) split-whole) in
         elim (among-append_cases n xs ys i) as (λ _. ⊥) [ inl left ↦ middle.0 left | inr right ↦ middle.1 right ]

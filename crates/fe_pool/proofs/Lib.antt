@@ -1,5 +1,5 @@
 pub mod AmongLemmas
-pub mod PlacesLemmas
+pub mod CellsLemmas
 pub mod WithCount
 pub mod ChainLemmas
 pub mod ChangeLemmas

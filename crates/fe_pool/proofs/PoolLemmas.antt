@@ -7,7 +7,7 @@ use Rattle.fe_pool.specs.declared.family.Family.TheVariants.{OfWord, OfSession}
 use Rattle.fe_pool.specs.declared.neighbours.Neighbours.{Neighbours}
 use Rattle.fe_pool.specs.Pool.{first_or, list_from, lists_of, IsOnOne, IsOn, IsOff, IsFree, AreSound, IsSound, IsNext}
 use Rattle.fe_pool.specs.Columns.{Columns, Link, link_at, links_of, IsLoose}
-use Rattle.fe_pool.specs.within.Runs.{IsAmong, IsWhole, AllListed, lists, next_of, IsFreeRun, IsPool, contents}
+use Rattle.fe_pool.specs.within.Runs.{IsNodeAmong, IsWholeRun, AllListed, lists, next_of, IsFreeRun, IsPool, contents}
 use Rattle.fe_pool.proofs.AmongLemmas.{among-Contains, Contains-among, all_pairs}
 use Rattle.fe_pool.proofs.RunLemmas.{whole-different, whole-share, linked-below, run-right}
 use Rattle.fe_pool.proofs.ListLemmas.{IsListAt, list_at, length-lists, linked_is_on, on_is_linked, list_from_is_whole}
@@ -28,40 +28,40 @@ pub not_some : {T : Type 0} {o : Option T} → IsSome o → o ≡ None → ⊥
 not_some some none = true≢false (sym some ∙ ap is_some none)
 
 -- a node is on one of the lists exactly if it is in one of them
-pub on_among : (ls : List (List ℕ)) (n : ℕ) → IsOnOne ls n → (first : ℕ) × IsAmong n (get_or ls first [])
+pub on_among : (ls : List (List ℕ)) (n : ℕ) → IsOnOne ls n → (first : ℕ) × IsNodeAmong n (get_or ls first [])
 on_among ls n (first, contained) = by_first first (among-Contains n _ contained)
   where
-    by_first : (first : Option ℕ) → IsAmong n (list_from ls first) → (first : ℕ) × IsAmong n (get_or ls first [])
+    by_first : (first : Option ℕ) → IsNodeAmong n (list_from ls first) → (first : ℕ) × IsNodeAmong n (get_or ls first [])
     by_first None i = absurd i
-    by_first (Some place) i = (place, i)
+    by_first (Some index) i = (index, i)
 
-pub among_on : (ls : List (List ℕ)) (n : ℕ) → ((first : ℕ) × IsAmong n (get_or ls first [])) → IsOnOne ls n
+pub among_on : (ls : List (List ℕ)) (n : ℕ) → ((first : ℕ) × IsNodeAmong n (get_or ls first [])) → IsOnOne ls n
 among_on ls n on = (Some on.0, Contains-among n _ on.1)
 
 -- the lists that the neighbours form are sound
 module _ {T : Type 0} (items : List (Option T)) (links : List Link) (sized : length links ≡ length items) (loose : (n : ℕ) → get_or items n None ≡ None → link_at links n ≡ None) (listed : AllListed links) where
-  at : (place : ℕ) → IsListAt links place
+  at : (index : ℕ) → IsListAt links index
   at = list_at links listed
 
-  first_is : (place n : ℕ) → IsAmong n (get_or (lists links) place []) → first_or None (get_or (lists links) place []) ≡ Some place
-  first_is place n i = by_list (get_or (lists links) place []) i (at place).begins
+  first_is : (index n : ℕ) → IsNodeAmong n (get_or (lists links) index []) → first_or None (get_or (lists links) index []) ≡ Some index
+  first_is index n i = by_list (get_or (lists links) index []) i (at index).begins
     where
-      by_list : (xs : List ℕ) → IsAmong n xs → ((m : ℕ) → first_or None xs ≡ Some m → m ≡ place) → first_or None xs ≡ Some place
+      by_list : (xs : List ℕ) → IsNodeAmong n xs → ((m : ℕ) → first_or None xs ≡ Some m → m ≡ index) → first_or None xs ≡ Some index
       by_list [] i begins = absurd i
       by_list (x ∷ xs) i begins = ap Some (begins x refl)
 
-  same_place : (one other : Option ℕ) (n : ℕ) → IsAmong n (list_from (lists links) one) → IsAmong n (list_from (lists links) other) → one ≡ other
-  same_place None other n i j = absurd i
-  same_place (Some place) None n i j = absurd j
-  same_place (Some place) (Some other) n i j =
-      sym (first_is place n i) ∙ sym (whole-share links _ _ n (at place).whole (at other).whole i j) ∙ first_is other n j
+  same_index : (one other : Option ℕ) (n : ℕ) → IsNodeAmong n (list_from (lists links) one) → IsNodeAmong n (list_from (lists links) other) → one ≡ other
+  same_index None other n i j = absurd i
+  same_index (Some index) None n i j = absurd j
+  same_index (Some index) (Some other) n i j =
+      sym (first_is index n i) ∙ sym (whole-share links _ _ n (at index).whole (at other).whole i j) ∙ first_is other n j
 
   pub lists-sound : AreSound items (lists links)
   lists-sound = record {
     sized = length-lists links ∙ sized;
-    begins = λ place node e. (at place).begins node e;
+    begins = λ index node e. (at index).begins node e;
     different = λ first. all_pairs _ (whole-different links _ (list_from_is_whole links listed first));
-    apart = λ one other node i j. same_place one other node (among-Contains node _ i) (among-Contains node _ j);
+    apart = λ one other node i j. same_index one other node (among-Contains node _ i) (among-Contains node _ j);
     taken = λ node on. elim (item_cases (get_or items node None)) as (λ _. IsSome (get_or items node None)) [
       | inl free ↦
           let among = on_among (lists links) node on in
@@ -119,7 +119,7 @@ module _ {T : Type 0} (c : Columns T) (first : Option ℕ) (pool : IsPool c firs
   pub pool-first : (n : ℕ) → first ≡ Some n → (n < length c.items) × (get_or c.items n None ≡ None)
   pool-first n e = by_free pool.free pool.free_linked (λ m i. pool.free_empty m i)
     where
-      by_free : (xs : List ℕ) → IsFreeRun c.followers first xs → ((m : ℕ) → IsAmong m xs → (m < length c.items) × (get_or c.items m None ≡ None)) → (n < length c.items) × (get_or c.items n None ≡ None)
+      by_free : (xs : List ℕ) → IsFreeRun c.followers first xs → ((m : ℕ) → IsNodeAmong m xs → (m < length c.items) × (get_or c.items m None ≡ None)) → (n < length c.items) × (get_or c.items n None ≡ None)
       by_free [] linked empty = none_some (sym linked ∙ e)
       by_free (x ∷ xs) linked empty = let same : n ≡ x = some_same (sym e ∙ linked.0) in empty n (inl same)
         where
@@ -129,7 +129,7 @@ module _ {T : Type 0} (c : Columns T) (first : Option ℕ) (pool : IsPool c firs
   pub pool-full : first ≡ None → (n : ℕ) → IsFree (contents c) n → ⊥
   pool-full e n free = by_free pool.free pool.free_linked (pool.free_listed n free.0 free.1)
     where
-      by_free : (xs : List ℕ) → IsFreeRun c.followers first xs → IsAmong n xs → ⊥
+      by_free : (xs : List ℕ) → IsFreeRun c.followers first xs → IsNodeAmong n xs → ⊥
       by_free [] linked i = i
       by_free (x ∷ xs) linked i = none_some (sym e ∙ linked.0)
 
@@ -154,5 +154,5 @@ module _ {T : Type 0} (c : Columns T) (first : Option ℕ) (pool : IsPool c firs
   -- the next node is the one after it on each list
   pub pool-next : IsNext (contents c) family n (next_of (link_at (links_of c family) n))
   pool-next first before after e =
-      let whole = subst (IsWhole (links_of c family)) (sym (ap (λ ls. list_from ls first) (lists_of-contents c family)) ∙ e) (list_from_is_whole (links_of c family) (pool-listed c _ pool family) first) in
+      let whole = subst (IsWholeRun (links_of c family)) (sym (ap (λ ls. list_from ls first) (lists_of-contents c family)) ∙ e) (list_from_is_whole (links_of c family) (pool-listed c _ pool family) first) in
       ap next_of (run-right (links_of c family) None before (n ∷ after) None whole).0

@@ -7,7 +7,7 @@ use Rattle.fe_pool.specs.declared.family.Family.TheVariants.{OfWord, OfSession}
 use Rattle.fe_pool.specs.declared.neighbours.Neighbours.{Neighbours}
 use Rattle.fe_pool.specs.Pool.{Contents, first_or, list_from, lists_of, list_of, IsChain, IsOnOne, IsOff, KeepsOtherChains, KeepsOtherNodes, KeepsOtherFamily}
 use Rattle.fe_pool.specs.Columns.{Columns, Link, link_at, links_of, with_links}
-use Rattle.fe_pool.specs.within.Runs.{IsAmong, AllListed, lists, IsPool, contents}
+use Rattle.fe_pool.specs.within.Runs.{IsNodeAmong, AllListed, lists, IsPool, contents}
 use Rattle.fe_pool.proofs.ListLemmas.{Relinks, relinks-listed, relinks-list, linked-relinks, relinks-on, on-relinks, list_from-whole, list_from_is_whole, on_is_linked}
 use Rattle.fe_pool.proofs.PoolLemmas.{on_among, among_on, link_cases}
 
@@ -41,46 +41,38 @@ relinks-none links links' old new node re m other none =
     none_some : {P : Type 0} {v : Neighbours} → None ≡ Some v → P
     none_some e = cc
 
+-- other neighbours keep the pool's invariant if there are as many, each free node has none, and they form lists
+with_columns : {T : Type 0} (c : Columns T) (first : Option ℕ) (words sessions : List Link) → IsPool c first → length words ≡ length c.items → length sessions ≡ length c.items
+    → ((node : ℕ) → get_or c.items node None ≡ None → (link_at words node ≡ None) × (link_at sessions node ≡ None)) → AllListed words → AllListed sessions
+    → IsPool (record c { of_word = words; of_session = sessions }) first
+with_columns c first words sessions pool word_size session_size loose words_listed sessions_listed = record {
+  fits = pool.fits;
+  followers_length = pool.followers_length;
+  of_word_length = word_size;
+  of_session_length = session_size;
+  free = pool.free;
+  free_linked = pool.free_linked;
+  free_different = pool.free_different;
+  free_listed = pool.free_listed;
+  free_empty = pool.free_empty;
+  loose = λ node free. record { of_word = (loose node free).0; of_session = (loose node free).1 };
+  words = words_listed;
+  sessions = sessions_listed;
+}
+
+free_other : {T : Type 0} (c : Columns T) (node : ℕ) → IsSome (get_or c.items node None) → (m : ℕ) → get_or c.items m None ≡ None → m ≢ node
+free_other c node taken m free same = true≢false (sym taken ∙ ap (λ k. is_some (get_or c.items k None)) (sym same) ∙ ap is_some free)
+
 -- a change of a list, at a taken node, keeps the pool's invariant
 pub relinked-pool : {T : Type 0} (c : Columns T) (first : Option ℕ) (family : Family) (links' : List Link) (old new : List ℕ) (node : ℕ) → IsPool c first → Relinks (links_of c family) links' old new node → IsSome (get_or c.items node None) → IsPool (with_links c family links') first
-relinked-pool c first OfWord links' old new node pool re taken = record {
-  fits = pool.fits;
-  followers_length = pool.followers_length;
-  of_word_length = re.sized ∙ pool.of_word_length;
-  of_session_length = pool.of_session_length;
-  free = pool.free;
-  free_linked = pool.free_linked;
-  free_different = pool.free_different;
-  free_listed = pool.free_listed;
-  free_empty = pool.free_empty;
-  loose = λ m free.
-      let was = pool.loose m free in
-      record {
-        of_word = relinks-none c.of_word links' old new node re m (λ same. true≢false (sym taken ∙ ap (λ k. is_some (get_or c.items k None)) (sym same) ∙ ap is_some free)) was.of_word;
-        of_session = was.of_session;
-      };
-  words = relinks-listed c.of_word links' old new node re pool.words;
-  sessions = pool.sessions;
-}
-relinked-pool c first OfSession links' old new node pool re taken = record {
-  fits = pool.fits;
-  followers_length = pool.followers_length;
-  of_word_length = pool.of_word_length;
-  of_session_length = re.sized ∙ pool.of_session_length;
-  free = pool.free;
-  free_linked = pool.free_linked;
-  free_different = pool.free_different;
-  free_listed = pool.free_listed;
-  free_empty = pool.free_empty;
-  loose = λ m free.
-      let was = pool.loose m free in
-      record {
-        of_word = was.of_word;
-        of_session = relinks-none c.of_session links' old new node re m (λ same. true≢false (sym taken ∙ ap (λ k. is_some (get_or c.items k None)) (sym same) ∙ ap is_some free)) was.of_session;
-      };
-  words = pool.words;
-  sessions = relinks-listed c.of_session links' old new node re pool.sessions;
-}
+relinked-pool c first OfWord links' old new node pool re taken =
+    with_columns c first links' c.of_session pool (re.sized ∙ pool.of_word_length) pool.of_session_length
+    (λ m free. (relinks-none c.of_word links' old new node re m (free_other c node taken m free) (pool.loose m free).of_word, (pool.loose m free).of_session))
+    (relinks-listed c.of_word links' old new node re pool.words) pool.sessions
+relinked-pool c first OfSession links' old new node pool re taken =
+    with_columns c first c.of_word links' pool pool.of_word_length (re.sized ∙ pool.of_session_length)
+    (λ m free. ((pool.loose m free).of_word, relinks-none c.of_session links' old new node re m (free_other c node taken m free) (pool.loose m free).of_session))
+    pool.words (relinks-listed c.of_session links' old new node re pool.sessions)
 
 module _ {T : Type 0} (p p' : Contents T) (family : Family) (links links' : List Link) (e : lists_of p family ≡ lists links) (e' : lists_of p' family ≡ lists links') (listed : AllListed links) (old new : List ℕ) (node : ℕ) (re : Relinks links links' old new node) where
   -- the changed chain has the new list
@@ -123,7 +115,7 @@ module _ {T : Type 0} (p p' : Contents T) (family : Family) (links links' : List
   )
 
   -- a node that has left the list is on no list
-  pub changed-off : (IsAmong node new → ⊥) → IsOff p' family node
+  pub changed-off : (IsNodeAmong node new → ⊥) → IsOff p' family node
   changed-off off on =
       let found = on_is_linked links' (relinks-listed links links' old new node re listed) node _ (on_among (lists links') node (subst (λ ls. IsOnOne ls node) e' on)).1 in
       none_some (sym (re.gone off) ∙ found.1)

@@ -2,10 +2,10 @@
 use Rattle.std.proofs.Common.{◌≡◌, ◌≤◌, subst, ℕ, zero, suc, ◌+◌, List, [], ◌∷◌, ◌++◌, map, Option, Some, None, replicate, refl, ap, ◌∙◌, add-one}
 use Rattle.std.proofs.Math.Nat.{le_antisymm}
 use Rattle.std.proofs.lemmas.List.{map-append}
-use Rattle.fe_pool.specs.declared.places.Place.{Place}
-use Rattle.fe_pool.specs.declared.places.Place.TheVariants.{Free}
-use Rattle.fe_pool.specs.Columns.{Columns, before_each, place_before}
-use Rattle.fe_pool.specs.within.Places.{item_of, follower_of, word_link_of, session_link_of, columns_of}
+use Rattle.fe_pool.specs.declared.cells.Cell.{Cell}
+use Rattle.fe_pool.specs.declared.cells.Cell.TheVariants.{Free}
+use Rattle.fe_pool.specs.Columns.{Columns, before_each, index_before}
+use Rattle.fe_pool.specs.within.Cells.{item_of, follower_of, word_link_of, session_link_of, columns_of}
 
 -- the columns hold this many free nodes, and `before` is the last of them
 pub record IsMade {T : Type 0} (c : Columns T) (count : ℕ) (before : Option ℕ) : Type 0 where
@@ -13,7 +13,7 @@ pub record IsMade {T : Type 0} (c : Columns T) (count : ℕ) (before : Option �
   pub of_word : c.of_word ≡ replicate count None
   pub of_session : c.of_session ≡ replicate count None
   pub followers : c.followers ≡ before_each count
-  pub last : before ≡ place_before count
+  pub last : before ≡ index_before count
 
 -- one more copy at the end
 replicate_push : {A : Type 0} (n : ℕ) (x : A) → replicate n x ++ x ∷ [] ≡ replicate (suc n) x
@@ -22,7 +22,7 @@ replicate_push (suc n) x = ap (λ xs. x ∷ xs) (replicate_push n x)
 
 module _ {T : Type 0} where
   -- one more free node is pushed
-  pub made-more : (ps qs : List (Place T)) (count : ℕ) (before : Option ℕ) (at : ℕ) → qs ≡ ps ++ Free before ∷ [] → at ≡ count → IsMade (columns_of ps) count before → IsMade (columns_of qs) (count + 1) (Some at)
+  pub made-more : (ps qs : List (Cell T)) (count : ℕ) (before : Option ℕ) (at : ℕ) → qs ≡ ps ++ Free before ∷ [] → at ≡ count → IsMade (columns_of ps) count before → IsMade (columns_of qs) (count + 1) (Some at)
   made-more ps qs count before at pushed same made =
       rw (pushed, same, add-one) (record {
         items = more item_of refl made.items;
@@ -32,7 +32,7 @@ module _ {T : Type 0} where
         last = refl;
       })
     where
-      more : {X : Type 0} (f : Place T → Option X) → f (Free before) ≡ None → map f ps ≡ replicate count None → map f (ps ++ Free before ∷ []) ≡ replicate (suc count) None
+      more : {X : Type 0} (f : Cell T → Option X) → f (Free before) ≡ None → map f ps ≡ replicate count None → map f (ps ++ Free before ∷ []) ≡ replicate (suc count) None
       more f none e = map-append f ps _ ∙ ap (λ xs. xs ++ f (Free before) ∷ []) e ∙ ap (λ o. replicate count None ++ o ∷ []) none ∙ replicate_push count None
 
   -- once the count is reached

@@ -65,11 +65,11 @@ module _ {T : Type 0} where
     pub linked : IsSome (link_at (links_of c family) node)
 
 -- the next lower node, if there is one
-abbrev pub place_before : ℕ → Option ℕ
-place_before zero = None
-place_before (suc place) = Some place
+abbrev pub index_before : ℕ → Option ℕ
+index_before zero = None
+index_before (suc index) = Some index
 
 -- for each of the first nodes, the next lower node
 abbrev pub before_each : ℕ → List (Option ℕ)
 before_each zero = []
-before_each (suc place) = before_each place ++ place_before place ∷ []
+before_each (suc index) = before_each index ++ index_before index ∷ []

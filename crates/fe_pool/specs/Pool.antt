@@ -42,7 +42,7 @@ IsOnOne lists node = (first : Option ℕ) × Contains (list_from lists first) no
 -- twice, no two lists share a node, and each node on a list has an item
 pub record AreSound {T : Type 0} (items : List (Option T)) (lists : List (List ℕ)) : Type 0 where
   pub sized : length lists ≡ length items
-  pub begins : (place node : ℕ) → first_or None (list_from lists (Some place)) ≡ Some node → node ≡ place
+  pub begins : (index node : ℕ) → first_or None (list_from lists (Some index)) ≡ Some node → node ≡ index
   pub different : (first : Option ℕ) → AllPairs (λ a b. a ≢ b) (list_from lists first)
   pub apart : (one other : Option ℕ) (node : ℕ) → Contains (list_from lists one) node → Contains (list_from lists other) node → one ≡ other
   pub taken : (node : ℕ) → IsOnOne lists node → IsSome (slice_index_or items node None)

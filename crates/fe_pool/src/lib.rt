@@ -1,11 +1,11 @@
 //! Nodes in one vector, linked by index. A node is on at most one list of each of two families.
 #![tactic(auto)]
 
+mod cells;
 mod chain;
 mod family;
 mod neighbours;
 mod node;
-mod places;
 mod pool;
 
 pub use chain::Chain;

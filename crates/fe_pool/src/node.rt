@@ -3,7 +3,7 @@ use std::marker::Model;
 /// A node of a pool: its index, from 0 to the number of nodes less one.
 #[derive(Clone, Copy, PartialEq, Eq)]
 pub struct Node {
-    place: u32,
+    index: u32,
 }
 
 impl Model for Node {
@@ -11,26 +11,26 @@ impl Model for Node {
 
     ghost Value = { ℕ };
 
-    ghost view = { λ n. n.place };
+    ghost view = { λ n. n.index };
 
-    ghost invariant = { λ n. n.place < 2 ^ 32 };
+    ghost invariant = { λ n. n.index < 2 ^ 32 };
 
-    ghost inverse = { λ place. record { place = place } };
+    ghost inverse = { λ index. record { index = index } };
 }
 
 impl Node {
     ghost use Rattle.std.specs.Prelude.{◌≡◌, ◌<◌, ◌^◌};
 
-    pub(crate) fn at(place: u32) -> Node
-        ensures { result ≡ place }
+    pub(crate) fn at(index: u32) -> Node
+        ensures { result ≡ index }
     {
-        Node { place }
+        Node { index }
     }
 
-    pub(crate) fn place(self) -> usize
-        ensures place { result ≡ self }
+    pub(crate) fn index(self) -> usize
+        ensures index { result ≡ self }
         ensures fits { self < 2 ^ 32 }
     {
-        self.place as usize
+        self.index as usize
     }
 }

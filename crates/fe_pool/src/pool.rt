@@ -1,11 +1,11 @@
 ghost use Rattle.std.specs.Prelude.{◌≡◌, ◌<◌, ◌+◌, ◌↔◌, ℕ, [], ◌∷◌, ◌++◌, length, replicate, slice_set, Some, None, Option, IfOk, IsNone, IfSome, IsSome, OnSome, IfNone, Contains};
 ghost use Rattle.fe_pool.specs.Pool.{item_at, IsTaken, IsFree, list_of, lists_of, without, IsChain, IsOn, IsOff, KeepsOtherChains, KeepsOtherNodes, KeepsOtherFamily, IsNext, IsSound};
 
+use crate::cells::Cells;
 use crate::chain::Chain;
 use crate::family::Family;
 use crate::neighbours::Neighbours;
 use crate::node::Node;
-use crate::places::Places;
 use std::alloc::{AllocError, Global};
 use std::marker::Model;
 
@@ -14,7 +14,7 @@ use std::marker::Model;
 /// `with_nodes` allocates all memory. Every later call takes a bounded time.
 #[derive(Drop)]
 pub struct Pool<T> {
-    places: Places<T>,
+    cells: Cells<T>,
     first_free: Option<Node>,
 }
 
@@ -27,9 +27,9 @@ impl<T> Model for Pool<T> {
 
     ghost use Rattle.fe_pool.specs.within.Runs.{contents, IsPool};
 
-    ghost view = { λ p. contents p.places };
+    ghost view = { λ p. contents p.cells };
 
-    ghost invariant = { λ p. IsPool p.places p.first_free };
+    ghost invariant = { λ p. IsPool p.cells p.first_free };
 }
 
 impl<T: Drop> Pool<T> {
@@ -40,13 +40,13 @@ impl<T: Drop> Pool<T> {
         ensures of_session { IfOk result (λ p. p.of_session ≡ replicate nodes []) }
         ensures sound { IfOk result IsSound }
     {
-        let places = Places::with_count(alloc, nodes)?;
+        let cells = Cells::with_count(alloc, nodes)?;
         let first_free = if nodes == 0 {
             None
         } else {
             Some(Node::at(nodes - 1))
         };
-        Ok(Pool { places, first_free })
+        Ok(Pool { cells, first_free })
     }
 
     /// The number of nodes, free and taken.
@@ -54,7 +54,7 @@ impl<T: Drop> Pool<T> {
         ensures nodes { result ≡ length self.now.items }
         ensures sound { IsSound self.now }
     {
-        self.places.count()
+        self.cells.count()
     }
 
     /// Puts the item into a free node and returns the node, which is on no list. If no node is free, drops the item
@@ -69,7 +69,7 @@ impl<T: Drop> Pool<T> {
         ensures sound { IsSound self.new }
     {
         let node = self.first_free?;
-        self.first_free = self.places.occupy(node, item);
+        self.first_free = self.cells.occupy(node, item);
         Some(node)
     }
 
@@ -81,7 +81,7 @@ impl<T: Drop> Pool<T> {
         ensures freed { self.new ≡ record self.old { items = slice_set self.old.items node None } }
         ensures sound { IsSound self.new }
     {
-        let item = self.places.vacate(node, self.first_free);
+        let item = self.cells.vacate(node, self.first_free);
         self.first_free = Some(node);
         item
     }
@@ -91,7 +91,7 @@ impl<T: Drop> Pool<T> {
         requires { IsTaken self.now node }
         ensures { item_at self.now node ≡ Some result.now }
     {
-        self.places.item(node)
+        self.cells.item(node)
     }
 
     /// The node after this one on its list of the family, or `None` at the end.
@@ -99,7 +99,7 @@ impl<T: Drop> Pool<T> {
         requires { IsOn self.now family node }
         ensures { IsNext self.now family node result }
     {
-        self.places.neighbours(family, node).unwrap().next
+        self.cells.neighbours(family, node).unwrap().next
     }
 
     /// Appends a taken node that is on no list of the family to the chain's list.
@@ -127,8 +127,8 @@ impl<T: Drop> Pool<T> {
             previous: last,
             next: None,
         };
-        self.places.set_neighbours(family, node, Some(neighbours));
-        self.places.set_next(family, last, Some(node));
+        self.cells.set_neighbours(family, node, Some(neighbours));
+        self.cells.set_next(family, last, Some(node));
         *chain = Chain {
             first: if first.is_none() { Some(node) } else { first },
             last: Some(node),
@@ -157,10 +157,10 @@ impl<T: Drop> Pool<T> {
             last,
             length,
         } = *chain;
-        let Neighbours { previous, next } = self.places.neighbours(family, node).unwrap();
-        self.places.set_next(family, previous, next);
-        self.places.set_previous(family, next, previous);
-        self.places.set_neighbours(family, node, None);
+        let Neighbours { previous, next } = self.cells.neighbours(family, node).unwrap();
+        self.cells.set_next(family, previous, next);
+        self.cells.set_previous(family, next, previous);
+        self.cells.set_neighbours(family, node, None);
         *chain = Chain {
             first: if previous.is_none() { next } else { first },
             last: if next.is_none() { previous } else { last },

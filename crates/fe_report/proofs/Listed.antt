@@ -35,7 +35,7 @@ found_at {R = R} o same (x ∷ es) zero e sorted h =
     subst (λ e. find R e.0 (x ∷ es) ≡ Some e.1) (same_value _ _ h) (ap (λ b. cond b (Some x.1) (find R x.0 es)) (hit o x.0 x.0 refl))
 found_at o same (x ∷ es) (suc i) e sorted h = later same x e es (first _ _ sorted) (found_at o same es i e (second _ _ sorted) h)
 
--- the entry at a place is what the map has at its key
+-- the entry at a position is what the map has at its key
 pub get-at : {K X : Type 0} {R : K → K → Ordering} → IsTotalOrder R → IsAntisymmetric R → (m : FinMap R X) (i : ℕ) (e : K × X) → slice_get (entries m) i ≡ Some e → get m e.0 ≡ Some e.1
 get-at o same m i e h = get-entries m e.0 ∙ found_at o same (entries m) i e (entries_sorted m) h
 

@@ -97,7 +97,7 @@ module _ {K X : Type 0} {R : K → K → Ordering} (o : IsTotalOrder R) (same : 
   times-later : (q : K) (e : K × X) (es : List (K × X)) → times q es ≤ times q (e ∷ es)
   times-later q e es = let more = times-cons q e es in omega (arith, more)
 
-  -- a list of which each element gives a row of its own
+  -- a list whose elements give different rows
   module _ {A : Type 0} (f : A → K × X) where
     pub times-mapped : (xs : List A) → ((i j : ℕ) (d : A) → i < j → j < length xs → (f (get_or xs i d)).0 ≢ (f (get_or xs j d)).0) → (q : K) → times q (map f xs) ≤ 1
     times-mapped [] apart q = omega arith

@@ -11,7 +11,7 @@ use Rattle.fe_report.specs.Report.{spot_cmp}
 pub spot_cmp_total : IsTotalOrder spot_cmp
 spot_cmp_total = then_total (on_total (λ p. p.0) pair_cmp_total) (on_total (λ p. p.1) pair_cmp_total)
 
--- only equal places tie
+-- only equal spots tie
 pub spot_cmp-IsAntisymmetric : IsAntisymmetric spot_cmp
 spot_cmp-IsAntisymmetric a b e = by_first (pair_cmp a.0 b.0) (λ t. pair_cmp-IsAntisymmetric a.0 b.0 t) e
   where

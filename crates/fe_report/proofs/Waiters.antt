@@ -59,7 +59,7 @@ same_number s = search rules
 get-of_session : (waiting : Waiters) (session : ℕ) (q : ℕ × ℕ) → get (of_session waiting session) q ≡ cond (q.0 == session) (get waiting q) None
 get-of_session waiting session q = get-retain_keys waiting (λ key. key.0 == session) q (λ x t. ap (λ k. k.0 == session) (sym (pair_cmp-IsAntisymmetric q x t)))
 
--- something waits of a session of which one does
+-- a session with a waiting request has a count above 0
 pub count-some : (waiting : Waiters) (key : ℕ × ℕ) → IsSome (get waiting key) → 0 < count_of waiting key.0
 count-some waiting key h =
     one_there pair_cmp_total pair_cmp-IsAntisymmetric (of_session waiting key.0) key
@@ -143,7 +143,7 @@ row_there None h = absurd (true≢false (sym h))
 abbrev pub told : Waiter → ℕ × ℕ × Op
 told w = (w.array, w.index, w.op)
 
--- where that is, there is a row of it
+-- a request that the front lists has a row
 pub row_of_told : (waiting : Waiters) (key : ℕ × ℕ) (t : ℕ × ℕ × Op) → option_map told (get waiting key) ≡ Some t → get (by_word waiting) ((t.0, t.1), key) ≡ Some t.2
 row_of_told waiting key t is = by_waiter (get waiting key) refl is
   where

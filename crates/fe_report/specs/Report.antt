@@ -68,8 +68,8 @@ lines_of waiting attached =
     ++ (flat_map session_line (entries (by_session waiting))
     ++ all_wait_line (do_all_wait waiting attached))
 
--- The report, given what waits and the seats of the attached sessions: how many requests wait and, if any do, a line for
--- each of them by word, a line for each session that has any, and whether every attached session waits.
+-- The report, given what waits and the seats of the attached sessions: how many requests wait and, if any do, a line
+-- for each of them by word, a line for each session that has any, and whether every attached session waits.
 abbrev pub report_text : Waiters → FinMap nat_cmp Seat → List ℕ
 report_text waiting attached =
     count_line (len waiting) ++ (if len waiting == 0 then [] else lines_of waiting attached)

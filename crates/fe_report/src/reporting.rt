@@ -13,10 +13,10 @@ pub(crate) const WORD_LINE: usize = 108;
 /// The most bytes that all other lines have together.
 const OTHER_LINES: usize = 2976;
 
-/// The report of what waits in a front, 1 to `REPORT_BYTES` bytes long. `AllocError` if memory is short.
+/// The report of what waits in a front, 1 to `REPORT_BYTES` bytes long. Fails only if memory runs out.
 ///
-/// It walks each session's waiting list once, and looks at no word. It allocates room for the longest text first, and gives
-/// back what the text doesn't use.
+/// It walks each session's waiting list once, and looks at no word. It allocates room for the longest text first, and
+/// gives back what the text doesn't use.
 pub fn report(alloc: Global, front: &Front) -> Result<String, AllocError>
     ensures text { IfOk result
         (λ text. string_bytes text ≡ report_text front.now.service.waiting (attached_seats front.now)) }

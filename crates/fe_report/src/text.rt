@@ -54,11 +54,11 @@ fn put_caller(line: &mut [u8], session: u64, number: u64, op: Op) -> usize
 }
 
 /// Writes the first part of a request's line, its word, so that it ends at `end`.
-fn put_place(line: &mut [u8], array: u64, index: u32, end: usize) -> usize
+fn put_spot(line: &mut [u8], array: u64, index: u32, end: usize) -> usize
     requires room { 36 ≤ end }
     requires in_bounds { end ≤ length line.old }
     ensures in_bounds { result ≤ end }
-    ensures place { drop result line.new
+    ensures spot { drop result line.new
         ≡ codes "word " ++ (decimal array ++ (codes " " ++ (decimal index ++ drop end line.old))) }
 {
     let at = write_digits(u64::from(index), line, end);
@@ -82,7 +82,7 @@ fn put_word(
 {
     let mut line = [0; WORD_LINE];
     let caller = put_caller(&mut line, session, number, op);
-    let start = put_place(&mut line, array, index, caller);
+    let start = put_spot(&mut line, array, index, caller);
     // The bytes are ASCII. To check each of them again costs a third of a report.
     let line = unsafe { str::from_utf8_unchecked(&line[start..]) };
     text.push_str(line)

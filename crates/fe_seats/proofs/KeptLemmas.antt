@@ -9,7 +9,7 @@ use Rattle.std.proofs.Math.ListN.{length-set}
 use Rattle.fe_waits.specs.Pair.{pair_cmp, pair_cmp_total, pair_cmp-IsAntisymmetric}
 use Rattle.fe_waits.specs.Waiting.{Waiting}
 use Rattle.fe_waits.proofs.MemberLemmas.{none_some, some_same}
-use Rattle.fe_seats.specs.declared.place.Place.{Place}
+use Rattle.fe_seats.specs.declared.occupant.Occupant.{Occupant}
 use Rattle.fe_seats.specs.Seating.{NoneOfSession}
 use Rattle.fe_seats.specs.within.Inner.{owner_at, slot_in, by_session, slots_below, AreFree, AreSeats}
 use Rattle.fe_seats.proofs.OwnerLemmas.{Agree, AreOwned, seen, some_is, none_or_some, get-by_session, get-of_owner}
@@ -49,7 +49,7 @@ unfolding slots_below
 length-slots_below zero = refl
 length-slots_below (suc n) = let rest = length-slots_below n in length-append (slots_below n) (n ∷ []) ∙ omega arith
 
--- each is at its own place
+-- each is at its own index
 slot-at : (n i slot : ℕ) → slice_get (slots_below n) i ≡ Some slot → (i ≡ slot) × (slot < n)
 unfolding slots_below
 slot-at zero i slot e = none_some e
@@ -87,11 +87,11 @@ owner-set_other owners slot t o other = get_or-set_other owners slot t o None ot
 
 -- ---- nobody sits, and nothing waits
 
-pub kept-new : (waits : Waiting) (places : FinMap nat_cmp Place) (owners : List (Option ℕ)) (slots : List ℕ) (capacity : ℕ) → waits.members ≡ empty → places ≡ empty → owners ≡ replicate 64 None → slots ≡ slots_below 64 → 64 ≤ capacity → AreSeats waits places owners slots capacity
-kept-new waits places owners slots capacity no_members no_places no_owners all reserved = record {
+pub kept-new : (waits : Waiting) (occupants : FinMap nat_cmp Occupant) (owners : List (Option ℕ)) (slots : List ℕ) (capacity : ℕ) → waits.members ≡ empty → occupants ≡ empty → owners ≡ replicate 64 None → slots ≡ slots_below 64 → 64 ≤ capacity → AreSeats waits occupants owners slots capacity
+kept-new waits occupants owners slots capacity no_members no_occupants no_owners all reserved = record {
   sized = ap length no_owners;
   agree = λ session slot. (
-    λ e. none_some (sym (ap (λ m. slot_in m session) no_places ∙ no_slot empty session (get-empty nat_cmp session)) ∙ e),
+    λ e. none_some (sym (ap (λ m. slot_in m session) no_occupants ∙ no_slot empty session (get-empty nat_cmp session)) ∙ e),
     λ e. none_some (sym (unowned slot) ∙ e),
   );
   free = record {
@@ -99,7 +99,7 @@ kept-new waits places owners slots capacity no_members no_places no_owners all r
     vacant = λ i slot e. unowned slot;
     once = λ i j slot e f. (at i slot e).0 ∙ sym (at j slot f).0;
   };
-  counted = let long = ap length all ∙ length-slots_below 64 in let none = ap len no_places ∙ len-empty nat_cmp Place in omega arith;
+  counted = let long = ap length all ∙ length-slots_below 64 in let none = ap len no_occupants ∙ len-empty nat_cmp Occupant in omega arith;
   reserved = reserved;
   owned = λ key waiter e. none_some (sym (ap (λ m. get m key) no_members ∙ get-empty pair_cmp key) ∙ e);
 }
@@ -110,39 +110,39 @@ kept-new waits places owners slots capacity no_members no_places no_owners all r
     at : (i slot : ℕ) → slice_get slots i ≡ Some slot → (i ≡ slot) × (slot < 64)
     at i slot e = slot-at 64 i slot (ap (λ l. slice_get l i) (sym all) ∙ e)
 
-module _ (waits : Waiting) (places : FinMap nat_cmp Place) (owners : List (Option ℕ)) (slots : List ℕ) (capacity : ℕ) (kept : AreSeats waits places owners slots capacity) where
-  pub slot-below : (session slot : ℕ) → slot_in places session ≡ Some slot → slot < 64
+module _ (waits : Waiting) (occupants : FinMap nat_cmp Occupant) (owners : List (Option ℕ)) (slots : List ℕ) (capacity : ℕ) (kept : AreSeats waits occupants owners slots capacity) where
+  pub slot-below : (session slot : ℕ) → slot_in occupants session ≡ Some slot → slot < 64
   slot-below session slot in_slot = let below = owner-below owners slot session ((kept.agree session slot).0 in_slot) in omega (arith, kept.sized)
 
   -- other requests, which wait in slots that have an owner
-  pub kept-waits : (waits' : Waiting) → AreOwned owners waits'.members → AreSeats waits' places owners slots capacity
+  pub kept-waits : (waits' : Waiting) → AreOwned owners waits'.members → AreSeats waits' occupants owners slots capacity
   kept-waits waits' owned = record { sized = kept.sized; agree = kept.agree; free = kept.free; counted = kept.counted; reserved = kept.reserved; owned = owned }
 
-  -- ---- another seat in the same place
+  -- ---- another seat of an occupant
 
-  module _ (session : ℕ) (old new : Place) (there : get places session ≡ Some old) (same_slot : new.slot ≡ old.slot) where
-    slots_same : (q : ℕ) → slot_in (insert places session new) q ≡ slot_in places q
+  module _ (session : ℕ) (old new : Occupant) (there : get occupants session ≡ Some old) (same_slot : new.slot ≡ old.slot) where
+    slots_same : (q : ℕ) → slot_in (insert occupants session new) q ≡ slot_in occupants q
     slots_same q =
-        elim (cases_eq q session) as (λ _. slot_in (insert places session new) q ≡ slot_in places q) [
+        elim (cases_eq q session) as (λ _. slot_in (insert occupants session new) q ≡ slot_in occupants q) [
           | inl same ↦
-              ap (slot_in (insert places session new)) same ∙ slot-insert_here places session new ∙ ap Some same_slot
-              ∙ sym (ap (slot_in places) same ∙ ap (option_map (λ (place : Place). place.slot)) there)
-          | inr other ↦ slot-insert_other places session new q other
+              ap (slot_in (insert occupants session new)) same ∙ slot-insert_here occupants session new ∙ ap Some same_slot
+              ∙ sym (ap (slot_in occupants) same ∙ ap (option_map (λ (occupant : Occupant). occupant.slot)) there)
+          | inr other ↦ slot-insert_other occupants session new q other
         ]
 
-    pub kept-reseated : AreSeats waits (insert places session new) owners slots capacity
+    pub kept-reseated : AreSeats waits (insert occupants session new) owners slots capacity
     kept-reseated = record {
       sized = kept.sized;
       agree = λ s t. (λ e. (kept.agree s t).0 (sym (slots_same s) ∙ e), λ e. slots_same s ∙ (kept.agree s t).1 e);
       free = kept.free;
-      counted = let same = len-insert_old places session new old there in omega (arith, kept.counted);
+      counted = let same = len-insert_old occupants session new old there in omega (arith, kept.counted);
       reserved = kept.reserved;
       owned = kept.owned;
     }
 
   -- ---- a session sits down, in the slot that was free last
 
-  module _ (session slot : ℕ) (rest : List ℕ) (place : Place) (new : get places session ≡ None) (popped : slots ≡ rest ++ slot ∷ []) (in_slot : place.slot ≡ slot) where
+  module _ (session slot : ℕ) (rest : List ℕ) (occupant : Occupant) (new : get occupants session ≡ None) (popped : slots ≡ rest ++ slot ∷ []) (in_slot : occupant.slot ≡ slot) where
     last_free : slice_get slots (length rest) ≡ Some slot
     last_free = ap (λ l. slice_get l (length rest)) popped ∙ slice_get-end rest slot
 
@@ -158,7 +158,7 @@ module _ (waits : Waiting) (places : FinMap nat_cmp Place) (owners : List (Optio
     -- the slot is not on the list any more
     not_again : (i t : ℕ) → slice_get rest i ≡ Some t → t ≢ slot
     not_again i t e same =
-        let place_of = kept.free.once i (length rest) slot (was_free i t e ∙ ap Some same) last_free in
+        let index_of = kept.free.once i (length rest) slot (was_free i t e ∙ ap Some same) last_free in
         let before = within rest i t e in
         absurd (omega arith)
 
@@ -169,29 +169,29 @@ module _ (waits : Waiting) (places : FinMap nat_cmp Place) (owners : List (Optio
       once = λ i j t e f. kept.free.once i j t (was_free i t e) (was_free j t f);
     }
 
-    sit_there : (s t : ℕ) → slot_in (insert places session place) s ≡ Some t → owner_at (set owners slot (Some session)) t ≡ Some s
+    sit_there : (s t : ℕ) → slot_in (insert occupants session occupant) s ≡ Some t → owner_at (set owners slot (Some session)) t ≡ Some s
     sit_there s t e =
         elim (cases_eq s session) as (λ _. owner_at (set owners slot (Some session)) t ≡ Some s) [
           | inl same ↦
-              let is : slot ≡ t = some_same (sym (ap Some in_slot) ∙ sym (slot-insert_here places session place) ∙ ap (slot_in (insert places session place)) (sym same) ∙ e) in
+              let is : slot ≡ t = some_same (sym (ap Some in_slot) ∙ sym (slot-insert_here occupants session occupant) ∙ ap (slot_in (insert occupants session occupant)) (sym same) ∙ e) in
               ap (owner_at (set owners slot (Some session))) (sym is) ∙ owner-set_here owners slot (Some session) sit-below ∙ ap Some (sym same)
           | inr other ↦
-              let was = (kept.agree s t).0 (sym (slot-insert_other places session place s other) ∙ e) in
+              let was = (kept.agree s t).0 (sym (slot-insert_other occupants session occupant s other) ∙ e) in
               owner-set_other owners slot t (Some session) (λ is. none_some (sym sit-vacant ∙ ap (owner_at owners) (sym is) ∙ was)) ∙ was
         ]
 
-    sit_back : (s t : ℕ) → owner_at (set owners slot (Some session)) t ≡ Some s → slot_in (insert places session place) s ≡ Some t
+    sit_back : (s t : ℕ) → owner_at (set owners slot (Some session)) t ≡ Some s → slot_in (insert occupants session occupant) s ≡ Some t
     sit_back s t e =
-        elim (cases_eq t slot) as (λ _. slot_in (insert places session place) s ≡ Some t) [
+        elim (cases_eq t slot) as (λ _. slot_in (insert occupants session occupant) s ≡ Some t) [
           | inl same ↦
               let is : session ≡ s = some_same (sym (owner-set_here owners slot (Some session) sit-below) ∙ ap (owner_at (set owners slot (Some session))) (sym same) ∙ e) in
-              ap (slot_in (insert places session place)) (sym is) ∙ slot-insert_here places session place ∙ ap Some (in_slot ∙ sym same)
+              ap (slot_in (insert occupants session occupant)) (sym is) ∙ slot-insert_here occupants session occupant ∙ ap Some (in_slot ∙ sym same)
           | inr other ↦
               let was = (kept.agree s t).1 (sym (owner-set_other owners slot t (Some session) other) ∙ e) in
-              slot-insert_other places session place s (λ is. none_some (sym (no_slot places session new) ∙ ap (slot_in places) (sym is) ∙ was)) ∙ was
+              slot-insert_other occupants session occupant s (λ is. none_some (sym (no_slot occupants session new) ∙ ap (slot_in occupants) (sym is) ∙ was)) ∙ was
         ]
 
-    sit_agree : Agree (insert places session place) (set owners slot (Some session))
+    sit_agree : Agree (insert occupants session occupant) (set owners slot (Some session))
     sit_agree s t = (sit_there s t, sit_back s t)
 
     sit_owned : AreOwned (set owners slot (Some session)) waits.members
@@ -201,13 +201,13 @@ module _ (waits : Waiting) (places : FinMap nat_cmp Place) (owners : List (Optio
           | inr other ↦ ap is_some (owner-set_other owners slot key.0 (Some session) other) ∙ kept.owned key waiter e
         ]
 
-    pub kept-sit : AreSeats waits (insert places session place) (set owners slot (Some session)) rest capacity
+    pub kept-sit : AreSeats waits (insert occupants session occupant) (set owners slot (Some session)) rest capacity
     kept-sit = record {
       sized = length-set owners slot (Some session) ∙ kept.sized;
       agree = sit_agree;
       free = sit_free;
       counted =
-          let more = len-insert_new places session place new in
+          let more = len-insert_new occupants session occupant new in
           let long = ap length popped ∙ length-append rest (slot ∷ []) in
           omega (arith, kept.counted);
       reserved = kept.reserved;
@@ -224,32 +224,32 @@ module _ (waits : Waiting) (places : FinMap nat_cmp Place) (owners : List (Optio
 
     pub waiting-sit : by_session (set owners slot (Some session)) waits.members ≡ by_session owners waits.members
     waiting-sit = same_map pair_cmp_total pair_cmp-IsAntisymmetric _ _ (λ q.
-        get-by_session (insert places session place) (set owners slot (Some session)) sit_agree waits.members sit_owned q
-        ∙ elim (cases_eq q.0 session) as (λ _. seen waits.members (slot_in (insert places session place) q.0) q.1 ≡ seen waits.members (slot_in places q.0) q.1) [
+        get-by_session (insert occupants session occupant) (set owners slot (Some session)) sit_agree waits.members sit_owned q
+        ∙ elim (cases_eq q.0 session) as (λ _. seen waits.members (slot_in (insert occupants session occupant) q.0) q.1 ≡ seen waits.members (slot_in occupants q.0) q.1) [
           | inl same ↦
-              ap (λ o. seen waits.members o q.1) (ap (slot_in (insert places session place)) same ∙ slot-insert_here places session place ∙ ap Some in_slot)
+              ap (λ o. seen waits.members o q.1) (ap (slot_in (insert occupants session occupant)) same ∙ slot-insert_here occupants session occupant ∙ ap Some in_slot)
               ∙ none_in q.1
-              ∙ sym (ap (λ o. seen waits.members o q.1) (ap (slot_in places) same ∙ no_slot places session new))
-          | inr other ↦ ap (λ o. seen waits.members o q.1) (slot-insert_other places session place q.0 other)
+              ∙ sym (ap (λ o. seen waits.members o q.1) (ap (slot_in occupants) same ∙ no_slot occupants session new))
+          | inr other ↦ ap (λ o. seen waits.members o q.1) (slot-insert_other occupants session occupant q.0 other)
         ]
-        ∙ sym (get-by_session places owners kept.agree waits.members kept.owned q))
+        ∙ sym (get-by_session occupants owners kept.agree waits.members kept.owned q))
 
-  -- ---- a session leaves, of which nothing waits
+  -- ---- a session with no waiting request leaves
 
-  module _ (session : ℕ) (place : Place) (there : get places session ≡ Some place) (idle : NoneOfSession (by_session owners waits.members) session) where
-    own_slot : slot_in places session ≡ Some place.slot
-    own_slot = ap (option_map (λ (p : Place). p.slot)) there
+  module _ (session : ℕ) (occupant : Occupant) (there : get occupants session ≡ Some occupant) (idle : NoneOfSession (by_session owners waits.members) session) where
+    own_slot : slot_in occupants session ≡ Some occupant.slot
+    own_slot = ap (option_map (λ (p : Occupant). p.slot)) there
 
-    own : owner_at owners place.slot ≡ Some session
-    own = (kept.agree session place.slot).0 own_slot
+    own : owner_at owners occupant.slot ≡ Some session
+    own = (kept.agree session occupant.slot).0 own_slot
 
-    pub leave-below : place.slot < length owners
-    leave-below = owner-below owners place.slot session own
+    pub leave-below : occupant.slot < length owners
+    leave-below = owner-below owners occupant.slot session own
 
-    leave_some : 0 < len places
+    leave_some : 0 < len occupants
     leave_some =
-        elim (cases_eq (len places) 0) as (λ _. 0 < len places) [
-          | inl none ↦ none_some (sym (ap (λ m. get m session) (empty_of_len places none) ∙ get-empty nat_cmp session) ∙ there)
+        elim (cases_eq (len occupants) 0) as (λ _. 0 < len occupants) [
+          | inl none ↦ none_some (sym (ap (λ m. get m session) (empty_of_len occupants none) ∙ get-empty nat_cmp session) ∙ there)
           | inr more ↦ omega arith
         ]
 
@@ -258,90 +258,90 @@ module _ (waits : Waiting) (places : FinMap nat_cmp Place) (owners : List (Optio
     leave-room = let some = leave_some in omega (arith, kept.counted, kept.reserved)
 
     -- the slot was not on the list
-    not_free : (i : ℕ) → slice_get slots i ≡ Some place.slot → ⊥
-    not_free i e = none_some (sym (kept.free.vacant i place.slot e) ∙ own)
+    not_free : (i : ℕ) → slice_get slots i ≡ Some occupant.slot → ⊥
+    not_free i e = none_some (sym (kept.free.vacant i occupant.slot e) ∙ own)
 
-    leave_vacant : (t : ℕ) → owner_at owners t ≡ None → owner_at (set owners place.slot None) t ≡ None
+    leave_vacant : (t : ℕ) → owner_at owners t ≡ None → owner_at (set owners occupant.slot None) t ≡ None
     leave_vacant t none =
-        elim (cases_eq t place.slot) as (λ _. owner_at (set owners place.slot None) t ≡ None) [
-          | inl same ↦ ap (owner_at (set owners place.slot None)) same ∙ owner-set_here owners place.slot None leave-below
-          | inr other ↦ owner-set_other owners place.slot t None other ∙ none
+        elim (cases_eq t occupant.slot) as (λ _. owner_at (set owners occupant.slot None) t ≡ None) [
+          | inl same ↦ ap (owner_at (set owners occupant.slot None)) same ∙ owner-set_here owners occupant.slot None leave-below
+          | inr other ↦ owner-set_other owners occupant.slot t None other ∙ none
         ]
 
-    leave_free : AreFree (set owners place.slot None) (slots ++ place.slot ∷ [])
+    leave_free : AreFree (set owners occupant.slot None) (slots ++ occupant.slot ∷ [])
     leave_free = record {
-      below = λ i t e. elim (pushed_cases slots place.slot i t e) as (λ _. t < 64) [
+      below = λ i t e. elim (pushed_cases slots occupant.slot i t e) as (λ _. t < 64) [
         | inl before ↦ kept.free.below i t before
         | inr last ↦ let fits = leave-below in omega (arith, kept.sized, last.1)
       ];
-      vacant = λ i t e. elim (pushed_cases slots place.slot i t e) as (λ _. owner_at (set owners place.slot None) t ≡ None) [
+      vacant = λ i t e. elim (pushed_cases slots occupant.slot i t e) as (λ _. owner_at (set owners occupant.slot None) t ≡ None) [
         | inl before ↦ leave_vacant t (kept.free.vacant i t before)
-        | inr last ↦ ap (owner_at (set owners place.slot None)) (sym last.1) ∙ owner-set_here owners place.slot None leave-below
+        | inr last ↦ ap (owner_at (set owners occupant.slot None)) (sym last.1) ∙ owner-set_here owners occupant.slot None leave-below
       ];
-      once = λ i j t e f. elim (pushed_cases slots place.slot i t e) as (λ _. i ≡ j) [
-        | inl before ↦ elim (pushed_cases slots place.slot j t f) as (λ _. i ≡ j) [
+      once = λ i j t e f. elim (pushed_cases slots occupant.slot i t e) as (λ _. i ≡ j) [
+        | inl before ↦ elim (pushed_cases slots occupant.slot j t f) as (λ _. i ≡ j) [
           | inl other ↦ kept.free.once i j t before other
           | inr last ↦ absurd (not_free i (before ∙ ap Some (sym last.1)))
         ]
-        | inr last ↦ elim (pushed_cases slots place.slot j t f) as (λ _. i ≡ j) [
+        | inr last ↦ elim (pushed_cases slots occupant.slot j t f) as (λ _. i ≡ j) [
           | inl other ↦ absurd (not_free j (other ∙ ap Some (sym last.1)))
           | inr also ↦ last.0 ∙ sym also.0
         ]
       ];
     }
 
-    leave_there : (s t : ℕ) → slot_in (remove places session) s ≡ Some t → owner_at (set owners place.slot None) t ≡ Some s
+    leave_there : (s t : ℕ) → slot_in (remove occupants session) s ≡ Some t → owner_at (set owners occupant.slot None) t ≡ Some s
     leave_there s t e =
-        elim (cases_eq s session) as (λ _. owner_at (set owners place.slot None) t ≡ Some s) [
-          | inl same ↦ none_some (sym (ap (slot_in (remove places session)) same ∙ slot-remove_here places session) ∙ e)
+        elim (cases_eq s session) as (λ _. owner_at (set owners occupant.slot None) t ≡ Some s) [
+          | inl same ↦ none_some (sym (ap (slot_in (remove occupants session)) same ∙ slot-remove_here occupants session) ∙ e)
           | inr other ↦
-              let was = (kept.agree s t).0 (sym (slot-remove_other places session s other) ∙ e) in
-              owner-set_other owners place.slot t None (λ is. other (some_same (sym was ∙ ap (owner_at owners) is ∙ own))) ∙ was
+              let was = (kept.agree s t).0 (sym (slot-remove_other occupants session s other) ∙ e) in
+              owner-set_other owners occupant.slot t None (λ is. other (some_same (sym was ∙ ap (owner_at owners) is ∙ own))) ∙ was
         ]
 
-    leave_back : (s t : ℕ) → owner_at (set owners place.slot None) t ≡ Some s → slot_in (remove places session) s ≡ Some t
+    leave_back : (s t : ℕ) → owner_at (set owners occupant.slot None) t ≡ Some s → slot_in (remove occupants session) s ≡ Some t
     leave_back s t e =
-        elim (cases_eq t place.slot) as (λ _. slot_in (remove places session) s ≡ Some t) [
-          | inl same ↦ none_some (sym (ap (owner_at (set owners place.slot None)) same ∙ owner-set_here owners place.slot None leave-below) ∙ e)
+        elim (cases_eq t occupant.slot) as (λ _. slot_in (remove occupants session) s ≡ Some t) [
+          | inl same ↦ none_some (sym (ap (owner_at (set owners occupant.slot None)) same ∙ owner-set_here owners occupant.slot None leave-below) ∙ e)
           | inr other ↦
-              let was = (kept.agree s t).1 (sym (owner-set_other owners place.slot t None other) ∙ e) in
-              slot-remove_other places session s (λ is. other (some_same (sym was ∙ ap (slot_in places) is ∙ own_slot))) ∙ was
+              let was = (kept.agree s t).1 (sym (owner-set_other owners occupant.slot t None other) ∙ e) in
+              slot-remove_other occupants session s (λ is. other (some_same (sym was ∙ ap (slot_in occupants) is ∙ own_slot))) ∙ was
         ]
 
-    leave_agree : Agree (remove places session) (set owners place.slot None)
+    leave_agree : Agree (remove occupants session) (set owners occupant.slot None)
     leave_agree s t = (leave_there s t, leave_back s t)
 
-    leave_owned : AreOwned (set owners place.slot None) waits.members
+    leave_owned : AreOwned (set owners occupant.slot None) waits.members
     leave_owned key waiter e =
-        elim (cases_eq key.0 place.slot) as (λ _. IsSome (owner_at (set owners place.slot None) key.0)) [
+        elim (cases_eq key.0 occupant.slot) as (λ _. IsSome (owner_at (set owners occupant.slot None) key.0)) [
           | inl same ↦
-              none_some (sym (idle key.1) ∙ get-of_owner places owners kept.agree waits.members kept.owned key.0 session key.1 (ap (owner_at owners) same ∙ own) ∙ e)
-          | inr other ↦ ap is_some (owner-set_other owners place.slot key.0 None other) ∙ kept.owned key waiter e
+              none_some (sym (idle key.1) ∙ get-of_owner occupants owners kept.agree waits.members kept.owned key.0 session key.1 (ap (owner_at owners) same ∙ own) ∙ e)
+          | inr other ↦ ap is_some (owner-set_other owners occupant.slot key.0 None other) ∙ kept.owned key waiter e
         ]
 
-    pub kept-leave : (capacity' : ℕ) → 64 ≤ capacity' → AreSeats waits (remove places session) (set owners place.slot None) (slots ++ place.slot ∷ []) capacity'
+    pub kept-leave : (capacity' : ℕ) → 64 ≤ capacity' → AreSeats waits (remove occupants session) (set owners occupant.slot None) (slots ++ occupant.slot ∷ []) capacity'
     kept-leave capacity' reserved = record {
-      sized = length-set owners place.slot None ∙ kept.sized;
+      sized = length-set owners occupant.slot None ∙ kept.sized;
       agree = leave_agree;
       free = leave_free;
       counted =
-          let fewer = len-remove_old places session place there in
+          let fewer = len-remove_old occupants session occupant there in
           let some = leave_some in
-          let long = length-append slots (place.slot ∷ []) in
+          let long = length-append slots (occupant.slot ∷ []) in
           omega (arith, kept.counted);
       reserved = reserved;
       owned = leave_owned;
     }
 
-    pub waiting-leave : by_session (set owners place.slot None) waits.members ≡ by_session owners waits.members
+    pub waiting-leave : by_session (set owners occupant.slot None) waits.members ≡ by_session owners waits.members
     waiting-leave = same_map pair_cmp_total pair_cmp-IsAntisymmetric _ _ (λ q.
-        get-by_session (remove places session) (set owners place.slot None) leave_agree waits.members leave_owned q
-        ∙ elim (cases_eq q.0 session) as (λ _. seen waits.members (slot_in (remove places session) q.0) q.1 ≡ get (by_session owners waits.members) q) [
+        get-by_session (remove occupants session) (set owners occupant.slot None) leave_agree waits.members leave_owned q
+        ∙ elim (cases_eq q.0 session) as (λ _. seen waits.members (slot_in (remove occupants session) q.0) q.1 ≡ get (by_session owners waits.members) q) [
           | inl same ↦
-              ap (λ o. seen waits.members o q.1) (ap (slot_in (remove places session)) same ∙ slot-remove_here places session)
+              ap (λ o. seen waits.members o q.1) (ap (slot_in (remove occupants session)) same ∙ slot-remove_here occupants session)
               ∙ sym (idle q.1)
               ∙ ap (λ s. get (by_session owners waits.members) (s, q.1)) (sym same)
           | inr other ↦
-              ap (λ o. seen waits.members o q.1) (slot-remove_other places session q.0 other)
-              ∙ sym (get-by_session places owners kept.agree waits.members kept.owned q)
+              ap (λ o. seen waits.members o q.1) (slot-remove_other occupants session q.0 other)
+              ∙ sym (get-by_session occupants owners kept.agree waits.members kept.owned q)
         ])

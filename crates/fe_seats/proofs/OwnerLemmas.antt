@@ -1,4 +1,4 @@
--- The requests by session against those by slot, where places and owners say the same.
+-- The requests by session against those by slot, where occupants and owners say the same.
 use Rattle.std.proofs.Common.{◌≡◌, ◌≢◌, ℕ, ◌⊎◌, inl, inr, Bool, true, false, cond, List, Option, Some, None, IsSome, is_some, true≢false, refl, sym, ap, ◌∙◌}
 use Rattle.std.specs.Prelude.{◌==◌, ◌↔◌, unwrap_or}
 use Rattle.std.specs.Option.{option_map, option_and_then}
@@ -9,13 +9,13 @@ use Rattle.std.proofs.lemmas.Bool.{cases_eq, ne_eqb, eq-eqb}
 use Rattle.fe_waits.specs.Pair.{pair_cmp, pair_cmp_total, pair_cmp-IsAntisymmetric}
 use Rattle.fe_waits.specs.Waiting.{Waiter}
 use Rattle.fe_waits.proofs.MemberLemmas.{key_cases, none_some, some_same, get-insert_here, get-insert_other, get-remove_here, get-remove_other}
-use Rattle.fe_seats.specs.declared.place.Place.{Place}
+use Rattle.fe_seats.specs.declared.occupant.Occupant.{Occupant}
 use Rattle.fe_seats.specs.within.Inner.{owner_at, owner_of, slot_in, session_key, by_session}
 use Rattle.fe_seats.proofs.KeyLemmas.{same_test, miss, get-rekeyed, get-rekeyed_none, len-rekeyed}
 
--- places and owners say the same
-abbrev pub Agree : FinMap nat_cmp Place → List (Option ℕ) → Type 0
-Agree places owners = (session slot : ℕ) → (slot_in places session ≡ Some slot) ↔ (owner_at owners slot ≡ Some session)
+-- occupants and owners say the same
+abbrev pub Agree : FinMap nat_cmp Occupant → List (Option ℕ) → Type 0
+Agree occupants owners = (session slot : ℕ) → (slot_in occupants session ≡ Some slot) ↔ (owner_at owners slot ≡ Some session)
 
 -- requests wait in slots that have an owner
 abbrev pub AreOwned : List (Option ℕ) → FinMap pair_cmp Waiter → Type 0
@@ -48,19 +48,19 @@ by_session-empty owners = same_map pair_cmp_total pair_cmp-IsAntisymmetric _ _ (
     none_there : (x : ℕ × ℕ) → IsSome (get (empty {X = Waiter} {R = pair_cmp}) x) → ⊥
     none_there x there = true≢false (sym there ∙ ap is_some (get-empty pair_cmp x))
 
-module _ (places : FinMap nat_cmp Place) (owners : List (Option ℕ)) (agree : Agree places owners) where
+module _ (occupants : FinMap nat_cmp Occupant) (owners : List (Option ℕ)) (agree : Agree occupants owners) where
   -- a slot has one session, and a session one slot
   pub one_slot : (a b session : ℕ) → owner_at owners a ≡ Some session → owner_at owners b ≡ Some session → a ≡ b
   one_slot a b session at_a at_b = some_same (sym ((agree session a).1 at_a) ∙ (agree session b).1 at_b)
 
-  pub one_session : (slot a b : ℕ) → slot_in places a ≡ Some slot → slot_in places b ≡ Some slot → a ≡ b
+  pub one_session : (slot a b : ℕ) → slot_in occupants a ≡ Some slot → slot_in occupants b ≡ Some slot → a ≡ b
   one_session slot a b in_a in_b = some_same (sym ((agree a slot).0 in_a) ∙ (agree b slot).0 in_b)
 
   module _ (members : FinMap pair_cmp Waiter) (owned : AreOwned owners members) where
     owner_there : (x : ℕ × ℕ) → IsSome (get members x) → (session : ℕ) × (owner_at owners x.0 ≡ Some session)
     owner_there x there = let waiter = some_is (get members x) there in some_is (owner_at owners x.0) (owned x waiter.0 waiter.1)
 
-    at_slot : (session slot number : ℕ) → slot_in places session ≡ Some slot → get (by_session owners members) (session, number) ≡ get members (slot, number)
+    at_slot : (session slot number : ℕ) → slot_in occupants session ≡ Some slot → get (by_session owners members) (session, number) ≡ get members (slot, number)
     at_slot session slot number in_slot =
         get-rekeyed pair_cmp_total pair_cmp_total (session_key owners) (λ waiter. waiter) members (slot, number) (session, number)
         (λ x there. same_test pair_cmp_total pair_cmp-IsAntisymmetric pair_cmp-IsAntisymmetric (slot, number) x (session, number) (session_key owners x) (to x) (back x there) pair_cmp_total)
@@ -78,7 +78,7 @@ module _ (places : FinMap nat_cmp Place) (owners : List (Option ℕ)) (agree : A
             let slots = one_slot slot x.0 session ((agree session slot).0 in_slot) (owner.1 ∙ ap Some (sym same)) in
             λ i. (slots i, ap (λ (p : ℕ × ℕ). p.1) e i)
 
-    at_none : (session number : ℕ) → slot_in places session ≡ None → get (by_session owners members) (session, number) ≡ None
+    at_none : (session number : ℕ) → slot_in occupants session ≡ None → get (by_session owners members) (session, number) ≡ None
     at_none session number none =
         get-rekeyed_none pair_cmp_total pair_cmp_total (session_key owners) (λ waiter. waiter) members (session, number)
         (λ x there. miss pair_cmp-IsAntisymmetric (session, number) (session_key owners x) (λ e.
@@ -87,17 +87,17 @@ module _ (places : FinMap nat_cmp Place) (owners : List (Option ℕ)) (agree : A
         none_some (sym none ∙ (agree session x.0).1 (owner.1 ∙ ap Some (sym same)))))
 
     -- what waits of a session is what waits in its slot
-    pub get-by_session : (q : ℕ × ℕ) → get (by_session owners members) q ≡ seen members (slot_in places q.0) q.1
+    pub get-by_session : (q : ℕ × ℕ) → get (by_session owners members) q ≡ seen members (slot_in occupants q.0) q.1
     get-by_session q =
-        elim (none_or_some (slot_in places q.0)) as (λ _. get (by_session owners members) q ≡ seen members (slot_in places q.0) q.1) [
+        elim (none_or_some (slot_in occupants q.0)) as (λ _. get (by_session owners members) q ≡ seen members (slot_in occupants q.0) q.1) [
           | inl none ↦ at_none q.0 q.1 none ∙ ap (λ s. seen members s q.1) (sym none)
           | inr some ↦ at_slot q.0 some.0 q.1 some.1 ∙ ap (λ s. seen members s q.1) (sym some.1)
         ]
 
-    pub get-in_slot : (session slot number : ℕ) → slot_in places session ≡ Some slot → get (by_session owners members) (session, number) ≡ get members (slot, number)
+    pub get-in_slot : (session slot number : ℕ) → slot_in occupants session ≡ Some slot → get (by_session owners members) (session, number) ≡ get members (slot, number)
     get-in_slot session slot number in_slot = at_slot session slot number in_slot
 
-    pub get-unseated : (session number : ℕ) → slot_in places session ≡ None → get (by_session owners members) (session, number) ≡ None
+    pub get-unseated : (session number : ℕ) → slot_in occupants session ≡ None → get (by_session owners members) (session, number) ≡ None
     get-unseated session number none = at_none session number none
 
     -- and what waits in a slot waits of its owner
@@ -122,23 +122,23 @@ module _ (places : FinMap nat_cmp Place) (owners : List (Option ℕ)) (agree : A
     -- ---- where a request comes or goes
 
     -- another session or number is another slot or number
-    apart : (session slot number : ℕ) → slot_in places session ≡ Some slot → (q : ℕ × ℕ) (t : ℕ) → slot_in places q.0 ≡ Some t → q ≢ (session, number) → ◌≢◌ {A = ℕ × ℕ} (t, q.1) (slot, number)
+    apart : (session slot number : ℕ) → slot_in occupants session ≡ Some slot → (q : ℕ × ℕ) (t : ℕ) → slot_in occupants q.0 ≡ Some t → q ≢ (session, number) → ◌≢◌ {A = ℕ × ℕ} (t, q.1) (slot, number)
     apart session slot number in_slot q t in_t differ e =
         let same = one_session slot q.0 session (in_t ∙ ap Some (ap (λ (p : ℕ × ℕ). p.0) e)) in_slot in
         differ (λ i. (same i, ap (λ (p : ℕ × ℕ). p.1) e i))
 
-  module _ (members members' : FinMap pair_cmp Waiter) (owned : AreOwned owners members) (owned' : AreOwned owners members') (session slot number : ℕ) (in_slot : slot_in places session ≡ Some slot) where
+  module _ (members members' : FinMap pair_cmp Waiter) (owned : AreOwned owners members) (owned' : AreOwned owners members') (session slot number : ℕ) (in_slot : slot_in occupants session ≡ Some slot) where
     -- where just one key of the slots has changed, just that key of the sessions has
     pub get-changed_other : ((k : ℕ × ℕ) → k ≢ (slot, number) → get members' k ≡ get members k) → (q : ℕ × ℕ) → q ≢ (session, number) → get (by_session owners members') q ≡ get (by_session owners members) q
     get-changed_other others q differ =
         get-by_session members' owned' q
-        ∙ elim (none_or_some (slot_in places q.0)) as (λ _. seen members' (slot_in places q.0) q.1 ≡ seen members (slot_in places q.0) q.1) [
+        ∙ elim (none_or_some (slot_in occupants q.0)) as (λ _. seen members' (slot_in occupants q.0) q.1 ≡ seen members (slot_in occupants q.0) q.1) [
           | inl none ↦ ap (λ s. seen members' s q.1) none ∙ sym (ap (λ s. seen members s q.1) none)
           | inr some ↦ ap (λ s. seen members' s q.1) some.1 ∙ others (some.0, q.1) (apart members owned session slot number in_slot q some.0 some.1 differ) ∙ sym (ap (λ s. seen members s q.1) some.1)
         ]
         ∙ sym (get-by_session members owned q)
 
-  module _ (members : FinMap pair_cmp Waiter) (owned : AreOwned owners members) (session slot number : ℕ) (in_slot : slot_in places session ≡ Some slot) where
+  module _ (members : FinMap pair_cmp Waiter) (owned : AreOwned owners members) (session slot number : ℕ) (in_slot : slot_in occupants session ≡ Some slot) where
     pub owned-insert : (waiter : Waiter) → AreOwned owners (insert members (slot, number) waiter)
     owned-insert waiter key w e =
         elim (key_cases key (slot, number)) as (λ _. IsSome (owner_at owners key.0)) [
@@ -168,7 +168,7 @@ module _ (places : FinMap nat_cmp Place) (owners : List (Option ℕ)) (agree : A
           | inr other ↦ owned key w (sym (get-remove_other members k key other) ∙ e)
         ]
 
-    pub by_session-remove : (session slot number : ℕ) → slot_in places session ≡ Some slot → by_session owners (remove members (slot, number)) ≡ remove (by_session owners members) (session, number)
+    pub by_session-remove : (session slot number : ℕ) → slot_in occupants session ≡ Some slot → by_session owners (remove members (slot, number)) ≡ remove (by_session owners members) (session, number)
     by_session-remove session slot number in_slot = same_map pair_cmp_total pair_cmp-IsAntisymmetric _ _ (λ q.
         elim (key_cases q (session, number)) as (λ _. get (by_session owners (remove members (slot, number))) q ≡ get (remove (by_session owners members) (session, number)) q) [
           | inl same ↦
@@ -202,17 +202,17 @@ module _ (places : FinMap nat_cmp Place) (owners : List (Option ℕ)) (agree : A
     none_kept false = refl
 
     -- whether slots are the same, and whether their sessions are
-    same_slots : (session slot : ℕ) → slot_in places session ≡ Some slot → (s t : ℕ) → slot_in places s ≡ Some t → (t == slot) ≡ (s == session)
+    same_slots : (session slot : ℕ) → slot_in occupants session ≡ Some slot → (s t : ℕ) → slot_in occupants s ≡ Some t → (t == slot) ≡ (s == session)
     same_slots session slot in_slot s t in_t =
         elim (cases_eq s session) as (λ _. (t == slot) ≡ (s == session)) [
-          | inl same ↦ eq-eqb t slot (some_same (sym in_t ∙ ap (slot_in places) same ∙ in_slot)) ∙ sym (eq-eqb s session same)
+          | inl same ↦ eq-eqb t slot (some_same (sym in_t ∙ ap (slot_in occupants) same ∙ in_slot)) ∙ sym (eq-eqb s session same)
           | inr other ↦ ne_eqb t slot (λ e. other (one_session slot s session (in_t ∙ ap Some e) in_slot)) ∙ sym (ne_eqb s session other)
         ]
 
-    pub by_session-kept : (f : Bool → Bool) (session slot : ℕ) → slot_in places session ≡ Some slot → by_session owners (retain_keys members (λ key. f (key.0 == slot))) ≡ retain_keys (by_session owners members) (λ key. f (key.0 == session))
+    pub by_session-kept : (f : Bool → Bool) (session slot : ℕ) → slot_in occupants session ≡ Some slot → by_session owners (retain_keys members (λ key. f (key.0 == slot))) ≡ retain_keys (by_session owners members) (λ key. f (key.0 == session))
     by_session-kept f session slot in_slot = same_map pair_cmp_total pair_cmp-IsAntisymmetric _ _ (λ q.
         get-by_session (retain_keys members (λ key. f (key.0 == slot))) (owned-kept f slot) q
-        ∙ elim (none_or_some (slot_in places q.0)) as (λ _. seen (retain_keys members (λ key. f (key.0 == slot))) (slot_in places q.0) q.1 ≡ cond (f (q.0 == session)) (seen members (slot_in places q.0) q.1) None) [
+        ∙ elim (none_or_some (slot_in occupants q.0)) as (λ _. seen (retain_keys members (λ key. f (key.0 == slot))) (slot_in occupants q.0) q.1 ≡ cond (f (q.0 == session)) (seen members (slot_in occupants q.0) q.1) None) [
           | inl none ↦
               ap (λ s. seen (retain_keys members (λ key. f (key.0 == slot))) s q.1) none
               ∙ none_kept (f (q.0 == session))

@@ -12,8 +12,8 @@ use Rattle.fe_seats.specs.declared.turn.Turn.{Turn}
 use Rattle.fe_seats.specs.contracts.turn.Turn.{the_row as turn_row}
 use Rattle.fe_state.specs.declared.bounds.TheConstants.{SESSIONS, ARRAYS, WINDOW, WAITING}
 
--- the length of each added array; the seats, by session; the requests that wait, by session and
--- number; and by node the request for which it stands
+-- the length of each added array; the seats, by session; the requests that wait, by session and number; and for each
+-- node the request that it represents
 pub record Seating : Type 0 where
   pub arrays : FinMap nat_cmp ℕ
   pub seats : FinMap nat_cmp Seat
@@ -65,7 +65,7 @@ key_of turn = (turn.session, turn.number)
 abbrev pub waiter_of : Turn → Waiter
 waiter_of turn = record { array = turn.array; index = turn.index; op = turn.op }
 
--- the request for which a node stands
+-- the request that a node represents
 abbrev pub turn_of : Seating → ℕ → Option Turn
 turn_of w node = slice_index_or w.turns node None
 
@@ -76,7 +76,7 @@ turn_at waiting session number =
     (λ waiter. record { session = session; number = number; array = waiter.array; index = waiter.index; op = waiter.op })
     (get waiting (session, number))
 
--- the node stands for a request on the word
+-- the node represents a request that waits on the word
 abbrev pub IsNodeOn : Seating → ℕ → ℕ → ℕ → Type 0
 IsNodeOn w array index node = (turn : Turn) × (turn_of w node ≡ Some turn) × IsOn (waiter_of turn) array index
 
@@ -95,8 +95,9 @@ count_of waiting session = len (of_session waiting session)
 abbrev pub without_session : FinMap pair_cmp Waiter → ℕ → FinMap pair_cmp Waiter
 without_session waiting session = retain_keys waiting (λ key. not (key.0 == session))
 
--- what is always true: there are few seats; each request is of a session that has one, and on a word of an added array;
--- no session has more requests than its window has numbers; there are few arrays; and a node stands for a request that waits
+-- the invariant: seats, requests and arrays stay within their limits; each request is of a session that has a seat, and
+-- on a word of an added array; a session has at most as many requests as its window has numbers; and a node represents
+-- a waiting request
 pub record IsWithinLimits (w : Seating) : Type 0 where
   pub seats : len w.seats ≤ SESSIONS
   pub seated : (key : ℕ × ℕ) (waiter : Waiter) → get w.waiting key ≡ Some waiter → IsSome (get w.seats key.0)

@@ -1,7 +1,7 @@
 //! The seats of the sessions, and the requests that wait, by session.
 #![tactic(auto)]
 
-mod place;
+mod occupant;
 mod seat;
 mod seats;
 mod slots;

@@ -1,10 +1,10 @@
 ghost use Rattle.std.specs.Prelude.{◌≡◌, ◌↔◌, ◌<◌, ◌≤◌, Some, None, IfOk, OnErr, IfSome, IsSome, IsNone};
 ghost use Rattle.std.specs.FinMap as map;
-ghost use Rattle.fe_waits.specs.Waiting.{IsWord, NoneOnWord, NoneOnArray, AreTold, AreToldOnce};
+ghost use Rattle.fe_waits.specs.Waiting.{IsWord, NoneOnWord, NoneOnArray, AreWaitersOf, AreListedOnce};
 ghost use Rattle.fe_seats.specs.Seating.{free_seat, with_holder, with_closing, key_of, waiter_of, turn_of, turn_at, count_of, without_session, IsNodeOn, NoneOfSession, IsWithinLimits};
 ghost use Rattle.fe_state.specs.declared.bounds.TheConstants.{SESSIONS, ARRAYS, WINDOW};
 
-use crate::place::{Place, Places, place_near, slot_of};
+use crate::occupant::{Occupant, Occupants, occupant_near, slot_of};
 use crate::seat::Seat;
 use crate::slots::{all_slots, owner};
 use crate::turn::Turn;
@@ -16,7 +16,7 @@ use fe_words::Op;
 use std::alloc::{AllocError, Global};
 use std::marker::Model;
 
-/// How many guesses there are of where a session's place is.
+/// The number of guesses at the position of a session.
 const GUESSES: usize = 256;
 
 /// The seats of the sessions, and the requests that wait, each on a word and in its session.
@@ -25,12 +25,12 @@ const GUESSES: usize = 256;
 #[derive(Drop)]
 pub struct Seats {
     waits: Waits,
-    places: Places,
+    occupants: Occupants,
     /// The session that has each slot of the waiting lists.
     owners: Vec<Option<u64>>,
     /// The slots that no session has.
     slots: Vec<u8>,
-    /// The place where a session was found last, in the cell of its number's remainder. Any place is good.
+    /// The position where a session was found last, in the cell of its number's remainder. Any position is good.
     guesses: [usize; GUESSES],
 }
 
@@ -44,25 +44,25 @@ impl Model for Seats {
 
     ghost use Rattle.fe_seats.specs.within.Inner.{AreSeats, seating_of};
 
-    ghost view = { λ s. seating_of s.waits s.places s.owners.items };
+    ghost view = { λ s. seating_of s.waits s.occupants s.owners.items };
 
-    ghost invariant = { λ s. AreSeats s.waits s.places s.owners.items s.slots.items (vec_capacity s.slots) };
+    ghost invariant = { λ s. AreSeats s.waits s.occupants s.owners.items s.slots.items (vec_capacity s.slots) };
 }
 
 impl Seats {
-    /// No arrays, no seats, and nothing waits. It makes all its room here. The one error is that memory is short.
+    /// No arrays, no seats, and nothing waits. It makes all its room here. Fails only if memory runs out.
     pub fn new(alloc: Global) -> Result<Seats, AllocError>
         ensures arrays { IfOk result (λ seats. seats.arrays ≡ map.empty) }
         ensures seats { IfOk result (λ seats. seats.seats ≡ map.empty) }
         ensures waiting { IfOk result (λ seats. seats.waiting ≡ map.empty) }
     {
         let waits = Waits::new(alloc)?;
-        let places = Table::new(alloc)?;
+        let occupants = Table::new(alloc)?;
         let owners = vec![in alloc; None; SESSIONS]?;
         let slots = all_slots(alloc)?;
         Ok(Seats {
             waits,
-            places,
+            occupants,
             owners,
             slots,
             guesses: [0; GUESSES],
@@ -82,7 +82,7 @@ impl Seats {
         ensures count { result ≡ map.len self.now.seats }
         ensures fits { result ≤ SESSIONS }
     {
-        self.places.len()
+        self.occupants.len()
     }
 
     /// The seat of a session, if it has one.
@@ -90,20 +90,20 @@ impl Seats {
         ensures { result ≡ map.get self.now.seats session }
     {
         let guess = self.guesses[(session % GUESSES as u64) as usize];
-        let place = place_near(&self.places, guess, session)?;
-        Some(place.seat)
+        let occupant = occupant_near(&self.occupants, guess, session)?;
+        Some(occupant.seat)
     }
 
-    /// Looks for a session and returns its place in the order of the numbers. The look-ups of the session that follow take
-    /// one comparison each. For a session without a seat it returns any place.
+    /// Looks for a session and returns its position in the order of the numbers. The look-ups of the session that
+    /// follow take one comparison each. For a session without a seat it returns any position.
     pub fn aim(&mut self, session: u64) -> usize
         ensures { self.new ≡ self.old }
     {
         let cell = (session % GUESSES as u64) as usize;
         let guess = self.guesses[cell];
-        let place = self.places.aim(session, guess);
-        self.guesses[cell] = place;
-        place
+        let position = self.occupants.aim(session, guess);
+        self.guesses[cell] = position;
+        position
     }
 
     /// Gives a new session a seat, which no connection holds yet.
@@ -120,7 +120,7 @@ impl Seats {
             holder: None,
             closing: false,
         };
-        self.places.insert(session, Place { slot, seat });
+        self.occupants.insert(session, Occupant { slot, seat });
     }
 
     /// Takes the seat of a session that has no waiting request.
@@ -131,9 +131,9 @@ impl Seats {
         ensures waiting { self.new.waiting ≡ self.old.waiting }
         ensures arrays { self.new.arrays ≡ self.old.arrays }
     {
-        let place = self.places.remove(session).unwrap();
-        self.owners[place.slot as usize] = None;
-        self.slots.push(place.slot).unwrap();
+        let occupant = self.occupants.remove(session).unwrap();
+        self.owners[occupant.slot as usize] = None;
+        self.slots.push(occupant.slot).unwrap();
     }
 
     /// Says which connection holds the session from now on, if one does.
@@ -141,7 +141,7 @@ impl Seats {
         requires seated { IsSome (map.get self.old.seats session) }
         ensures { self.new ≡ record self.old { seats = with_holder self.old.seats session holder } }
     {
-        self.places.get_mut(session).seat.holder = holder;
+        self.occupants.get_mut(session).seat.holder = holder;
     }
 
     /// Marks the session as closing.
@@ -149,10 +149,10 @@ impl Seats {
         requires seated { IsSome (map.get self.old.seats session) }
         ensures { self.new ≡ record self.old { seats = with_closing self.old.seats session } }
     {
-        self.places.get_mut(session).seat.closing = true;
+        self.occupants.get_mut(session).seat.closing = true;
     }
 
-    /// Adds an array with `length` words, on which nothing waits. The one error is that memory is short.
+    /// Adds an array with `length` words, on which nothing waits. Fails only if memory runs out.
     pub fn add_array(&mut self, array: u64, length: u32) -> Result<(), AllocError>
         requires new { map.get self.old.arrays array ≡ None }
         requires room { map.len self.old.arrays < ARRAYS }
@@ -185,7 +185,7 @@ impl Seats {
         ensures seats { self.new.seats ≡ self.old.seats }
         ensures arrays { self.new.arrays ≡ self.old.arrays }
     {
-        let slot = slot_of(&self.places, session).unwrap();
+        let slot = slot_of(&self.occupants, session).unwrap();
         self.waits.add(slot, number, array, index, op);
     }
 
@@ -193,7 +193,7 @@ impl Seats {
     pub fn count_of(&self, session: u64) -> u32
         ensures { result ≡ count_of self.now.waiting session }
     {
-        match slot_of(&self.places, session) {
+        match slot_of(&self.occupants, session) {
             Some(slot) => self.waits.count_of(slot),
             None => 0,
         }
@@ -235,22 +235,22 @@ impl Seats {
     pub fn find(&self, session: u64, number: u64) -> Option<Turn>
         ensures turn { result ≡ turn_at self.now.waiting session number }
     {
-        let slot = slot_of(&self.places, session)?;
+        let slot = slot_of(&self.occupants, session)?;
         let row = self.waits.find(slot, number)?;
         Some(Turn::of(session, row))
     }
 
     /// The waiting requests of a session, at most `WINDOW`, in no particular order: the number of each, the array and
-    /// index of its word, and its operation. The one error is that memory is short.
+    /// index of its word, and its operation. Fails only if memory runs out.
     pub fn told(
         &self,
         alloc: Global,
         session: u64,
     ) -> Result<Vec<(u64, (u64, u32, Op))>, AllocError>
-        ensures told { IfOk result (λ told. AreTold self.now.waiting session told.items) }
-        ensures once { IfOk result (λ told. AreToldOnce told.items) }
+        ensures told { IfOk result (λ told. AreWaitersOf self.now.waiting session told.items) }
+        ensures once { IfOk result (λ told. AreListedOnce told.items) }
     {
-        match slot_of(&self.places, session) {
+        match slot_of(&self.occupants, session) {
             Some(slot) => self.waits.told(alloc, slot),
             None => Ok(Vec::new(alloc)),
         }
@@ -263,7 +263,7 @@ impl Seats {
         ensures seats { self.new.seats ≡ self.old.seats }
         ensures arrays { self.new.arrays ≡ self.old.arrays }
     {
-        let slot = slot_of(&self.places, session)?;
+        let slot = slot_of(&self.occupants, session)?;
         let row = self.waits.cancel(slot, number)?;
         Some(Turn::of(session, row))
     }
@@ -275,7 +275,7 @@ impl Seats {
         ensures seats { self.new.seats ≡ self.old.seats }
         ensures arrays { self.new.arrays ≡ self.old.arrays }
     {
-        let Some(slot) = slot_of(&self.places, session) else {
+        let Some(slot) = slot_of(&self.occupants, session) else {
             return 0;
         };
         self.waits.drop_session(slot)

@@ -18,7 +18,7 @@ use Rattle.fe_state.specs.declared.request.Request.TheVariants.{Create}
 use Rattle.fe_state.specs.declared.entry.Entry.TheVariants.{Finished}
 use Rattle.fe_waits.proofs.MemberLemmas.{some_same}
 use Rattle.fe_service.specs.Service.{IsQuiet}
-use Rattle.fe_service.specs.ServiceState.{AreSound}
+use Rattle.fe_service.specs.ServiceState.{AreSoundParts}
 use Rattle.fe_service.specs.declared.parts.Parts.{Parts}
 use Rattle.fe_service.proofs.Quiet.{none_on_absent}
 use Rattle.fe_service.proofs.Completing.{IsEntered, entered_quiet_at}
@@ -47,7 +47,7 @@ created_is s name size tag id words answered =
     (next, same, creation.room)
 
 -- there are no more arrays on the waiting lists than in the state
-pub few_arrays : (p : Parts) → AreSound p → len p.state.arrays < 64 → len p.seats.arrays < 64
+pub few_arrays : (p : Parts) → AreSoundParts p → len p.state.arrays < 64 → len p.seats.arrays < 64
 few_arrays p sound few =
     let within = len_within (len p.seats.arrays) p.seats.arrays p.state.arrays refl (λ k there. by_array k (get p.state.arrays k) (sym (ap is_some (sound.arrays k)) ∙ there)) in
     omega (arith, within, few)
@@ -99,7 +99,7 @@ created_lengths s lengths session number name size tag id words answered tied ot
     ]
 
 -- the array that is made is not on the waiting lists yet
-pub id_absent : (p : Parts) (name : List ℕ) (size : ℕ) (tag : Tag) (id words : ℕ) → AreSound p → IsWithinLimits p.state → reply p.state (Create name size tag) ≡ Some (answers.Array id words) → get p.seats.arrays id ≡ None
+pub id_absent : (p : Parts) (name : List ℕ) (size : ℕ) (tag : Tag) (id words : ℕ) → AreSoundParts p → IsWithinLimits p.state → reply p.state (Create name size tag) ≡ Some (answers.Array id words) → get p.seats.arrays id ≡ None
 id_absent p name size tag id words sound limits answered =
     let (next, same, few) = created_is p.state name size tag id words answered in
     sound.arrays id ∙ ap (λ i. words_in (get p.state.arrays i)) next ∙ ap words_in (next_absent p.state limits)

@@ -8,7 +8,7 @@ use Rattle.fe_state.proofs.Maps.{get_inserted, get_beside, same_or_other}
 use Rattle.fe_table.proofs.TableCopyLemmas.{made, get-made, made-next, len-insert_absent}
 
 module _ {X Y : Type 0} (m : FinMap nat_cmp X) (f : X → Y) (n : FinMap nat_cmp Y) where
-  -- it has the entries before a place
+  -- it has the entries before a position
   abbrev pub IsTied : ℕ → Type 0
   IsTied k = (q : ℕ) → get n q ≡ option_map f (get (made m k) q)
 

@@ -19,6 +19,11 @@ use Rattle.fe_service.specs.Service.{Waiters, request_of}
 use Rattle.fe_service.specs.Events.{IsFree, MaySettle, held, left, waited, settled, closed, attached}
 use Rattle.fe_service.specs.ServiceState.{ServiceState, IsService, is_open}
 
+-- where each part is equal
+pub same_service : (s t : ServiceState) → t.state ≡ s.state → t.seats ≡ s.seats → t.waiting ≡ s.waiting → t.pending ≡ s.pending → IsService s → IsService t
+same_service s t state seats waiting pending =
+    subst IsService (λ i. record { state = sym state i; seats = sym seats i; waiting = sym waiting i; pending = sym pending i })
+
 -- where fewer wait
 pub fewer_service : (s : ServiceState) (few : Waiters) → ((key : ℕ × ℕ) (w : Waiter) → get few key ≡ Some w → get s.waiting key ≡ Some w) → IsService s → IsService (record s { waiting = few })
 fewer_service s few within h = record {

@@ -27,7 +27,7 @@ IsEligible s w = IsSome (reply s (request_of w))
 abbrev pub IsQuiet : ServerState → Waiters → Type 0
 IsQuiet s waiting = (key : ℕ × ℕ) (w : Waiter) → get waiting key ≡ Some w → reply s (request_of w) ≡ None
 
--- each one that waits has its session in the state, and a number of the session's window for which nothing is kept
+-- each waiting request has its session in the state, and its number is in the session's window with nothing kept
 abbrev pub AreUsable : ServerState → Waiters → Type 0
 AreUsable s waiting = (key : ℕ × ℕ) (w : Waiter) → get waiting key ≡ Some w → IsSomeAnd (get s.sessions key.0) (λ x. IsUsable x key.1)
 

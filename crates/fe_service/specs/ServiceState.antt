@@ -48,6 +48,6 @@ abbrev pub service_of : Parts → ServiceState
 service_of p = record { state = p.state; seats = p.seats.seats; waiting = p.seats.waiting; pending = p.pending }
 
 -- the parts are those of a service, and the waiting lists have each array with its length
-pub record AreSound (p : Parts) : Type 0 where
+pub record AreSoundParts (p : Parts) : Type 0 where
   pub service : IsService (service_of p)
   pub arrays : (id : ℕ) → get p.seats.arrays id ≡ words_in (get p.state.arrays id)

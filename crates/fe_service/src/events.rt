@@ -5,7 +5,7 @@ ghost use Rattle.fe_state.specs.declared.entry.Entry.{Entry};
 ghost use Rattle.fe_state.specs.declared.entry.Entry.TheVariants.{Finished};
 ghost use Rattle.fe_state.specs.declared.request.Request.TheVariants as requests;
 ghost use Rattle.fe_seats.specs.Seating.{count_of, is_closing};
-ghost use Rattle.fe_service.specs.ServiceState.{service_of, AreSound};
+ghost use Rattle.fe_service.specs.ServiceState.{service_of, AreSoundParts};
 ghost use Rattle.fe_service.specs.Events.{IsFree, HasRoom, MaySettle, MaySit, Completes, floor_of, attached, settled, closed, withdrawn, cancelled, held, left, waited};
 
 use crate::parts::Parts;
@@ -42,10 +42,10 @@ impl Parts {
     }
 
     pub(crate) fn attach(&mut self, session: u64, conn: u64)
-        requires sound { AreSound self.old }
+        requires sound { AreSoundParts self.old }
         requires sit { MaySit (service_of self.old) session }
         requires room { HasRoom (service_of self.old) }
-        ensures sound { AreSound self.new }
+        ensures sound { AreSoundParts self.new }
         ensures attached { service_of self.new ≡ attached (service_of self.old) session conn }
     {
         self.limits();
@@ -55,20 +55,20 @@ impl Parts {
     }
 
     pub(crate) fn settle(&mut self, session: u64, floor: u64)
-        requires sound { AreSound self.old }
+        requires sound { AreSoundParts self.old }
         requires settle { MaySettle (service_of self.old) session floor }
         requires room { HasRoom (service_of self.old) }
-        ensures sound { AreSound self.new }
+        ensures sound { AreSoundParts self.new }
         ensures settled { service_of self.new ≡ settled (service_of self.old) session floor }
     {
         self.enter(Entry::Settled { session, floor });
     }
 
     pub(crate) fn close(&mut self, session: u64) -> u32
-        requires sound { AreSound self.old }
+        requires sound { AreSoundParts self.old }
         requires open { IsSome (get self.old.state.sessions session) }
         requires room { HasRoom (service_of self.old) }
-        ensures sound { AreSound self.new }
+        ensures sound { AreSoundParts self.new }
         ensures count { result ≡ count_of self.old.seats.waiting session }
         ensures closed { service_of self.new ≡ closed (service_of self.old) session }
     {
@@ -79,8 +79,8 @@ impl Parts {
     }
 
     pub(crate) fn withdraw(&mut self, session: u64) -> u32
-        requires sound { AreSound self.old }
-        ensures sound { AreSound self.new }
+        requires sound { AreSoundParts self.old }
+        ensures sound { AreSoundParts self.new }
         ensures count { result ≡ count_of self.old.seats.waiting session }
         ensures withdrawn { service_of self.new ≡ withdrawn (service_of self.old) session }
     {
@@ -88,8 +88,8 @@ impl Parts {
     }
 
     pub(crate) fn cancel(&mut self, session: u64, number: u64) -> bool
-        requires sound { AreSound self.old }
-        ensures sound { AreSound self.new }
+        requires sound { AreSoundParts self.old }
+        ensures sound { AreSoundParts self.new }
         ensures waited { result ≡ is_some (get self.old.seats.waiting (session, number)) }
         ensures cancelled { service_of self.new ≡ cancelled (service_of self.old) session number }
     {
@@ -97,18 +97,18 @@ impl Parts {
     }
 
     pub(crate) fn set_holder(&mut self, session: u64, holder: Option<u64>)
-        requires sound { AreSound self.old }
+        requires sound { AreSoundParts self.old }
         requires seated { IsSome (get self.old.seats.seats session) }
-        ensures sound { AreSound self.new }
+        ensures sound { AreSoundParts self.new }
         ensures held { service_of self.new ≡ held (service_of self.old) session holder }
     {
         self.seats.set_holder(session, holder);
     }
 
     pub(crate) fn leave(&mut self, session: u64)
-        requires sound { AreSound self.old }
+        requires sound { AreSoundParts self.old }
         requires closing { is_closing self.old.seats.seats session ≡ true }
-        ensures sound { AreSound self.new }
+        ensures sound { AreSoundParts self.new }
         ensures left { service_of self.new ≡ left (service_of self.old) session }
     {
         self.seats.leave(session);
@@ -121,11 +121,11 @@ impl Parts {
         request: Request,
         answer: Answer,
     ) -> Result<u32, AllocError>
-        requires sound { AreSound self.old }
+        requires sound { AreSoundParts self.old }
         requires free { IsFree (service_of self.old) session number }
         requires answered { reply self.old.state request ≡ Some answer }
         requires room { HasRoom (service_of self.old) }
-        ensures sound { AreSound self.new }
+        ensures sound { AreSoundParts self.new }
         ensures completes { IfOk result
             (λ count. (served : List Entry)
             × Completes (service_of self.old) (service_of self.new) (Finished session number request answer) served
@@ -159,10 +159,10 @@ impl Parts {
     }
 
     pub(crate) fn wait(&mut self, session: u64, number: u64, array: u64, index: u32, op: Op)
-        requires sound { AreSound self.old }
+        requires sound { AreSoundParts self.old }
         requires free { IsFree (service_of self.old) session number }
         requires waits { reply self.old.state (requests.Access array index op false) ≡ None }
-        ensures sound { AreSound self.new }
+        ensures sound { AreSoundParts self.new }
         ensures waited { service_of self.new
             ≡ waited (service_of self.old) session number (record { array = array; index = index; op = op }) }
     {
@@ -170,9 +170,9 @@ impl Parts {
     }
 
     pub(crate) fn take_pending(&mut self, spare: Entries) -> Entries
-        requires sound { AreSound self.old }
+        requires sound { AreSoundParts self.old }
         requires spare { spare ≡ [] }
-        ensures sound { AreSound self.new }
+        ensures sound { AreSoundParts self.new }
         ensures entries { result ≡ self.old.pending }
         ensures taken { service_of self.new ≡ record (service_of self.old) { pending = [] } }
     {

@@ -5,7 +5,7 @@ ghost use Rattle.fe_state.specs.declared.entry.Entry.{Entry};
 ghost use Rattle.fe_state.specs.declared.entry.Entry.TheVariants.{Finished};
 ghost use Rattle.fe_state.specs.declared.request.Request.TheVariants as requests;
 ghost use Rattle.fe_state.specs.declared.answer.Answer.TheVariants as answers;
-ghost use Rattle.fe_service.specs.ServiceState.{service_of, AreSound};
+ghost use Rattle.fe_service.specs.ServiceState.{service_of, AreSoundParts};
 ghost use Rattle.fe_service.specs.Events.{IsFree, HasRoom, Completes};
 
 use crate::parts::Parts;
@@ -25,11 +25,11 @@ impl Parts {
         no_wait: bool,
         answer: Answer,
     ) -> u32
-        requires sound { AreSound self.old }
+        requires sound { AreSoundParts self.old }
         requires free { IsFree (service_of self.old) session number }
         requires answered { reply self.old.state (requests.Access array index op no_wait) ≡ Some answer }
         requires room { HasRoom (service_of self.old) }
-        ensures sound { AreSound self.new }
+        ensures sound { AreSoundParts self.new }
         ensures completes { (served : List Entry)
             × Completes (service_of self.old) (service_of self.new)
             (Finished session number (requests.Access array index op no_wait) answer) served
@@ -64,11 +64,11 @@ impl Parts {
         array: u64,
         answer: Answer,
     ) -> u32
-        requires sound { AreSound self.old }
+        requires sound { AreSoundParts self.old }
         requires free { IsFree (service_of self.old) session number }
         requires answered { reply self.old.state (requests.Remove array) ≡ Some answer }
         requires room { HasRoom (service_of self.old) }
-        ensures sound { AreSound self.new }
+        ensures sound { AreSoundParts self.new }
         ensures completes { (served : List Entry)
             × Completes (service_of self.old) (service_of self.new)
             (Finished session number (requests.Remove array) answer) served × (result ≡ 1 + length_of served) }
@@ -93,11 +93,11 @@ impl Parts {
 
     /// Finishes a look-up by name.
     pub(crate) fn finish_find(&mut self, session: u64, number: u64, name: Name, answer: Answer)
-        requires sound { AreSound self.old }
+        requires sound { AreSoundParts self.old }
         requires free { IsFree (service_of self.old) session number }
         requires answered { reply self.old.state (requests.Find name) ≡ Some answer }
         requires room { HasRoom (service_of self.old) }
-        ensures sound { AreSound self.new }
+        ensures sound { AreSoundParts self.new }
         ensures completes { Completes (service_of self.old) (service_of self.new)
             (Finished session number (requests.Find name) answer) [] }
     {
@@ -119,12 +119,12 @@ impl Parts {
         tag: Tag,
         answer: Answer,
     )
-        requires sound { AreSound self.old }
+        requires sound { AreSoundParts self.old }
         requires free { IsFree (service_of self.old) session number }
         requires answered { reply self.old.state (requests.Create name length tag) ≡ Some answer }
         requires refused { IsNewArray answer → ⊥ }
         requires room { HasRoom (service_of self.old) }
-        ensures sound { AreSound self.new }
+        ensures sound { AreSoundParts self.new }
         ensures completes { Completes (service_of self.old) (service_of self.new)
             (Finished session number (requests.Create name length tag) answer) [] }
     {
@@ -137,7 +137,7 @@ impl Parts {
         });
     }
 
-    /// Makes an array. The one error is that memory is short; then all is as it was.
+    /// Makes an array. Fails only if memory runs out; then nothing has changed.
     pub(crate) fn finish_create(
         &mut self,
         session: u64,
@@ -147,11 +147,11 @@ impl Parts {
         tag: Tag,
         id: u64,
     ) -> Result<(), AllocError>
-        requires sound { AreSound self.old }
+        requires sound { AreSoundParts self.old }
         requires free { IsFree (service_of self.old) session number }
         requires answered { reply self.old.state (requests.Create name length tag) ≡ Some (answers.Array id length) }
         requires room { HasRoom (service_of self.old) }
-        ensures sound { AreSound self.new }
+        ensures sound { AreSoundParts self.new }
         ensures completes { OnOk result
             (Completes (service_of self.old) (service_of self.new)
             (Finished session number (requests.Create name length tag) (answers.Array id length)) []) }

@@ -21,7 +21,7 @@ pub(crate) struct Parts {
     pub(crate) pending: Entries,
 }
 
-/// The request of one that waits.
+/// The request of a waiting turn.
 pub(crate) fn request_of(turn: &Turn) -> Request
     ensures { result ≡ request_of (waiter_of turn.now) }
 {
@@ -34,7 +34,7 @@ pub(crate) fn request_of(turn: &Turn) -> Request
 }
 
 impl Parts {
-    /// What is always true of the state, of the seats and of what waits.
+    /// The invariants of the state, and of the seats and waiting lists.
     pub(crate) fn limits(&self)
         ensures state { state_limits.IsWithinLimits self.now.state }
         ensures seats { IsWithinLimits self.now.seats }
@@ -43,7 +43,8 @@ impl Parts {
         let _ = self.seats.len();
     }
 
-    /// Looks for a session and the array of a request, so that the look-ups of them that follow take one comparison each.
+    /// Looks for a session and the array of a request, so that the look-ups of them that follow take one comparison
+    /// each.
     pub(crate) fn aim(&mut self, session: u64, request: &Request)
         ensures { self.new ≡ self.old }
     {
@@ -52,7 +53,7 @@ impl Parts {
         self.state.aim(session, guess, request);
     }
 
-    /// Makes a legal entry, for which no memory is needed.
+    /// Makes a legal entry that needs no memory.
     pub(crate) fn enter(&mut self, entry: Entry)
         requires legal { IsLegal self.old.state entry }
         requires memory { MakesArray entry → ⊥ }
@@ -68,7 +69,7 @@ impl Parts {
         self.pending.push(entry);
     }
 
-    /// Serves the first one that waits on the word, if it may be served.
+    /// Serves the first request that waits on the word, if it may be served. Returns whether it was.
     pub(crate) fn serve_first(&mut self, array: u64, index: u32) -> bool
         requires word { IsWord self.old.seats.arrays array index }
         requires usable { AreUsable self.old.state self.old.seats.waiting }
@@ -96,7 +97,7 @@ impl Parts {
         true
     }
 
-    /// Serves those that wait on the word, until none may be served. It counts them.
+    /// Serves the requests that wait on the word, until none may be served. Returns their number.
     pub(crate) fn serve_word(&mut self, array: u64, index: u32) -> u32
         requires word { IsWord self.old.seats.arrays array index }
         requires usable { AreUsable self.old.state self.old.seats.waiting }

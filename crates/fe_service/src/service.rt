@@ -1,6 +1,6 @@
 ghost use Rattle.std.specs.Prelude.{◌≡◌, ◌≢◌, ◌+◌, ◌<◌, ◌≤◌, ◌↔◌, ℕ, List, [], length, Some, None, IsSome, IsTrue, IfOk, OnOk, OnErr, is_some, true, false};
 ghost use Rattle.std.specs.FinMap.{get, len, empty};
-ghost use Rattle.fe_waits.specs.Waiting.{Waiter, AreTold, AreToldOnce};
+ghost use Rattle.fe_waits.specs.Waiting.{Waiter, AreWaitersOf, AreListedOnce};
 ghost use Rattle.fe_state.specs.State as states;
 ghost use Rattle.fe_state.specs.State.{reply, MakesArray};
 ghost use Rattle.fe_state.specs.declared.entry.Entry.{Entry};
@@ -21,14 +21,14 @@ use std::marker::Model;
 
 /// The state of the server with the sessions' seats, what waits, and the entries that were made and not yet taken.
 ///
-/// After each call none of those that wait may be served. Only `new` and a request that makes an array take memory.
+/// After each call no waiting request may be served. Only `new` and a request that makes an array allocate memory.
 #[derive(Drop)]
 pub struct Service {
     parts: Parts,
 }
 
 impl Model for Service {
-    ghost use Rattle.fe_service.specs.ServiceState.{ServiceState, service_code, service_of, AreSound};
+    ghost use Rattle.fe_service.specs.ServiceState.{ServiceState, service_code, service_of, AreSoundParts};
 
     ghost Value = { ServiceState };
 
@@ -36,12 +36,12 @@ impl Model for Service {
 
     ghost view = { λ s. service_of s.parts };
 
-    ghost invariant = { λ s. AreSound s.parts };
+    ghost invariant = { λ s. AreSoundParts s.parts };
 }
 
 impl Service {
-    /// The service of a state in which nothing waits. It makes room for all seats, waiting lists and entries. The one
-    /// error is that memory is short.
+    /// The service of a state in which nothing waits. Allocates the memory for all seats, waiting lists and entries;
+    /// fails only if memory runs out.
     pub fn new(alloc: Global, state: State) -> Result<Service, AllocError>
         ensures state { IfOk result (λ service. service.state ≡ state) }
         ensures seats { IfOk result (λ service. IsSeated state.sessions service.seats) }
@@ -82,7 +82,8 @@ impl Service {
         self.parts.seats.seat(session)
     }
 
-    /// Looks for a session and the array of a request, so that the look-ups of them that follow take one comparison each.
+    /// Looks for a session and the array of a request, so that the look-ups of them that follow take one comparison
+    /// each.
     pub fn aim(&mut self, session: u64, request: &Request)
         ensures { self.new ≡ self.old }
     {
@@ -120,14 +121,14 @@ impl Service {
     }
 
     /// The waiting requests of a session, at most `WINDOW`, in no particular order: the number of each, the array and
-    /// index of its word, and its operation. The one error is that memory is short.
+    /// index of its word, and its operation. Fails only if memory runs out.
     pub fn told(
         &self,
         alloc: Global,
         session: u64,
     ) -> Result<Vec<(u64, (u64, u32, Op))>, AllocError>
-        ensures told { IfOk result (λ told. AreTold self.now.waiting session told.items) }
-        ensures once { IfOk result (λ told. AreToldOnce told.items) }
+        ensures told { IfOk result (λ told. AreWaitersOf self.now.waiting session told.items) }
+        ensures once { IfOk result (λ told. AreListedOnce told.items) }
     {
         self.parts.seats.told(alloc, session)
     }
@@ -158,8 +159,8 @@ impl Service {
         self.parts.settle(session, floor);
     }
 
-    /// Closes a session, with an entry, and marks it as closing. Its waiting requests are withdrawn. Returns how many there
-    /// were.
+    /// Closes a session, with an entry, and marks it as closing. Its waiting requests are withdrawn. Returns how many
+    /// there were.
     pub fn close(&mut self, session: u64) -> u32
         requires open { IsSome (get self.old.state.sessions session) }
         requires room { HasRoom self.old }
@@ -201,9 +202,9 @@ impl Service {
         self.parts.leave(session);
     }
 
-    /// Completes a request with its reply, and serves the waiting requests that this lets through. Returns how many entries
-    /// were made, 1 to `EVENT_ENTRIES`. The one error is that memory is short for the words of a new array; nothing has
-    /// changed then.
+    /// Completes a request with its reply, and serves the waiting requests that this lets through. Returns how many
+    /// entries were made, 1 to `EVENT_ENTRIES`. Fails only if memory runs out for the words of a new array; then
+    /// nothing has changed.
     pub fn complete(
         &mut self,
         session: u64,
@@ -233,7 +234,7 @@ impl Service {
         self.parts.wait(session, number, array, index, op);
     }
 
-    /// Takes the entries that were made, and goes on with an empty list in their place.
+    /// Takes the entries that were made, and goes on with an empty list.
     pub fn take_pending(&mut self, spare: Entries) -> Entries
         requires { spare ≡ [] }
         ensures entries { result ≡ self.old.pending }

@@ -31,22 +31,22 @@ module _ {X : Type 0} (m : FinMap nat_cmp X) where
     get_missed missed = is_none _ (sym (missed ∙ found_by))
 
     -- one that it finds is in the table where the set says
-    at_place : (place : ℕ) → Some place ≡ position (nat_eq id) ids → IsAt (entries m) id place
-    at_place place found =
-        let seen = position-Some (nat_eq id) (keys m) place id (sym (found ∙ ap (position (nat_eq id)) order)) in
-        let within = subst (λ n. place < n) (length-map (entries m) (λ e. e.0)) seen.0 in
+    at_position : (i : ℕ) → Some i ≡ position (nat_eq id) ids → IsAt (entries m) id i
+    at_position i found =
+        let seen = position-Some (nat_eq id) (keys m) i id (sym (found ∙ ap (position (nat_eq id)) order)) in
+        let within = subst (λ n. i < n) (length-map (entries m) (λ e. e.0)) seen.0 in
         record {
           in_range = within;
-          has_key = λ e. sym (get_or-map (λ e. e.0) (entries m) place e id within) ∙ sym (eqb-true id _ seen.1);
+          has_key = λ e. sym (get_or-map (λ e. e.0) (entries m) i e id within) ∙ sym (eqb-true id _ seen.1);
         }
 
-  -- so a place that the set gives is the id's, and one that it does not give nobody has
-  pub places : (ids : List ℕ) (id : ℕ) → ids ≡ keys m → (found : Option ℕ) → found ≡ position (nat_eq id) ids → is_some found ≡ list_any (nat_eq id) ids
+  -- so a position that the set gives is the id's, and one that it does not give nobody has
+  pub positions : (ids : List ℕ) (id : ℕ) → ids ≡ keys m → (found : Option ℕ) → found ≡ position (nat_eq id) ids → is_some found ≡ list_any (nat_eq id) ids
       → IfSome found (IsAt (entries m) id) × IfNone found (get m id ≡ None)
-  places ids id order None index there = (tt, get_missed ids id order there)
-  places ids id order (Some place) index there = (at_place ids id order place index, tt)
+  positions ids id order None index there = (tt, get_missed ids id order there)
+  positions ids id order (Some i) index there = (at_position ids id order i index, tt)
 
-  -- the ids before a place, and the next one
+  -- the ids before a position, and the next one
   pub ids_next : (i : ℕ) (e : ℕ × X) → slice_get (entries m) i ≡ Some e
       → insert_key nat_eq (map (λ e. e.0) (take i (entries m))) e.0 ≡ map (λ e. e.0) (take (i + 1) (entries m))
   ids_next i e here =
@@ -59,10 +59,10 @@ module _ {X : Type 0} (m : FinMap nat_cmp X) where
       ∙ ap (λ n. map (λ e. e.0) (take n (entries m))) (sym (add-one i))
       )
 
--- a look-up that finds a key that is there, and the place that it finds
-pub place_there : {X : Type 0} (m : FinMap nat_cmp X) (id : ℕ) (found : Option ℕ) → IfNone found (get m id ≡ None) → IsSome (get m id) → IsSome found
-place_there m id None none there = absurd (true≢false (sym there ∙ ap is_some none))
-place_there m id (Some place) none there = refl
+-- a look-up that finds a key that is there, and the position that it finds
+pub position_there : {X : Type 0} (m : FinMap nat_cmp X) (id : ℕ) (found : Option ℕ) → IfNone found (get m id ≡ None) → IsSome (get m id) → IsSome found
+position_there m id None none there = absurd (true≢false (sym there ∙ ap is_some none))
+position_there m id (Some i) none there = refl
 
-pub placed : {X : Type 0} (m : FinMap nat_cmp X) (id place : ℕ) (found : Option ℕ) → found ≡ Some place → IfSome found (IsAt (entries m) id) → IsAt (entries m) id place
-placed m id place found is there = subst (λ o. IfSome o (IsAt (entries m) id)) is there
+pub placed : {X : Type 0} (m : FinMap nat_cmp X) (id i : ℕ) (found : Option ℕ) → found ≡ Some i → IfSome found (IsAt (entries m) id) → IsAt (entries m) id i
+placed m id i found is there = subst (λ o. IfSome o (IsAt (entries m) id)) is there

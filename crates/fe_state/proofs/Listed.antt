@@ -23,15 +23,15 @@ module _ {X : Type 0} where
   sized (e ∷ es) zero lt = refl
   sized (e ∷ es) (suc i) lt = sized es i (omega arith)
 
-  -- the entry whose key stands at a place
+  -- the entry whose key stands at a position
   pub entry_of_key : (m : FinMap nat_cmp X) (i key : ℕ) → slice_get (keys m) i ≡ Some key → (x : X) × (slice_get (entries m) i ≡ Some (key, x))
   entry_of_key m i key h = key_in (entries m) i key h
 
-  -- there is a key at every place below the length
+  -- there is a key at every position below the length
   pub key_there : (m : FinMap nat_cmp X) (i : ℕ) → i < len m → IsSome (slice_get (keys m) i)
   key_there m i lt = there_in (entries m) i (subst (λ n. i < n) (len-entries m) lt)
 
-  -- there is an entry at every place below the length, however it is shown
+  -- there is an entry at every position below the length, however it is shown
   module _ {A : Type 0} (shown : A → ℕ × X) where
     is_some-shown : (o : Option A) → is_some (option_map shown o) ≡ is_some o
     is_some-shown None = refl

@@ -40,7 +40,7 @@ kept_within s session number x k h is window earlier = record {
   each = insert_each (IsSession s.place) s.sessions session (keeping x number k) h.each (keeping_within s.place x number k (h.each session x is) window earlier);
 }
 
--- a session for which nothing is kept
+-- a session that keeps nothing
 pub nothing_kept : (place : ℕ) (x : Session) → 1 ≤ x.floor → x.floor ≤ 2 ^ 63 - 32 → x.kept ≡ empty → IsSession place x
 nothing_kept place x least most none = record {
   floor = least;

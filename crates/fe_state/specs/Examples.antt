@@ -16,7 +16,7 @@ use Rattle.fe_state.specs.declared.request.Request.TheVariants.{Create, Find, Re
 use Rattle.fe_state.specs.declared.entry.Entry.TheVariants.{Attached, Closed, Settled, Finished}
 use Rattle.fe_state.specs.declared.bounds.TheConstants.{ARRAYS}
 
--- two words, of which the first is empty and the second is full of 5
+-- two words: the first is empty, the second is full and has value 5
 abbrev pub two_words : List Word
 two_words = word 0 Empty ∷ word 5 Full ∷ []
 

@@ -40,7 +40,7 @@ raised s floor = record { floor = floor; kept = retain_keys s.kept (nat_le floor
 abbrev pub keeping : Session → ℕ → Kept → Session
 keeping s number kept = record { floor = s.floor; kept = insert s.kept number kept }
 
--- the sessions with this one put in place of the one that was looked up, if it was there
+-- the sessions with this one put instead of the one that was looked up, if it was there
 abbrev pub put_session : FinMap nat_cmp Session → ℕ → Option Session → FinMap nat_cmp Session
 put_session sessions session None = sessions
 put_session sessions session (Some s) = insert sessions session s

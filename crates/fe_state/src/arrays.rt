@@ -16,15 +16,15 @@ use std::marker::Model;
 
 /// The arrays by id, in order of creation.
 ///
-/// Ids rise, so the table's ascending order is that of creation. A look-up compares the id at the hint first, and asks the
-/// set where that is another id. The set has the ids in the same order. When an array comes or goes, the set is cleared
-/// and all ids are put in again: clearing it is certain to keep its room, and taking one id out is not. Only `new` and
-/// `copied` take memory.
+/// Ids rise, so the table's ascending order is that of creation. A look-up compares the id at the hint first, and
+/// asks the set if that id differs. The set has the ids in the same order. When an array comes or goes, the set is
+/// cleared and all ids are put in again: clearing it is certain to keep its room, and taking one id out is not. Only
+/// `new` and `copied` allocate memory.
 #[derive(Drop)]
 pub struct Arrays {
     ids: IndexSet<u64>,
     table: Table<Array, ARRAYS>,
-    /// The place that a look-up tries before it asks the set. Any number is good.
+    /// The position that a look-up tries before it asks the set. Any number is good.
     hint: usize,
 }
 
@@ -46,7 +46,7 @@ impl Model for Arrays {
 }
 
 impl Arrays {
-    /// No array, with room for all. The one error is that memory is short.
+    /// No array, with room for all. Fails only if memory runs out.
     pub fn new(alloc: Global) -> Result<Arrays, AllocError>
         ensures empty { IfOk result (λ arrays. arrays ≡ map.empty) }
     {
@@ -71,16 +71,16 @@ impl Arrays {
     pub fn get(&self, id: u64) -> Option<&Array>
         ensures value { option_copied result ≡ map.get self.now id }
     {
-        let place = self.place_of(id)?;
-        let (_, array) = self.table.at(place).unwrap();
+        let position = self.position_of(id)?;
+        let (_, array) = self.table.at(position).unwrap();
         Some(array)
     }
 
-    /// The id at a place of the order of creation, counted from zero, with its array.
-    pub fn at(&self, place: usize) -> Option<(u64, &Array)>
-        ensures entry { option_map shown_entry result ≡ slice_get (map.entries self.now) place }
+    /// The id at a position of the order of creation, counted from zero, with its array.
+    pub fn at(&self, position: usize) -> Option<(u64, &Array)>
+        ensures entry { option_map shown_entry result ≡ slice_get (map.entries self.now) position }
     {
-        self.table.at(place)
+        self.table.at(position)
     }
 
     /// The array with an id that is there, to write.
@@ -89,21 +89,21 @@ impl Arrays {
         ensures* writes_back { sem 𝓛 (lends_array self.entry id result) }
         ensures value { map.get self.old id ≡ Some result.now }
     {
-        let place = self.place_of(id).unwrap();
-        self.table.at_mut(place)
+        let position = self.position_of(id).unwrap();
+        self.table.at_mut(position)
     }
 
     /// Looks for an array, so that the look-ups of it that follow take one comparison each.
     pub fn aim(&mut self, id: u64)
         ensures { self.new ≡ self.old }
     {
-        if let Some(place) = self.place_of(id) {
-            self.hint = place;
+        if let Some(position) = self.position_of(id) {
+            self.hint = position;
         }
     }
 
-    // The place of the array with an id, if it is there.
-    fn place_of(&self, id: u64) -> Option<usize>
+    // The position of the array with an id, if it is there.
+    fn position_of(&self, id: u64) -> Option<usize>
         ensures there { IfSome result (IsAt (map.entries self.now) id) }
         ensures none { IfNone result (map.get self.now id ≡ None) }
     {
@@ -123,7 +123,7 @@ impl Arrays {
         Some(array)
     }
 
-    /// Puts an array at a new id, which comes to its place in the order.
+    /// Puts an array at a new id, which comes to its position in the order.
     pub fn insert(&mut self, id: u64, array: Array)
         requires absent { map.get self.old id ≡ None }
         requires room { map.len self.old < ARRAYS }
@@ -134,14 +134,14 @@ impl Arrays {
     }
 }
 
-// Makes a set anew of a table's ids. It takes no memory.
+// Clears the set and fills it with the table's ids. Allocates nothing.
 fn index(table: &Table<Array, ARRAYS>, ids: &mut IndexSet<u64>)
     requires room { ARRAYS ≤ index_set_len ids.old + spare ids.old }
     ensures index { IsIndex ids.new table.now }
 {
     ids.clear();
-    for place in 0..table.len() {
-        let (id, _) = table.at(place).unwrap();
+    for position in 0..table.len() {
+        let (id, _) = table.at(position).unwrap();
         ids.insert(id).unwrap();
     }
 }

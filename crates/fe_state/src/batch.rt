@@ -51,7 +51,7 @@ impl Entries {
         self.items.len() == BATCH_ENTRIES
     }
 
-    /// Adds an entry at the end. It takes no memory.
+    /// Adds an entry at the end. Allocates nothing.
     pub fn push(&mut self, entry: Entry)
         requires { length self.old < BATCH_ENTRIES }
         ensures { self.new ≡ self.old ++ entry ∷ [] }
@@ -98,7 +98,7 @@ impl Batch {
             .all(|entry| entry.fits_format_1())
     }
 
-    /// Adds an entry at the end. It takes no memory.
+    /// Adds an entry at the end. Allocates nothing.
     pub fn push(&mut self, entry: Entry)
         requires { length self.old.entries < BATCH_ENTRIES }
         ensures first { self.new.first ≡ self.old.first }

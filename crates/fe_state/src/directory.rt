@@ -46,14 +46,14 @@ impl Model for Directory {
 }
 
 impl Directory {
-    /// No array yet. It makes room for the ids and names of all; the one error is that memory is short.
+    /// No array yet. Allocates the memory for the ids and names of all; fails only if memory runs out.
     pub fn new(alloc: Global) -> Result<Directory, AllocError>
         ensures { IfOk result (λ directory. directory ≡ first_directory) }
     {
         Directory::starting(alloc, 1)
     }
 
-    /// No array yet, where the next one gets this id. The one error is that memory is short.
+    /// No array yet, where the next one gets this id. Fails only if memory runs out.
     pub fn starting(alloc: Global, next_id: u64) -> Result<Directory, AllocError>
         requires { 1 ≤ next_id }
         ensures { IfOk result (λ directory. directory ≡ record { arrays = first_directory.arrays; next_id = next_id }) }
@@ -155,8 +155,7 @@ impl Directory {
         None
     }
 
-    /// Does what a request asks. Where the answer is a new array it takes memory for the words; the
-    /// one error is that this is short.
+    /// Does what a request asks. Fails only if memory runs out for the words of a new array.
     pub fn perform(&mut self, request: Request) -> Result<(), AllocError>
         requires { self.old.next_id < 2 ^ 63 }
         ensures performed { OnOk result (self.new ≡ performed self.old request) }
@@ -243,7 +242,7 @@ impl Directory {
         }
     }
 
-    /// Brings the arrays back as they were before a change. It takes no memory.
+    /// Restores the arrays as they were before a change. Allocates nothing.
     pub(crate) fn restore(&mut self, change: Change)
         requires { CanRestore change self.old }
         ensures { self.new ≡ restored change self.old }
@@ -294,12 +293,12 @@ impl Directory {
         self.arrays.len()
     }
 
-    /// The array at a place of the ascending order of ids, counted from zero: its id, its name and its words.
-    pub fn entry_at(&self, place: usize) -> Option<(u64, &Name, &[Word])>
-        ensures entry { option_map shown_array result ≡ slice_get (entries self.now.arrays) place }
+    /// The array at a position of the ascending order of ids, counted from zero: its id, its name and its words.
+    pub fn entry_at(&self, position: usize) -> Option<(u64, &Name, &[Word])>
+        ensures entry { option_map shown_array result ≡ slice_get (entries self.now.arrays) position }
         ensures few { IfSome result (λ e. length e.2.now < 2 ^ 32) }
     {
-        let (id, array) = self.arrays.at(place)?;
+        let (id, array) = self.arrays.at(position)?;
         Some((id, &array.name, array.words.as_slice()))
     }
 
@@ -310,7 +309,7 @@ impl Directory {
         self.arrays.aim(array);
     }
 
-    /// Adds an array of an image, its words empty and of value 0. The one error is that memory is short.
+    /// Adds an array of an image, its words empty and of value 0. Fails only if memory runs out.
     pub fn load_array(&mut self, id: u64, name: Name, length: u32) -> Result<(), AllocError>
         requires { MayCome self.old id (new_array name length Tag.Empty) }
         ensures loaded { OnOk result (self.new
@@ -325,7 +324,7 @@ impl Directory {
         Ok(())
     }
 
-    /// Puts a word in the place of the one at an index of an array. It takes no memory.
+    /// Replaces the word at an index of an array. Allocates nothing.
     pub fn load_word(&mut self, array: u64, index: u32, word: Word)
         requires { IsSome (word_in (get self.old.arrays array) index) }
         ensures { self.new ≡ record {

@@ -30,8 +30,8 @@ pub fn other_words_stay()
     ensures { KeepsOtherWords }
 {}
 
-/// No array gets an id that another array had, whether that one is still there or not. Legal is what `State::check` tests, and
-/// the state after an entry is what `apply` and `advance` leave.
+/// No array gets an id that another array had, whether that one is still there or not. Legal is what `State::check`
+/// tests, and the state after an entry is what `apply` and `advance` leave.
 pub fn ids_never_return()
     ensures { IdsNeverReturn }
 {}

@@ -15,8 +15,8 @@ use crate::naming::named;
 use crate::request::Request;
 use std::marker::Model;
 
-/// A session: its floor, which is its least usable number, and what is kept for the numbers of its
-/// window, from the floor on. It takes no memory.
+/// A session: its floor, which is its least usable number, and what is kept for the numbers of its window, from the
+/// floor on. It owns no allocated memory.
 #[derive(Drop)]
 pub struct Session {
     floor: u64,
@@ -45,7 +45,7 @@ impl Session {
         Session::starting(1)
     }
 
-    /// A session with this floor, 1 to `GREATEST_FLOOR`, for which nothing is kept.
+    /// A session with this floor, 1 to `GREATEST_FLOOR`, that keeps nothing.
     pub fn starting(floor: u64) -> Session
         requires least { 1 ≤ floor }
         requires most { floor ≤ GREATEST_FLOOR }
@@ -87,7 +87,7 @@ impl Session {
         }
     }
 
-    /// The first number from one of the window on for which something is kept, with that.
+    /// The first number from `from` on that something is kept for, with what is kept.
     pub(crate) fn first_kept(&self, from: u64) -> Option<(u64, &Kept)>
         requires { self.now.floor ≤ from }
         ensures first { IfSome result
@@ -119,7 +119,7 @@ impl Session {
         self.is_in_window(number) && self.cells[cell_of(number)].is_none()
     }
 
-    /// Keeps this for a number of the window, in place of what was kept for it.
+    /// Keeps this for a number of the window, instead of what was kept for it.
     pub fn keep(&mut self, number: u64, kept: Kept)
         requires { IsInWindow self.old.floor number }
         ensures { self.new ≡ keeping self.old number kept }
@@ -154,7 +154,8 @@ impl Session {
         requires room { vec_len dropped.old + WINDOW ≤ vec_capacity dropped.old }
         ensures raised { self.new ≡ raised self.old floor }
         ensures lowered { MayLower self.new self.old.floor }
-        ensures dropped { WereDropped self.old.floor floor self.old.kept self.new.kept dropped.old.items dropped.new.items }
+        ensures dropped { WereDropped self.old.floor floor self.old.kept self.new.kept
+            dropped.old.items dropped.new.items }
         ensures len { vec_len dropped.old ≤ vec_len dropped.new }
         ensures capacity { vec_capacity dropped.new ≡ vec_capacity dropped.old }
     {
@@ -171,7 +172,8 @@ impl Session {
         self.floor = floor;
     }
 
-    /// Drops what is kept below a number, and appends it to `dropped`, which has room for `WINDOW` more. The floor stays.
+    /// Drops what is kept below a number, and appends it to `dropped`, which has room for `WINDOW` more. The floor
+    /// stays.
     pub(crate) fn drop_below(&mut self, end: u64, dropped: &mut Vec<Dropped>)
         requires least { self.old.floor ≤ end }
         requires most { end ≤ self.old.floor + WINDOW }
@@ -179,7 +181,8 @@ impl Session {
         ensures floor { self.new.floor ≡ self.old.floor }
         ensures kept { self.new.kept ≡ map.retain_keys self.old.kept (nat_le end) }
         ensures in_window { (n : ℕ) (k : Kept) → map.get self.old.kept n ≡ Some k → IsInWindow self.old.floor n }
-        ensures dropped { WereDropped self.old.floor end self.old.kept self.new.kept dropped.old.items dropped.new.items }
+        ensures dropped { WereDropped self.old.floor end self.old.kept self.new.kept
+            dropped.old.items dropped.new.items }
         ensures len { vec_len dropped.old ≤ vec_len dropped.new }
         ensures capacity { vec_capacity dropped.new ≡ vec_capacity dropped.old }
     {
@@ -203,7 +206,7 @@ impl Session {
         }
     }
 
-    /// The same session once more. It takes no memory.
+    /// A copy of the session. Allocates nothing.
     pub fn copied(&self) -> Session
         ensures { result ≡ self.now }
     {

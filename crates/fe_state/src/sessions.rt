@@ -185,7 +185,7 @@ pub fn record_entry(
     }
 }
 
-/// Carries out an entry with no way back.
+/// Carries out an entry that cannot be undone.
 pub fn advance(sessions: &mut Sessions, place: u64, entry: &Entry)
     requires { SessionsAllow sessions.old entry.now }
     ensures { sessions.new ≡ sessions_after sessions.old place entry.now }
@@ -225,8 +225,8 @@ fn keep_again(here: &mut Session, log: &UndoLog, answers: usize)
     ensures floor { here.new.floor ≡ here.old.floor }
     ensures kept { here.new.kept ≡ keeping_all here.old.kept (take answers log.now.dropped) }
 {
-    for place in 0..answers {
-        let dropped = log.dropped_at(place);
+    for position in 0..answers {
+        let dropped = log.dropped_at(position);
         here.keep(dropped.number, dropped.kept);
     }
 }

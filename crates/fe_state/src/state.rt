@@ -34,8 +34,8 @@ pub struct Illegal;
 
 /// The arrays and sessions after the entries so far.
 ///
-/// It makes room for all sessions and for the ids and names of all arrays when it is made. After
-/// that the words of a new array alone take memory.
+/// It allocates the memory for all sessions and for the ids and names of all arrays when it is made. After that only
+/// the words of a new array take memory.
 #[derive(Drop)]
 pub struct State {
     directory: Directory,
@@ -68,14 +68,14 @@ impl Model for State {
 }
 
 impl State {
-    /// The state before the first entry. The one error is that memory is short.
+    /// The state before the first entry. Fails only if memory runs out.
     pub fn new(alloc: Global) -> Result<State, AllocError>
         ensures { IfOk result (λ state. state ≡ first_state) }
     {
         State::starting(alloc, 0, 1)
     }
 
-    /// A state with nothing in it yet, at a place of the history. The one error is that memory is short.
+    /// A state with nothing in it yet, at a place of the history. Fails only if memory runs out.
     pub fn starting(alloc: Global, place: u64, next_id: u64) -> Result<State, AllocError>
         requires place { place < 2 ^ 63 }
         requires least { 1 ≤ next_id }
@@ -93,7 +93,7 @@ impl State {
         })
     }
 
-    /// The same state again, in memory of its own. The one error is that memory is short.
+    /// A copy of the state, in memory of its own. Fails only if memory runs out.
     pub fn copy(&self) -> Result<State, AllocError>
         ensures { IfOk result (λ state. state ≡ self.now) }
     {
@@ -128,8 +128,8 @@ impl State {
         }
     }
 
-    /// Carries out a legal entry, and adds it to a log that has room, so that it can be undone. The
-    /// one error is that memory is short, for the words of a new array.
+    /// Carries out a legal entry, and adds it to a log that has room, so that it can be undone. Fails only if memory
+    /// runs out for the words of a new array.
     pub fn apply(&mut self, entry: Entry, log: &mut UndoLog) -> Result<(), AllocError>
         requires legal { IsLegal self.old entry }
         requires room { length log.old.undos < log.old.room }
@@ -153,8 +153,7 @@ impl State {
         Ok(())
     }
 
-    /// Carries out a legal entry with no way back. The one error is that memory is short, for the
-    /// words of a new array.
+    /// Carries out a legal entry that cannot be undone. Fails only if memory runs out for the words of a new array.
     pub fn advance(&mut self, entry: Entry) -> Result<(), AllocError>
         requires { IsLegal self.old entry }
         ensures ok { OnOk result (self.new ≡ after self.old entry) }
@@ -167,8 +166,8 @@ impl State {
         Ok(())
     }
 
-    /// Brings the state before the log's latest entry back, and takes that entry out of the log. With
-    /// an empty log nothing happens. It takes no memory.
+    /// Restores the state before the log's latest entry, and takes that entry out of the log. With an empty log nothing
+    /// happens. Allocates nothing.
     pub fn undo(&mut self, log: &mut UndoLog)
         requires { IsLogOf log.old self.old }
         ensures undone { self.new ≡ undone log.old self.old }
@@ -184,7 +183,7 @@ impl State {
         self.place -= 1;
     }
 
-    /// Brings the state at the beginning of the log back, and empties the log. It takes no memory.
+    /// Restores the state at the beginning of the log, and empties the log. Allocates nothing.
     pub fn rewind(&mut self, log: &mut UndoLog)
         requires { IsLogOf log.old self.old }
         ensures beginning { self.new ≡ rewound log.old self.old }
@@ -224,8 +223,8 @@ impl State {
         Some(self.sessions.get(session)?.floor())
     }
 
-    /// Looks for a session, at a guessed place first, and for the array of a request, so that the look-ups of them that
-    /// follow take one comparison each. Any guess is good.
+    /// Looks for a session, at a guessed position first, and for the array of a request, so that the look-ups of them
+    /// that follow take one comparison each. Any guess is good.
     pub fn aim(&mut self, session: u64, guess: usize, request: &Request)
         ensures { self.new ≡ self.old }
     {
@@ -250,7 +249,7 @@ impl State {
         self.directory.next_id()
     }
 
-    /// The number of a session, by its place in ascending order, counted from zero.
+    /// The number of a session, by its position in ascending order, counted from zero.
     pub fn session_at(&self, k: usize) -> Option<u64>
         ensures { result ≡ slice_get (keys self.now.sessions) k }
     {
@@ -272,7 +271,7 @@ impl State {
         self.sessions.len()
     }
 
-    /// The array at a place in ascending order, counted from zero: its id, its name and its words.
+    /// The array at a position in ascending order, counted from zero: its id, its name and its words.
     pub fn array_entry(&self, k: usize) -> Option<(u64, &Name, &[Word])>
         ensures entry { option_map shown_array result ≡ slice_get (entries self.now.arrays) k }
         ensures few { IfSome result (λ e. length e.2.now < 2 ^ 32) }
@@ -280,7 +279,7 @@ impl State {
         self.directory.entry_at(k)
     }
 
-    /// The session at a place in ascending order, counted from zero: its number, its floor and what it keeps.
+    /// The session at a position in ascending order, counted from zero: its number, its floor and what it keeps.
     pub fn session_entry(&self, k: usize) -> Option<(u64, u64, KeptAnswers<'_>)>
         ensures { option_map shown_session result ≡ slice_get (entries self.now.sessions) k }
     {
@@ -288,7 +287,7 @@ impl State {
         Some((session, here.floor(), here.answers()))
     }
 
-    /// Adds an array of an image, its words empty and of value 0. The one error is that memory is short.
+    /// Adds an array of an image, its words empty and of value 0. Fails only if memory runs out.
     pub fn load_array(&mut self, id: u64, name: Name, length: u32) -> Result<(), AllocError>
         requires { MayCome (directory_of self.old) id (new_array name length Empty) }
         ensures ok { OnOk result (self.new
@@ -299,7 +298,7 @@ impl State {
         Ok(())
     }
 
-    /// Puts a word of an image at an index of an array. It takes no memory.
+    /// Puts a word of an image at an index of an array. Allocates nothing.
     pub fn load_word(&mut self, array: u64, index: u32, word: Word)
         requires { IsSome (word_in (get self.old.arrays array) index) }
         ensures { self.new ≡ with_arrays self.old
@@ -308,7 +307,7 @@ impl State {
         self.directory.load_word(array, index, word);
     }
 
-    /// Adds a session of an image, with a floor of 1 to `GREATEST_FLOOR` and nothing kept. It takes no memory.
+    /// Adds a session of an image, with a floor of 1 to `GREATEST_FLOOR` and nothing kept. Allocates nothing.
     pub fn load_session(&mut self, session: u64, floor: u64)
         requires new { get self.old.sessions session ≡ None }
         requires few { len self.old.sessions < SESSIONS }
@@ -320,7 +319,7 @@ impl State {
         self.sessions.insert(session, Session::starting(floor));
     }
 
-    /// Keeps what an image has for a number of a session. It takes no memory.
+    /// Keeps what an image has for a number of a session. Allocates nothing.
     pub fn load_kept(&mut self, session: u64, number: u64, kept: Kept)
         requires window { IsSomeAnd (get self.old.sessions session) (λ x. IsInWindow x.floor number) }
         requires place { kept.place < self.old.place }

@@ -41,7 +41,7 @@ impl Model for UndoLog {
 }
 
 impl UndoLog {
-    /// A log with nothing in it, and room for this many entries. The one error is that memory is short.
+    /// A log with nothing in it, and room for this many entries. Fails only if memory runs out.
     pub fn with_room(alloc: Global, entries: usize) -> Result<UndoLog, AllocError>
         ensures { IfOk result (λ log. log ≡ empty_log entries) }
     {
@@ -82,15 +82,15 @@ impl UndoLog {
         self.undos.last()
     }
 
-    /// An answer that was dropped, by its place, from the latest on.
-    pub(crate) fn dropped_at(&self, place: usize) -> &Dropped
-        requires { place < length self.now.dropped }
-        ensures { Some result.now ≡ slice_get self.now.dropped place }
+    /// An answer that was dropped, by its position, from the latest on.
+    pub(crate) fn dropped_at(&self, position: usize) -> &Dropped
+        requires { position < length self.now.dropped }
+        ensures { Some result.now ≡ slice_get self.now.dropped position }
     {
-        &self.dropped[self.dropped.len() - 1 - place]
+        &self.dropped[self.dropped.len() - 1 - position]
     }
 
-    /// Adds an entry that drops no answer. It takes no memory.
+    /// Adds an entry that drops no answer. Allocates nothing.
     pub(crate) fn add(&mut self, undo: Undo)
         requires room { length self.old.undos < self.old.room }
         requires none { answers_of undo.session_change ≡ 0 }
@@ -104,7 +104,7 @@ impl UndoLog {
         self.undos.push_reserved(undo);
     }
 
-    /// Settles a session, and adds the entry that does so. It takes no memory.
+    /// Settles a session, and adds the entry that does so. Allocates nothing.
     pub(crate) fn settle(&mut self, session: u64, here: &mut Session, floor: u64, change: Change)
         requires room { length self.old.undos < self.old.room }
         requires rise { MayRise here.old.floor floor }
@@ -127,7 +127,7 @@ impl UndoLog {
         });
     }
 
-    /// Drops all answers of a session that is closed, and adds the entry that closes it. It takes no memory.
+    /// Drops all answers of a session that is closed, and adds the entry that closes it. Allocates nothing.
     pub(crate) fn close(&mut self, session: u64, here: &mut Session, change: Change)
         requires room { length self.old.undos < self.old.room }
         ensures floor { here.new.floor ≡ here.old.floor }

@@ -24,7 +24,7 @@ impl Model for Words {
 }
 
 impl Words {
-    /// New words of value 0 with the tag. The one error is that memory is short.
+    /// New words of value 0 with the tag. Fails only if memory runs out.
     pub fn new(alloc: Global, length: u32, tag: Tag) -> Result<Words, AllocError>
         ensures { IfOk result (λ words. words ≡ replicate length (word 0 tag)) }
     {
@@ -56,7 +56,7 @@ impl Words {
         self.items.as_slice()
     }
 
-    /// Puts a word in the place of the one at an index.
+    /// Replaces the word at an index.
     pub fn set(&mut self, index: u32, word: Word)
         requires { index < length self.old }
         ensures { self.new ≡ slice_set self.old index word }

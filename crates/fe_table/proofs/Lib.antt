@@ -1,4 +1,4 @@
 pub mod Pairs
 pub mod TableCopyLemmas
 pub mod TableLemmas
-pub mod TablePlaces
+pub mod TablePositions

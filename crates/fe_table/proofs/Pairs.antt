@@ -9,7 +9,7 @@ use Rattle.std.specs.List.{insert, remove, zip}
 use Rattle.std.specs.Option.{option_map_or}
 use Rattle.std.specs.Ordering.{nat_cmp}
 use Rattle.fe_table.specs.Table.{IsAt, IsGapFor, put_at}
-use Rattle.fe_table.proofs.TableLemmas.{but, length-pairs, find_at, get_seen, len_seen, at_seen, entries_seen, place_below, gap_within, entries_inserted, entries_removed, entries_written, at_itself, slice_get-inside, slice_get-past}
+use Rattle.fe_table.proofs.TableLemmas.{but, length-pairs, find_at, get_seen, len_seen, at_seen, entries_seen, position_below, gap_within, entries_inserted, entries_removed, entries_written, at_itself, slice_get-inside, slice_get-past}
 
 module _ {X : Type 0} where
   pub pairs-inserted : (ks : List ℕ) (vs : List X) (i k : ℕ) (v : X) → length vs ≡ length ks → i ≤ length ks → zip (insert ks i k) (insert vs i v) ≡ insert (zip ks vs) i (k, v)
@@ -32,7 +32,7 @@ module _ {X : Type 0} where
   pairs-set (q ∷ ks) (w ∷ vs) zero d v same lt = refl
   pairs-set (q ∷ ks) (w ∷ vs) (suc i) d v same lt = ap (λ l. (q, w) ∷ l) (pairs-set ks vs i d v (omega (arith, same)) (omega (arith, lt)))
 
-  -- the entry at a place consists of the key and the value at that place
+  -- the entry at a position consists of the key and the value at that position
   pub pair_at : (ks : List ℕ) (vs : List X) (i : ℕ) (d : ℕ × X) → length vs ≡ length ks → i < length ks → get_or (zip ks vs) i d ≡ (get_or ks i d.0, get_or vs i d.1)
   pair_at ks vs i d same lt = get_or-zip ks vs i d lt (omega (arith, same))
 
@@ -41,18 +41,18 @@ module _ {X : Type 0} where
     len_keys = len_seen (zip ks vs) m h seen ∙ length-pairs ks vs paired
 
     pub key_below : (k i : ℕ) → IsAt (entries m) k i → i < length ks
-    key_below k i a = let size = length-pairs ks vs paired in omega (arith, size, place_below (zip ks vs) m h seen k i a)
+    key_below k i a = let size = length-pairs ks vs paired in omega (arith, size, position_below (zip ks vs) m h seen k i a)
 
     pub gap_below : (k i : ℕ) → IsGapFor (entries m) k i → i ≤ length ks
     gap_below k i g = let size = length-pairs ks vs paired in omega (arith, size, gap_within (zip ks vs) m h seen k i g)
 
-    -- the value at the place of a key
+    -- the value at the position of a key
     pub value_found : (k i : ℕ) (v : X) → v ≡ get_or vs i v → IsAt (entries m) k i → get m k ≡ Some v
     value_found k i v read a =
         get_seen (zip ks vs) m h seen k ∙ find_at (zip ks vs) k i (k, v) h (at_seen (zip ks vs) m h seen k i a)
         ∙ ap Some (ap (λ e. e.1) (pair_at ks vs i (k, v) paired (key_below k i a)) ∙ sym read)
 
-    -- the key read at a place is at that place
+    -- the key read at a position is at that position
     pub key_stands : (i k : ℕ) → i < length ks → k ≡ get_or ks i k → IsAt (entries m) k i
     key_stands i k lt read =
         let size = length-pairs ks vs paired in
@@ -81,7 +81,7 @@ module _ {X : Type 0} where
     pub pairs_less : (k i : ℕ) → IsAt (entries m) k i → zip (remove ks i) (remove vs i) ≡ where_key nat_cmp (but k) (zip ks vs)
     pairs_less k i a = pairs-removed ks vs i paired (key_below k i a) ∙ entries_removed (zip ks vs) m h seen k i a
 
-    -- the key at a place
+    -- the key at a position
     pub key_here : (i : ℕ) → i < length ks → get_or ks i 0 ≡ get_or ks i (get_or ks i 0)
     key_here i lt = get_or_default ks i 0 (get_or ks i 0) lt
 
@@ -93,6 +93,6 @@ module _ {X : Type 0} where
         let a = at_itself (zip ks vs) m h seen i (k, v) (omega (arith, size, lt)) whole in
         pairs-set ks vs i 0 w paired lt ∙ entries_written (zip ks vs) m h seen k i (k, v) w whole a
 
-    -- a new value at a place is a new value for its key
+    -- a new value at a position is a new value for its key
     pub put_at_key : (i : ℕ) (e : ℕ × X) (w : X) → slice_get (entries m) i ≡ Some e → put_at m i w ≡ map_insert m e.0 w
     put_at_key i e w there = ap (λ o. option_map_or (λ e. map_insert m e.0 w) o m) there

@@ -43,7 +43,7 @@ module _ {X : Type 0} where
       subst (λ p. k < p.0) same (ranked k x.0 Less (sym (less _ (first _ _ b))))
   below_slice_get k (x ∷ es) (suc i) e b h = below_slice_get k es i e (second _ _ b) h
 
-  -- no entry before this place has its key
+  -- no entry before this position has its key
   pub find-take : (es : List (ℕ × X)) (i : ℕ) (e : ℕ × X) → T (is_sorted nat_cmp es) → slice_get es i ≡ Some e → find nat_cmp e.0 (take i es) ≡ None
   find-take [] i e s h = not_there e h
   find-take (x ∷ es) zero e s h = refl
@@ -51,7 +51,7 @@ module _ {X : Type 0} where
       ap (λ o. cond (is_eq o) (Some x.1) (find nat_cmp e.0 (take i es))) (above e.0 x.0 (below_slice_get x.0 es i e (first _ _ s) h)) ∙ find-take es i e (second _ _ s) h
 
   module _ (m : FinMap nat_cmp X) where
-    -- the map of the entries before a place
+    -- the map of the entries before a position
     abbrev pub made : ℕ → FinMap nat_cmp X
     made i = from_entries (take i (entries m))
 
@@ -61,7 +61,7 @@ module _ {X : Type 0} where
         ∙ same_map nat_cmp_total nat_cmp-IsAntisymmetric _ _ (λ q. get-from_entries nat_cmp_total (entries m) q ∙ sym (get-entries m q))
 
     module _ (i : ℕ) where
-      -- there is an entry at every place below the length
+      -- there is an entry at every position below the length
       pub shown_there : (r : Option (ℕ × Bor X)) → option_map shown_entry r ≡ slice_get (entries m) i → i < len m → IsSome r
       shown_there r shows lt = sym (is_some-shown r) ∙ ap is_some shows ∙ is_some-slice_get (entries m) i (subst (λ n. i < n) (len-entries m) lt)
 

@@ -55,7 +55,7 @@ module _ {X : Type 0} where
   length-pairs (k ∷ ks) [] same = absurd (omega (arith, same))
   length-pairs (k ∷ ks) (v ∷ vs) same = ap suc (length-pairs ks vs (omega (arith, same)))
 
-  -- ---- ascending keys, by place
+  -- ---- ascending keys, by position
 
   below_at : (x : ℕ) (es : List (ℕ × X)) (i : ℕ) (d : ℕ × X) → T (below_all nat_cmp x es) → i < length es → x < (get_or es i d).0
   below_at x [] i d h lt = absurd (omega arith)
@@ -151,7 +151,7 @@ module _ {X : Type 0} where
   find_gap (e ∷ es) k zero g = find_above (e ∷ es) k g
   find_gap (e ∷ es) k (suc i) g = ap (λ o. cond (is_eq o) (Some e.1) (find nat_cmp k es)) (above k e.0 (g.smaller_before 0 e (omega arith))) ∙ find_gap es k i (gap_tail e es k i g)
 
-  -- ---- the list after a change at the place that was found
+  -- ---- the list after a change at the position that was found
 
   pub insert-put : (es : List (ℕ × X)) (k i : ℕ) (v : X) → IsGapFor es k i → insert es i (k, v) ≡ put nat_cmp k v es
   insert-put [] k zero v g = refl
@@ -176,7 +176,7 @@ module _ {X : Type 0} where
   remove-where_key (e ∷ es) k (suc i) h a =
       sym (ap (λ o. cond (not (is_eq o)) (e ∷ where_key nat_cmp (but k) es) (where_key nat_cmp (but k) es)) (above k e.0 (head_below e es k i h a)) ∙ ap (λ l. e ∷ l) (sym (remove-where_key es k i (second _ _ h) (is_at_tail e es k i a))))
 
-  -- ---- by place
+  -- ---- by position
 
   pub slice_get-inside : (es : List (ℕ × X)) (i : ℕ) (e : ℕ × X) → i < length es → e ≡ get_or es i e → slice_get es i ≡ Some e
   slice_get-inside [] i e lt read = absurd (omega arith)
@@ -226,8 +226,8 @@ module _ {X : Type 0} where
       gap_seen : IsGapFor (entries m) k i → IsGapFor es k i
       gap_seen = subst (λ l. IsGapFor l k i) entries_seen
 
-      pub place_below : IsAt (entries m) k i → i < length es
-      place_below a = (at_seen a).in_range
+      pub position_below : IsAt (entries m) k i → i < length es
+      position_below a = (at_seen a).in_range
 
       pub gap_within : IsGapFor (entries m) k i → i ≤ length es
       gap_within g = (gap_seen g).in_range
@@ -248,7 +248,7 @@ module _ {X : Type 0} where
       pub entries_removed : IsAt (entries m) k i → remove es i ≡ where_key nat_cmp (but k) es
       entries_removed a = remove-where_key es k i h (at_seen a)
 
-    -- the entry at a place, and the map with a new value there
+    -- the entry at a position, and the map with a new value there
     module _ (i : ℕ) (e : ℕ × X) (within : i < length es) (read : e ≡ get_or es i e) where
       pub at_itself : IsAt (entries m) e.0 i
       at_itself = subst (λ l. IsAt l e.0 i) (sym entries_seen) (record { in_range = within; has_key = λ d. ap (λ e. e.0) (get_or_default es i d e within ∙ sym read) })

@@ -10,9 +10,9 @@ use Rattle.std.specs.Borrow.{Bor}
 abbrev pub shown_entry : {X : Type 0} → ℕ × Bor X → ℕ × X
 shown_entry e = (e.0, e.1.now)
 
--- the map with another value for the key at a place of the ascending order
+-- the map with another value for the key at a position of the ascending order
 abbrev pub put_at : {X : Type 0} → FinMap nat_cmp X → ℕ → X → FinMap nat_cmp X
-put_at m place x = option_map_or (λ e. insert m e.0 x) (slice_get (entries m) place) m
+put_at m position x = option_map_or (λ e. insert m e.0 x) (slice_get (entries m) position) m
 
 -- the invariant of a table with this room, whose vectors have these capacities
 pub record IsTable {X : Type 0} (room : ℕ) (keys : List ℕ) (values : List X) (key_capacity value_capacity : ℕ) : Type 0 where
@@ -26,13 +26,13 @@ pub record IsTable {X : Type 0} (room : ℕ) (keys : List ℕ) (values : List X)
   pub keys_reserved : room ≤ key_capacity
   pub values_reserved : room ≤ value_capacity
 
--- the entry at this place has the key
-pub record IsAt {X : Type 0} (entries : List (ℕ × X)) (key place : ℕ) : Type 0 where
-  pub in_range : place < length entries
-  pub has_key : (e : ℕ × X) → (slice_index_or entries place e).0 ≡ key
+-- the entry at this position has the key
+pub record IsAt {X : Type 0} (entries : List (ℕ × X)) (key position : ℕ) : Type 0 where
+  pub in_range : position < length entries
+  pub has_key : (e : ℕ × X) → (slice_index_or entries position e).0 ≡ key
 
--- the key belongs at this place: the keys before it are smaller, and those from it on are greater
-pub record IsGapFor {X : Type 0} (entries : List (ℕ × X)) (key place : ℕ) : Type 0 where
-  pub in_range : place ≤ length entries
-  pub smaller_before : (i : ℕ) (e : ℕ × X) → i < place → (slice_index_or entries i e).0 < key
-  pub greater_after : (i : ℕ) (e : ℕ × X) → place ≤ i → i < length entries → key < (slice_index_or entries i e).0
+-- the key belongs at this position: the keys before it are smaller, and those from it on are greater
+pub record IsGapFor {X : Type 0} (entries : List (ℕ × X)) (key position : ℕ) : Type 0 where
+  pub in_range : position ≤ length entries
+  pub smaller_before : (i : ℕ) (e : ℕ × X) → i < position → (slice_index_or entries i e).0 < key
+  pub greater_after : (i : ℕ) (e : ℕ × X) → position ≤ i → i < length entries → key < (slice_index_or entries i e).0

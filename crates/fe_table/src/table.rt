@@ -3,7 +3,7 @@ ghost use Rattle.std.specs.Option.{option_map};
 ghost use Rattle.std.specs.FinMap as map;
 ghost use Rattle.std.specs.Borrow.{sem};
 ghost use Rattle.fe_table.specs.Table.{shown_entry, IsAt, IsGapFor};
-ghost use Rattle.fe_table.specs.within.TableLends.{lends_value, lends_place};
+ghost use Rattle.fe_table.specs.within.TableLends.{lends_value, lends_position};
 
 use crate::copied::Copied;
 use std::alloc::{AllocError, Global};
@@ -16,7 +16,7 @@ use std::marker::Model;
 pub struct Table<V, const ROOM: usize> {
     keys: Vec<u64>,
     values: Vec<V>,
-    /// The place a search looks at first. Any number is allowed.
+    /// The position a search looks at first. Any number is allowed.
     hint: usize,
 }
 
@@ -64,17 +64,17 @@ impl<V, const ROOM: usize> Table<V, ROOM> {
         ensures value { option_copied result ≡ map.get self.now key }
     {
         match self.search(key) {
-            Ok(place) => Some(&self.values[place]),
+            Ok(position) => Some(&self.values[position]),
             Err(_) => None,
         }
     }
 
-    /// The key at a place of the ascending order, counted from zero, and its value.
-    pub fn at(&self, place: usize) -> Option<(u64, &V)>
-        ensures entry { option_map shown_entry result ≡ slice_get (map.entries self.now) place }
+    /// The key at a position of the ascending order, counted from zero, and its value.
+    pub fn at(&self, position: usize) -> Option<(u64, &V)>
+        ensures entry { option_map shown_entry result ≡ slice_get (map.entries self.now) position }
     {
-        let value = self.values.get(place)?;
-        Some((self.keys[place], value))
+        let value = self.values.get(position)?;
+        Some((self.keys[position], value))
     }
 
     /// The value at a present key, for writing.
@@ -83,17 +83,17 @@ impl<V, const ROOM: usize> Table<V, ROOM> {
         ensures* writes_back { sem 𝓛 (lends_value V.row ROOM.row self.entry key result) }
         ensures value { map.get self.old key ≡ Some result.now }
     {
-        let place = self.search(key).unwrap();
-        self.at_mut(place)
+        let position = self.search(key).unwrap();
+        self.at_mut(position)
     }
 
-    /// The value at an occupied place of the ascending order, counted from zero, for writing.
-    pub fn at_mut(&mut self, place: usize) -> &mut V
-        requires taken { place < map.len self.old }
-        ensures* writes_back { sem 𝓛 (lends_place V.row ROOM.row self.entry place result) }
-        ensures value { option_map (λ e. e.1) (slice_get (map.entries self.old) place) ≡ Some result.now }
+    /// The value at an occupied position of the ascending order, counted from zero, for writing.
+    pub fn at_mut(&mut self, position: usize) -> &mut V
+        requires taken { position < map.len self.old }
+        ensures* writes_back { sem 𝓛 (lends_position V.row ROOM.row self.entry position result) }
+        ensures value { option_map (λ e. e.1) (slice_get (map.entries self.old) position) ≡ Some result.now }
     {
-        &mut self.values[place]
+        &mut self.values[position]
     }
 
     /// Removes a key and returns its value, or `None` if the key is absent.
@@ -102,27 +102,27 @@ impl<V, const ROOM: usize> Table<V, ROOM> {
         ensures removed { self.new ≡ map.remove self.old key }
     {
         match self.search(key) {
-            Ok(place) => {
-                let _ = self.keys.remove(place);
-                Some(self.values.remove(place))
+            Ok(position) => {
+                let _ = self.keys.remove(position);
+                Some(self.values.remove(position))
             }
             Err(_) => None,
         }
     }
 
-    /// Looks for a key, first at a guessed place, and returns its place, or the guess if the key is absent. Any guess
-    /// is allowed. Later lookups of the key take one comparison each while the key stays at that place.
+    /// Looks for a key, first at a guessed position, and returns its position, or the guess if the key is absent. Any
+    /// guess is allowed. Later lookups of the key take one comparison each while the key stays at that position.
     pub fn aim(&mut self, key: u64, guess: usize) -> usize
         ensures { self.new ≡ self.old }
     {
         self.hint = guess;
-        if let Ok(place) = self.search(key) {
-            self.hint = place;
+        if let Ok(position) = self.search(key) {
+            self.hint = position;
         }
         self.hint
     }
 
-    // The place of the key, or the place where it belongs.
+    // The position of the key, or the position where it belongs.
     fn search(&self, key: u64) -> Result<usize, usize>
         ensures found { IfOk result (IsAt (map.entries self.now) key) }
         ensures absent { IfErr result (IsGapFor (map.entries self.now) key) }
@@ -141,17 +141,17 @@ impl<V: Drop, const ROOM: usize> Table<V, ROOM> {
         requires room { map.len self.old < ROOM }
         ensures inserted { self.new ≡ map.insert self.old key value }
     {
-        let place = self.search(key).unwrap_err();
-        self.keys.insert(place, key).unwrap();
-        self.values.insert(place, value).unwrap();
+        let position = self.search(key).unwrap_err();
+        self.keys.insert(position, key).unwrap();
+        self.values.insert(position, value).unwrap();
     }
 }
 
 impl<V: Copied + Drop, const ROOM: usize> Copied for Table<V, ROOM> {
     fn copied(&self, alloc: Global) -> Result<Self, AllocError> {
         let mut copy = Table::new(alloc)?;
-        for place in 0..self.len() {
-            let (key, value) = self.at(place).unwrap();
+        for position in 0..self.len() {
+            let (key, value) = self.at(position).unwrap();
             copy.insert(key, value.copied(alloc)?);
         }
         Ok(copy)

@@ -20,7 +20,7 @@ use Rattle.fe_waits.proofs.ListedLemmas.{contains-first, listed-replaced}
 use Rattle.fe_waits.proofs.MemberLemmas.{none_some, some_same, members-node, members-row, members-empty, of_slot-none}
 use Rattle.fe_waits.proofs.WordLemmas.{slice_get-below, slice_get-some, slice_get-replicate, chain-there, chain_of, chain-word, len-lengths, len-added, len-dropped, get-insert_here, get-insert_other, get-remove_here, get-remove_other}
 
--- ---- sums over places
+-- ---- sums over positions
 
 pub sum-set : (xs : List Chain) (i : ℕ) (old new : Chain) → slice_get xs i ≡ Some old → sum_by length_of (set xs i new) + old.length ≡ sum_by length_of xs + new.length
 sum-set [] i old new e = none_some e

@@ -4,6 +4,7 @@ pub mod KeptLemmas
 pub mod ListedLemmas
 pub mod MemberLemmas
 pub mod RoomLemmas
+pub mod WalkLemmas
 pub mod SearchLemmas
 pub mod WordLemmas
 pub mod ToldLemmas

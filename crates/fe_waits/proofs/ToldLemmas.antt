@@ -1,4 +1,4 @@
--- The walk along a session's list that collects all its requests.
+-- The collection of all requests along a session's list.
 use Rattle.std.proofs.Common.{◌≡◌, ◌⊎◌, ℕ, ◌<◌, ◌≤◌, ◌+◌, inl, inr, List, [], ◌∷◌, ◌++◌, length, slice_get, slice_index_or, zero, suc, Option, Some, None, IsSome, is_some, refl, sym, ap, subst, ◌∙◌, arith, append_assoc, append-nil, length-append}
 use Rattle.std.specs.Prelude.{Contains, AllPairs, ◌↔◌, ◌≢◌}
 use Rattle.std.proofs.Common.{get_or}
@@ -12,13 +12,13 @@ use Rattle.fe_words.specs.declared.op.Op.{Op}
 use Rattle.fe_pool.specs.declared.chain.Chain.{Chain}
 use Rattle.fe_pool.specs.declared.family.Family.TheVariants.{OfSession}
 use Rattle.fe_pool.specs.Pool.{Contents, first_or, list_of, IsOn, IsNext}
-use Rattle.fe_pool.specs.within.Runs.{IsAmong}
+use Rattle.fe_pool.specs.within.Runs.{IsNodeAmong}
 use Rattle.fe_pool.proofs.AmongLemmas.{among-append_left, among-append_right, among-append_cases, Contains-among, among-Contains}
 use Rattle.fe_waits.specs.declared.row.Row.{Row}
-use Rattle.fe_waits.specs.Waiting.{Waiter, key_of, waiter_of, told_of, AreTold, AreToldOnce}
+use Rattle.fe_waits.specs.Waiting.{Waiter, key_of, waiter_of, told_of, AreWaitersOf, AreListedOnce}
 use Rattle.fe_waits.specs.within.Inner.{members_of, row_in, IsKept}
 use Rattle.fe_waits.proofs.MemberLemmas.{none_some, some_same, members-node, members-row}
-use Rattle.fe_waits.proofs.SearchLemmas.{first-of, none-left}
+use Rattle.fe_waits.proofs.WalkLemmas.{IsWalk, walk-begun, walk-all, walk-has, walk-split, walk-row, walk-next}
 
 -- the entry of a request, by its number
 abbrev pub told_row : Row → ℕ × (ℕ × ℕ × Op)
@@ -31,22 +31,14 @@ pub record Told (pool : Contents Row) (slot : ℕ) (before : List ℕ) (x : ℕ 
   pub is : row_in pool.items node ≡ Some row
   pub of_slot : row.slot ≡ slot
   pub tells : told_row row ≡ x
-  pub among : IsAmong node before
+  pub among : IsNodeAmong node before
 
--- this many nodes of the slot's list have been visited, the entries are exactly those of the visited nodes, and this
--- is the next node
+-- the entries are exactly those of the visited nodes
 pub record IsTelling (pool : Contents Row) (sessions : List Chain) (slot : ℕ) (at : Option ℕ) (steps end : ℕ) (told : List (ℕ × (ℕ × ℕ × Op))) : Type 0 where
-  pub chain : Chain
-  pub is_chain : slice_get sessions slot ≡ Some chain
-  pub whole : end ≡ length (list_of pool OfSession chain)
-  pub before : List ℕ
-  pub rest : List ℕ
-  pub split : list_of pool OfSession chain ≡ before ++ rest
-  pub next : at ≡ first_or None rest
-  pub counted : length before ≡ steps
-  pub seen : (node : ℕ) (row : Row) → IsAmong node before → row_in pool.items node ≡ Some row → Contains told (told_row row)
-  pub sound : (x : ℕ × (ℕ × ℕ × Op)) → Contains told x → Told pool slot before x
-  pub once : AreToldOnce told
+  pub walk : IsWalk pool sessions slot at steps end
+  pub seen : (node : ℕ) (row : Row) → IsNodeAmong node walk.before → row_in pool.items node ≡ Some row → Contains told (told_row row)
+  pub sound : (x : ℕ × (ℕ × ℕ × Op)) → Contains told x → Told pool slot walk.before x
+  pub once : AreListedOnce told
 
 nothing : {X P : Type 0} (x : X) → Contains [] x → P
 nothing x c = let below : c.0 < 0 = c.1 in absurd (omega (arith, below))
@@ -65,7 +57,7 @@ element : {X : Type 0} (xs : List X) (k : ℕ) (d : X) → k < length xs → Con
 element xs k d below = (k, below, grind (arith, common_steps))
 
 -- a list of different nodes has no node twice
-twice : (node : ℕ) (before after : List ℕ) → AllPairs (λ a b. a ≢ b) (before ++ node ∷ after) → IsAmong node before → ⊥
+twice : (node : ℕ) (before after : List ℕ) → AllPairs (λ a b. a ≢ b) (before ++ node ∷ after) → IsNodeAmong node before → ⊥
 twice node before after different among =
     let at = Contains-among node before among in
     let less : at.0 < length before = at.1 in
@@ -77,42 +69,28 @@ twice node before after different among =
 module _ (pool : Contents Row) (sessions : List Chain) (words : FinMap nat_cmp (List Chain)) (waiting : ℕ) (kept : IsKept pool sessions words waiting) (slot : ℕ) where
   pub telling-none_yet : (chain : Chain) → slice_get sessions slot ≡ Some chain → IsTelling pool sessions slot chain.first 0 chain.length []
   telling-none_yet chain at = record {
-    chain = chain;
-    is_chain = at;
-    whole = (kept.by_session.chains slot chain at).counted;
-    before = [];
-    rest = list_of pool OfSession chain;
-    split = refl;
-    next = (kept.by_session.chains slot chain at).first;
-    counted = refl;
+    walk = walk-begun pool sessions words waiting kept slot chain at;
     seen = λ node row i. absurd i;
     sound = λ x c. nothing x c;
     once = λ i j d less below. absurd (omega (arith, below));
   }
 
-  module _ (at : Option ℕ) (steps end : ℕ) (told : List (ℕ × (ℕ × ℕ × Op))) (walk : IsTelling pool sessions slot at steps end told) where
+  module _ (at : Option ℕ) (steps end : ℕ) (told : List (ℕ × (ℕ × ℕ × Op))) (telling : IsTelling pool sessions slot at steps end told) where
     -- if some are left, there is a next node
     pub telling-more : steps < end → IsSome at
-    telling-more less = by_rest walk.rest walk.next (ap length walk.split ∙ length-append walk.before walk.rest)
+    telling-more less = by_rest telling.walk.rest telling.walk.next (ap length telling.walk.split ∙ length-append telling.walk.before telling.walk.rest)
       where
-        by_rest : (rest : List ℕ) → at ≡ first_or None rest → length (list_of pool OfSession walk.chain) ≡ length walk.before + length rest → IsSome at
-        by_rest [] n e = absurd (omega (arith, walk.whole, walk.counted, e, less))
+        by_rest : (rest : List ℕ) → at ≡ first_or None rest → length (list_of pool OfSession telling.walk.chain) ≡ length telling.walk.before + length rest → IsSome at
+        by_rest [] n e = absurd (omega (arith, telling.walk.whole, telling.walk.counted, e, less))
         by_rest (x ∷ rest) n e = ap is_some n
 
-    done : end ≤ steps → list_of pool OfSession walk.chain ≡ walk.before
-    done past = walk.split ∙ ap (λ l. walk.before ++ l) (by_rest walk.rest (ap length walk.split ∙ length-append walk.before walk.rest)) ∙ append-nil walk.before
-      where
-        by_rest : (rest : List ℕ) → length (list_of pool OfSession walk.chain) ≡ length walk.before + length rest → rest ≡ []
-        by_rest [] e = refl
-        by_rest (x ∷ rest) e = absurd (omega (arith, walk.whole, walk.counted))
-
     -- at the end all are collected
-    pub telling-all : end ≤ steps → AreTold (members_of pool.items) slot told
+    pub telling-all : end ≤ steps → AreWaitersOf (members_of pool.items) slot told
     telling-all past = λ number what. (told_waits number what, λ e. waits_told number what (get (members_of pool.items) (slot, number)) refl e)
       where
         told_waits : (number : ℕ) (what : ℕ × ℕ × Op) → Contains told (number, what) → option_map told_of (get (members_of pool.items) (slot, number)) ≡ Some what
         told_waits number what c =
-            let found = walk.sound (number, what) c in
+            let found = telling.sound (number, what) c in
             let row = found.row in
             let key : key_of row ≡ (slot, number) = λ i. (found.of_slot i, (found.tells i).0) in
             ap (λ k. option_map told_of (get (members_of pool.items) k)) (sym key)
@@ -124,55 +102,34 @@ module _ (pool : Contents Row) (sessions : List Chain) (words : FinMap nat_cmp (
         waits_told number what (Some waiter) e is =
             let found = members-node pool.items (slot, number) waiter e in
             let row = found.1 in
-            let on = kept.by_session.listed found.0 row found.2 in
-            let same : on.0 ≡ walk.chain = some_same (sym on.1 ∙ ap (slice_get sessions) (ap (λ p. p.0) found.3) ∙ walk.is_chain) in
-            let among = among-Contains found.0 _ (subst (λ c. Contains (list_of pool OfSession c) found.0) same on.2) in
+            let among = walk-has pool sessions words waiting kept slot at steps end telling.walk found.0 row found.2 (ap (λ p. p.0) found.3) in
             let what_is : told_of waiter ≡ what = some_same (sym (ap (option_map told_of) e) ∙ is) in
             let told_is : told_row row ≡ (number, what) = λ i. ((found.3 i).1, (ap told_of found.4 ∙ what_is) i) in
-            subst (Contains told) told_is (walk.seen found.0 row (subst (IsAmong found.0) (done past) among) found.2)
+            subst (Contains told) told_is (telling.seen found.0 row (subst (IsNodeAmong found.0) (walk-all pool sessions words waiting kept slot at steps end telling.walk past) among) found.2)
 
     -- the current node
     module _ (node : ℕ) (here : at ≡ Some node) where
-      after : (after : List ℕ) × (walk.rest ≡ node ∷ after)
-      after = first-of walk.rest node (sym walk.next ∙ here)
-
-      split : list_of pool OfSession walk.chain ≡ walk.before ++ node ∷ after.0
-      split = walk.split ∙ ap (λ l. walk.before ++ l) after.1
-
-      contains : Contains (list_of pool OfSession walk.chain) node
-      contains = Contains-among node _ (subst (IsAmong node) (sym split) (among-append_right node walk.before (node ∷ after.0) (inl refl)))
-
-      pub telling-on : IsOn pool OfSession node
-      telling-on = (walk.chain.first, contains)
-
-      pub telling-row : (row : Row) × (row_in pool.items node ≡ Some row) × (row.slot ≡ slot)
-      telling-row = kept.by_session.belongs slot walk.chain node walk.is_chain contains
+      row_here : (row : Row) × (row_in pool.items node ≡ Some row) × (row.slot ≡ slot)
+      row_here = walk-row pool sessions words waiting kept slot at steps end telling.walk node here
 
       -- its number is not collected yet, since no node is on the list twice
-      new_number : AllPairs (λ a b. a ≢ b) (list_of pool OfSession walk.chain) → (row : Row) → row_in pool.items node ≡ Some row → (x : ℕ × (ℕ × ℕ × Op)) → Contains told x → x.0 ≢ row.number
+      new_number : AllPairs (λ a b. a ≢ b) (list_of pool OfSession telling.walk.chain) → (row : Row) → row_in pool.items node ≡ Some row → (x : ℕ × (ℕ × ℕ × Op)) → Contains told x → x.0 ≢ row.number
       new_number different row is x c same =
-          let found = walk.sound x c in
-          let here = telling-row in
-          let rows : here.0 ≡ row = some_same (sym here.1 ∙ is) in
-          let slots : found.row.slot ≡ row.slot = found.of_slot ∙ sym here.2 ∙ ap (λ (r : Row). r.slot) rows in
+          let found = telling.sound x c in
+          let its = row_here in
+          let rows : its.0 ≡ row = some_same (sym its.1 ∙ is) in
+          let slots : found.row.slot ≡ row.slot = found.of_slot ∙ sym its.2 ∙ ap (λ (r : Row). r.slot) rows in
           let numbers : found.row.number ≡ row.number = ap (λ t. t.0) found.tells ∙ same in
           let key : key_of found.row ≡ key_of row = λ i. (slots i, numbers i) in
           let nodes : found.node ≡ node = kept.different found.node node found.row row found.is is key in
-          twice node walk.before after.0 (subst (AllPairs (λ a b. a ≢ b)) split different) (subst (λ n. IsAmong n walk.before) nodes found.among)
+          twice node telling.walk.before _ (subst (AllPairs (λ a b. a ≢ b)) (walk-split pool sessions words waiting kept slot at steps end telling.walk node here) different) (subst (λ n. IsNodeAmong n telling.walk.before) nodes found.among)
 
       -- it is collected
-      pub telling-next : AllPairs (λ a b. a ≢ b) (list_of pool OfSession walk.chain) → (row : Row) (next : Option ℕ) → row_in pool.items node ≡ Some row → IsNext pool OfSession node next → IsTelling pool sessions slot next (steps + 1) end (told ++ told_row row ∷ [])
+      pub telling-next : AllPairs (λ a b. a ≢ b) (list_of pool OfSession telling.walk.chain) → (row : Row) (next : Option ℕ) → row_in pool.items node ≡ Some row → IsNext pool OfSession node next → IsTelling pool sessions slot next (steps + 1) end (told ++ told_row row ∷ [])
       telling-next different row next is goes = record {
-        chain = walk.chain;
-        is_chain = walk.is_chain;
-        whole = walk.whole;
-        before = walk.before ++ node ∷ [];
-        rest = after.0;
-        split = split ∙ sym (append_assoc walk.before (node ∷ []) after.0);
-        next = goes walk.chain.first walk.before after.0 split;
-        counted = length-append walk.before (node ∷ []) ∙ ap (λ n. n + 1) walk.counted;
-        seen = λ n r i e. elim (among-append_cases n walk.before (node ∷ []) i) as (λ _. Contains (told ++ told_row row ∷ []) (told_row r)) [
-          | inl old ↦ Contains-append_left told (told_row row ∷ []) (told_row r) (walk.seen n r old e)
+        walk = walk-next pool sessions words waiting kept slot at steps end telling.walk node here next goes;
+        seen = λ n r i e. elim (among-append_cases n telling.walk.before (node ∷ []) i) as (λ _. Contains (told ++ told_row row ∷ []) (told_row r)) [
+          | inl old ↦ Contains-append_left told (told_row row ∷ []) (told_row r) (telling.seen n r old e)
           | inr last ↦ elim last as (λ _. Contains (told ++ told_row row ∷ []) (told_row r)) [
             | inl same ↦
                 let rows : row ≡ r = some_same (sym is ∙ ap (row_in pool.items) (sym same) ∙ e) in
@@ -180,19 +137,19 @@ module _ (pool : Contents Row) (sessions : List Chain) (words : FinMap nat_cmp (
             | inr none ↦ absurd none
           ]
         ];
-        sound = λ x c. elim (Contains-append_cases told (told_row row ∷ []) x c) as (λ _. Told pool slot (walk.before ++ node ∷ []) x) [
+        sound = λ x c. elim (Contains-append_cases told (told_row row ∷ []) x c) as (λ _. Told pool slot (telling.walk.before ++ node ∷ []) x) [
           | inl old ↦
-              let found = walk.sound x old in
+              let found = telling.sound x old in
               record {
                 node = found.node;
                 row = found.row;
                 is = found.is;
                 of_slot = found.of_slot;
                 tells = found.tells;
-                among = among-append_left found.node walk.before (node ∷ []) found.among;
+                among = among-append_left found.node telling.walk.before (node ∷ []) found.among;
               }
           | inr last ↦
-              let found = telling-row in
+              let found = row_here in
               let rows : found.0 ≡ row = some_same (sym found.1 ∙ is) in
               record {
                 node = node;
@@ -200,8 +157,8 @@ module _ (pool : Contents Row) (sessions : List Chain) (words : FinMap nat_cmp (
                 is = is;
                 of_slot = ap (λ (r : Row). r.slot) (sym rows) ∙ found.2;
                 tells = only _ _ last;
-                among = among-append_right node walk.before (node ∷ []) (inl refl);
+                among = among-append_right node telling.walk.before (node ∷ []) (inl refl);
               }
         ];
-        once = all_pairs_push (λ a b. a.0 ≢ b.0) told (told_row row) walk.once (λ k d below. new_number different row is (get_or told k d) (element told k d below));
+        once = all_pairs_push (λ a b. a.0 ≢ b.0) told (told_row row) telling.once (λ k d below. new_number different row is (get_or told k d) (element told k d below));
       }

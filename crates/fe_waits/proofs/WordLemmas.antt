@@ -13,7 +13,7 @@ use Rattle.fe_pool.specs.declared.chain.Chain.{Chain}
 use Rattle.fe_waits.specs.Waiting.{IsWord}
 use Rattle.fe_waits.specs.within.Words.{chain_at, with_chain, lengths}
 
--- ---- places of a list
+-- ---- positions of a list
 
 pub slice_get-below : {A : Type 0} (xs : List A) (i : ℕ) → IsSome (slice_get xs i) → i < length xs
 slice_get-below [] i some = absurd (true≢false (sym some))

@@ -69,13 +69,13 @@ abbrev pub told_of : Waiter → ℕ × ℕ × Op
 told_of waiter = (waiter.array, waiter.index, waiter.op)
 
 -- the list has all waiting requests of a slot, by number, and no others
-abbrev pub AreTold : FinMap pair_cmp Waiter → ℕ → List (ℕ × (ℕ × ℕ × Op)) → Type 0
-AreTold members slot told =
+abbrev pub AreWaitersOf : FinMap pair_cmp Waiter → ℕ → List (ℕ × (ℕ × ℕ × Op)) → Type 0
+AreWaitersOf members slot told =
     (number : ℕ) (what : ℕ × ℕ × Op) → Contains told (number, what) ↔ (option_map told_of (get members (slot, number)) ≡ Some what)
 
 -- no number is listed twice
-abbrev pub AreToldOnce : List (ℕ × (ℕ × ℕ × Op)) → Type 0
-AreToldOnce told = AllPairs (λ a b. a.0 ≢ b.0) told
+abbrev pub AreListedOnce : List (ℕ × (ℕ × ℕ × Op)) → Type 0
+AreListedOnce told = AllPairs (λ a b. a.0 ≢ b.0) told
 
 -- the array is added, and the index is below its length
 abbrev pub IsWord : FinMap nat_cmp ℕ → ℕ → ℕ → Type 0

@@ -5,7 +5,7 @@ use fe_pool::Chain;
 use std::alloc::{AllocError, Global};
 use std::marker::Model;
 
-/// A fixed number of chains of a pool, one at each place.
+/// A fixed number of chains of a pool, one at each position.
 #[derive(Drop)]
 pub(crate) struct Chains {
     chains: Vec<Chain>,
@@ -30,17 +30,17 @@ impl Chains {
         })
     }
 
-    pub(crate) fn at(&self, place: usize) -> Chain
-        requires { place < length self.now }
-        ensures { slice_get self.now place ≡ Some result }
+    pub(crate) fn at(&self, position: usize) -> Chain
+        requires { position < length self.now }
+        ensures { slice_get self.now position ≡ Some result }
     {
-        self.chains[place]
+        self.chains[position]
     }
 
-    pub(crate) fn set(&mut self, place: usize, chain: Chain)
-        requires { place < length self.old }
-        ensures { self.new ≡ slice_set self.old place chain }
+    pub(crate) fn set(&mut self, position: usize, chain: Chain)
+        requires { position < length self.old }
+        ensures { self.new ≡ slice_set self.old position chain }
     {
-        self.chains[place] = chain;
+        self.chains[position] = chain;
     }
 }

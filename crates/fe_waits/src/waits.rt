@@ -1,6 +1,6 @@
 ghost use Rattle.std.specs.Prelude.{◌≡◌, ◌≢◌, ◌↔◌, ◌<◌, Some, None, IfOk, OnErr, IfSome, IsSome, IsNone, IfNone};
 ghost use Rattle.std.specs.FinMap as map;
-ghost use Rattle.fe_waits.specs.Waiting.{key_of, waiter_of, row_of, row_at, of_slot, count_of, without_slot, IsWord, IsNodeOn, NoneOnWord, NoneOnArray, AreTold, AreToldOnce, IsWithinLimits};
+ghost use Rattle.fe_waits.specs.Waiting.{key_of, waiter_of, row_of, row_at, of_slot, count_of, without_slot, IsWord, IsNodeOn, NoneOnWord, NoneOnArray, AreWaitersOf, AreListedOnce, IsWithinLimits};
 ghost use Rattle.fe_waits.specs.within.Inner.{IsNodeOfSlot};
 
 use crate::chains::Chains;
@@ -177,8 +177,8 @@ impl Waits {
     /// index of its word, and its operation. Walks along the list of the slot once. Fails only if memory runs out.
     pub fn told(&self, alloc: Global, slot: u8) -> Result<Vec<(u64, (u64, u32, Op))>, AllocError>
         requires slot { slot < 64 }
-        ensures told { IfOk result (λ told. AreTold self.now.members slot told.items) }
-        ensures once { IfOk result (λ told. AreToldOnce told.items) }
+        ensures told { IfOk result (λ told. AreWaitersOf self.now.members slot told.items) }
+        ensures once { IfOk result (λ told. AreListedOnce told.items) }
     {
         let _ = self.pool.capacity();
         let chain = self.sessions.at(slot as usize);

@@ -4,8 +4,8 @@ use Rattle.std.specs.Prelude.{Result, Ok, Err, OnErr}
 use Rattle.std.specs.List.{flat_map, AllByRecursion}
 use Rattle.std.proofs.lemmas.List.{append-nil, length-append, take-append-drop, nil_from_length}
 use Rattle.fe_wire.specs.declared.client_message.ClientMessage.{ClientMessage}
-use Rattle.fe_wire.specs.declared.place.Place.{Place}
-use Rattle.fe_wire.specs.Place.{IsPlace, GoesOn, decoding, held_of}
+use Rattle.fe_wire.specs.declared.decoder_state.DecoderState.{DecoderState}
+use Rattle.fe_wire.specs.DecoderState.{IsDecoderState, Consumes, decoding, held_of}
 use Rattle.fe_wire.specs.declared.version.Version.{Version}
 use Rattle.fe_wire.specs.Spelling.{spelling, FitsIn}
 use Rattle.fe_wire.specs.Stream.{Decoding, HasReadFrom, IsUnfinished, IsBad, CompletesMessage}
@@ -16,7 +16,7 @@ same_decoding : (d : Decoding) (version : Version) (offset : ℕ) (held : List �
 same_decoding d version offset held is_bad p q r s = λ i. record { version = (sym p) i; offset = (sym q) i; held = (sym r) i; is_bad = (sym s) i }
 
 -- the three outcomes, wherever the frame was read: it is unfinished, it turns out bad, or it is whole
-pub goes_unfinished : (old new : Place) (more held : List ℕ) → old.is_bad ≡ false → new.version ≡ old.version → new.offset ≡ old.offset → held_of new ≡ held → new.is_bad ≡ false → held ≡ held_of old ++ more → IsUnfinished old.version held → GoesOn old new more []
+pub goes_unfinished : (old new : DecoderState) (more held : List ℕ) → old.is_bad ≡ false → new.version ≡ old.version → new.offset ≡ old.offset → held_of new ≡ held → new.is_bad ≡ false → held ≡ held_of old ++ more → IsUnfinished old.version held → Consumes old new more []
 goes_unfinished old new more held good version offset held_is good_new parts unfinished = record {
   version = version;
   reads = λ from before earlier h.
@@ -25,7 +25,7 @@ goes_unfinished old new more held good version offset held_is good_new parts unf
       (reads_on from (decoding old) before more held earlier good parts unfinished h);
 }
 
-pub goes_bad : (old new : Place) (more held : List ℕ) → old.is_bad ≡ false → new.version ≡ old.version → new.offset ≡ old.offset → held_of new ≡ [] → new.is_bad ≡ true → held ≡ held_of old ++ more → IsBad old.version held → GoesOn old new more []
+pub goes_bad : (old new : DecoderState) (more held : List ℕ) → old.is_bad ≡ false → new.version ≡ old.version → new.offset ≡ old.offset → held_of new ≡ [] → new.is_bad ≡ true → held ≡ held_of old ++ more → IsBad old.version held → Consumes old new more []
 goes_bad old new more held good version offset held_is bad_new parts bad = record {
   version = version;
   reads = λ from before earlier h.
@@ -34,7 +34,7 @@ goes_bad old new more held good version offset held_is bad_new parts bad = recor
       (reads_bad from (decoding old) before more held earlier good parts bad h);
 }
 
-pub goes_whole : (old new : Place) (more held : List ℕ) (m : ClientMessage) → old.is_bad ≡ false → new.version ≡ old.version → new.offset ≡ min (old.offset + length held) (2 ^ 64 - 1) → held_of new ≡ [] → new.is_bad ≡ false → held ≡ held_of old ++ more → FitsIn old.version m → held ≡ spelling m → GoesOn old new more (m ∷ [])
+pub goes_whole : (old new : DecoderState) (more held : List ℕ) (m : ClientMessage) → old.is_bad ≡ false → new.version ≡ old.version → new.offset ≡ min (old.offset + length held) (2 ^ 64 - 1) → held_of new ≡ [] → new.is_bad ≡ false → held ≡ held_of old ++ more → FitsIn old.version m → held ≡ spelling m → Consumes old new more (m ∷ [])
 goes_whole old new more held m good version offset held_is good_new parts fits spelled = record {
   version = version;
   reads = λ from before earlier h.
@@ -43,13 +43,13 @@ goes_whole old new more held m good version offset held_is good_new parts fits s
       (reads_message from (decoding old) before more held earlier m new.offset good offset parts fits spelled h);
 }
 
-pub record IsReadTo (start place : Place) (piece rest : List ℕ) (messages : List ClientMessage) : Type 0 where
-  pub sound : IsPlace place
+pub record IsReadTo (start state : DecoderState) (piece rest : List ℕ) (messages : List ClientMessage) : Type 0 where
+  pub sound : IsDecoderState state
   pub done : List ℕ
   pub parts : piece ≡ done ++ rest
-  pub reads : GoesOn start place done messages
+  pub reads : Consumes start state done messages
 
-pub begins : (start : Place) (piece : List ℕ) → IsPlace start → IsReadTo start start piece piece []
+pub begins : (start : DecoderState) (piece : List ℕ) → IsDecoderState start → IsReadTo start start piece piece []
 begins start piece sound = record {
   sound = sound;
   done = [];
@@ -57,8 +57,8 @@ begins start piece sound = record {
   reads = record { version = refl; reads = λ from before earlier h. rw (append-nil before, append-nil earlier) h };
 }
 
-pub goes_on : (start place new : Place) (piece rest next : List ℕ) (messages more items : List ClientMessage) (n : ℕ) → IsReadTo start place piece rest messages → IsPlace new → GoesOn place new (take n rest) more → next ≡ drop n rest → items ≡ messages ++ more → IsReadTo start new piece next items
-goes_on start place new piece rest next messages more items n h sound step left all = record {
+pub goes_on : (start state new : DecoderState) (piece rest next : List ℕ) (messages more items : List ClientMessage) (n : ℕ) → IsReadTo start state piece rest messages → IsDecoderState new → Consumes state new (take n rest) more → next ≡ drop n rest → items ≡ messages ++ more → IsReadTo start new piece next items
+goes_on start state new piece rest next messages more items n h sound step left all = record {
   sound = sound;
   done = h.done ++ take n rest;
   parts = h.parts ∙ ap (λ (t : List ℕ). h.done ++ t) (sym (take-append-drop n rest)) ∙ sym (append_assoc h.done (take n rest) (drop n rest)) ∙ ap (λ (t : List ℕ). h.done ++ take n rest ++ t) (sym left);
@@ -74,8 +74,8 @@ on_err (Ok x) p = tt
 on_err (Err e) p = p
 
 -- a message after what was read is one more than before the piece
-pub completes : (start place new : Place) (piece rest : List ℕ) (messages : List ClientMessage) (m : ClientMessage) (n : ℕ) → IsReadTo start place piece rest messages → GoesOn place new (take n rest) (m ∷ []) → CompletesMessage (decoding start) piece
-completes start place new piece rest messages m n h step =
+pub completes : (start state new : DecoderState) (piece rest : List ℕ) (messages : List ClientMessage) (m : ClientMessage) (n : ℕ) → IsReadTo start state piece rest messages → Consumes state new (take n rest) (m ∷ []) → CompletesMessage (decoding start) piece
+completes start state new piece rest messages m n h step =
     λ from before earlier all end old stream.
     let to = step.reads from (before ++ h.done) (earlier ++ messages) (h.reads.reads from before earlier old) in
     let version : new.version ≡ start.version = step.version ∙ h.reads.version in
@@ -89,14 +89,14 @@ completes start place new piece rest messages m n h step =
     let within = begins_within start.version (before ++ piece) all known end (to.rest ++ drop n rest) stream.parts stream.each stream.end parts (subst (λ (v : Version). AllByRecursion (FitsIn v) known) version to.is_stream.each) in
     omega (arith, within, length-append (earlier ++ messages) (m ∷ []), length-append earlier messages)
 
-pub ends : (start place : Place) (piece rest : List ℕ) (messages : List ClientMessage) → IsReadTo start place piece rest messages → length rest ≡ 0 → GoesOn start place piece messages
-ends start place piece rest messages h empty =
+pub ends : (start state : DecoderState) (piece rest : List ℕ) (messages : List ClientMessage) → IsReadTo start state piece rest messages → length rest ≡ 0 → Consumes start state piece messages
+ends start state piece rest messages h empty =
     let whole : piece ≡ h.done = h.parts ∙ ap (λ (t : List ℕ). h.done ++ t) (nil_from_length rest empty) ∙ append-nil h.done in
     record { version = h.reads.version; reads = λ from before earlier old. rw whole (h.reads.reads from before earlier old) }
 
-pub ends_bad : (start place : Place) (piece rest : List ℕ) (messages : List ClientMessage) → IsReadTo start place piece rest messages → place.is_bad ≡ true → GoesOn start place piece messages
-ends_bad start place piece rest messages h bad =
+pub ends_bad : (start state : DecoderState) (piece rest : List ℕ) (messages : List ClientMessage) → IsReadTo start state piece rest messages → state.is_bad ≡ true → Consumes start state piece messages
+ends_bad start state piece rest messages h bad =
     record {
       version = h.reads.version;
-      reads = λ from before earlier old. rw (h.parts, ← append_assoc before h.done rest) (reads_past from (decoding place) (before ++ h.done) rest (earlier ++ messages) bad (h.reads.reads from before earlier old));
+      reads = λ from before earlier old. rw (h.parts, ← append_assoc before h.done rest) (reads_past from (decoding state) (before ++ h.done) rest (earlier ++ messages) bad (h.reads.reads from before earlier old));
     }

@@ -10,7 +10,7 @@ use Rattle.fe_wire.specs.declared.version.Version.TheVariants.{One, Two}
 use Rattle.fe_wire.specs.Spelling.{spelling, FitsIn}
 use Rattle.fe_wire.specs.Stream.{Decoding, HasReadFrom, IsStream, StandsAt, longest, length_field, front_frame, IsWhole, IsBad, IsUnfinished}
 use Rattle.fe_wire.specs.Laws.{HasOneReading, HasOneOutcome}
-use Rattle.fe_wire.specs.Place.{wanted_of}
+use Rattle.fe_wire.specs.DecoderState.{wanted_of}
 use Rattle.fe_wire.proofs.FrameLaws.{one_front, front_not_bad, front_not_unfinished, bad_more, length_field-append}
 
 -- bytes that begin with a message's frame are not a rest

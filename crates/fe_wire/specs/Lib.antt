@@ -1,5 +1,5 @@
 pub mod Spelling
 pub mod Stream
 pub mod Reading
-pub mod Place
+pub mod DecoderState
 pub mod Laws

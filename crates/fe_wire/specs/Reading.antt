@@ -12,7 +12,7 @@ use Rattle.fe_wire.specs.declared.client_message.ClientMessage.TheVariants.{Atta
 use Rattle.fe_wire.specs.declared.server_message.ServerMessage.{ServerMessage}
 use Rattle.fe_wire.specs.declared.server_message.ServerMessage.TheVariants as server
 use Rattle.fe_wire.specs.Spelling.{name_room}
-pub use Rattle.fe_fields.specs.Fields.{Gives, next_number, next_byte, next_bytes}
+pub use Rattle.fe_fields.specs.Fields.{ReadsAs, next_number, next_byte, next_bytes}
 
 -- each byte is zero
 abbrev pub are_zero : List ℕ → Bool

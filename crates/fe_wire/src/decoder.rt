@@ -1,11 +1,11 @@
 ghost use Rattle.std.specs.Prelude.{◌≡◌, ◌≤◌, ◌++◌, ℕ, List, [], true, length, IfOk, OnOk, OnErr, IsOkAnd};
-ghost use Rattle.fe_wire.specs.Place.{IsPlace, GoesOn, decoding};
+ghost use Rattle.fe_wire.specs.DecoderState.{IsDecoderState, Consumes, decoding};
 ghost use Rattle.fe_wire.specs.Stream.{HasRead, HasReadFrom, CompletesMessage, fault_of};
 ghost use Rattle.fe_wire.specs.declared.client_message.ClientMessage.{ClientMessage as Message};
 
 use crate::client_message::ClientMessage;
+use crate::decoder_state::{DecoderState, FRAME_BYTES};
 use crate::fed::Fed;
-use crate::place::{FRAME_BYTES, Place};
 use crate::version::Version;
 use fe_state::{Request, named};
 use std::alloc::{AllocError, Global};
@@ -15,18 +15,18 @@ use std::marker::Model;
 /// of one unfinished frame (`docs/formats.md`, "Frames").
 #[derive(Drop)]
 pub struct Decoder {
-    place: Place,
+    state: DecoderState,
 }
 
 impl Model for Decoder {
     ghost use Rattle.fe_wire.specs.Stream.{Decoding};
-    ghost use Rattle.fe_wire.specs.Place.{decoding, IsPlace};
+    ghost use Rattle.fe_wire.specs.DecoderState.{decoding, IsDecoderState};
 
     ghost Value = { Decoding };
 
-    ghost view = { λ d. decoding d.place };
+    ghost view = { λ d. decoding d.state };
 
-    ghost invariant = { λ d. IsPlace d.place };
+    ghost invariant = { λ d. IsDecoderState d.state };
 }
 
 impl Decoder {
@@ -58,14 +58,14 @@ impl Decoder {
         ensures begins { HasReadFrom offset result [] [] }
         ensures version { result.version ≡ version }
     {
-        let place = Place {
+        let state = DecoderState {
             offset,
             cells: [0; FRAME_BYTES],
             len: 0,
             is_bad: false,
             version,
         };
-        Decoder { place }
+        Decoder { state }
     }
 
     /// Decodes the next piece of the stream. Fails only if memory for the messages in it runs out; then the decoder
@@ -85,42 +85,42 @@ impl Decoder {
         ensures memory { OnErr result (CompletesMessage self.old piece.now) }
         ensures held { length self.new.held ≤ 50 }
     {
-        if self.place.is_bad {
+        if self.state.is_bad {
             return Ok(Fed {
                 messages: Vec::new(alloc),
-                fault: self.place.fault(),
+                fault: self.state.fault(),
             });
         }
-        let (place, messages) = read_piece(alloc, self.place, piece)?;
-        self.place = place;
+        let (state, messages) = read_piece(alloc, self.state, piece)?;
+        self.state = state;
         Ok(Fed {
             messages,
-            fault: place.fault(),
+            fault: state.fault(),
         })
     }
 }
 
-/// Decodes the whole piece, or up to a bad frame. Returns the place after it and the messages in it.
+/// Decodes the whole piece, or up to a bad frame. Returns the state after it and the messages in it.
 fn read_piece(
     alloc: Global,
-    start: Place,
+    start: DecoderState,
     piece: &[u8],
-) -> Result<(Place, Vec<ClientMessage>), AllocError>
-    requires { IsPlace start }
-    ensures place { IfOk result (λ read. IsPlace read.0) }
+) -> Result<(DecoderState, Vec<ClientMessage>), AllocError>
+    requires { IsDecoderState start }
+    ensures state { IfOk result (λ read. IsDecoderState read.0) }
     ensures memory { OnErr result (CompletesMessage (decoding start) piece.now) }
-    ensures reads { IfOk result (λ read. GoesOn start read.0 piece.now read.1.items) }
+    ensures reads { IfOk result (λ read. Consumes start read.0 piece.now read.1.items) }
 {
     named::<Request>();
     let mut messages = Vec::new(alloc);
-    let mut place = start;
+    let mut state = start;
     let mut rest = piece;
-    while !rest.is_empty() && !place.is_bad {
-        let (count, message) = place.step(rest);
+    while !rest.is_empty() && !state.is_bad {
+        let (count, message) = state.step(rest);
         rest = &rest[count..];
         if let Some(message) = message {
             messages.push(message)?;
         }
     }
-    Ok((place, messages))
+    Ok((state, messages))
 }

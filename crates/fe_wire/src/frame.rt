@@ -2,8 +2,8 @@ ghost use Rattle.std.specs.Prelude.{◌≡◌, ◌+◌, ◌≤◌, [], ◌∷◌
 ghost use Rattle.std.specs.Int.{w32, to_be_bytes};
 ghost use Rattle.fe_wire.specs.Spelling.{is_long, name_field};
 
+use crate::decoder_state::FRAME_BYTES;
 use crate::fields::name_room;
-use crate::place::FRAME_BYTES;
 use fe_fields::Fields;
 use fe_state::{NAME_BYTES, Name};
 

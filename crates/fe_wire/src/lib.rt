@@ -3,6 +3,7 @@
 
 mod client_message;
 mod decoder;
+mod decoder_state;
 mod fed;
 mod fields;
 mod frame;
@@ -11,7 +12,6 @@ mod kinds;
 mod laws;
 mod message_frames;
 mod messages;
-mod place;
 mod putting;
 mod replies;
 mod server_message;

@@ -2,7 +2,7 @@
 
 ghost use Rattle.std.specs.Prelude.{◌≡◌, Some, IfOk, IfSome, OnErr};
 ghost use Rattle.fe_wire.specs.Spelling.{reply_spelling, ReplyFits, IsReport};
-ghost use Rattle.fe_wire.specs.Reading.{Gives, answered_of, refused_of, report_of, reply_of_kind, parts_of};
+ghost use Rattle.fe_wire.specs.Reading.{ReadsAs, answered_of, refused_of, report_of, reply_of_kind, parts_of};
 ghost use Rattle.fe_wire.specs.declared.server_message.ServerMessage.{ServerMessage as Reply};
 
 use crate::fields::{ended, number_of, two_numbers_of};
@@ -85,7 +85,7 @@ fn report_of(alloc: Global, body: &[u8]) -> Result<Option<ServerMessage>, AllocE
 /// The kind and the body, if the bytes are exactly one frame.
 #[tactic(auto, unfolding(crate::specs::Reading::parts_of))]
 fn parts_of(frame: &[u8]) -> Option<(u8, &[u8])>
-    ensures { Gives (λ x. (x.0, x.1.now)) result (parts_of frame.now) }
+    ensures { ReadsAs (λ x. (x.0, x.1.now)) result (parts_of frame.now) }
 {
     let (length, rest) = next_u32(frame)?;
     if length as usize == rest.len() {

@@ -2,28 +2,28 @@
 use Rattle.std.specs.Prelude.{ℕ, ◌<◌, ◌≤◌, List, [], ◌∷◌, length}
 use Rattle.std.proofs.Common.{inl, inr, refl, arith}
 use Rattle.fe_disk.specs.Disk.{IsImage}
-use Rattle.fe_disk.specs.Memory.{Event, MayLeave, LeftSince, image_before}
+use Rattle.fe_disk.specs.Memory.{DiskEvent, MayLeave, LeftSince, image_before}
 
-pub seen_may_stay_law : (image : List ℕ) (events : List Event) → IsImage (length image) image → MayLeave (length image) image events image
+pub seen_may_stay_law : (image : List ℕ) (events : List DiskEvent) → IsImage (length image) image → MayLeave (length image) image events image
 seen_may_stay_law image events bytes = record { bytes = bytes; elsewhere = λ _ _. refl }
 
-pub counts_now_law : (size : ℕ) (image : List ℕ) (events : List Event) (t : ℕ) (left : List ℕ) → t ≤ length events → MayLeave size image events left → LeftSince size image events t left
+pub counts_now_law : (size : ℕ) (image : List ℕ) (events : List DiskEvent) (t : ℕ) (left : List ℕ) → t ≤ length events → MayLeave size image events left → LeftSince size image events t left
 counts_now_law size image [] t left now may = (now, may)
 counts_now_law size image (event ∷ earlier) t left now may = inl (now, may)
 
 -- none was left after the last call
-none_later : (size : ℕ) (image : List ℕ) (events : List Event) (t : ℕ) (left : List ℕ) → length events < t → LeftSince size image events t left → ⊥
+none_later : (size : ℕ) (image : List ℕ) (events : List DiskEvent) (t : ℕ) (left : List ℕ) → length events < t → LeftSince size image events t left → ⊥
 none_later size image [] t left late since = let le = since.0 in omega arith
 none_later size image (event ∷ earlier) t left late (inl since) = let le = since.0 in omega arith
 none_later size image (event ∷ earlier) t left late (inr since) = none_later size (image_before event image) earlier t left (omega arith) since
 
-pub only_now_law : (size : ℕ) (image : List ℕ) (events : List Event) (left : List ℕ) → LeftSince size image events (length events) left → MayLeave size image events left
+pub only_now_law : (size : ℕ) (image : List ℕ) (events : List DiskEvent) (left : List ℕ) → LeftSince size image events (length events) left → MayLeave size image events left
 only_now_law size image [] left since = since.1
 only_now_law size image (event ∷ earlier) left (inl since) = since.1
 only_now_law size image (event ∷ earlier) left (inr since) =
     absurd (none_later size (image_before event image) earlier (length (event ∷ earlier)) left (omega arith) since)
 
-pub left_is_image_law : (size : ℕ) (image : List ℕ) (events : List Event) (t : ℕ) (left : List ℕ) → LeftSince size image events t left → IsImage size left
+pub left_is_image_law : (size : ℕ) (image : List ℕ) (events : List DiskEvent) (t : ℕ) (left : List ℕ) → LeftSince size image events t left → IsImage size left
 left_is_image_law size image [] t left since = since.1.bytes
 left_is_image_law size image (event ∷ earlier) t left (inl since) = since.1.bytes
 left_is_image_law size image (event ∷ earlier) t left (inr since) = left_is_image_law size (image_before event image) earlier t left since

@@ -3,7 +3,7 @@ use Rattle.std.specs.Prelude.{◌≡◌, ℕ, ◌+◌, List, Some, vec_len}
 use Rattle.fe_state.specs.State.{ServerState}
 use Rattle.fe_format.specs.declared.format.Format.TheVariants.{Two}
 use Rattle.fe_journal.specs.Contents.{Contents}
-use Rattle.fe_journal.specs.Journal.{JournalState, Draft, Keeps}
+use Rattle.fe_journal.specs.Journal.{JournalState, Draft, KeepsContents}
 use Rattle.fe_keeper.specs.Keeper.{slice_size}
 use Rattle.fe_keeper.specs.within.Upholds.{IsDraftOf, progress_of}
 use Rattle.fe_keeper.specs.declared.checkpoint.Checkpoint.{Checkpoint}
@@ -27,5 +27,5 @@ journal_sliced j disk c =
 -- The journal keeps contents, and beside them a draft of the checkpoint that leads to the state.
 pub record KeepsDraft {D : Type 0} (seen : D → List ℕ) (may_leave : D → List ℕ → Type 0) (j : JournalState D) (contents : Contents) (c : Checkpoint) (s : ServerState) : Type 0 where
   pub draft : Draft
-  pub keeps : Keeps seen may_leave j contents (Some draft)
+  pub keeps : KeepsContents seen may_leave j contents (Some draft)
   pub is_draft : IsDraftOf c draft s

@@ -9,7 +9,7 @@ use Rattle.fe_codec.specs.Image.{image_spelling, FitsImage}
 use Rattle.fe_format.specs.Layout.{record_bytes, group_records, longest_payload, IsImageLength}
 use Rattle.fe_format.specs.declared.format.Format.TheVariants.{Two}
 use Rattle.fe_journal.specs.Contents.{Contents}
-use Rattle.fe_journal.specs.Journal.{JournalState, Draft, Keeps}
+use Rattle.fe_journal.specs.Journal.{JournalState, Draft, KeepsContents}
 use Rattle.std.specs.Option.{option_map}
 use Rattle.fe_keeper.specs.Keeper.{Progress, StoreState}
 use Rattle.fe_keeper.specs.Stands.{Stands}
@@ -86,6 +86,6 @@ IsDrafted (Some c) (Some d) s = IsDraftOf c d s
 pub record Upholds {D : Type 0} (seen : D → List ℕ) (may_leave : D → List ℕ → Type 0) (store : Store D) (s : ServerState) : Type 0 where
   pub contents : Contents
   pub draft : Option Draft
-  pub keeps : Keeps seen may_leave store.journal contents draft
+  pub keeps : KeepsContents seen may_leave store.journal contents draft
   pub stands : Stands contents s
   pub drafted : IsDrafted store.checkpoint draft s

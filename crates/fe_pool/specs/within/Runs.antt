@@ -7,14 +7,14 @@ use Rattle.fe_pool.specs.Pool.{Contents, first_or}
 use Rattle.fe_pool.specs.Columns.{Link, Columns, link_at, IsLoose}
 
 -- the node is in the list
-abbrev pub IsAmong : ℕ → List ℕ → Type 0
-IsAmong node [] = ⊥
-IsAmong node (x ∷ xs) = (node ≡ x) ⊎ IsAmong node xs
+abbrev pub IsNodeAmong : ℕ → List ℕ → Type 0
+IsNodeAmong node [] = ⊥
+IsNodeAmong node (x ∷ xs) = (node ≡ x) ⊎ IsNodeAmong node xs
 
 -- no node is in the list twice
 abbrev pub AllDifferent : List ℕ → Type 0
 AllDifferent [] = Unit {0}
-AllDifferent (x ∷ xs) = (IsAmong x xs → ⊥) × AllDifferent xs
+AllDifferent (x ∷ xs) = (IsNodeAmong x xs → ⊥) × AllDifferent xs
 
 abbrev pub previous_of : Link → Option ℕ
 previous_of None = None
@@ -25,18 +25,18 @@ next_of None = None
 next_of (Some neighbours) = neighbours.next
 
 -- the neighbours of each node of the list are those the list gives it, between `before` and `after`
-abbrev pub IsRun : List Link → Option ℕ → List ℕ → Option ℕ → Type 0
-IsRun links before [] after = Unit {0}
-IsRun links before (node ∷ nodes) after = (link_at links node ≡ Some (record { previous = before; next = first_or after nodes }))
-    × IsRun links (Some node) nodes after
+abbrev pub IsNodeRun : List Link → Option ℕ → List ℕ → Option ℕ → Type 0
+IsNodeRun links before [] after = Unit {0}
+IsNodeRun links before (node ∷ nodes) after = (link_at links node ≡ Some (record { previous = before; next = first_or after nodes }))
+    × IsNodeRun links (Some node) nodes after
 
 -- the list is complete: nothing comes before it or after it
-abbrev pub IsWhole : List Link → List ℕ → Type 0
-IsWhole links nodes = IsRun links None nodes None
+abbrev pub IsWholeRun : List Link → List ℕ → Type 0
+IsWholeRun links nodes = IsNodeRun links None nodes None
 
 -- each node that has neighbours is on a complete list
 abbrev pub AllListed : List Link → Type 0
-AllListed links = (node : ℕ) (neighbours : Neighbours) → link_at links node ≡ Some neighbours → (nodes : List ℕ) × IsWhole links nodes × IsAmong node nodes
+AllListed links = (node : ℕ) (neighbours : Neighbours) → link_at links node ≡ Some neighbours → (nodes : List ℕ) × IsWholeRun links nodes × IsNodeAmong node nodes
 
 -- the nodes that follow one another from a node on, up to a maximum number
 abbrev pub run_from : List Link → ℕ → Option ℕ → List ℕ
@@ -91,8 +91,8 @@ pub record IsPool {T : Type 0} (c : Columns T) (first_free : Option ℕ) : Type 
   pub free : List ℕ
   pub free_linked : IsFreeRun c.followers first_free free
   pub free_different : AllDifferent free
-  pub free_listed : (node : ℕ) → node < length c.items → slice_index_or c.items node None ≡ None → IsAmong node free
-  pub free_empty : (node : ℕ) → IsAmong node free → (node < length c.items) × (slice_index_or c.items node None ≡ None)
+  pub free_listed : (node : ℕ) → node < length c.items → slice_index_or c.items node None ≡ None → IsNodeAmong node free
+  pub free_empty : (node : ℕ) → IsNodeAmong node free → (node < length c.items) × (slice_index_or c.items node None ≡ None)
   pub loose : (node : ℕ) → slice_index_or c.items node None ≡ None → IsLoose c node
   pub words : AllListed c.of_word
   pub sessions : AllListed c.of_session

@@ -3,7 +3,7 @@ use Rattle.std.specs.Prelude.{◌≡◌, ℕ, List, ◌++◌, map, Some, T}
 use Rattle.std.specs.declared.cmp.Ordering.{Ordering}
 use Rattle.std.specs.FinMap.{FinMap, find, get, is_sorted}
 use Rattle.fe_words.specs.declared.op.Op.{Op}
-use Rattle.fe_waits.specs.Waiting.{AreTold, AreToldOnce}
+use Rattle.fe_waits.specs.Waiting.{AreWaitersOf, AreListedOnce}
 use Rattle.fe_service.specs.Service.{Waiters}
 use Rattle.fe_report.specs.Report.{Spot}
 
@@ -19,6 +19,6 @@ row_of session t = (((t.1.0, t.1.1), (session, t.0)), t.1.2)
 -- a row was added for each waiting request of the session
 pub record IsAdded (waiting : Waiters) (session : ℕ) (old new : List (Spot × Op)) : Type 0 where
   pub told : List (ℕ × (ℕ × ℕ × Op))
-  pub tells : AreTold waiting session told
-  pub once : AreToldOnce told
+  pub tells : AreWaitersOf waiting session told
+  pub once : AreListedOnce told
   pub added : new ≡ old ++ map (row_of session) told

@@ -1,4 +1,4 @@
--- How the sessions stand for the slots of the waiting lists. No public clause cites this module.
+-- Which slot of the waiting lists each session has. No public clause cites this module.
 use Rattle.std.specs.Prelude.{◌≡◌, ◌↔◌, ℕ, ◌+◌, ◌<◌, ◌≤◌, List, [], ◌∷◌, ◌++◌, zero, suc, map, length, Option, Some, None, IsSome, slice_get, slice_index_or, unwrap_or}
 use Rattle.std.specs.Option.{option_map}
 use Rattle.std.specs.Ordering.{nat_cmp}
@@ -7,7 +7,7 @@ use Rattle.std.specs.FinMap.{FinMap, get, len, entries, from_entries}
 use Rattle.fe_waits.specs.declared.row.Row.{Row}
 use Rattle.fe_waits.specs.Pair.{pair_cmp}
 use Rattle.fe_waits.specs.Waiting.{Waiter, Waiting}
-use Rattle.fe_seats.specs.declared.place.Place.{Place}
+use Rattle.fe_seats.specs.declared.occupant.Occupant.{Occupant}
 use Rattle.fe_seats.specs.declared.seat.Seat.{Seat}
 use Rattle.fe_seats.specs.declared.turn.Turn.{Turn}
 use Rattle.fe_seats.specs.Seating.{Seating}
@@ -21,19 +21,19 @@ owner_at owners slot = slice_index_or owners slot None
 abbrev pub owner_of : List (Option ℕ) → ℕ → ℕ
 owner_of owners slot = unwrap_or (owner_at owners slot) 0
 
--- the slot of a session, if it has a place
-abbrev pub slot_in : FinMap nat_cmp Place → ℕ → Option ℕ
-slot_in places session = option_map (λ place. place.slot) (get places session)
+-- the slot of a session, if it has a seat
+abbrev pub slot_in : FinMap nat_cmp Occupant → ℕ → Option ℕ
+slot_in occupants session = option_map (λ occupant. occupant.slot) (get occupants session)
 
 -- a map with other keys, and other values, by entry
 abbrev pub rekeyed : {K L X Y : Type 0} {R : K → K → Ordering} {S : L → L → Ordering} → (K → L) → (X → Y) → FinMap R X → FinMap S Y
 rekeyed key value m = from_entries (map (λ e. (key e.0, value e.1)) (entries m))
 
--- the seats of the places
-abbrev pub seats_of : FinMap nat_cmp Place → FinMap nat_cmp Seat
-seats_of places = rekeyed (λ session. session) (λ place. place.seat) places
+-- the seats of the occupants
+abbrev pub seats_of : FinMap nat_cmp Occupant → FinMap nat_cmp Seat
+seats_of occupants = rekeyed (λ session. session) (λ occupant. occupant.seat) occupants
 
--- the key of a request, with the session in place of its slot
+-- the key of a request, with the session instead of its slot
 abbrev pub session_key : List (Option ℕ) → ℕ × ℕ → ℕ × ℕ
 session_key owners key = (owner_of owners key.0, key.1)
 
@@ -58,18 +58,18 @@ pub record AreFree (owners : List (Option ℕ)) (slots : List ℕ) : Type 0 wher
   pub vacant : (i slot : ℕ) → slice_get slots i ≡ Some slot → owner_at owners slot ≡ None
   pub once : (i j slot : ℕ) → slice_get slots i ≡ Some slot → slice_get slots j ≡ Some slot → i ≡ j
 
--- what is always true of the waiting lists, the places, the slots' owners and the free slots, for
--- which so much memory is there: places and owners say the same, a slot is free or has a place, and
--- requests wait in slots that have an owner
-pub record AreSeats (waits : Waiting) (places : FinMap nat_cmp Place) (owners : List (Option ℕ)) (slots : List ℕ) (capacity : ℕ) : Type 0 where
+-- the invariant of the waiting lists, the occupants, the slots' owners and the free slots, whose vector has this
+-- capacity: occupants and owners agree, each slot is free or has an owner, and requests wait only in slots that
+-- have an owner
+pub record AreSeats (waits : Waiting) (occupants : FinMap nat_cmp Occupant) (owners : List (Option ℕ)) (slots : List ℕ) (capacity : ℕ) : Type 0 where
   pub sized : length owners ≡ SESSIONS
-  pub agree : (session slot : ℕ) → (slot_in places session ≡ Some slot) ↔ (owner_at owners slot ≡ Some session)
+  pub agree : (session slot : ℕ) → (slot_in occupants session ≡ Some slot) ↔ (owner_at owners slot ≡ Some session)
   pub free : AreFree owners slots
-  pub counted : length slots + len places ≡ SESSIONS
+  pub counted : length slots + len occupants ≡ SESSIONS
   pub reserved : SESSIONS ≤ capacity
   pub owned : (key : ℕ × ℕ) (waiter : Waiter) → get waits.members key ≡ Some waiter → IsSome (owner_at owners key.0)
 
 -- what a contract sees of them
-abbrev pub seating_of : Waiting → FinMap nat_cmp Place → List (Option ℕ) → Seating
-seating_of waits places owners =
-    record { arrays = waits.arrays; seats = seats_of places; waiting = by_session owners waits.members; turns = turns_from owners waits.nodes }
+abbrev pub seating_of : Waiting → FinMap nat_cmp Occupant → List (Option ℕ) → Seating
+seating_of waits occupants owners =
+    record { arrays = waits.arrays; seats = seats_of occupants; waiting = by_session owners waits.members; turns = turns_from owners waits.nodes }

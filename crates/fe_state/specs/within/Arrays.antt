@@ -5,7 +5,7 @@ use Rattle.std.specs.Ordering.{nat_cmp}
 use Rattle.indexmap.specs.IndexSet.{IndexSet, index_set_len, spare}
 use Rattle.fe_state.specs.declared.bounds.TheConstants.{ARRAYS}
 
--- a set that says at which place each id stands, with room for all
+-- a set that says at which position each id stands, with room for all
 pub record IsIndex {S X : Type 0} (ids : IndexSet ℕ S) (arrays : FinMap nat_cmp X) : Type 0 where
   -- the ids rise, as they were given out
   pub order : ids.keys ≡ keys arrays

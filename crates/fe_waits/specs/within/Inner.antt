@@ -25,12 +25,12 @@ row_in nodes node = slice_index_or nodes node None
 abbrev pub AreDifferent : List (Option Row) → Type 0
 AreDifferent nodes = (node other : ℕ) (row else : Row) → row_in nodes node ≡ Some row → row_in nodes other ≡ Some else → key_of row ≡ key_of else → node ≡ other
 
--- the chains of a family, one at each place: each is a chain of the pool, and the list of a place has exactly the
+-- the chains of a family, one at each position: each is a chain of the pool, and the list of a position has exactly the
 -- nodes whose request belongs there
-pub record AreListed {Place : Type 0} (nodes : List (Option Row)) (pool : Contents Row) (family : Family) (place_of : Row → Place) (chain_of : Place → Option Chain) : Type 0 where
-  pub chains : (place : Place) (chain : Chain) → chain_of place ≡ Some chain → IsChain pool family chain
-  pub listed : (node : ℕ) (row : Row) → row_in nodes node ≡ Some row → (chain : Chain) × (chain_of (place_of row) ≡ Some chain) × Contains (list_of pool family chain) node
-  pub belongs : (place : Place) (chain : Chain) (node : ℕ) → chain_of place ≡ Some chain → Contains (list_of pool family chain) node → (row : Row) × (row_in nodes node ≡ Some row) × (place_of row ≡ place)
+pub record AreListed {Position : Type 0} (nodes : List (Option Row)) (pool : Contents Row) (family : Family) (position_of : Row → Position) (chain_of : Position → Option Chain) : Type 0 where
+  pub chains : (position : Position) (chain : Chain) → chain_of position ≡ Some chain → IsChain pool family chain
+  pub listed : (node : ℕ) (row : Row) → row_in nodes node ≡ Some row → (chain : Chain) × (chain_of (position_of row) ≡ Some chain) × Contains (list_of pool family chain) node
+  pub belongs : (position : Position) (chain : Chain) (node : ℕ) → chain_of position ≡ Some chain → Contains (list_of pool family chain) node → (row : Row) × (row_in nodes node ≡ Some row) × (position_of row ≡ position)
 
 -- the chain with no nodes
 abbrev pub empty_chain : Chain

@@ -5,7 +5,7 @@ use Rattle.fe_state.specs.Sessions.{Session}
 use Rattle.fe_codec.proofs.LoadingLemmas.{fresh_next, fresh_kept, one_more}
 use Rattle.fe_codec.proofs.sessions.next_session.Goals as goal
 
--- a session for which nothing is kept
+-- a session that keeps nothing
 abbrev blank : ℕ → Session
 blank floor = record { floor = floor; kept = empty }
 

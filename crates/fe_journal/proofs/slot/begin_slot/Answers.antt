@@ -3,7 +3,7 @@ use Rattle.std.proofs.lemmas.Result.{on_ok_weaker}
 use Rattle.fe_disk.specs.Disk.{IsTorn, Follows, LeavesOnly, bytes_at, after_write}
 use Rattle.fe_disk.proofs.Images.{bytes_at-after_write}
 use Rattle.fe_disk.proofs.Moments.{goes_on, weaker}
-use Rattle.fe_journal.specs.Layout.{header_of, gate_of, IsShut}
+use Rattle.fe_journal.specs.Layout.{header_of, gate_of, IsGateShut}
 use Rattle.fe_journal.specs.Steps.{IsLeftInShutting, IsLeftInBeginning, Shuts}
 use Rattle.fe_journal.proofs.Steps.{header_torn, header_left, shuts_then}
 use Rattle.fe_journal.proofs.slot.begin_slot.Goals as goal
@@ -26,7 +26,7 @@ returns-clause-any_moment g c = λ honest synced.
     (subst (λ (k : ℕ). LeavesOnly g.D.Disk.moment g.D.Disk.left_since start c.shut.new.disk (IsLeftInShutting seen k)) c.gate_of.ensures (c.shut.ensures.any_moment honest synced)) in
     let honest_1 = c.shut.ensures.device.honesty.1 honest in
     let torn = subst (λ (k : ℕ). IsTorn k 1 seen (g.D.Disk.seen c.shut.new.disk)) c.gate_of.ensures (c.shut.ensures.torn honest) in
-    let shut = subst (λ (k : ℕ). IsShut (g.D.Disk.seen c.shut.new.disk) k) c.gate_of.ensures (c.in_ok-shut.ensures.closed honest) in
+    let shut = subst (λ (k : ℕ). IsGateShut (g.D.Disk.seen c.shut.new.disk) k) c.gate_of.ensures (c.in_ok-shut.ensures.closed honest) in
     let just = c.in_ok-shut.ensures.settled honest synced in
     let follows = subst (λ (k : ℕ). Follows (IsTorn k (length c.header_fields-fields.result)) (g.D.Disk.may_leave c.shut.new.disk) (g.D.Disk.may_leave c.write_at.new.self)) c.header_of.ensures (c.write_at.ensures.stop honest_1) in
     let twenty : length c.header_fields-fields.result ≡ 20 = ap (λ (l : List ℕ). length l) c.header_fields-fields.ensures in
@@ -40,7 +40,7 @@ returns-clause-left g c = λ honest synced.
     let seen = g.D.Disk.seen start in
     let honest_1 = c.shut.ensures.device.honesty.1 honest in
     let torn = subst (λ (k : ℕ). IsTorn k 1 seen (g.D.Disk.seen c.shut.new.disk)) c.gate_of.ensures (c.shut.ensures.torn honest) in
-    let shut = subst (λ (k : ℕ). IsShut (g.D.Disk.seen c.shut.new.disk) k) c.gate_of.ensures (c.in_ok-shut.ensures.closed honest) in
+    let shut = subst (λ (k : ℕ). IsGateShut (g.D.Disk.seen c.shut.new.disk) k) c.gate_of.ensures (c.in_ok-shut.ensures.closed honest) in
     let just = c.in_ok-shut.ensures.settled honest synced in
     let follows = subst (λ (k : ℕ). Follows (IsTorn k (length c.header_fields-fields.result)) (g.D.Disk.may_leave c.shut.new.disk) (g.D.Disk.may_leave c.write_at.new.self)) c.header_of.ensures (c.write_at.ensures.stop honest_1) in
     let twenty : length c.header_fields-fields.result ≡ 20 = ap (λ (l : List ℕ). length l) c.header_fields-fields.ensures in
@@ -56,7 +56,7 @@ returns-clause-begun g c = λ honest.
     let new = g.D.Disk.seen c.write_at.new.self in
     let honest_1 = c.shut.ensures.device.honesty.1 honest in
     let torn = subst (λ (k : ℕ). IsTorn k 1 seen mid) c.gate_of.ensures (c.shut.ensures.torn honest) in
-    let shut = subst (λ (k : ℕ). IsShut mid k) c.gate_of.ensures (c.in_ok-shut.ensures.closed honest) in
+    let shut = subst (λ (k : ℕ). IsGateShut mid k) c.gate_of.ensures (c.in_ok-shut.ensures.closed honest) in
     let twenty : length c.header_fields-fields.result ≡ 20 = ap (λ (l : List ℕ). length l) c.header_fields-fields.ensures in
     let whole : length mid ≡ g.D.Disk.size c.shut.new.disk = (g.met.D.Disk.seen_is_image c.shut.new.disk honest_1).whole in
     let written = subst (λ (k : ℕ). IsTorn k (length c.header_fields-fields.result) mid new) c.header_of.ensures (c.write_at.ensures.torn honest_1) in

@@ -7,7 +7,7 @@ use Rattle.fe_disk.specs.declared.calls.Calls.{Calls}
 use Rattle.fe_disk.proofs.Outcomes.{asks_run, runs_joined}
 use Rattle.fe_journal.specs.declared.fault.StoreFault.TheVariants.{Device}
 use Rattle.fe_journal.specs.Damage.{TellsFound}
-use Rattle.fe_journal.specs.Store.{IsStore, IsWhole}
+use Rattle.fe_journal.specs.Store.{IsStore, IsWholeStore}
 use Rattle.fe_journal.proofs.Readings.{counted}
 use Rattle.fe_journal.proofs.store.read_store.Goals as goal
 
@@ -32,7 +32,7 @@ returns-clause-settled g c = λ honest.
     let reads = c.read_synced.ensures.reads honest_1 in
     let just : LeavesJust (g.D.Disk.seen c.sync.new.self) (g.D.Disk.may_leave c.sync.new.self) = c.in_ok-sync.ensures.durable honest in
     let now : LeavesJust (g.D.Disk.seen c.read_synced.new.disk) (g.D.Disk.may_leave c.read_synced.new.disk) = λ image left. just image (reads.adds_none image left) ∙ sym reads.same in
-    IfOk-weaker c.read_synced.result IsWhole (λ _. LeavesJust (g.D.Disk.seen c.read_synced.new.disk) (g.D.Disk.may_leave c.read_synced.new.disk)) (λ _ _. now) c.read_synced.ensures.whole
+    IfOk-weaker c.read_synced.result IsWholeStore (λ _. LeavesJust (g.D.Disk.seen c.read_synced.new.disk) (g.D.Disk.may_leave c.read_synced.new.disk)) (λ _ _. now) c.read_synced.ensures.whole
 
 pub returns-clause-device : goal.returns-clause-device
 returns-clause-device g c =

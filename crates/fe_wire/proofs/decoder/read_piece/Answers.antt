@@ -3,29 +3,29 @@ use Rattle.std.proofs.lemmas.List.{append-nil, take_rest}
 use Rattle.std.proofs.lemmas.Bool.{eqb-true}
 use Rattle.fe_wire.proofs.Pieces.{begins, goes_on, completes, on_err, ends, ends_bad}
 use Rattle.fe_wire.proofs.decoder.read_piece.Goals as goal
-use Rattle.fe_wire.proofs.decoder.read_piece.Goals.{then-loop-rest-test+else-not-place, else-loop-rest-test}
+use Rattle.fe_wire.proofs.decoder.read_piece.Goals.{then-loop-rest-test+else-not-state, else-loop-rest-test}
 
 pub loop-rest-init : goal.loop-rest-init
 loop-rest-init c = rw c.new-messages.ensures.items (begins c.args.start c.args.piece.now c.requires)
 
 pub loop-rest-preserved-in-Continue-1 : goal.loop-rest-preserved-in-Continue-1
 loop-rest-preserved-in-Continue-1 c =
-    goes_on c.args.start c.loop-rest.place c.step-count.new.self c.args.piece.now c.loop-rest.rest.now _ c.loop-rest.messages.items (c.in-Some.message ∷ []) _ c.step-count.result.0
-    c.loop-rest.invariant c.step-count.ensures.place (rw c.in-Some.is at c.step-count.ensures.reads) (take_rest c.loop-rest.rest.now c.step-count.result.0) c.in_ok-push.ensures.items
+    goes_on c.args.start c.loop-rest.state c.step-count.new.self c.args.piece.now c.loop-rest.rest.now _ c.loop-rest.messages.items (c.in-Some.message ∷ []) _ c.step-count.result.0
+    c.loop-rest.invariant c.step-count.ensures.state (rw c.in-Some.is at c.step-count.ensures.reads) (take_rest c.loop-rest.rest.now c.step-count.result.0) c.in_ok-push.ensures.items
 
 pub loop-rest-preserved : goal.loop-rest-preserved
 loop-rest-preserved c =
-    goes_on c.args.start c.loop-rest.place c.step-count.new.self c.args.piece.now c.loop-rest.rest.now _ c.loop-rest.messages.items [] c.loop-rest.messages.items c.step-count.result.0
-    c.loop-rest.invariant c.step-count.ensures.place (rw c.in_default.is at c.step-count.ensures.reads) (take_rest c.loop-rest.rest.now c.step-count.result.0) (sym (append-nil c.loop-rest.messages.items))
+    goes_on c.args.start c.loop-rest.state c.step-count.new.self c.args.piece.now c.loop-rest.rest.now _ c.loop-rest.messages.items [] c.loop-rest.messages.items c.step-count.result.0
+    c.loop-rest.invariant c.step-count.ensures.state (rw c.in_default.is at c.step-count.ensures.reads) (take_rest c.loop-rest.rest.now c.step-count.result.0) (sym (append-nil c.loop-rest.messages.items))
 
 pub returns-in_err-push-clause-memory : goal.returns-in_err-push-clause-memory
 returns-in_err-push-clause-memory c =
     on_err c.from_residual.result
-    (completes c.args.start c.loop-rest.place c.step-count.new.self c.args.piece.now c.loop-rest.rest.now c.loop-rest.messages.items c.in-Some.message c.step-count.result.0 c.loop-rest.invariant (rw c.in-Some.is at c.step-count.ensures.reads))
+    (completes c.args.start c.loop-rest.state c.step-count.new.self c.args.piece.now c.loop-rest.rest.now c.loop-rest.messages.items c.in-Some.message c.step-count.result.0 c.loop-rest.invariant (rw c.in-Some.is at c.step-count.ensures.reads))
 
 pub returns-clause-reads : goal.returns-clause-reads
 returns-clause-reads c =
     elim c.loop-rest-test.branch [
-      | then-loop-rest-test+else-not-place w ↦ ends_bad c.args.start c.loop-rest.place c.args.piece.now c.loop-rest.rest.now c.loop-rest.messages.items c.loop-rest.invariant w.if-not-place.false
-      | else-loop-rest-test w ↦ ends c.args.start c.loop-rest.place c.args.piece.now c.loop-rest.rest.now c.loop-rest.messages.items c.loop-rest.invariant (eqb-true (length c.loop-rest.rest.now) 0 (sym c.is_empty.ensures ∙ w.loop-rest-test.false))
+      | then-loop-rest-test+else-not-state w ↦ ends_bad c.args.start c.loop-rest.state c.args.piece.now c.loop-rest.rest.now c.loop-rest.messages.items c.loop-rest.invariant w.if-not-state.false
+      | else-loop-rest-test w ↦ ends c.args.start c.loop-rest.state c.args.piece.now c.loop-rest.rest.now c.loop-rest.messages.items c.loop-rest.invariant (eqb-true (length c.loop-rest.rest.now) 0 (sym c.is_empty.ensures ∙ w.loop-rest-test.false))
     ]

@@ -3,7 +3,7 @@ use Rattle.fe_wire.proofs.Pieces.{IsReadTo}
 use Rattle.fe_wire.proofs.decoder.read_piece.Given as goal
 
 abbrev pub invariant-loop-rest : goal.invariant-loop-rest
-invariant-loop-rest l = IsReadTo l.fn.start l.place l.fn.piece l.rest l.messages.items
+invariant-loop-rest l = IsReadTo l.fn.start l.state l.fn.piece l.rest l.messages.items
 
 abbrev pub decreases-loop-rest : goal.decreases-loop-rest
 decreases-loop-rest l = length l.rest

@@ -1,7 +1,7 @@
 use Rattle.std.proofs.Common.{ap, subst, sym, ◌∙◌, List, ℕ, length}
 use Rattle.fe_disk.specs.declared.record.Call.{Call}
 use Rattle.fe_disk.specs.Disk.{IsImage, LeavesJust}
-use Rattle.fe_disk.specs.Memory.{Event, MemoryState, MayLeave, IsLeftBy}
+use Rattle.fe_disk.specs.Memory.{DiskEvent, MemoryState, MayLeave, IsLeftBy}
 use Rattle.fe_disk.specs.Ranges.{AreWithin, image_with_tears}
 use Rattle.fe_disk.specs.Record.{newest_first}
 use Rattle.fe_disk.proofs.Tears.{left_by_tear, allowed_tear, just_left}
@@ -14,7 +14,7 @@ invariant_of-result c =
     let bytes = subst (λ (l : List ℕ). IsImage (length l) new) c.deref-2.ensures.value c.in_ok-torn_copy.ensures.bytes in
     record {
       image = subst (λ (n : ℕ). IsImage n new) (sym bytes.whole) bytes;
-      within = subst (λ (l : List Event). AreWithin (length new) l) (sym none) tt;
+      within = subst (λ (l : List DiskEvent). AreWithin (length new) l) (sym none) tt;
     }
 
 pub returns-clause-left : goal.returns-clause-left
@@ -44,4 +44,4 @@ pub returns-clause-durable : goal.returns-clause-durable
 returns-clause-durable c =
     let none = ap newest_first c.new.ensures.items in
     let new = c.in_ok-torn_copy.field-0.items in
-    subst (λ (l : List Event). LeavesJust new (MayLeave (length new) new l)) (sym none) (just_left new)
+    subst (λ (l : List DiskEvent). LeavesJust new (MayLeave (length new) new l)) (sym none) (just_left new)

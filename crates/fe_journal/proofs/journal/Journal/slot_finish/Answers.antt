@@ -1,5 +1,5 @@
 use Rattle.std.proofs.Common.{◌≡◌, ℕ, ◌-◌, List, take, Option, None, IfSome, sym, ◌∙◌, ap, subst, arith}
-use Rattle.fe_journal.specs.Groups.{end_of}
+use Rattle.fe_journal.specs.Groups.{end_of_groups}
 use Rattle.fe_journal.specs.Journal.{JournalState, catch_up_groups}
 use Rattle.fe_journal.specs.Steps.{area_start}
 use Rattle.fe_journal.specs.declared.begun.Begun.{Begun}
@@ -40,6 +40,6 @@ returns-clause-value g c =
     let end = start_end c.put_area_start-count.new.buffer c.args.catch_up.now c.put_area_start-count.result (omega (arith, c.put_area_start-count.ensures.within, c.put_area_start-count.ensures.same)) c.put_area_start-count.ensures.bytes in
     let made : ℕ → Begun → JournalState g.row.D.Denot → JournalState g.row.D.Denot = λ used b s. record { disk = c.commit-outcome.new.disk; slot = 1 - s.slot; format = b.format; generation = b.generation; used = used; begun = None; has_failed = s.has_failed } in
     let mine : JournalState g.row.D.Denot = record { disk = c.self.inside.disk; slot = c.self.inside.slot; format = c.self.inside.format; generation = c.self.inside.generation; used = c.self.inside.used; begun = c.self.inside.begun; has_failed = c.self.inside.has_failed } in
-    subst (λ (s : JournalState g.row.D.Denot). IfSome s.begun (λ b. made (c.put_area_start-count.result - 1) c.in-Some.begun mine ≡ made (end_of (catch_up_groups c.args.catch_up.now)) b s)) c.self.view_is
-    (subst (λ (o : Option Begun). IfSome o (λ b. made (c.put_area_start-count.result - 1) c.in-Some.begun mine ≡ made (end_of (catch_up_groups c.args.catch_up.now)) b mine)) (sym c.in-Some.is)
+    subst (λ (s : JournalState g.row.D.Denot). IfSome s.begun (λ b. made (c.put_area_start-count.result - 1) c.in-Some.begun mine ≡ made (end_of_groups (catch_up_groups c.args.catch_up.now)) b s)) c.self.view_is
+    (subst (λ (o : Option Begun). IfSome o (λ b. made (c.put_area_start-count.result - 1) c.in-Some.begun mine ≡ made (end_of_groups (catch_up_groups c.args.catch_up.now)) b mine)) (sym c.in-Some.is)
     (ap (λ (k : ℕ). made k c.in-Some.begun mine) end))

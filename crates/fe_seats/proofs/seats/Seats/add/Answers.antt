@@ -2,12 +2,12 @@ use Rattle.std.proofs.Common.{is_some, ap, sym, ◌∙◌}
 use Rattle.fe_seats.specs.within.Inner.{by_session}
 use Rattle.fe_seats.proofs.KeptLemmas.{slot-below, kept-waits}
 use Rattle.fe_seats.proofs.OwnerLemmas.{get-in_slot, owned-insert, by_session-insert}
-use Rattle.fe_seats.proofs.SeatLemmas.{has_place, has_slot}
+use Rattle.fe_seats.proofs.SeatLemmas.{is_occupant, has_slot}
 use Rattle.fe_seats.proofs.TurnLemmas.{count-in_slot}
 use Rattle.fe_seats.proofs.seats.Seats.add.Goals as goal
 
 pub unwrap-slot-requires : goal.unwrap-slot-requires
-unwrap-slot-requires c = let asked = rw (← c.self.view_is) at c.requires in ap is_some c.slot_of.ensures ∙ has_slot _ _ (has_place _ _ asked.seated)
+unwrap-slot-requires c = let asked = rw (← c.self.view_is) at c.requires in ap is_some c.slot_of.ensures ∙ has_slot _ _ (is_occupant _ _ asked.seated)
 
 pub add-requires-clause-slot : goal.add-requires-clause-slot
 add-requires-clause-slot c = slot-below _ _ _ _ _ c.self.invariant _ _ (sym c.slot_of.ensures ∙ c.unwrap-slot.ensures)

@@ -2,7 +2,7 @@ use Rattle.fe_seats.proofs.TurnLemmas.{node-on, none-on_word, none-on_word_back}
 use Rattle.fe_seats.proofs.seats.Seats.first_on.Goals as goal
 
 pub returns-clause-on_word : goal.returns-clause-on_word
-returns-clause-on_word c = rw (← c.self.view_is) (node-on c.self.inside.waits c.self.inside.places c.self.inside.owners.items c.args.array c.args.index c.first_on.result c.first_on.ensures.on_word)
+returns-clause-on_word c = rw (← c.self.view_is) (node-on c.self.inside.waits c.self.inside.occupants c.self.inside.owners.items c.args.array c.args.index c.first_on.result c.first_on.ensures.on_word)
 
 pub returns-clause-none : goal.returns-clause-none
 returns-clause-none c =

@@ -1,13 +1,13 @@
 use Rattle.std.proofs.Common.{refl, arith}
 use Rattle.fe_seats.proofs.KeptLemmas.{kept-reseated}
-use Rattle.fe_seats.proofs.SeatLemmas.{has_place, seats-holder, seating-reseated}
+use Rattle.fe_seats.proofs.SeatLemmas.{is_occupant, seats-holder, seating-reseated}
 use Rattle.fe_seats.proofs.seats.Seats.set_holder.Goals as goal
 
 pub get_mut-requires : goal.get_mut-requires
-get_mut-requires c = let asked = rw (← c.self.view_is) at c.requires in (omega arith, has_place _ _ asked.seated)
+get_mut-requires c = let asked = rw (← c.self.view_is) at c.requires in (omega arith, is_occupant _ _ asked.seated)
 
 pub invariant_of-self : goal.invariant_of-self
 invariant_of-self c = kept-reseated _ _ _ _ _ c.self.invariant _ _ _ c.get_mut.ensures.value refl
 
 pub returns : goal.returns
-returns c = rw (← c.self.view_is) (seating-reseated c.self.inside.waits c.self.inside.places _ c.self.inside.owners.items _ (seats-holder _ _ _ c.get_mut.ensures.value c.args.holder))
+returns c = rw (← c.self.view_is) (seating-reseated c.self.inside.waits c.self.inside.occupants _ c.self.inside.owners.items _ (seats-holder _ _ _ c.get_mut.ensures.value c.args.holder))

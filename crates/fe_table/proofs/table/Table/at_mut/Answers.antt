@@ -13,7 +13,7 @@ index_mut-requires g c =
 pub invariant_of-self-lent : goal.invariant_of-self-lent
 invariant_of-self-lent g c = λ w.
     let kept = c.self.invariant in
-    let within : c.args.place < length c.self.inside.keys.items = omega (arith, len_keys _ _ _ kept.paired kept.ascending c.self.view_is, c.requires.taken) in
+    let within : c.args.position < length c.self.inside.keys.items = omega (arith, len_keys _ _ _ kept.paired kept.ascending c.self.view_is, c.requires.taken) in
     record {
       ascending = ascending_entries _ _ (pairs_written _ _ _ kept.paired kept.ascending c.self.view_is _ _ w within c.index_mut.ensures.value);
       paired = simp length-set kept.paired;
@@ -25,7 +25,7 @@ invariant_of-self-lent g c = λ w.
 pub returns : goal.returns
 returns g c =
     let kept = c.self.invariant in
-    let within : c.args.place < length c.self.inside.keys.items = omega (arith, len_keys _ _ _ kept.paired kept.ascending c.self.view_is, c.requires.taken) in
+    let within : c.args.position < length c.self.inside.keys.items = omega (arith, len_keys _ _ _ kept.paired kept.ascending c.self.view_is, c.requires.taken) in
     let there = pair_there _ _ _ kept.paired kept.ascending c.self.view_is _ _ _ within (key_here _ _ _ kept.paired kept.ascending c.self.view_is _ within) c.index_mut.ensures.value in (
       (refl, λ w. from_sorted-entries _ _ (pairs_written _ _ _ kept.paired kept.ascending c.self.view_is _ _ w within c.index_mut.ensures.value) ∙ sym (put_at_key _ _ _ kept.paired kept.ascending c.self.view_is _ _ w there)),
       record { writes_back = tt; value = ap (option_map (λ e. e.1)) there },

@@ -5,13 +5,13 @@ use Rattle.fe_table.proofs.TableLemmas.{search_misses, from_sorted-entries, asce
 use Rattle.fe_table.proofs.Pairs.{len_keys, gap_below, pairs_more}
 use Rattle.fe_table.proofs.table.Table.insert.Goals as goal
 
-pub unwrap_err-place-requires : goal.unwrap_err-place-requires
-unwrap_err-place-requires g c = search_misses _ _ c.self.invariant.ascending c.self.view_is _ _ c.search.ensures.found c.requires.absent
+pub unwrap_err-position-requires : goal.unwrap_err-position-requires
+unwrap_err-position-requires g c = search_misses _ _ c.self.invariant.ascending c.self.view_is _ _ c.search.ensures.found c.requires.absent
 
 pub insert-requires : goal.insert-requires
 insert-requires g c =
     let kept = c.self.invariant in
-    let gap = rw c.unwrap_err-place.ensures at c.search.ensures.absent in
+    let gap = rw c.unwrap_err-position.ensures at c.search.ensures.absent in
     omega (arith, gap_below _ _ _ kept.paired kept.ascending c.self.view_is _ _ gap, c.self.inside.keys.ok.0)
 
 pub unwrap-requires : goal.unwrap-requires
@@ -22,7 +22,7 @@ unwrap-requires g c =
 pub insert-requires-2 : goal.insert-requires-2
 insert-requires-2 g c =
     let kept = c.self.invariant in
-    let gap = rw c.unwrap_err-place.ensures at c.search.ensures.absent in
+    let gap = rw c.unwrap_err-position.ensures at c.search.ensures.absent in
     omega (arith, gap_below _ _ _ kept.paired kept.ascending c.self.view_is _ _ gap, kept.paired, c.self.inside.values.ok.0)
 
 pub unwrap-requires-2 : goal.unwrap-requires-2
@@ -33,7 +33,7 @@ unwrap-requires-2 g c =
 pub invariant_of-self : goal.invariant_of-self
 invariant_of-self g c =
     let kept = c.self.invariant in
-    let gap = rw c.unwrap_err-place.ensures at c.search.ensures.absent in
+    let gap = rw c.unwrap_err-position.ensures at c.search.ensures.absent in
     let keys = rw c.unwrap.ensures at c.insert.ensures.items in
     let values = rw c.unwrap-2.ensures at c.insert-2.ensures.items in
     let key_count = rw c.unwrap.ensures at c.insert.ensures.len in
@@ -50,7 +50,7 @@ invariant_of-self g c =
 pub returns : goal.returns
 returns g c =
     let kept = c.self.invariant in
-    let gap = rw c.unwrap_err-place.ensures at c.search.ensures.absent in
+    let gap = rw c.unwrap_err-position.ensures at c.search.ensures.absent in
     let keys = rw c.unwrap.ensures at c.insert.ensures.items in
     let values = rw c.unwrap-2.ensures at c.insert-2.ensures.items in
     let both : zip c.insert.new.self.items c.insert-2.new.self.items ≡ entries (map_insert c.args.self.now c.args.key c.args.value) = rw (keys, values) (pairs_more _ _ _ kept.paired kept.ascending c.self.view_is _ _ _ gap) in

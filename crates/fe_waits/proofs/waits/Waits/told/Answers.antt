@@ -1,6 +1,7 @@
 use Rattle.std.proofs.Common.{◌+◌, is_some, ap, sym, subst}
 use Rattle.fe_pool.specs.declared.family.Family.TheVariants.{OfSession}
-use Rattle.fe_waits.proofs.ToldLemmas.{IsTelling, telling-none_yet, telling-more, telling-all, telling-on, telling-row, telling-next}
+use Rattle.fe_waits.proofs.WalkLemmas.{walk-on, walk-row}
+use Rattle.fe_waits.proofs.ToldLemmas.{IsTelling, telling-none_yet, telling-more, telling-all, telling-next}
 use Rattle.fe_waits.proofs.waits.Waits.told.Goals as goal
 
 pub loop-init : goal.loop-init
@@ -14,10 +15,10 @@ pub unwrap-node-requires : goal.unwrap-node-requires
 unwrap-node-requires c = telling-more _ _ _ _ c.self.invariant _ _ _ _ _ c.loop.invariant c.loop-test.true
 
 pub get-row-requires : goal.get-row-requires
-get-row-requires c = ap is_some (telling-row _ _ _ _ c.self.invariant _ _ _ _ _ c.loop.invariant _ c.unwrap-node.ensures).1
+get-row-requires c = ap is_some (walk-row _ _ _ _ c.self.invariant _ _ _ _ c.loop.invariant.walk _ c.unwrap-node.ensures).1
 
 pub next-at-requires : goal.next-at-requires
-next-at-requires c = telling-on _ _ _ _ c.self.invariant _ _ _ _ _ c.loop.invariant _ c.unwrap-node.ensures
+next-at-requires c = walk-on _ _ _ _ c.self.invariant _ _ _ _ c.loop.invariant.walk _ c.unwrap-node.ensures
 
 pub loop-preserved : goal.loop-preserved
 loop-preserved c =

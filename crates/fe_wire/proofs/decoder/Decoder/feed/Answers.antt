@@ -10,5 +10,5 @@ returns-then-self-clause-reads c = λ from before earlier h.
     let bad : c.args.self.now.is_bad ≡ true = ap (λ (d : Decoding). d.is_bad) (sym c.self.view_is) ∙ c.if-self.true in
     rw (c.new.ensures.items, append-nil earlier) (reads_past from c.args.self.now before c.args.piece.now earlier bad h)
 
-pub returns-in_err-place-clause-memory : goal.returns-in_err-place-clause-memory
-returns-in_err-place-clause-memory c = rw (← c.self.view_is) (on_err c.from_residual.result c.in_err-place.ensures.memory)
+pub returns-in_err-state-clause-memory : goal.returns-in_err-state-clause-memory
+returns-in_err-state-clause-memory c = rw (← c.self.view_is) (on_err c.from_residual.result c.in_err-state.ensures.memory)

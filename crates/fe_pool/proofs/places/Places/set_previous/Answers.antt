@@ -1,5 +1,0 @@
-use Rattle.fe_pool.proofs.PoolLemmas.{some-below}
-use Rattle.fe_pool.proofs.places.Places.set_previous.Goals as goal
-
-pub neighbours-requires : goal.neighbours-requires
-neighbours-requires g c = some-below _ _ (c.requires c.in-Some.node c.in-Some.is).taken
