@@ -1,4 +1,5 @@
-//! Between a connection and the front: a message becomes an event of the front or is refused, and a mail becomes a reply's frame.
+//! Between a connection and the front: a message becomes an event of the front or is refused, and a mail becomes a
+//! reply's frame.
 #![tactic(auto)]
 
 mod reply;

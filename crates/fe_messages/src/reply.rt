@@ -44,8 +44,8 @@ impl Reply {
         Reply { message }
     }
 
-    /// Appends the reply's frame. `AllocError` if the frame exceeds the spare capacity and memory is short; then nothing is
-    /// appended.
+    /// Appends the reply's frame. `AllocError` if the frame exceeds the spare capacity and memory is short; then
+    /// nothing is appended.
     pub fn put(&self, out: &mut Vec<u8>) -> Result<(), AllocError>
         ensures ok { OnOk result (out.new.items ≡ out.old.items ++ reply_spelling self.now) }
         ensures err { OnErr result (out.new.items ≡ out.old.items) }

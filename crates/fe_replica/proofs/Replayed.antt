@@ -75,7 +75,7 @@ replay_stops format payload rest old new offset h some none is = record {
   bad = subst (NoneFollows format rest) h.state_is none;
 }
 
--- or with that of an entry for which there is no memory
+-- or with the record of an entry whose array finds no memory
 pub replay_wants : (format : Format) (payload rest : List ℕ) (old new : ServerState) → IsReplaying format payload rest old new → MakesNext format rest new → MakesArrayIn format payload old
 replay_wants format payload rest old new h next = record {
   front = h.front;

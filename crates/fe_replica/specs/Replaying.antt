@@ -18,7 +18,8 @@ pub record Replays (format : Format) (payload : List ℕ) (old new : ServerState
 abbrev pub NoneFollows : Format → List ℕ → ServerState → Type 0
 NoneFollows format bytes s = (e : Entry) (more : List ℕ) → FitsRecord format e → bytes ≡ entry_spelling format e ++ more → IsLegal s e → ⊥
 
--- The first record of a payload that is no entry's, or whose entry is not legal after those before it, begins at this offset.
+-- The first record of a payload that is no entry's, or whose entry is not legal after those before it, begins at this
+-- offset.
 pub record IsFirstBad (format : Format) (payload : List ℕ) (old : ServerState) (offset : ℕ) : Type 0 where
   pub front : List Entry
   pub rest : List ℕ

@@ -16,7 +16,7 @@ pub enum Refused {
 }
 
 /// Carries out entries that continue the history of the state, the first of them at the place `first`.
-/// Then the log leads back to the state before. If the entries are refused, state and log stay as they were.
+/// Then the log can restore the state before. If the entries are refused, state and log stay as they were.
 pub fn take(
     state: &mut State,
     log: &mut UndoLog,
@@ -27,7 +27,7 @@ pub fn take(
     requires room { length entries.now ≤ log.old.room }
     ensures taken { OnOk result (state.new ≡ after_all state.old entries.now) }
     ensures continues { OnOk result (Continues state.old first entries.now) }
-    // The way back.
+    // The log restores the state.
     ensures log { OnOk result (IsLogOf log.new state.new) }
     ensures beginning { OnOk result (rewound log.new state.new ≡ state.old) }
     ensures room { log.new.room ≡ log.old.room }
