@@ -347,7 +347,7 @@ fn commit<C: Tally, M: Tally, D: Disk, R: Clock + Wait>(
 {
     let mut keeper = keeper;
     let mut seat = seat;
-    let end = commit_side(rt, &house.hall, &mut keeper, &mut seat);
+    let end = commit_side(rt, &house.hall, &mut keeper, &mut seat).end();
     let over = house.end(rt);
     (keeper, end, over, seat)
 }

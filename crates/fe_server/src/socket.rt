@@ -1,6 +1,6 @@
 //! The two directions of a connection over a socket.
 
-use fe_hall::{LineFault, ReadHalf, WriteHalf};
+use fe_hall::{HalfFault, ReadHalf, WriteHalf};
 use fe_streams::{read_some, write_some};
 use std::os::unix::net::UnixStream;
 
@@ -28,10 +28,10 @@ impl<'a> ReadHalf for SocketRead<'a> {
 
     ghost failed = { λ _. ⊤ };
 
-    fn read(&mut self, buffer: &mut [u8]) -> Result<usize, LineFault> {
+    fn read(&mut self, buffer: &mut [u8]) -> Result<usize, HalfFault> {
         match read_some(&mut self.stream, buffer) {
             Ok(count) => Ok(count),
-            Err(_) => Err(LineFault),
+            Err(_) => Err(HalfFault),
         }
     }
 }
@@ -58,10 +58,10 @@ impl<'a> WriteHalf for SocketWrite<'a> {
 
     ghost failed = { λ _. ⊤ };
 
-    fn write(&mut self, bytes: &[u8]) -> Result<usize, LineFault> {
+    fn write(&mut self, bytes: &[u8]) -> Result<usize, HalfFault> {
         match write_some(&mut self.stream, bytes) {
             Ok(count) => Ok(count),
-            Err(_) => Err(LineFault),
+            Err(_) => Err(HalfFault),
         }
     }
 }
