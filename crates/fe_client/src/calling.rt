@@ -9,6 +9,7 @@ use crate::connection::Connection;
 use crate::fault::CallFault;
 use crate::input::Input;
 use crate::separate::Separate;
+use crate::stream_connection::StreamConnection;
 use crate::streams::Streams;
 use crate::talk::Talk;
 use std::alloc::Global;
@@ -38,7 +39,10 @@ pub fn call<N: Net, R: Read, W: Write>(
         (over_socket (R.remaining reader.new) (W.contents writer.new))) }
 {
     match UnixStream::connect(rt, path) {
-        Ok(mut stream) => call_over(alloc, &mut stream, reader, writer),
+        Ok(stream) => {
+            let mut connection = StreamConnection::new(&stream, &stream);
+            call_over(alloc, &mut connection, reader, writer)
+        }
         Err(_) => Err(CallFault::Socket),
     }
 }
