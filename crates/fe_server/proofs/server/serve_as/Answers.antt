@@ -1,4 +1,4 @@
-use Rattle.std.proofs.Common.{inl, sym, subst, ◌∙◌, rules}
+use Rattle.std.proofs.Common.{inl, sym, subst, ◌∙◌}
 use Rattle.fe_keeper.specs.Keeper.{KeeperState}
 use Rattle.fe_hall.specs.declared.commit_end.CommitEnd.TheVariants.{Stopped}
 use Rattle.fe_server.specs.Acknowledged.{IsAcknowledged}
