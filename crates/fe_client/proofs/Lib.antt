@@ -1,4 +1,5 @@
 pub mod Leads
+pub mod Over
 pub mod Separates
 pub mod Fronts
 pub mod Taken

@@ -1,5 +1,6 @@
 pub mod Fault
 pub mod Asking
+pub mod Connection
 pub mod Events
 pub mod Conversation
 pub mod Streams

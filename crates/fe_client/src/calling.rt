@@ -9,6 +9,7 @@ use crate::connection::Connection;
 use crate::fault::CallFault;
 use crate::input::Input;
 use crate::separate::Separate;
+use crate::stream_connection::StreamConnection;
 use crate::streams::Streams;
 use crate::talk::Talk;
 use std::alloc::Global;
@@ -19,8 +20,8 @@ use std::os::unix::net::UnixStream;
 /// Sends each line that the reader gives, as one message, to the server at the socket of that path, and prints the reply
 /// before it reads the next line. An empty line asks nothing, and is counted.
 ///
-/// `Line` at the first line outside the syntax, counted from 1. `Socket` where there is no server, the connection fails or
-/// ends before a reply, or a frame is bad. `Input` where the reader or the writer fails, or a stream was read 2^40 times.
+/// `Line` at the first line outside the syntax, counted from 1. `Socket` if there is no server, the connection fails or
+/// ends before a reply, or a frame is bad. `Input` if the reader or the writer fails, or a stream was read 2^40 times.
 pub fn call<N: Net, R: Read, W: Write>(
     rt: &N,
     alloc: Global,
@@ -32,13 +33,16 @@ pub fn call<N: Net, R: Read, W: Write>(
     ensures ok { OnOk result (TalksAll Flows
         (over_socket (R.remaining reader.old) (W.contents writer.old))
         (over_socket (R.remaining reader.new) (W.contents writer.new))) }
-    // At a fault the messages of lines at the front had theirs.
+    // At a fault, the lines before it have had their exchanges.
     ensures fault { IfErr result (λ end. CallsUntil end
         (over_socket (R.remaining reader.old) (W.contents writer.old))
         (over_socket (R.remaining reader.new) (W.contents writer.new))) }
 {
     match UnixStream::connect(rt, path) {
-        Ok(mut stream) => call_over(alloc, &mut stream, reader, writer),
+        Ok(stream) => {
+            let mut connection = StreamConnection::new(&stream, &stream);
+            call_over(alloc, &mut connection, reader, writer)
+        }
         Err(_) => Err(CallFault::Socket),
     }
 }
@@ -70,7 +74,7 @@ pub fn call_over<C: Connection, R: Read, W: Write>(
 pub fn converse<E: Streams>(alloc: Global, streams: &mut E) -> Result<(), CallFault>
     // The input is read only once each line that was read had its exchange, the last reply written and flushed.
     ensures ok { OnOk result (TalksAll E.leads streams.old streams.new) }
-    // At a fault that was so for lines at the front, and the next line came as far as the fault tells.
+    // At a fault, this holds for the lines before it, and the fault says how far the next one came.
     ensures fault { IfErr result (λ end. TalksUntil E.leads end (E.is_over streams.new) streams.old streams.new) }
 {
     let mut input = Input::new(alloc)?;

@@ -1,10 +1,7 @@
 //! The connection to a server.
 
-ghost use Rattle.std.specs.Prelude.{ℕ, ◌≡◌, ◌<◌, ◌≤◌, List, length, Option, Ok, IfOk, OnErr};
+ghost use Rattle.std.specs.Prelude.{ℕ, ◌<◌, ◌≤◌, List, length, Option, IfOk, OnErr};
 ghost use Rattle.std.specs.Io.KnownBytes.{Keeps, WriteAppends};
-
-use fe_streams::{Failed, read_some, write_some};
-use std::os::unix::net::UnixStream;
 
 /// A call of a connection failed, or the other end has closed it.
 #[derive(Clone, Copy, PartialEq, Eq)]
@@ -12,7 +9,7 @@ pub struct Broken;
 
 /// A connection to a server.
 pub trait Connection {
-    /// The bytes that were sent, where they are known. Of a socket nothing is.
+    /// The bytes that were sent, where they are known. Those of a socket are not.
     ghost sent: { Self → Option (List ℕ) };
 
     /// The bytes that were received, where they are known.
@@ -38,35 +35,4 @@ pub trait Connection {
         ensures received { WriteAppends (received self.old) (received self.new) result buffer.new }
         ensures sent { Keeps (sent self.old) (sent self.new) }
         ensures over { OnErr result (is_over self.new) };
-}
-
-impl Connection for UnixStream {
-    ghost use Rattle.std.specs.Prelude.{None, ⊤};
-
-    ghost sent = { λ _. None };
-
-    ghost received = { λ _. None };
-
-    ghost is_over = { λ _. ⊤ };
-
-    fn send(&mut self, bytes: &[u8]) -> Result<usize, Broken> {
-        some(write_some(self, bytes))
-    }
-
-    fn receive(&mut self, buffer: &mut [u8]) -> Result<usize, Broken> {
-        some(read_some(self, buffer))
-    }
-}
-
-/// What came of a call of a stream. A stream that gave or took no byte has ended.
-fn some(outcome: Result<usize, Failed>) -> Result<usize, Broken>
-    ensures some { IfOk result (λ count. 0 < count) }
-    ensures same { IfOk result (λ count. outcome ≡ Ok count) }
-    // It is broken only where the call failed or took nothing.
-    ensures broken { OnErr result (IfOk outcome (λ count. count ≡ 0)) }
-{
-    match outcome {
-        Ok(0) | Err(_) => Err(Broken),
-        Ok(count) => Ok(count),
-    }
 }

@@ -12,7 +12,7 @@ use std::alloc::Global;
 /// The lines of an input, one after the other.
 #[derive(Drop)]
 pub(crate) struct Input {
-    /// What the last read gave, up to `end`. Before `next` it is taken.
+    /// What the last read gave, up to `end`; all before `next` is taken.
     piece: Vec<u8>,
     next: usize,
     end: usize,
@@ -94,7 +94,7 @@ impl Input {
         Err(CallFault::Input)
     }
 
-    /// Takes what is kept of the piece, up to the first line feed. Whether there is one.
+    /// Takes what is left of the piece, up to its first line feed. Returns whether it has one.
     fn take_kept(&mut self) -> Result<bool, CallFault>
         ensures taken { IfOk result
             (λ fed. (front : List ℕ) × HasNoFeed front × (self.new.line.items ≡ self.old.line.items ++ front)
@@ -122,7 +122,7 @@ impl Input {
         }
     }
 
-    /// Reads the next piece, where all of the one before is taken. Whether the input has not ended.
+    /// Reads the next piece once the last one is taken. `false` if the input has ended.
     fn fill<E: Streams>(&mut self, streams: &mut E) -> Result<bool, StreamFault>
         requires { kept_of self.old ≡ [] }
         ensures read { IfOk result (λ more. (events : List Event) × Fills more (kept_of self.new) events

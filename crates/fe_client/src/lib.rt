@@ -9,6 +9,7 @@ mod input;
 mod memory;
 mod receiving;
 mod separate;
+mod stream_connection;
 mod streams;
 mod talk;
 
@@ -16,4 +17,5 @@ pub use calling::{call, call_over, converse};
 pub use connection::{Broken, Connection};
 pub use fault::CallFault;
 pub use memory::MemoryConnection;
+pub use stream_connection::StreamConnection;
 pub use streams::Streams;

@@ -5,7 +5,7 @@ ghost use Rattle.std.specs.Prelude.{◌≡◌, ◌<◌, ◌≤◌, length};
 use crate::connection::{Broken, Connection};
 use std::alloc::Global;
 
-/// A connection whose other end has given its bytes beforehand. They come in pieces.
+/// A connection whose other end gave its bytes beforehand. They come in pieces.
 #[derive(Drop)]
 pub struct MemoryConnection {
     answers: Vec<u8>,

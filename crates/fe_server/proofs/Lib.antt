@@ -1,3 +1,4 @@
 pub mod Ends
 pub mod Accounts
 pub mod Acknowledged
+pub mod Known

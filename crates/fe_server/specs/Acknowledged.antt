@@ -22,9 +22,9 @@ pub record IsHeld {D : Type 0} (moment : D → ℕ) (left_since : D → ℕ → 
   pub has_it : place < append.after.state.place
   pub every_image : LeavesOnly moment left_since append.after.store.disk last (LeavesPrefix begun groups (at + 1))
 
--- A server ended so. It stored groups, of which these were noted; its history has the notes in their order, and the answer of each receipt.
--- Where nobody else noted groups in its hall, there was a stored group with the entry of each answer before that answer was told, which every
--- image has had since; or the store had the entry from the beginning.
+-- A server ended so. It stored groups and noted these of them; its history has the notes in their order, and the answer of each receipt.
+-- If nobody else noted groups in its hall, then before each answer was told a group with its entry was stored, which every image has had
+-- since; or the store had the entry from the beginning.
 pub record IsAcknowledged {D : Type 0} (honest : D → Type 0) (moment : D → ℕ) (left_since : D → ℕ → List ℕ → Type 0) (old new : KeeperState D) (end : CommitEnd) (account : Account) : Type 0 where
   pub commits : Commits honest moment left_since old new (Some end)
   pub notes : List (ℕ × ℕ)

@@ -9,7 +9,7 @@ abbrev pub joined_to : Option Seats → ℕ → Option Seats
 joined_to None amount = Some (one_seat amount)
 joined_to (Some all) amount = Some (both_seats all (one_seat amount))
 
--- something that the closing needs is not there: memory was short for it, or receipts are to be kept, and some are missing
+-- something that the closing needs is missing: memory was short for it, or receipts are to be kept and are not whole
 abbrev pub lacks : Bool → Bool → Bool → Bool
 lacks short keeps whole = short || (keeps && not whole)
 

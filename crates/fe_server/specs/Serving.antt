@@ -1,5 +1,5 @@
 -- How serving a store ends.
-use Rattle.std.specs.Prelude.{◌≡◌, ◌⊎◌, ◌↔◌, ℕ, true, false, List, [], ◌∷◌, Option, Some, None, Result, Ok, Err}
+use Rattle.std.specs.Prelude.{◌≡◌, ◌⊎◌, ◌↔◌, ◌+◌, ℕ, true, false, List, [], ◌∷◌, Option, Some, None, Result, Ok, Err}
 use Rattle.fe_keeper.specs.Keeper.{KeeperState}
 use Rattle.fe_keeper.specs.Stands.{EachStandsFor}
 use Rattle.fe_keeper.specs.declared.fault.Fault as keeper
@@ -10,10 +10,16 @@ use Rattle.fe_server.specs.declared.stop_fault.StopFault.{StopFault}
 use Rattle.fe_server.specs.declared.stop_fault.StopFault.TheVariants as fault
 use Rattle.fe_hall.specs.Acts.{Account}
 use Rattle.fe_hall.specs.Commits.{AreNoted, Commits, TellsEnd}
+use Rattle.fe_hall.specs.Seats.{most_connections}
 use Rattle.fe_hall.specs.declared.act.Act.{Act}
 use Rattle.fe_hall.specs.declared.act.Act.TheVariants.{Began}
 use Rattle.fe_hall.specs.declared.commit_end.CommitEnd.{CommitEnd}
 use Rattle.fe_hall.specs.declared.commit_end.CommitEnd.TheVariants.{Stopped, Store, Strange, Spent}
+
+-- A new ledger, of that name and with so many parts, is a tally's, which has a part for each connection that may ever be made, and one for
+-- the hall.
+abbrev pub IsBlankOf : ℕ → ℕ → ℕ → ℕ → ℕ → Type 0
+IsBlankOf tally_name tally_parts all name parts = (name ≡ tally_name) × (parts ≡ tally_parts) × (all ≡ tally_parts) × (all ≡ most_connections + 1)
 
 -- A keeper was lent to a committing side, which ended so: it stored a history, of which each image that a stop leaves stands
 -- for a prefix at every moment; what may be left of a disk that works stands for the keeper's state; and the end tells of the
@@ -24,7 +30,7 @@ pub record HasCommitted {D : Type 0} (honest : D → Type 0) (moment : D → ℕ
   pub tells : TellsEnd failures old new (Some end)
   pub honesty : honest new.store.disk ↔ honest old.store.disk
 
--- So it was, and the history of a hall that began with that keeper notes what was stored.
+-- The same, and the history of a hall that began with that keeper notes what was stored.
 abbrev pub HasNoted : {D : Type 0} → (D → Type 0) → (D → ℕ) → (D → ℕ → List ℕ → Type 0) → (D → List ℕ → Type 0) → (D → ℕ) → KeeperState D → KeeperState D → CommitEnd → List Act → Type 0
 HasNoted honest moment left_since may_leave failures old new end acts =
     (all : HasCommitted honest moment left_since may_leave failures old new end) × AreNoted moment all.commits.appends (Some end) (Began old.state.place ∷ []) acts
@@ -45,13 +51,13 @@ fault_of_end (Store why) = Some (fault_of_store why)
 fault_of_end Strange = Some fault.Strange
 fault_of_end Spent = Some fault.Strange
 
--- the fault of an answer; none where it has the books
+-- the fault of an answer; none if it has the books
 abbrev pub fault_in : {D : Type 0} → Result (Served D) (Failed D) → Option StopFault
 fault_in (Ok served) = None
 fault_in (Err failed) = Some failed.fault
 
--- Where the committing side ended so, a server answers this: its fault; and where it was stopped the books, or that memory was
--- short, or that a receipt or a seat is strange.
+-- What a server answers whose committing side ended so: that side's fault; and after a stop the books, or that memory was short, or
+-- that a receipt or a seat is strange.
 abbrev pub IsAnswerAt : CommitEnd → Option StopFault → Type 0
 IsAnswerAt Stopped None = Unit {0}
 IsAnswerAt Stopped (Some told) = (told ≡ fault.Memory) ⊎ (told ≡ fault.Strange)

@@ -1,4 +1,4 @@
-//! Connections are taken from a listener.
+//! Accepts connections from a listener.
 
 ghost use Rattle.std.specs.Prelude.{◌≡◌, ◌<◌, ◌≤◌};
 
@@ -16,16 +16,28 @@ use std::thread::{Builder, Scope, Threads};
 use std::time::{Clock, Duration};
 use std::{io, thread};
 
-/// How long it waits where no connection can be taken, in milliseconds.
+/// How many milliseconds it waits after a connection could not be accepted.
 const PAUSE: u64 = 10;
 
-/// Serves the connections that come, until as many came as the settings say or nothing is stored any more, and all of them ended.
+/// Shows that no connection comes any more, and that those that came have ended. Only `serve_clients` makes it, and a house does not
+/// stop its hall without it unless something is short or full.
+#[derive(Drop)]
+pub(crate) struct AllServed(());
+
+/// Serves the connections that come, until as many came as the settings say or nothing is stored any more, and all of them have ended.
 pub(crate) fn serve_clients<
     C: Tally + Send + Sync,
     M: Tally + Send + Sync,
     G: Gate + Sync,
     R: Clock + Threads + Wait + Sync,
->(rt: &R, alloc: Global, house: &House<C, M>, entrance: Entrance, settings: &Settings, gate: &G)
+>(
+    rt: &R,
+    alloc: Global,
+    house: &House<C, M>,
+    entrance: Entrance,
+    settings: &Settings,
+    gate: &G,
+) -> AllServed
     requires calls { C.all ≡ C.parts }
     requires mails { M.all ≡ M.parts }
 {
@@ -47,9 +59,10 @@ pub(crate) fn serve_clients<
             drop(entrance);
         },
     );
+    AllServed(())
 }
 
-/// Takes connections, and begins to serve them.
+/// Accepts connections, and begins to serve them.
 #[derive(Clone, Copy)]
 struct Porter<'s, C: Tally, M: Tally, G: Gate, R: Clock> {
     rt: &'s R,
@@ -67,7 +80,7 @@ impl<
     G: Gate + Sync,
     R: Clock + Threads + Wait + Sync,
 > Porter<'s, C, M, G, R> {
-    /// Takes connections: this many, where it is not 0. How many came.
+    /// Accepts this many connections; any number if it is 0. Returns how many came.
     fn accept_all<E>(&self, scope: &Scope<'s, E>, entrance: &Entrance, accepts: u64) -> u64
         requires calls { C.all ≡ C.parts }
         requires mails { M.all ≡ M.parts }
@@ -93,36 +106,47 @@ impl<
         came
     }
 
-    /// Begins to serve a connection. Whether it was made: it is closed where too many are there and none is about to end, or the hall
-    /// refuses it.
+    /// Begins to serve a connection. `false` if it is refused: there are too many and none is about to end, or the hall makes none.
     fn welcome<E>(&self, scope: &Scope<'s, E>, conn: u64, stream: UnixStream) -> bool
+        requires calls { C.all ≡ C.parts }
+        requires mails { M.all ≡ M.parts }
+    {
+        let (rt, house) = (self.rt, self.house);
+        let Some(admission) = house.enter(rt) else {
+            return false;
+        };
+        let Ok(stream) = Arc::new(self.alloc, stream) else {
+            house.leave(rt, conn, admission);
+            return false;
+        };
+        let Ok((calls, mails)) = house.connect(rt, conn) else {
+            house.leave(rt, conn, admission);
+            return false;
+        };
+        self.start(
+            scope,
+            Newcomer {
+                conn,
+                admission,
+                stream,
+                calls,
+                mails,
+            },
+        );
+        true
+    }
+
+    /// Starts the thread of a connection. If that can't be done, the connection ends at once.
+    fn start<E>(&self, scope: &Scope<'s, E>, newcomer: Newcomer<C, M>)
         requires calls { C.all ≡ C.parts }
         requires mails { M.all ≡ M.parts }
     {
         let (rt, alloc, house, gate, turns) = (
             self.rt, self.alloc, self.house, self.gate, self.turns,
         );
-        let Some(place) = house.enter(rt) else {
-            return false;
-        };
-        let Ok(stream) = Arc::new(alloc, stream) else {
-            house.leave(rt, conn, place);
-            return false;
-        };
-        let Ok((calls, mails)) = house.hall.connect(rt, conn) else {
-            house.leave(rt, conn, place);
-            return false;
-        };
-        let newcomer = Newcomer {
-            conn,
-            place,
-            stream,
-            calls,
-            mails,
-        };
         if let Err(newcomer) = house.put(rt, newcomer) {
             turn_away(rt, alloc, house, gate, newcomer);
-            return true;
+            return;
         }
         let started = Builder::new()
             .stack_size(STACK)
@@ -138,12 +162,11 @@ impl<
                 turn_away(rt, alloc, house, gate, newcomer);
             }
         }
-        true
     }
 }
 
-/// Lets some time pass where no connection could be taken since there are too many open files or too little memory, so that it is
-/// not tried again and again at once.
+/// Pauses after a connection could not be accepted because there are too many open files or too little memory, so as not to try again
+/// at once and without end.
 fn pause<R: Clock>(rt: &R, error: io::Error) {
     match error.kind() {
         ErrorKind::Interrupted | ErrorKind::ConnectionAborted => {}

@@ -1,4 +1,4 @@
-//! The socket is made, under another name in its folder, so that its file is there only once it listens.
+//! Makes the socket, first under another name in its folder, so that its file is there only once it listens.
 
 use std::alloc::Global;
 use std::fs;
@@ -13,7 +13,7 @@ const BESIDE: &str = ".new";
 /// The most bytes that the path of a socket has on Linux.
 const LONGEST: usize = 107;
 
-/// Binds a listener to a path that does not exist. The file appears there once clients can connect. Where the path has no room for
+/// Binds a listener to a path that does not exist. The file appears there once clients can connect. If the path has no room for
 /// the name beside it, that name is taken, or the file system has no hard links, the path itself is bound.
 pub(crate) fn bind<R: Files + Net>(rt: &R, alloc: Global, path: &str) -> Option<UnixListener> {
     // The system would make a socket of its own choice.
@@ -26,7 +26,7 @@ pub(crate) fn bind<R: Files + Net>(rt: &R, alloc: Global, path: &str) -> Option<
     }
 }
 
-/// A listener that was bound to the other name, and moved to its path.
+/// A listener that is bound to the other name, and then moved to its path.
 fn bind_ready<R: Files + Net>(rt: &R, alloc: Global, path: &str) -> Option<UnixListener> {
     let beside = name_beside(alloc, path)?;
     let listener = bind_beside(rt, beside.as_str())?;
@@ -51,7 +51,7 @@ fn name_beside(alloc: Global, path: &str) -> Option<String> {
     format!(in alloc; "{path}{BESIDE}").ok()
 }
 
-/// A listener at the other name. What a start that was killed left there is removed; the socket of one that is under way is not.
+/// A listener at the other name. A socket that a killed server left there is removed; that of one that is starting is not.
 fn bind_beside<R: Files + Net>(rt: &R, beside: &str) -> Option<UnixListener> {
     if is_left(rt, beside) {
         let _ = fs::remove_file(rt, beside);

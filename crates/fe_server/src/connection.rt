@@ -4,8 +4,8 @@ ghost use Rattle.std.specs.Prelude.{◌≡◌};
 
 use crate::house::House;
 use crate::register::Newcomer;
-use crate::socket::{SocketRead, SocketWrite};
-use fe_hall::{CallSeat, Gate, MailSeat, ReadEnd, Tally, WriteEnd, read_side, write_side};
+use crate::stream::{StreamRead, StreamWrite};
+use fe_hall::{CallSeat, Gate, MailSeat, ReadEnd, Tally};
 use std::alloc::Global;
 use std::net::Shutdown;
 use std::os::unix::net::UnixStream;
@@ -16,9 +16,9 @@ use std::thread::{Builder, Threads};
 /// The bytes of the stack of each thread of a connection.
 pub(crate) const STACK: usize = 1 << 20;
 
-/// Serves a connection that came, until both its sides ended. `turns` bounds its reads.
+/// Serves a connection that came, until both its sides have ended. `turns` bounds its reads.
 ///
-/// Where its second thread can't be started it is gone at once.
+/// If its writing thread can't be started, the connection ends at once.
 pub(crate) fn attend<
     C: Tally + Send + Sync,
     M: Tally + Send + Sync,
@@ -33,7 +33,7 @@ pub(crate) fn attend<
     };
     let Newcomer {
         conn,
-        place,
+        admission,
         stream,
         calls,
         mails,
@@ -52,17 +52,17 @@ pub(crate) fn attend<
                     requires { M.all ≡ M.parts }
                 { write_once(rt, alloc, house, desk, line) },
             );
-            // What has no writer is not read.
+            // Without a writing thread, don't read from the connection.
             let turns = if writer.is_ok() { turns } else { 0 };
             read(rt, alloc, house, calls, line, gate, turns);
         },
     );
-    // Where no writer could be started its seat is still here.
+    // If no writing thread could be started, its seat is still here.
     write_once(rt, alloc, house, &seat, &stream);
-    house.leave(rt, conn, place);
+    house.leave(rt, conn, admission);
 }
 
-/// Ends a connection that came and for which no thread can be started.
+/// Ends a connection for which no thread can be started.
 pub(crate) fn turn_away<C: Tally, M: Tally, G: Gate, R: Wait>(
     rt: &R,
     alloc: Global,
@@ -75,18 +75,18 @@ pub(crate) fn turn_away<C: Tally, M: Tally, G: Gate, R: Wait>(
 {
     let Newcomer {
         conn,
-        place,
+        admission,
         stream,
         calls,
         mails,
     } = newcomer;
     read(rt, alloc, house, calls, &stream, gate, 0);
     write(rt, alloc, house, mails, &stream);
-    house.leave(rt, conn, place);
+    house.leave(rt, conn, admission);
 }
 
-/// The read side of a connection. Where its stream ended, or its reads are used up, the write side still writes what it took;
-/// every other end ends the write side's stream too.
+/// Runs the read side of a connection over its socket. If the client has ended its stream, or the reads are used up, the write side
+/// still writes what it took. At every other end the socket is shut down, which ends the write side too.
 fn read<C: Tally, M: Tally, G: Gate, R: Wait>(
     rt: &R,
     alloc: Global,
@@ -98,18 +98,14 @@ fn read<C: Tally, M: Tally, G: Gate, R: Wait>(
 )
     requires ledger { C.all ≡ C.parts }
 {
-    let mut half = SocketRead::new(stream);
-    let (seat, sent, end) = read_side(rt, alloc, &house.hall, seat, &mut half, gate, Some(turns));
+    let mut half = StreamRead::new(stream);
+    let end = house.read(rt, alloc, seat, &mut half, gate, turns);
     if !matches!(end, ReadEnd::Closed | ReadEnd::Turns) {
         let _ = stream.shutdown(Shutdown::Both);
     }
-    if end == ReadEnd::Spent {
-        house.spend(rt);
-    }
-    house.add_calls(rt, seat, sent);
 }
 
-/// The write side of a connection. Its end ends the read side's stream too.
+/// Runs the write side of a connection over its socket. At its end the socket is shut down, which ends the read side too.
 fn write<C: Tally, M: Tally, R: Wait>(
     rt: &R,
     alloc: Global,
@@ -119,16 +115,12 @@ fn write<C: Tally, M: Tally, R: Wait>(
 )
     requires ledger { M.all ≡ M.parts }
 {
-    let mut half = SocketWrite::new(stream);
-    let (seat, receipts, end) = write_side(rt, alloc, &house.hall, seat, &mut half);
+    let mut half = StreamWrite::new(stream);
+    house.write(rt, alloc, seat, &mut half);
     let _ = stream.shutdown(Shutdown::Both);
-    if end == WriteEnd::Spent {
-        house.spend(rt);
-    }
-    house.add_mails(rt, seat, receipts);
 }
 
-/// The write side of a connection, where its seat was not taken yet.
+/// Runs the write side of a connection if its seat was not taken yet.
 fn write_once<C: Tally, M: Tally, R: Wait>(
     rt: &R,
     alloc: Global,

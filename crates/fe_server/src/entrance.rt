@@ -14,7 +14,7 @@ impl Entrance {
         Entrance { listener }
     }
 
-    /// Another handle of the listener. The system ends an `accept` whose listener is shut, which only a stream can do here.
+    /// Another handle of the listener. The system ends an `accept` whose listener is shut down, which the standard library does only for a stream.
     pub(crate) fn door(&self) -> io::Result<UnixStream> {
         let door = self.listener.try_clone()?;
         Ok(UnixStream::from(OwnedFd::from(door)))

@@ -1,50 +1,55 @@
 //! What the threads of a server share.
 
-ghost use Rattle.std.specs.Prelude.{◌≡◌, ◌+◌, ◌⊎◌, ◌∷◌, [], false, IsTrue, All, IfOk, IfErr, IfSome, nat_lt};
+ghost use Rattle.std.specs.Prelude.{◌≡◌, ◌⊎◌, ◌∷◌, [], false, IsTrue, All, IfOk, IfErr, IfSome, IsSome, nat_lt};
 ghost use Rattle.fe_front.specs.Front.{IsFirst};
 ghost use Rattle.fe_hall.specs.Acts.{EachTold, Gathered as Kept, IsAccountOf};
 ghost use Rattle.fe_hall.specs.Audits.{account_left};
 ghost use Rattle.fe_hall.specs.Receipts.{IsBorneOut};
-ghost use Rattle.fe_hall.specs.Seats.{most_connections};
+ghost use Rattle.fe_hall.specs.Seats.{first_read_seat, first_write_seat};
 ghost use Rattle.fe_hall.specs.declared.act.Act.TheVariants as act;
 ghost use Rattle.fe_server.specs.Ended.{IsClean};
+ghost use Rattle.fe_server.specs.Serving.{HasNoted, IsBlankOf, fault_of_end};
 ghost use Rattle.fe_server.specs.declared.stop_fault.StopFault.TheVariants as fault;
 
+use crate::accepting::AllServed;
+use crate::ended::Ended;
 use crate::entrance::Entrance;
-use crate::register::{Newcomer, Over, Place, Register, Running};
+use crate::register::{Admission, Newcomer, Over, Register, Running};
 use crate::stop_fault::StopFault;
+use fe_disk::Disk;
 use fe_front::Front;
-use fe_hall::{Account, Audit, CallSeat, Hall, MailSeat, NewHistory, Receipts, StoreSeat, Tally};
+use fe_hall::{
+    Account, Audit, CallSeat, CommitEnd, Gate, Hall, MailSeat, NewHistory, ReadEnd, ReadHalf,
+    StoreSeat, Tally, Unconnected, WriteEnd, WriteHalf, commit_side, read_side, write_side,
+};
+use fe_keeper::Keeper;
 use fe_options::Settings;
 use fe_state::State;
-use fe_wire::ClientMessage;
 use std::alloc::{AllocError, Global};
 use std::snapshot::Snapshot;
 use std::sync::ledger::Blank;
 use std::sync::{Condvar, CondvarTimeouts, Mutex, Wait};
 use std::time::{Clock, Duration};
 
-/// For how many milliseconds a newcomer waits at most for a place.
-const PLACE_WAIT: u64 = 1000;
+/// How many milliseconds a newcomer waits at most for room.
+const ROOM_WAIT: u64 = 1000;
 
-/// For how many milliseconds the write sides may write what was told, once nothing is stored any more.
+/// How many milliseconds the write sides have for writing what was told, once nothing is stored any more.
 const LAST_WAIT: u64 = 400;
 
 /// What the threads of a server share: the hall and the register.
-#[derive(Drop)]
 pub(crate) struct House<C: Tally, M: Tally> {
-    pub(crate) hall: Hall<C, M>,
+    hall: Hall<C, M>,
     register: Mutex<Register<C, M>>,
-    /// Rung where a connection has ended.
+    /// Rung when a connection has ended.
     freed: Condvar,
     /// How many connections may be there at once.
     most: u64,
-    /// Whether lists and receipts are kept for the closing.
+    /// Whether what was sent and the receipts are kept for the closing.
     keeps: bool,
 }
 
 /// A house, and the state that its hall's front began with. Threads share the house alone.
-#[derive(Drop)]
 pub(crate) struct Opened<C: Tally, M: Tally> {
     house: House<C, M>,
     begun: Snapshot<State>,
@@ -61,10 +66,8 @@ impl<C: Tally, M: Tally> Opened<C, M> {
         entrance: &Entrance,
         settings: &Settings,
     ) -> Result<(Opened<C, M>, StoreSeat<M>), AllocError>
-        requires calls { (calls.name ≡ C.name) × (calls.parts ≡ C.parts) × (C.all ≡ C.parts)
-            × (C.all ≡ most_connections + 1) }
-        requires mails { (mails.name ≡ M.name) × (mails.parts ≡ M.parts) × (M.all ≡ M.parts)
-            × (M.all ≡ most_connections + 1) }
+        requires calls { IsBlankOf C.name C.parts C.all calls.name calls.parts }
+        requires mails { IsBlankOf M.name M.parts M.all mails.name mails.parts }
         requires history { history.book ≡ M.book }
         requires place { history.place ≡ state.now.place }
         ensures begun { IfOk result (λ opened. opened.0.begun.value ≡ state.now) }
@@ -107,15 +110,30 @@ impl<C: Tally, M: Tally> Opened<C, M> {
         &self.house
     }
 
-    /// The account of the hall, which is not closed.
+    fn into_parts(self) -> (Hall<C, M>, Ended<C, M>, bool)
+        ensures keeps { result.2 ≡ self.house.keeps }
+    {
+        let Opened { house, begun } = self;
+        drop(begun);
+        let House {
+            hall,
+            register,
+            freed,
+            most: _,
+            keeps,
+        } = house;
+        drop(freed);
+        (hall, register.into_inner().into_ended(), keeps)
+    }
+
+    /// The account of the hall, whose committing side ended with a fault.
     pub(crate) fn account(self, over: Over, seat: StoreSeat<M>) -> Account
+        requires fault { IsSome (fault_of_end over.end) }
         ensures leaves { (kept : Kept) × IsAccountOf seat kept.items kept.history result }
         ensures told { EachTold result.receipts result.history }
     {
-        drop(over);
-        let Opened { house, .. } = self;
-        let House { hall, register, .. } = house;
-        register.into_inner().account(hall, seat)
+        let (hall, ended, _) = self.into_parts();
+        ended.account(hall, seat, over)
     }
 
     /// Closes the hall with what is in the register. `state` is what is stored.
@@ -129,36 +147,30 @@ impl<C: Tally, M: Tally> Opened<C, M> {
         requires mails { M.all ≡ M.parts }
         ensures clean { IfOk result IsClean }
         ensures borne_out { IfOk result (λ audit. All (IsBorneOut state.now audit.sent) audit.receipts) }
-        // Where they are to be kept, no receipt is missing.
+        // If they are to be kept, no receipt is missing.
         ensures whole { IfOk result (λ audit. IsTrue self.house.keeps → IsTrue audit.whole) }
         ensures leaves { (kept : Kept) × IsAccountOf seat kept.items kept.history (account_left result) }
         ensures told { EachTold (account_left result).receipts (account_left result).history }
         ensures faults { IfErr result (λ e. (e.0 ≡ fault.Memory) ⊎ (e.0 ≡ fault.Strange)) }
     {
         drop(over);
-        let Opened { house, .. } = self;
-        let House {
-            hall,
-            register,
-            keeps,
-            ..
-        } = house;
-        register.into_inner().close(hall, seat, state, keeps)
+        let (hall, ended, keeps) = self.into_parts();
+        ended.close(hall, seat, state, keeps)
     }
 }
 
 impl<C: Tally, M: Tally> House<C, M> {
-    /// A place for one connection more, if one is free. Where none is it waits for a connection that is about to end.
-    pub(crate) fn enter<R: Clock + Wait>(&self, rt: &R) -> Option<Place>
-        ensures { IfSome result (λ place. place.most ≡ self.now.most) }
+    /// Admits one more connection if there is room. If there is none, it waits for a connection that is about to end.
+    pub(crate) fn enter<R: Clock + Wait>(&self, rt: &R) -> Option<Admission>
+        ensures { IfSome result (λ admission. admission.most ≡ self.now.most) }
     {
         let most = self.most;
         let register = self.register.lock(rt);
         let (mut register, _) = self.freed.wait_timeout_while(
             rt,
             register,
-            Duration::from_millis(PLACE_WAIT),
-            |register| !register.has_place(most) && register.has_ending(),
+            Duration::from_millis(ROOM_WAIT),
+            |register| !register.has_room(most) && register.has_ending(),
         );
         register.enter(most)
     }
@@ -176,16 +188,90 @@ impl<C: Tally, M: Tally> House<C, M> {
     }
 
     /// A connection has ended.
-    pub(crate) fn leave<R: Wait>(&self, rt: &R, conn: u64, place: Place) {
-        self.register.lock(rt).leave(conn, place);
+    pub(crate) fn leave<R: Wait>(&self, rt: &R, conn: u64, admission: Admission) {
+        self.register.lock(rt).leave(conn, admission);
         self.freed.notify_all();
     }
 
-    /// Nothing is stored any more: no connection comes any more, and those that are there end. A write side ends its stream once it
-    /// wrote what was told; where its client does not take that for so long, the stream is ended here.
-    pub(crate) fn end<R: Clock + Wait>(&self, rt: &R) -> Over {
+    /// The two seats of a new connection.
+    pub(crate) fn connect<R: Wait>(
+        &self,
+        rt: &R,
+        conn: u64,
+    ) -> Result<(CallSeat<C>, MailSeat<M>), Unconnected>
+        ensures calls { IfOk result (λ seats. seats.0 ≡ first_read_seat conn) }
+        ensures mails { IfOk result (λ seats. seats.1 ≡ first_write_seat conn) }
+    {
+        self.hall.connect(rt, conn)
+    }
+
+    /// Runs the read side of a connection. At its end the register gets what it did.
+    pub(crate) fn read<H: ReadHalf, G: Gate, R: Wait>(
+        &self,
+        rt: &R,
+        alloc: Global,
+        seat: CallSeat<C>,
+        half: &mut H,
+        gate: &G,
+        turns: u64,
+    ) -> ReadEnd
+        requires ledger { C.all ≡ C.parts }
+    {
+        let (seat, sent, end) = read_side(rt, alloc, &self.hall, seat, half, gate, Some(turns));
+        if end == ReadEnd::Spent {
+            self.spend(rt);
+        }
+        self.register
+            .lock(rt)
+            .ended
+            .add_calls(seat, sent, self.keeps);
+        end
+    }
+
+    /// Runs the write side of a connection. At its end the register gets what it did and saw.
+    pub(crate) fn write<H: WriteHalf, R: Wait>(
+        &self,
+        rt: &R,
+        alloc: Global,
+        seat: MailSeat<M>,
+        half: &mut H,
+    )
+        requires ledger { M.all ≡ M.parts }
+    {
+        let (seat, receipts, end) = write_side(rt, alloc, &self.hall, seat, half);
+        if end == WriteEnd::Spent {
+            self.spend(rt);
+        }
+        self.register
+            .lock(rt)
+            .ended
+            .add_mails(seat, receipts, self.keeps);
+    }
+
+    /// Runs the committing side. At its end the house ends too.
+    pub(crate) fn commit<D: Disk, R: Clock + Wait>(
+        &self,
+        rt: &R,
+        keeper: Keeper<D>,
+        seat: StoreSeat<M>,
+    ) -> (Keeper<D>, Over, StoreSeat<M>)
+        requires { seat ≡ act.Began keeper.state.place ∷ [] }
+        ensures { HasNoted D.honest D.moment D.left_since D.may_leave D.failures keeper result.0 result.1.end result.2 }
+    {
+        let mut keeper = keeper;
+        let mut seat = seat;
+        let end = commit_side(rt, &self.hall, &mut keeper, &mut seat).end();
+        let over = self.end(rt, end);
+        (keeper, over, seat)
+    }
+
+    /// The committing side has ended: no connection comes any more, and those that are there end. A write side ends its stream once it
+    /// has written what was told. If its client does not take that in time, the stream is ended here.
+    fn end<R: Clock + Wait>(&self, rt: &R, end: CommitEnd) -> Over
+        ensures { result.end ≡ end }
+    {
         let mut register = self.register.lock(rt);
-        let over = register.end();
+        let over = register.end(end);
         let waited = self.freed.wait_timeout_while(
             rt,
             register,
@@ -196,38 +282,32 @@ impl<C: Tally, M: Tally> House<C, M> {
         over
     }
 
-    /// No connection is taken any more.
+    /// No connection is accepted any more.
     pub(crate) fn close_door<R: Wait>(&self, rt: &R) {
         self.register.lock(rt).close_door();
     }
 
-    /// Whether the server has not ended.
+    /// `None` once the server has ended.
     pub(crate) fn running<R: Wait>(&self, rt: &R) -> Option<Running> {
         self.register.lock(rt).running()
     }
 
-    /// A book of the hall is full, so no side takes more.
-    pub(crate) fn spend<R: Wait>(&self, rt: &R) {
-        self.register.lock(rt).spent = true;
+    /// All clients were served, so the hall may stop.
+    pub(crate) fn stop<R: Wait>(&self, rt: &R, served: AllServed) {
+        drop(served);
         self.hall.stop(rt);
     }
 
-    /// There is no memory for something that the closing needs.
+    /// There is no memory for something that the closing needs, so the hall stops.
     pub(crate) fn fall_short<R: Wait>(&self, rt: &R) {
-        self.register.lock(rt).short = true;
+        self.register.lock(rt).ended.short = true;
+        self.hall.stop(rt);
     }
 
-    pub(crate) fn add_calls<R: Wait>(&self, rt: &R, seat: CallSeat<C>, sent: Vec<ClientMessage>)
-        requires ledger { C.all ≡ C.parts }
-    {
-        self.register.lock(rt).add_calls(seat, sent, self.keeps);
-    }
-
-    pub(crate) fn add_mails<R: Wait>(&self, rt: &R, seat: MailSeat<M>, receipts: Receipts<M>)
-        requires ledger { M.all ≡ M.parts }
-        requires own { receipts.conn ≡ seat.conn }
-    {
-        self.register.lock(rt).add_mails(seat, receipts, self.keeps);
+    /// A book of the hall is full, so the hall stops.
+    fn spend<R: Wait>(&self, rt: &R) {
+        self.register.lock(rt).ended.spent = true;
+        self.hall.stop(rt);
     }
 }
 

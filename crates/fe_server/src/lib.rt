@@ -1,13 +1,14 @@
 //! The server: a hall served at a Unix socket, over the store in a file.
 //!
-//! Each connection has two threads, and one thread stores. What they share lies under two locks: that of the hall, and that of
-//! the register of what the connections that ended did.
+//! Each connection has two threads, and one more thread stores. They share the hall under one lock, and under a second one the
+//! register: which connections are there, and what those that ended did.
 #![tactic(auto)]
 
 mod accepting;
 mod binding;
 mod books;
 mod connection;
+mod ended;
 mod entrance;
 mod failed;
 mod house;
@@ -15,13 +16,13 @@ mod register;
 mod serve_fault;
 mod served;
 mod server;
-mod socket;
 mod stop_fault;
+mod stream;
 
 pub use books::books_text;
 pub use failed::Failed;
 pub use serve_fault::ServeFault;
 pub use served::Served;
 pub use server::{serve, serve_store};
-pub use socket::{SocketRead, SocketWrite};
 pub use stop_fault::StopFault;
+pub use stream::{StreamRead, StreamWrite};

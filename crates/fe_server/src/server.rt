@@ -1,17 +1,16 @@
-//! A store is served.
+//! Serves a store.
 
-ghost use Rattle.std.specs.Prelude.{◌≡◌, ◌≢◌, ◌+◌, ◌<◌, ◌∷◌, ℕ, [], false, IsTrue, All, IfOk, IsErrOf, nat_lt};
+ghost use Rattle.std.specs.Prelude.{◌≡◌, ◌≢◌, ◌<◌, ◌∷◌, ℕ, [], false, IsTrue, All, IfOk, IsErrOf, nat_lt};
 ghost use Rattle.fe_mail.specs.Books.{AddUp};
 ghost use Rattle.fe_hall.specs.Acts.{EachTold, Gathered as Kept, IsAccountOf};
 ghost use Rattle.fe_hall.specs.Receipts.{IsBorneOut};
-ghost use Rattle.fe_hall.specs.Seats.{most_connections};
 ghost use Rattle.fe_hall.specs.declared.act.Act.TheVariants as act;
 ghost use Rattle.fe_hall.specs.declared.commit_end.CommitEnd.{CommitEnd as Ended};
 ghost use Rattle.fe_hall.specs.declared.commit_end.CommitEnd.TheVariants as hall;
 ghost use Rattle.fe_journal.specs.Layout.{device_bytes};
 ghost use Rattle.fe_store.specs.declared.fault.OpenFault.TheVariants as store;
 ghost use Rattle.fe_server.specs.Acknowledged.{IsAcknowledged};
-ghost use Rattle.fe_server.specs.Serving.{HasCommitted, HasNoted, IsAnswerAt, account_in, fault_in, fault_of_end, keeper_in};
+ghost use Rattle.fe_server.specs.Serving.{HasCommitted, HasNoted, IsAnswerAt, IsBlankOf, account_in, fault_in, keeper_in};
 ghost use Rattle.fe_server.specs.declared.serve_fault.ServeFault.TheVariants as served;
 ghost use Rattle.fe_server.specs.declared.stop_fault.StopFault.TheVariants as fault;
 
@@ -25,7 +24,7 @@ use crate::serve_fault::ServeFault;
 use crate::served::Served;
 use crate::stop_fault::StopFault;
 use fe_disk::Disk;
-use fe_hall::{Account, Audit, CommitEnd, Gate, NewHistory, StoreSeat, Tally, commit_side};
+use fe_hall::{Account, Audit, Gate, NewHistory, StoreSeat, Tally};
 use fe_keeper::Keeper;
 use fe_options::Settings;
 use fe_store::open_store;
@@ -45,8 +44,8 @@ use std::time::Clock;
 /// How many parts the ledgers of a hall have, 2^62 + 1.
 const PARTS: u64 = 4611686018427387905;
 
-/// Serves the store that the settings name, at the socket that they name. It opens the store first, and then makes the socket, so that
-/// its file means that the server is ready.
+/// Serves the store that the settings name, at the socket that they name. It opens the store before it makes the socket, so the
+/// socket's file means that the server is ready.
 pub fn serve<R: Files<File = File> + Net + Clock + Threads + Wait + Sync, G: Gate + Sync>(
     rt: &R,
     alloc: Global,
@@ -55,9 +54,9 @@ pub fn serve<R: Files<File = File> + Net + Clock + Threads + Wait + Sync, G: Gat
 ) -> Result<Audit, ServeFault>
     ensures add_up { IfOk result (λ audit. AddUp audit.books) }
     ensures unspent { IfOk result (λ audit. audit.books.spent ≡ false) }
-    // A server of a bounded number of connections compared the receipts of each.
+    // A server of a bounded number of connections has compared the receipts of each.
     ensures whole { IfOk result (λ audit. 0 < settings.now.accepts → IsTrue audit.whole) }
-    // The file is told to have another size only where it has, and to be unformatted only where no store was asked for.
+    // A wrong size is reported only of a file that has one, and a missing store only if none was to be made.
     ensures wrong_size { (found : ℕ) → IsErrOf result (served.Store (store.Size found)) → found ≢ device_bytes }
     ensures unformatted { IsErrOf result (served.Store store.Unformatted) → settings.now.format ≡ false }
 {
@@ -105,7 +104,7 @@ pub fn serve_store<D: Disk + Drop + Send, G: Gate + Sync, R: Clock + Threads + W
     // What its clients were told is stored.
     ensures borne_out { IfOk result
         (λ served. All (IsBorneOut served.keeper.state served.audit.sent) served.audit.receipts) }
-    // Where the number of connections is bounded, these are the receipts of each of them.
+    // If the number of connections is bounded, these are the receipts of each of them.
     ensures whole { IfOk result (λ served. 0 < settings.now.accepts → IsTrue served.audit.whole) }
     // Whatever a client was told is in every image that a stop may leave from then on: before an answer was told, a
     // group with its entry was stored, and each image since the end of its append stands for a state with that group.
@@ -144,10 +143,8 @@ fn serve_as<
     mails: Blank,
     history: NewHistory,
 ) -> Result<Served<D>, Failed<D>>
-    requires calls { (calls.name ≡ C.name) × (calls.parts ≡ C.parts) × (C.all ≡ C.parts)
-        × (C.all ≡ most_connections + 1) }
-    requires mails { (mails.name ≡ M.name) × (mails.parts ≡ M.parts) × (M.all ≡ M.parts)
-        × (M.all ≡ most_connections + 1) }
+    requires calls { IsBlankOf C.name C.parts C.all calls.name calls.parts }
+    requires mails { IsBlankOf M.name M.parts M.all mails.name mails.parts }
     requires history { history.book ≡ M.book }
     requires place { history.place ≡ keeper.state.place }
     ensures committed { (end : Ended)
@@ -174,22 +171,21 @@ fn serve_as<
         return Err(unserved(keeper, nothing));
     };
     drop(nothing);
-    let (keeper, end, over, seat) = run(rt, alloc, &opened, entrance, settings, keeper, seat, gate);
-    closed(opened, over, seat, keeper, end)
+    let (keeper, over, seat) = run(rt, alloc, &opened, entrance, settings, keeper, seat, gate);
+    closed(opened, over, seat, keeper)
 }
 
-/// Closes what was served. Where the committing side ended with a fault the account comes back.
+/// Closes what was served. If the committing side ended with a fault, its account comes back.
 fn closed<C: Tally, M: Tally, D: Disk>(
     opened: Opened<C, M>,
     over: Over,
     seat: StoreSeat<M>,
     keeper: Keeper<D>,
-    end: CommitEnd,
 ) -> Result<Served<D>, Failed<D>>
     requires calls { C.all ≡ C.parts }
     requires mails { M.all ≡ M.parts }
     ensures keeper { keeper_in result ≡ keeper }
-    ensures answer { IsAnswerAt end (fault_in result) }
+    ensures answer { IsAnswerAt over.end (fault_in result) }
     ensures add_up { IfOk result (λ served. AddUp served.audit.books) }
     ensures unspent { IfOk result (λ served. served.audit.books.spent ≡ false) }
     ensures borne_out { IfOk result
@@ -198,7 +194,7 @@ fn closed<C: Tally, M: Tally, D: Disk>(
     ensures leaves { (kept : Kept) × IsAccountOf seat kept.items kept.history (account_in result) }
     ensures told { EachTold (account_in result).receipts (account_in result).history }
 {
-    if let Some(fault) = fault_of_end(end) {
+    if let Some(fault) = over.fault() {
         let account = opened.account(over, seat);
         return Err(Failed {
             fault,
@@ -216,7 +212,7 @@ fn closed<C: Tally, M: Tally, D: Disk>(
     }
 }
 
-/// What a server leaves where memory is short before it serves a client.
+/// What a server leaves if memory is short before it serves a client.
 fn unserved<D: Disk>(keeper: Keeper<D>, account: Account) -> Failed<D>
     ensures committed { HasNoted D.honest D.moment D.left_since D.may_leave D.failures keeper result.keeper hall.Stopped
         (act.Began keeper.state.place ∷ []) }
@@ -232,21 +228,20 @@ fn unserved<D: Disk>(keeper: Keeper<D>, account: Account) -> Failed<D>
     }
 }
 
-/// What the committing thread gives back.
+/// What the committing thread promises of the keeper that it gives back.
 #[derive(Drop)]
 struct Committed<D: Disk + Drop> {
     before: Snapshot<Keeper<D>>,
 }
 
-impl<D: Disk + Drop, M: Tally> Promise<(Keeper<D>, CommitEnd, Over, StoreSeat<M>)>
-    for Committed<D> {
+impl<D: Disk + Drop, M: Tally> Promise<(Keeper<D>, Over, StoreSeat<M>)> for Committed<D> {
     ghost use Rattle.fe_server.specs.Serving.{HasNoted};
 
     ghost kept_by = { λ p r.
-        HasNoted D.honest D.moment D.left_since D.may_leave D.failures p.before.value r.0 r.1 r.3 };
+        HasNoted D.honest D.moment D.left_since D.may_leave D.failures p.before.value r.0 r.1.end r.2 };
 }
 
-/// Serves clients, and stores what they do. The keeper comes back, and why the committing side ended.
+/// Serves clients, and stores what they do. The keeper comes back.
 fn run<
     C: Tally + Send + Sync,
     M: Tally + Send + Sync,
@@ -262,22 +257,22 @@ fn run<
     keeper: Keeper<D>,
     seat: StoreSeat<M>,
     gate: &G,
-) -> (Keeper<D>, CommitEnd, Over, StoreSeat<M>)
+) -> (Keeper<D>, Over, StoreSeat<M>)
     requires calls { C.all ≡ C.parts }
     requires mails { M.all ≡ M.parts }
     requires begun { opened.now.begun.value ≡ keeper.state }
     requires most { opened.now.house.most ≡ settings.now.connections }
     requires keeps { opened.now.house.keeps ≡ nat_lt 0 settings.now.accepts }
     requires seat { seat ≡ act.Began keeper.state.place ∷ [] }
-    ensures { HasNoted D.honest D.moment D.left_since D.may_leave D.failures keeper result.0 result.1 result.3 }
+    ensures { HasNoted D.honest D.moment D.left_since D.may_leave D.failures keeper result.0 result.1.end result.2 }
 {
     let house = opened.house();
     thread::scope(
         thread::scope_env(),
         rt,
-        move |scope| -> (Keeper<D>, CommitEnd, Over, StoreSeat<M>)
+        move |scope| -> (Keeper<D>, Over, StoreSeat<M>)
             requires { (C.all ≡ C.parts) × (M.all ≡ M.parts) × (seat ≡ act.Began keeper.state.place ∷ []) }
-            ensures { HasNoted D.honest D.moment D.left_since D.may_leave D.failures keeper result.0 result.1 result.3 }
+            ensures { HasNoted D.honest D.moment D.left_since D.may_leave D.failures keeper result.0 result.1.end result.2 }
         {
             run_in(
                 rt, alloc, scope, house, entrance, settings, keeper, seat, gate,
@@ -286,7 +281,7 @@ fn run<
     )
 }
 
-/// Does so in a scope. Where the committing thread can't be started no client is served.
+/// Serves and stores in a scope. If the committing thread can't be started, no client is served.
 fn run_in<
     's,
     E,
@@ -305,60 +300,31 @@ fn run_in<
     keeper: Keeper<D>,
     seat: StoreSeat<M>,
     gate: &G,
-) -> (Keeper<D>, CommitEnd, Over, StoreSeat<M>)
+) -> (Keeper<D>, Over, StoreSeat<M>)
     requires calls { C.all ≡ C.parts }
     requires mails { M.all ≡ M.parts }
     requires seat { seat ≡ act.Began keeper.state.place ∷ [] }
-    ensures { HasNoted D.honest D.moment D.left_since D.may_leave D.failures keeper result.0 result.1 result.3 }
+    ensures { HasNoted D.honest D.moment D.left_since D.may_leave D.failures keeper result.0 result.1.end result.2 }
 {
     let promise = Committed {
         before: Snapshot::of(&keeper),
     };
     let committing = scope.spawn_with(
         promise,
-        move || -> (Keeper<D>, CommitEnd, Over, StoreSeat<M>)
+        move || -> (Keeper<D>, Over, StoreSeat<M>)
             requires { seat ≡ act.Began keeper.state.place ∷ [] }
-            ensures { HasNoted D.honest D.moment D.left_since D.may_leave D.failures keeper result.0 result.1 result.3 }
-        { commit(rt, house, keeper, seat) },
+            ensures { HasNoted D.honest D.moment D.left_since D.may_leave D.failures keeper result.0 result.1.end result.2 }
+        { house.commit(rt, keeper, seat) },
     );
     match committing {
         Ok(thread) => {
-            serve_clients(rt, alloc, house, entrance, settings, gate);
-            house.hall.stop(rt);
+            let served = serve_clients(rt, alloc, house, entrance, settings, gate);
+            house.stop(rt, served);
             thread.join(rt)
         }
         Err(refused) => {
             house.fall_short(rt);
-            house.hall.stop(rt);
             (refused.value)()
         }
-    }
-}
-
-/// The committing side of a house. At its end the house ends too.
-fn commit<C: Tally, M: Tally, D: Disk, R: Clock + Wait>(
-    rt: &R,
-    house: &House<C, M>,
-    keeper: Keeper<D>,
-    seat: StoreSeat<M>,
-) -> (Keeper<D>, CommitEnd, Over, StoreSeat<M>)
-    requires { seat ≡ act.Began keeper.state.place ∷ [] }
-    ensures { HasNoted D.honest D.moment D.left_since D.may_leave D.failures keeper result.0 result.1 result.3 }
-{
-    let mut keeper = keeper;
-    let mut seat = seat;
-    let end = commit_side(rt, &house.hall, &mut keeper, &mut seat).end();
-    let over = house.end(rt);
-    (keeper, end, over, seat)
-}
-
-/// The fault that a server ends with whose committing side ended so.
-fn fault_of_end(end: CommitEnd) -> Option<StopFault>
-    ensures { result ≡ fault_of_end end }
-{
-    match end {
-        CommitEnd::Stopped => None,
-        CommitEnd::Store(fault) => Some(StopFault::from(fault)),
-        CommitEnd::Strange | CommitEnd::Spent => Some(StopFault::Strange),
     }
 }

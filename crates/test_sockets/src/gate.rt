@@ -1,6 +1,6 @@
 //! A server holds one connection at its gate, and serves another one at the same time.
 
-use fe_client::call_over;
+use fe_client::{StreamConnection, call_over};
 use fe_disk::Hold;
 use fe_hall::Gate;
 use fe_options::read_settings;
@@ -65,10 +65,11 @@ fn connected<R: Net + Clock + Abort>(rt: &R, socket: &str) -> UnixStream {
 }
 
 /// Each line is answered, with these answers.
-fn asks(rt: &(impl Abort + AllocGlobal), stream: &mut UnixStream, lines: &[u8], answers: &[u8]) {
+fn asks(rt: &(impl Abort + AllocGlobal), stream: &UnixStream, lines: &[u8], answers: &[u8]) {
+    let mut connection = StreamConnection::new(stream, stream);
     let mut reader = lines;
     let mut printed = Vec::new(rt.alloc());
-    let ended = call_over(rt.alloc(), stream, &mut reader, &mut printed);
+    let ended = call_over(rt.alloc(), &mut connection, &mut reader, &mut printed);
     assert!(rt; ended.is_ok() && printed.as_slice() == answers);
 }
 
@@ -78,27 +79,22 @@ fn two_calls<R: Net + Clock + Threads + Wait + Sync + Abort + AllocGlobal>(
     socket: &str,
     hold: &Hold,
 ) {
-    let mut first = connected(rt, socket);
-    asks(rt, &mut first, b"attach 7\n", b"welcome 7 1\n");
+    let first = connected(rt, socket);
+    asks(rt, &first, b"attach 7\n", b"welcome 7 1\n");
     hold.hold(rt);
-    let (_, mut second) = thread::join(
+    let (_, second) = thread::join(
         rt,
-        || asks(
-            rt,
-            &mut first,
-            b"1 create cells 2 empty\n",
-            b"1 array 1 2\n",
-        ),
+        || asks(rt, &first, b"1 create cells 2 empty\n", b"1 array 1 2\n"),
         || {
             wait_until_held(rt, hold);
-            let mut second = connected(rt, socket);
+            let second = connected(rt, socket);
             let answers = b"welcome 8 1\n1 no-array\n";
-            asks(rt, &mut second, b"attach 8\n1 find cells\n", answers);
+            asks(rt, &second, b"attach 8\n1 find cells\n", answers);
             hold.let_go(rt);
             second
         },
     );
-    asks(rt, &mut second, b"2 find cells\n", b"2 array 1 2\n");
+    asks(rt, &second, b"2 find cells\n", b"2 array 1 2\n");
 }
 
 /// The path of a file that no other process uses.

@@ -1,4 +1,4 @@
-use Rattle.std.proofs.Common.{inl, sym, subst, ◌∙◌, rules}
+use Rattle.std.proofs.Common.{inl, sym, subst, ◌∙◌}
 use Rattle.fe_keeper.specs.Keeper.{KeeperState}
 use Rattle.fe_hall.specs.declared.commit_end.CommitEnd.TheVariants.{Stopped}
 use Rattle.fe_server.specs.Acknowledged.{IsAcknowledged}
@@ -23,8 +23,8 @@ pub returns-clause-committed : goal.returns-clause-committed
 returns-clause-committed g c =
     let r = c.run-keeper.result in
     let e = c.closed.ensures in (
-      r.1,
-      subst (λ (k : KeeperState g.row.D.Denot). HasCommitted g.D.Disk.honest g.D.Disk.moment g.D.Disk.left_since g.D.Disk.may_leave g.D.Disk.failures c.args.keeper k r.1) (sym e.keeper) c.run-keeper.ensures.0,
+      r.1.end,
+      subst (λ (k : KeeperState g.row.D.Denot). HasCommitted g.D.Disk.honest g.D.Disk.moment g.D.Disk.left_since g.D.Disk.may_leave g.D.Disk.failures c.args.keeper k r.1.end) (sym e.keeper) c.run-keeper.ensures.0,
       e.answer,
     )
 
@@ -33,10 +33,10 @@ returns-clause-acknowledged g c =
     let r = c.run-keeper.result in
     let e = c.closed.ensures in
     let account = account_in c.closed.result in (
-      r.1,
+      r.1.end,
       e.answer,
-      subst (λ (k : KeeperState g.row.D.Denot). IsAcknowledged g.D.Disk.honest g.D.Disk.moment g.D.Disk.left_since c.args.keeper k r.1 account) (sym e.keeper)
-          (ended_acknowledged g.D.Disk.honest g.D.Disk.moment g.D.Disk.left_since g.D.Disk.may_leave g.D.Disk.failures c.args.keeper r.0 r.1 r.3 account e.leaves.0.items e.leaves.0.history c.run-keeper.ensures e.leaves.1 e.told),
+      subst (λ (k : KeeperState g.row.D.Denot). IsAcknowledged g.D.Disk.honest g.D.Disk.moment g.D.Disk.left_since c.args.keeper k r.1.end account) (sym e.keeper)
+          (ended_acknowledged g.D.Disk.honest g.D.Disk.moment g.D.Disk.left_since g.D.Disk.may_leave g.D.Disk.failures c.args.keeper r.0 r.1.end r.2 account e.leaves.0.items e.leaves.0.history c.run-keeper.ensures e.leaves.1 e.told),
     )
 
 pub returns-clause-whole : goal.returns-clause-whole

@@ -3,7 +3,7 @@ use Rattle.fe_hall.specs.Acts.{Account}
 use Rattle.fe_server.specs.Ended.{lacks}
 use Rattle.fe_server.proofs.Accounts.{account_told}
 use Rattle.fe_server.proofs.Ends.{kept_whole}
-use Rattle.fe_server.proofs.register.Register.close.Goals as goal
+use Rattle.fe_server.proofs.ended.Ended.close.Goals as goal
 
 pub returns-in-Ok-clause-told : goal.returns-in-Ok-clause-told
 returns-in-Ok-clause-told g c =

@@ -1,0 +1,64 @@
+//! A connection over a reader and a writer.
+
+ghost use Rattle.std.specs.Prelude.{◌≡◌};
+
+use crate::connection::{Broken, Connection};
+use fe_streams::{Failed, Incoming, write_some};
+use std::io::{Read, Write};
+
+/// A connection that receives from a reader and sends to a writer. Over a socket, each of them is a reference to it.
+#[derive(Drop)]
+pub struct StreamConnection<R: Read, W: Write> {
+    incoming: Incoming<R>,
+    writer: W,
+    failure: Option<Failed>,
+}
+
+impl<R: Read, W: Write> StreamConnection<R, W> {
+    /// Nothing is sent or received.
+    pub fn new(reader: R, writer: W) -> StreamConnection<R, W>
+        ensures reader { result.incoming.reader ≡ reader }
+        ensures began { result.incoming.began.value ≡ reader }
+        ensures writer { result.writer ≡ writer }
+    {
+        StreamConnection {
+            incoming: Incoming::new(reader),
+            writer,
+            failure: None,
+        }
+    }
+}
+
+impl<R: Read, W: Write> Connection for StreamConnection<R, W> {
+    ghost use Rattle.fe_client.specs.Connection.{IsOver};
+    ghost use Rattle.fe_streams.specs.Incoming.{bytes_read};
+
+    ghost sent = { λ c. W.contents c.writer };
+
+    ghost received = { λ c. bytes_read (R.remaining c.incoming.began.value) (R.remaining c.incoming.reader) };
+
+    ghost is_over = { λ c. IsOver c.failure (R.remaining c.incoming.reader) };
+
+    #[tactic(auto, using(crate::proofs::Over::over_failed))]
+    fn send(&mut self, bytes: &[u8]) -> Result<usize, Broken> {
+        match write_some(&mut self.writer, bytes) {
+            Ok(count) => Ok(count),
+            Err(failure) => {
+                self.failure = Some(failure);
+                Err(Broken)
+            },
+        }
+    }
+
+    #[tactic(auto, using(crate::proofs::Over::over_failed, crate::proofs::Over::over_ended))]
+    fn receive(&mut self, buffer: &mut [u8]) -> Result<usize, Broken> {
+        match self.incoming.read_some(buffer) {
+            Ok(0) => Err(Broken),
+            Ok(count) => Ok(count),
+            Err(failure) => {
+                self.failure = Some(failure);
+                Err(Broken)
+            },
+        }
+    }
+}

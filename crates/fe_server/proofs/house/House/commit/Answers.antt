@@ -1,0 +1,18 @@
+use Rattle.std.proofs.Common.{Some, List, subst, sym}
+use Rattle.fe_hall.specs.Commits.{AreNoted}
+use Rattle.fe_hall.specs.declared.act.Act.{Act}
+use Rattle.fe_hall.specs.declared.commit_end.CommitEnd.{CommitEnd}
+use Rattle.fe_server.specs.Serving.{HasNoted}
+use Rattle.fe_server.proofs.house.House.commit.Goals as goal
+
+pub returns : goal.returns
+returns g c =
+    let e = c.commit_side-end.ensures in
+    let keeper = c.commit_side-end.new.keeper in
+    let seat = c.commit_side-end.new.seat in
+    subst
+    (λ (end : CommitEnd). HasNoted g.D.Disk.honest g.D.Disk.moment g.D.Disk.left_since g.D.Disk.may_leave g.D.Disk.failures c.args.keeper keeper end seat)
+    (sym c.end-over.ensures) (
+      record { commits = e.commits.0; stands = e.stands; tells = e.tells; honesty = e.honesty },
+      subst (λ (h : List Act). AreNoted g.D.Disk.moment e.commits.0.appends (Some c.commit_side-end.result) h seat) c.requires e.commits.1,
+    )

@@ -1,0 +1,172 @@
+//! What the connections of a server did that have ended.
+
+ghost use Rattle.std.specs.Prelude.{◌≡◌, ◌⊎◌, ◌∷◌, ◌++◌, [], true, false, Some, IsTrue, All, IfOk, IfErr, IsSome, map};
+ghost use mathlib.Core.List.{IsPrefix};
+ghost use Rattle.fe_hall.specs.Acts.{EachTold, IsAccountOf};
+ghost use Rattle.fe_hall.specs.Audits.{IsAudit, account_left};
+ghost use Rattle.fe_hall.specs.Receipts.{IsBorneOut};
+ghost use Rattle.fe_hall.specs.Seats.{Seats as Totals};
+ghost use Rattle.fe_server.specs.declared.stop_fault.StopFault.TheVariants as fault;
+ghost use Rattle.fe_server.specs.Ended.{IsClean, joined_to, lacks};
+ghost use Rattle.fe_server.specs.Serving.{fault_of_end};
+
+use crate::register::Over;
+use crate::stop_fault::StopFault;
+use fe_hall::{
+    Account, Audit, CallSeat, Gathered, Hall, MailSeat, Receipts, Seats, StoreSeat, Tally,
+    account_of, settle,
+};
+use fe_state::State;
+use fe_wire::ClientMessage;
+use std::alloc::Global;
+
+/// What the connections did that have ended.
+#[derive(Drop)]
+pub(crate) struct Ended<C: Tally, M: Tally> {
+    /// Memory was short for something that the closing needs.
+    pub(crate) short: bool,
+    /// A book of the hall is full.
+    pub(crate) spent: bool,
+    /// Their seats.
+    calls: Option<Seats<C>>,
+    mails: Option<Seats<M>>,
+    /// What each read side had sent, and the receipts of the write sides.
+    sent: Vec<Vec<ClientMessage>>,
+    receipts: Gathered<M>,
+}
+
+impl<C: Tally, M: Tally> Ended<C, M> {
+    /// No connection has ended.
+    pub(crate) fn new(alloc: Global, receipts: Gathered<M>) -> Ended<C, M> {
+        Ended {
+            short: false,
+            spent: false,
+            calls: None,
+            mails: None,
+            sent: Vec::new(alloc),
+            receipts,
+        }
+    }
+
+    /// Adds what the read side of a connection did; what it sent only if `keeps`.
+    pub(crate) fn add_calls(&mut self, seat: CallSeat<C>, sent: Vec<ClientMessage>, keeps: bool)
+        requires ledger { C.all ≡ C.parts }
+        ensures joined { self.new.calls ≡ joined_to self.old.calls seat.calls }
+        // A list that has to be kept is kept, or `short` says that memory was short for it.
+        ensures sent { IsTrue keeps → self.new.short ≡ false → self.new.sent.items ≡ self.old.sent.items ++ sent ∷ [] }
+        ensures none { keeps ≡ false → self.new.sent.items ≡ self.old.sent.items }
+        ensures short { IsTrue self.old.short → IsTrue self.new.short }
+        ensures mails { self.new.mails ≡ self.old.mails }
+        ensures receipts { self.new.receipts ≡ self.old.receipts }
+    {
+        match &mut self.calls {
+            Some(calls) => calls.add(seat.into_seats()),
+            None => self.calls = Some(seat.into_seats()),
+        }
+        if keeps && self.sent.push(sent).is_err() {
+            self.short = true;
+        }
+    }
+
+    /// Adds what the write side of a connection did and saw; its receipts only if `keeps`.
+    pub(crate) fn add_mails(&mut self, seat: MailSeat<M>, receipts: Receipts<M>, keeps: bool)
+        requires ledger { M.all ≡ M.parts }
+        requires own { receipts.conn ≡ seat.conn }
+        ensures joined { self.new.mails ≡ joined_to self.old.mails seat.mails }
+        // Receipts that have to be kept are kept, or `short` says that memory was short for them.
+        ensures receipts { IsTrue keeps → self.new.short ≡ false
+            → (self.new.receipts.items ≡ self.old.receipts.items ++ receipts.items)
+            × (self.new.receipts.whole ≡ self.old.receipts.whole) }
+        ensures none { keeps ≡ false → self.new.receipts.items ≡ self.old.receipts.items }
+        ensures saw { IsPrefix self.old.receipts.history self.new.receipts.history
+            × IsPrefix receipts.history self.new.receipts.history }
+        ensures short { IsTrue self.old.short → IsTrue self.new.short }
+        ensures calls { self.new.calls ≡ self.old.calls }
+        ensures sent { self.new.sent.items ≡ self.old.sent.items }
+    {
+        match &mut self.mails {
+            Some(mails) => mails.add(seat.into_seats()),
+            None => self.mails = Some(seat.into_seats()),
+        }
+        if !keeps {
+            self.receipts.learn(receipts);
+            return;
+        }
+        if self.receipts.add(receipts).is_err() {
+            self.short = true;
+        }
+    }
+
+    /// The account of a hall whose committing side ended with a fault.
+    pub(crate) fn account(self, hall: Hall<C, M>, seat: StoreSeat<M>, over: Over) -> Account
+        requires fault { IsSome (fault_of_end over.end) }
+        ensures leaves { IsAccountOf seat self.receipts.items self.receipts.history result }
+        ensures told { EachTold result.receipts result.history }
+    {
+        drop(over);
+        self.left(hall, seat)
+    }
+
+    /// The account of a hall that is not closed.
+    fn left(self, hall: Hall<C, M>, seat: StoreSeat<M>) -> Account
+        ensures leaves { IsAccountOf seat self.receipts.items self.receipts.history result }
+        ensures told { EachTold result.receipts result.history }
+    {
+        let Ended { receipts, .. } = self;
+        let (receipts, history) = receipts.into_parts();
+        account_of(hall, seat, receipts, history)
+    }
+
+    /// Whether something that the closing needs is missing: memory was short for it, or receipts are not whole that are to be kept.
+    fn lacks(&self, keeps: bool) -> bool
+        ensures { result ≡ lacks self.now.short keeps self.now.receipts.whole }
+    {
+        self.short || keeps && !self.receipts.is_whole()
+    }
+
+    /// Closes a hall with what its connections did. `state` is what is stored. `Memory` if not all of that could be kept; `Strange`
+    /// if a book is full, a seat is missing or a receipt is strange.
+    pub(crate) fn close(
+        self,
+        hall: Hall<C, M>,
+        seat: StoreSeat<M>,
+        state: &State,
+        keeps: bool,
+    ) -> Result<Audit, (StopFault, Account)>
+        requires calls { C.all ≡ C.parts }
+        requires mails { M.all ≡ M.parts }
+        // Its books are those of all seats, and its lists are these.
+        ensures audit { IfOk result (λ audit. (calls : Totals) × (mails : Totals)
+            × ((self.calls ≡ Some calls) × (self.mails ≡ Some mails) × (self.spent ≡ false))
+            × IsAudit calls mails (map (λ v. v.items) self.sent.items) self.receipts.whole audit) }
+        ensures clean { IfOk result IsClean }
+        ensures borne_out { IfOk result (λ audit. All (IsBorneOut state.now audit.sent) audit.receipts) }
+        ensures whole { IfOk result (λ audit. IsTrue keeps → IsTrue audit.whole) }
+        ensures leaves { IsAccountOf seat self.receipts.items self.receipts.history (account_left result) }
+        ensures told { EachTold (account_left result).receipts (account_left result).history }
+        ensures faults { IfErr result
+            (λ e. ((e.0 ≡ fault.Memory) × (lacks self.short keeps self.receipts.whole ≡ true))
+            ⊎ ((e.0 ≡ fault.Strange) × (lacks self.short keeps self.receipts.whole ≡ false))) }
+    {
+        if self.lacks(keeps) {
+            return Err((StopFault::Memory, self.left(hall, seat)));
+        }
+        if self.spent || self.calls.is_none() || self.mails.is_none() {
+            return Err((StopFault::Strange, self.left(hall, seat)));
+        }
+        let Ended {
+            calls,
+            mails,
+            sent,
+            receipts,
+            ..
+        } = self;
+        let (receipts, history) = receipts.into_parts();
+        let calls = calls.unwrap();
+        let mails = mails.unwrap();
+        match settle(hall, calls, mails, sent, receipts, history, seat, state) {
+            Ok(audit) => Ok(audit),
+            Err((_, account)) => Err((StopFault::Strange, account)),
+        }
+    }
+}

@@ -1,0 +1,92 @@
+//! The two directions of a connection, over a reader and over a writer.
+
+ghost use Rattle.std.specs.Prelude.{◌≡◌};
+
+use fe_hall::{HalfFault, ReadHalf, WriteHalf};
+use fe_streams::{Failed, Incoming, write_some};
+use std::io::{Read, Write};
+
+/// The direction from the client, over a reader. It tells its bytes where those of the reader are known; those of a socket are not.
+#[derive(Drop)]
+pub struct StreamRead<R: Read> {
+    incoming: Incoming<R>,
+    failure: Option<Failed>,
+}
+
+impl<R: Read> StreamRead<R> {
+    /// Nothing is read yet.
+    pub fn new(reader: R) -> StreamRead<R>
+        ensures reader { result.incoming.reader ≡ reader }
+        ensures began { result.incoming.began.value ≡ reader }
+    {
+        StreamRead {
+            incoming: Incoming::new(reader),
+            failure: None,
+        }
+    }
+}
+
+impl<R: Read> ReadHalf for StreamRead<R> {
+    ghost use Rattle.std.specs.Prelude.{IsSome};
+    ghost use Rattle.std.specs.Io.KnownBytes.{IsAtEnd};
+    ghost use Rattle.fe_streams.specs.Incoming.{bytes_read};
+    ghost use Rattle.fe_server.specs.Streams.{known_bytes};
+
+    ghost tells = { λ h. IsSome (R.remaining h.incoming.began.value) };
+
+    ghost told = { λ h. known_bytes (bytes_read (R.remaining h.incoming.began.value) (R.remaining h.incoming.reader)) };
+
+    ghost ended = { λ h. IsAtEnd (R.remaining h.incoming.reader) };
+
+    ghost failed = { λ h. IsSome h.failure };
+
+    fn read(&mut self, buffer: &mut [u8]) -> Result<usize, HalfFault> {
+        match self.incoming.read_some(buffer) {
+            Ok(count) => Ok(count),
+            Err(failure) => {
+                self.failure = Some(failure);
+                Err(HalfFault)
+            }
+        }
+    }
+}
+
+/// The direction to the client, over a writer. It tells its bytes where those of the writer are known; those of a socket are not.
+#[derive(Drop)]
+pub struct StreamWrite<W: Write> {
+    writer: W,
+    failure: Option<Failed>,
+}
+
+impl<W: Write> StreamWrite<W> {
+    /// Nothing is written yet.
+    pub fn new(writer: W) -> StreamWrite<W>
+        ensures { result.writer ≡ writer }
+    {
+        StreamWrite {
+            writer,
+            failure: None,
+        }
+    }
+}
+
+impl<W: Write> WriteHalf for StreamWrite<W> {
+    ghost use Rattle.std.specs.Prelude.{IsSome};
+    ghost use Rattle.fe_server.specs.Streams.{known_bytes};
+
+    ghost tells = { λ h. IsSome (W.contents h.writer) };
+
+    ghost got = { λ h. known_bytes (W.contents h.writer) };
+
+    ghost failed = { λ h. IsSome h.failure };
+
+    fn write(&mut self, bytes: &[u8]) -> Result<usize, HalfFault> {
+        match write_some(&mut self.writer, bytes) {
+            Ok(count) => Ok(count),
+            Err(failure) => {
+                self.failure = Some(failure);
+                Err(HalfFault)
+            }
+        }
+    }
+}

@@ -1,0 +1,41 @@
+//! A reader together with what was read of it.
+
+ghost use Rattle.std.specs.Prelude.{◌≡◌, ◌<◌, ◌≤◌, length, Some, IfOk, IfSome, option_map};
+ghost use Rattle.std.specs.Io.KnownBytes.{IsAtEnd, WriteAppends};
+ghost use Rattle.fe_streams.specs.Incoming.{HasRead, bytes_read};
+
+use crate::{Failed, read_some};
+use std::io::Read;
+use std::snapshot::Snapshot;
+
+/// A reader, and for clauses the bytes that were read of it, where its bytes are known.
+#[derive(Drop)]
+pub struct Incoming<R: Read> {
+    reader: R,
+    /// The reader before the first read.
+    began: Snapshot<R>,
+    ghost read: { HasRead (R.remaining began.value) (R.remaining reader) },
+}
+
+impl<R: Read> Incoming<R> {
+    /// Nothing is read of this reader yet.
+    pub fn new(reader: R) -> Incoming<R>
+        ensures reader { result.reader ≡ reader }
+        ensures began { result.began.value ≡ reader }
+    {
+        let began = Snapshot::of(&reader);
+        Incoming { reader, began }
+    }
+
+    /// Reads at least one byte into the front of the buffer and returns how many; returns 0 only at the end of the stream
+    /// or if the buffer is empty.
+    pub fn read_some(&mut self, buffer: &mut [u8]) -> Result<usize, Failed>
+        ensures fits { IfOk result (λ count. count ≤ length buffer.old) }
+        ensures read { WriteAppends (bytes_read (R.remaining self.old.began.value) (R.remaining self.old.reader))
+            (bytes_read (R.remaining self.new.began.value) (R.remaining self.new.reader)) result buffer.new }
+        ensures began { self.new.began ≡ self.old.began }
+        ensures end { IfOk result (λ count. count ≡ 0 → 0 < length buffer.old → IsAtEnd (R.remaining self.new.reader)) }
+    {
+        read_some(&mut self.reader, buffer)
+    }
+}
