@@ -1,5 +1,5 @@
 pub mod Acknowledged
 pub mod BooksText
-pub mod Ended
+pub mod Departed
 pub mod Serving
 pub mod Streams

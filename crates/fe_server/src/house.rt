@@ -7,12 +7,12 @@ ghost use Rattle.fe_hall.specs.Audits.{account_left};
 ghost use Rattle.fe_hall.specs.Receipts.{IsBorneOut};
 ghost use Rattle.fe_hall.specs.Seats.{first_read_seat, first_write_seat};
 ghost use Rattle.fe_hall.specs.declared.act.Act.TheVariants as act;
-ghost use Rattle.fe_server.specs.Ended.{IsClean};
+ghost use Rattle.fe_server.specs.Departed.{IsClean};
 ghost use Rattle.fe_server.specs.Serving.{HasNoted, IsBlankOf, fault_of_end};
 ghost use Rattle.fe_server.specs.declared.stop_fault.StopFault.TheVariants as fault;
 
 use crate::accepting::AllServed;
-use crate::ended::Ended;
+use crate::departed::Departed;
 use crate::entrance::Entrance;
 use crate::register::{Admission, Newcomer, Over, Register, Running};
 use crate::stop_fault::StopFault;
@@ -110,7 +110,7 @@ impl<C: Tally, M: Tally> Opened<C, M> {
         &self.house
     }
 
-    fn into_parts(self) -> (Hall<C, M>, Ended<C, M>, bool)
+    fn into_parts(self) -> (Hall<C, M>, Departed<C, M>, bool)
         ensures keeps { result.2 ≡ self.house.keeps }
     {
         let Opened { house, begun } = self;
@@ -123,7 +123,7 @@ impl<C: Tally, M: Tally> Opened<C, M> {
             keeps,
         } = house;
         drop(freed);
-        (hall, register.into_inner().into_ended(), keeps)
+        (hall, register.into_inner().into_departed(), keeps)
     }
 
     /// The account of the hall, whose committing side ended with a fault.
@@ -132,8 +132,8 @@ impl<C: Tally, M: Tally> Opened<C, M> {
         ensures leaves { (kept : Kept) × IsAccountOf seat kept.items kept.history result }
         ensures told { EachTold result.receipts result.history }
     {
-        let (hall, ended, _) = self.into_parts();
-        ended.account(hall, seat, over)
+        let (hall, departed, _) = self.into_parts();
+        departed.account(hall, seat, over)
     }
 
     /// Closes the hall with what is in the register. `state` is what is stored.
@@ -154,8 +154,8 @@ impl<C: Tally, M: Tally> Opened<C, M> {
         ensures faults { IfErr result (λ e. (e.0 ≡ fault.Memory) ⊎ (e.0 ≡ fault.Strange)) }
     {
         drop(over);
-        let (hall, ended, keeps) = self.into_parts();
-        ended.close(hall, seat, state, keeps)
+        let (hall, departed, keeps) = self.into_parts();
+        departed.close(hall, seat, state, keeps)
     }
 }
 
@@ -223,7 +223,7 @@ impl<C: Tally, M: Tally> House<C, M> {
         }
         self.register
             .lock(rt)
-            .ended
+            .departed
             .add_calls(seat, sent, self.keeps);
         end
     }
@@ -244,7 +244,7 @@ impl<C: Tally, M: Tally> House<C, M> {
         }
         self.register
             .lock(rt)
-            .ended
+            .departed
             .add_mails(seat, receipts, self.keeps);
     }
 
@@ -300,13 +300,13 @@ impl<C: Tally, M: Tally> House<C, M> {
 
     /// There is no memory for something that the closing needs, so the hall stops.
     pub(crate) fn fall_short<R: Wait>(&self, rt: &R) {
-        self.register.lock(rt).ended.short = true;
+        self.register.lock(rt).departed.short = true;
         self.hall.stop(rt);
     }
 
     /// A book of the hall is full, so the hall stops.
     fn spend<R: Wait>(&self, rt: &R) {
-        self.register.lock(rt).ended.spent = true;
+        self.register.lock(rt).departed.spent = true;
         self.hall.stop(rt);
     }
 }

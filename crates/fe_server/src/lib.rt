@@ -8,7 +8,7 @@ mod accepting;
 mod binding;
 mod books;
 mod connection;
-mod ended;
+mod departed;
 mod entrance;
 mod failed;
 mod house;

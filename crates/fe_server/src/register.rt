@@ -4,7 +4,7 @@ ghost use Rattle.std.specs.Prelude.{◌≡◌, ◌⊎◌, ◌+◌, ◌-◌, ◌�
 ghost use Rattle.fe_hall.specs.Seats.{first_read_seat, first_write_seat};
 ghost use Rattle.fe_server.specs.Serving.{fault_of_end};
 
-use crate::ended::Ended;
+use crate::departed::Departed;
 use crate::stop_fault::StopFault;
 use fe_hall::{CallSeat, CommitEnd, Gathered, MailSeat, Tally};
 use std::alloc::Global;
@@ -66,7 +66,7 @@ pub(crate) struct Register<C: Tally, M: Tally> {
     door: Option<UnixStream>,
     /// Nothing is stored any more.
     over: bool,
-    pub(crate) ended: Ended<C, M>,
+    pub(crate) departed: Departed<C, M>,
 }
 
 impl<C: Tally, M: Tally> Register<C, M> {
@@ -78,7 +78,7 @@ impl<C: Tally, M: Tally> Register<C, M> {
             sockets: Vec::new(alloc),
             door: Some(door),
             over: false,
-            ended: Ended::new(alloc, receipts),
+            departed: Departed::new(alloc, receipts),
         }
     }
 
@@ -178,8 +178,8 @@ impl<C: Tally, M: Tally> Register<C, M> {
     }
 
     /// What the connections did that have ended. Each newcomer was taken right after it was put, so none is dismissed here.
-    pub(crate) fn into_ended(self) -> Ended<C, M>
-        ensures { result ≡ self.ended }
+    pub(crate) fn into_departed(self) -> Departed<C, M>
+        ensures { result ≡ self.departed }
     {
         let Register {
             newcomers,
@@ -187,12 +187,12 @@ impl<C: Tally, M: Tally> Register<C, M> {
             sockets,
             door,
             over: _,
-            ended,
+            departed,
         } = self;
         dismiss(newcomers);
         drop(sockets);
         drop(door);
-        ended
+        departed
     }
 }
 

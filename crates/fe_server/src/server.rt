@@ -272,7 +272,8 @@ fn run<
         rt,
         move |scope| -> (Keeper<D>, Over, StoreSeat<M>)
             requires { (C.all ≡ C.parts) × (M.all ≡ M.parts) × (seat ≡ act.Began keeper.state.place ∷ []) }
-            ensures { HasNoted D.honest D.moment D.left_since D.may_leave D.failures keeper result.0 result.1.end result.2 }
+            ensures { HasNoted D.honest D.moment D.left_since D.may_leave D.failures keeper
+                result.0 result.1.end result.2 }
         {
             run_in(
                 rt, alloc, scope, house, entrance, settings, keeper, seat, gate,
@@ -313,7 +314,8 @@ fn run_in<
         promise,
         move || -> (Keeper<D>, Over, StoreSeat<M>)
             requires { seat ≡ act.Began keeper.state.place ∷ [] }
-            ensures { HasNoted D.honest D.moment D.left_since D.may_leave D.failures keeper result.0 result.1.end result.2 }
+            ensures { HasNoted D.honest D.moment D.left_since D.may_leave D.failures keeper
+                result.0 result.1.end result.2 }
         { house.commit(rt, keeper, seat) },
     );
     match committing {

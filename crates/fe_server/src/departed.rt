@@ -7,7 +7,7 @@ ghost use Rattle.fe_hall.specs.Audits.{IsAudit, account_left};
 ghost use Rattle.fe_hall.specs.Receipts.{IsBorneOut};
 ghost use Rattle.fe_hall.specs.Seats.{Seats as Totals};
 ghost use Rattle.fe_server.specs.declared.stop_fault.StopFault.TheVariants as fault;
-ghost use Rattle.fe_server.specs.Ended.{IsClean, joined_to, lacks};
+ghost use Rattle.fe_server.specs.Departed.{IsClean, joined_to, lacks};
 ghost use Rattle.fe_server.specs.Serving.{fault_of_end};
 
 use crate::register::Over;
@@ -22,7 +22,7 @@ use std::alloc::Global;
 
 /// What the connections did that have ended.
 #[derive(Drop)]
-pub(crate) struct Ended<C: Tally, M: Tally> {
+pub(crate) struct Departed<C: Tally, M: Tally> {
     /// Memory was short for something that the closing needs.
     pub(crate) short: bool,
     /// A book of the hall is full.
@@ -35,10 +35,10 @@ pub(crate) struct Ended<C: Tally, M: Tally> {
     receipts: Gathered<M>,
 }
 
-impl<C: Tally, M: Tally> Ended<C, M> {
+impl<C: Tally, M: Tally> Departed<C, M> {
     /// No connection has ended.
-    pub(crate) fn new(alloc: Global, receipts: Gathered<M>) -> Ended<C, M> {
-        Ended {
+    pub(crate) fn new(alloc: Global, receipts: Gathered<M>) -> Departed<C, M> {
+        Departed {
             short: false,
             spent: false,
             calls: None,
@@ -112,7 +112,7 @@ impl<C: Tally, M: Tally> Ended<C, M> {
         ensures leaves { IsAccountOf seat self.receipts.items self.receipts.history result }
         ensures told { EachTold result.receipts result.history }
     {
-        let Ended { receipts, .. } = self;
+        let Departed { receipts, .. } = self;
         let (receipts, history) = receipts.into_parts();
         account_of(hall, seat, receipts, history)
     }
@@ -154,7 +154,7 @@ impl<C: Tally, M: Tally> Ended<C, M> {
         if self.spent || self.calls.is_none() || self.mails.is_none() {
             return Err((StopFault::Strange, self.left(hall, seat)));
         }
-        let Ended {
+        let Departed {
             calls,
             mails,
             sent,
