@@ -268,7 +268,8 @@ impl<D: Disk> Journal<D> {
         // A stop at any moment of the call leaves the contents of before or those of the new slot.
         ensures any_moment { D.honest self.old.disk
             → (c : Contents) (d : Draft) → KeepsContents D.seen D.may_leave self.old c (Some d)
-            → LeavesOnly D.moment D.left_since self.old.disk self.new.disk (HoldsEither c (with_draft c d catch_up.now)) }
+            → LeavesOnly D.moment D.left_since self.old.disk self.new.disk
+            (HoldsEither c (with_draft c d catch_up.now)) }
         ensures finished { D.honest self.old.disk
             → (c : Contents) (d : Draft) → KeepsContents D.seen D.may_leave self.old c (Some d)
             → OnOk result (KeepsContents D.seen D.may_leave self.new (with_draft c d catch_up.now) None) }
