@@ -21,7 +21,7 @@ use Rattle.fe_hall.specs.declared.taking.Taking.TheVariants as taking
 use Rattle.fe_hall.specs.declared.brief.Brief.{Brief}
 use Rattle.fe_hall.specs.Briefs.{brief_of, last_of}
 use Rattle.fe_hall.specs.Seats.{WriteSeat, TookNoMail, mail_taken, taking_answered}
-use Rattle.fe_hall.specs.Writes.{receipt_of, receipts_with, IsBatch, BreaksOff, MayLackLast, IsWritten, AreTaken, TakesOn, IsNoFault, IsTold, AreSpelled, end_of}
+use Rattle.fe_hall.specs.Writes.{receipt_of, receipts_with, IsBatch, BreaksOff, MayLackLast, IsWritten, AreTaken, TakesOn, IsNoFault, IsTold, AreSpelled, end_for}
 
 -- ---- lists
 
@@ -111,7 +111,7 @@ pub record EndsSo (s t : WriteSeat) (end : WriteEnd) : Type 0 where
   pub fine : IsNoFault end
   pub told : IsTold end t.standing
 
-pub answered_end : (s t : WriteSeat) (given : Taking) (end : WriteEnd) → t ≡ taking_answered s given → end_of given ≡ Some end → EndsSo s t end
+pub answered_end : (s t : WriteSeat) (given : Taking) (end : WriteEnd) → t ≡ taking_answered s given → end_for given ≡ Some end → EndsSo s t end
 answered_end s t (taking.Mail m more) end answered is = absurd (none-some end is)
 answered_end s t taking.Gone end answered is =
     subst (λ (e : WriteEnd). EndsSo s t e) (same_Some _ _ is) (record { none = none_at s t standing.Gone answered; fine = tt; told = ap (λ (u : WriteSeat). u.standing) answered })

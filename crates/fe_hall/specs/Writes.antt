@@ -81,11 +81,11 @@ IsTold NoMemory s = Unit {0}
 -- ---- on the way
 
 -- why a side ends with this outcome of a look into its box
-abbrev pub end_of : Taking → Option WriteEnd
-end_of (taking.Mail mail more) = None
-end_of taking.Gone = Some Gone
-end_of taking.Stopped = Some Stopped
-end_of taking.Spent = Some Spent
+abbrev pub end_for : Taking → Option WriteEnd
+end_for (taking.Mail mail more) = None
+end_for taking.Gone = Some Gone
+end_for taking.Stopped = Some Stopped
+end_for taking.Spent = Some Spent
 
 -- the receipts of a side, with those of mails that it took next
 abbrev pub receipts_with : List Receipt → List Mail → List Receipt

@@ -40,7 +40,8 @@ impl<M: Tally> Gathered<M> {
 
     /// Adds the receipts of another side of the same hall. Where there is no memory it is not whole any more.
     pub fn add(&mut self, other: Receipts<M>) -> Result<(), AllocError>
-        ensures ok { OnOk result ((self.new.items ≡ self.old.items ++ other.items) × (self.new.whole ≡ self.old.whole)) }
+        ensures ok { OnOk result
+            ((self.new.items ≡ self.old.items ++ other.items) × (self.new.whole ≡ self.old.whole)) }
         ensures err { OnErr result ((self.new.items ≡ self.old.items) × (self.new.whole ≡ false)) }
         ensures this { IsPrefix self.old.history self.new.history }
         ensures that { IsPrefix other.history self.new.history }

@@ -3,7 +3,7 @@
 ghost use Rattle.std.specs.Prelude.{◌≡◌, ◌≢◌, ◌⊎◌, true, Some, ◌<◌, ◌≤◌, ◌∷◌, ◌++◌, [], ℕ, List, length, take, vec_len, vec_capacity, OnOk, OnErr, IfOk, IfErr, IfNone, IfSome, MatchOption};
 ghost use Rattle.fe_mail.specs.declared.mail.Mail.{Mail as Told};
 ghost use Rattle.fe_messages.specs.Mails.{spelled};
-ghost use Rattle.fe_hall.specs.Writes.{AreTaken, IsWritten, IsTold, TakesOn, IsBatch, AreSpelled, end_of, receipts_with};
+ghost use Rattle.fe_hall.specs.Writes.{AreTaken, IsWritten, IsTold, TakesOn, IsBatch, AreSpelled, end_for, receipts_with};
 ghost use mathlib.Core.List.{IsPrefix};
 ghost use Rattle.fe_hall.specs.Acts.{AreTold};
 ghost use Rattle.fe_hall.specs.Seats.{TookNoMail};
@@ -223,7 +223,7 @@ impl<M: Tally> Writing<M> {
 /// The mail that was taken, and whether more are in the box; or why the side ends.
 fn mail_in(taking: Taking) -> Result<(Mail, bool), WriteEnd>
     ensures mail { IfOk result (λ taken. taking ≡ Taken.Mail taken.0 taken.1) }
-    ensures end { IfErr result (λ end. end_of taking ≡ Some end) }
+    ensures end { IfErr result (λ end. end_for taking ≡ Some end) }
 {
     match taking {
         Taking::Mail { mail, more } => Ok((mail, more)),
