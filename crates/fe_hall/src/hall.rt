@@ -39,7 +39,7 @@ pub struct Hall<C: Tally, M: Tally> {
     begun: History<M>,
     /// Rung when entries are pending, and when the hall is stopped.
     work: Condvar,
-    /// Rung when there is room for an event again, and when the hall is stopped.
+    /// Rung when there is room for an event again, since the pending entries were cut, and when the hall is stopped.
     room: Condvar,
     /// Rung for the sides of a connection, by its number's remainder.
     bells: Vec<Condvar>,
@@ -242,12 +242,14 @@ impl<C: Tally, M: Tally> Hall<C, M> {
         }
     }
 
-    /// Waits for entries and cuts them, or says that the hall is stopped and nothing is left to store.
+    /// Waits for entries and cuts them, or says that the hall is stopped and nothing is left to store. A cut makes room for events.
     pub(crate) fn next_batch<R: Wait>(&self, rt: &R) -> Cutting {
         let mut grip = Grip::none();
         let mut hold = self.lock.enter(rt);
         for _ in rt.forever() {
             if let Some(cutting) = hold.cut() {
+                hold.end();
+                self.room.notify_all();
                 return cutting;
             }
             hold = hold.wait(rt, &self.work, &mut grip);
@@ -272,7 +274,6 @@ impl<C: Tally, M: Tally> Hall<C, M> {
         let outcome = hold.post(batch, keeper, seat, &mut wakes);
         hold.mark_watched(&mut wakes);
         hold.end();
-        self.room.notify_all();
         for at in 0..self.bells.len() {
             if wakes[at] {
                 self.bells[at].notify_all();
