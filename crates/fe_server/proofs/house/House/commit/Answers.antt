@@ -1,4 +1,4 @@
-use Rattle.std.proofs.Common.{Some, List, subst, sym}
+use Rattle.std.proofs.Common.{Some, List, subst, sym, ◌∙◌}
 use Rattle.fe_hall.specs.Commits.{AreNoted}
 use Rattle.fe_hall.specs.declared.act.Act.{Act}
 use Rattle.fe_hall.specs.declared.commit_end.CommitEnd.{CommitEnd}
@@ -7,12 +7,12 @@ use Rattle.fe_server.proofs.house.House.commit.Goals as goal
 
 pub returns : goal.returns
 returns g c =
-    let e = c.commit_side-end.ensures in
-    let keeper = c.commit_side-end.new.keeper in
-    let seat = c.commit_side-end.new.seat in
+    let e = c.commit_side.ensures in
+    let keeper = c.commit_side.new.keeper in
+    let seat = c.commit_side.new.seat in
     subst
     (λ (end : CommitEnd). HasNoted g.D.Disk.honest g.D.Disk.moment g.D.Disk.left_since g.D.Disk.may_leave g.D.Disk.failures c.args.keeper keeper end seat)
-    (sym c.end-over.ensures) (
+    (sym (c.end-over.ensures ∙ c.end-end.ensures)) (
       record { commits = e.commits.0; stands = e.stands; tells = e.tells; honesty = e.honesty },
-      subst (λ (h : List Act). AreNoted g.D.Disk.moment e.commits.0.appends (Some c.commit_side-end.result) h seat) c.requires e.commits.1,
+      subst (λ (h : List Act). AreNoted g.D.Disk.moment e.commits.0.appends (Some c.commit_side.result) h seat) c.requires e.commits.1,
     )
