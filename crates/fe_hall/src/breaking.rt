@@ -8,7 +8,7 @@ use crate::store_seat::Unnoted;
 use fe_keeper::Fault;
 use std::marker::Model;
 
-/// Why the committing side goes no further. Only what the side met makes one. Contracts see the end that comes of it.
+/// Why the committing side goes no further: a value that shows it, or a fault. Contracts see the end that comes of it.
 #[derive(Drop)]
 pub(crate) struct Break {
     end: CommitEnd,
