@@ -15,7 +15,7 @@ DATA := femem-data
 help: ## lists the targets
 	@awk -F ':.*## ' '/^[a-z-]+:.*## / { printf "make %-15s %s\n", $$1, $$2 }' $(MAKEFILE_LIST)
 
-run: toolchain ## try it: builds femem without proving it, and runs the schedule examples/first_path.txt (4 minutes)
+run: toolchain ## try it: builds femem without proving it, and runs the schedule examples/first_path.txt (2 minutes)
 	@$(MAKE) -s $(UNPROVED) || $(MAKE) -s $(PROVED)
 	@[ ! -x $(UNPROVED) ] || echo "this build is unproved: 'make prove' proves this very source, 'make test' is the gate"
 	@echo "$(SCHEDULE):"
@@ -47,7 +47,7 @@ man: ## makes the man pages in out/man from the documents in docs/
 	@ls out/man/*
 
 $(UNPROVED): $(SOURCES) scripts/quick | toolchain
-	@echo "builds femem without proving it, which takes about four minutes"
+	@echo "builds femem without proving it, which takes about two minutes"
 	@scripts/quick
 
 $(PROVED): $(SOURCES) | toolchain

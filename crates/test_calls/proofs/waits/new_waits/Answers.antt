@@ -2,7 +2,7 @@ use Rattle.std.proofs.Common.{ℕ, arith}
 use Rattle.std.specs.Ordering.{nat_cmp}
 use Rattle.std.specs.FinMap.{get-empty, len-empty}
 use Rattle.fe_waits.proofs.WordLemmas.{get-insert_here}
-use Rattle.test_front.proofs.waits.new_waits.Goals as goal
+use Rattle.test_calls.proofs.waits.new_waits.Goals as goal
 
 pub add_array-requires-clause-new : goal.add_array-requires-clause-new
 add_array-requires-clause-new c = rw c.in_ok-waits.ensures.arrays (get-empty nat_cmp 1)

@@ -1,7 +1,7 @@
 //! A desk where memory ends. The tests whose names end so are run again and again with the first allocation refused, then
 //! the second, and so on (`scripts/refuse_test`), and once with memory enough.
 
-use crate::files::DEVICE_BYTES;
+use crate::disk::DEVICE_BYTES;
 use crate::messages::{Said, first_frame, put_said, put_told};
 use crate::paths::{BROADCAST, FIRST, LARGEST, Path, REMOVAL};
 use fe_desk::{Desk, DeskFault, Step};

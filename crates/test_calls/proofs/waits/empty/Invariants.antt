@@ -1,6 +1,6 @@
 use Rattle.std.proofs.Common.{◌≡◌, Some}
 use Rattle.std.specs.FinMap as map
-use Rattle.test_front.proofs.waits.empty.Given as goal
+use Rattle.test_calls.proofs.waits.empty.Given as goal
 
 abbrev pub invariant-loop-slot : goal.invariant-loop-slot
 invariant-loop-slot g l = map.get l.waits.arrays 1 ≡ Some 8

@@ -1,13 +1,11 @@
 //! Formatting and opening when memory runs out: the disk is returned, and a second try with memory succeeds. `rt try
 //! --test --fail-alloc N`, for N from 1 on, refuses the Nth allocation. Without a refusal the first try must succeed.
+use crate::disk::DEVICE_BYTES;
 use fe_disk::{Disk, MemoryDisk};
 use fe_journal::{Found, Journal, StoreFault};
 use std::alloc::Global;
 use std::process::Abort;
 use std::test::Fail;
-
-/// The size of a store's device, in bytes.
-const DEVICE_BYTES: usize = 4_202_496;
 
 /// The image of the first state (`docs/formats.md`, "Image").
 const EMPTY: [u8; 24] = [

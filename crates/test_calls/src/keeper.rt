@@ -1,7 +1,7 @@
-//! A keeper where memory ends, as in `refused`: what is refused leaves the state, gives disk and batch back, and is done when
+//! A keeper where memory ends, as in `desk`: what is refused leaves the state, gives disk and batch back, and is done when
 //! it is asked again.
 
-use crate::refused::new_liar;
+use crate::desk::new_liar;
 use fe_disk::Liar;
 use fe_keeper::{Fault, Keeper};
 use fe_state::{Answer, BATCH_ENTRIES, Batch, Entry, Name, Request};
