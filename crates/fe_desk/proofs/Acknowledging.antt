@@ -1,6 +1,6 @@
 -- At every point of a run, the mails in boxes and those that were written are on the groups that were stored.
 use Rattle.std.proofs.Common.{◌≡◌, inl, inr, ℕ, ◌+◌, ◌<◌, ◌≤◌, Bool, true, false, true≢false, List, [], ◌∷◌, ◌++◌, append-nil, append_assoc, length, Option, Some, None, refl, sym, ap, subst, ◌∙◌, arith}
-use Rattle.std.specs.Prelude.{nat_eq, is_some, if◌then◌else◌, ◌||◌, MatchBool, IfSome}
+use Rattle.std.specs.Prelude.{nat_eq, is_some, if◌then◌else◌, ◌||◌, Contains, MatchBool, IfSome}
 use Rattle.std.specs.List.{AllByRecursion}
 use Rattle.std.specs.Option.{option_map, option_map_or}
 use Rattle.std.specs.Ordering.{nat_cmp}
@@ -27,7 +27,10 @@ use Rattle.fe_front.specs.Steps.{has_no_cut}
 use Rattle.fe_front.specs.Posting as posting
 use Rattle.fe_front.proofs.Keeping.{posted_all-keeps, dropped-keeps}
 use Rattle.fe_front.proofs.Coming.{posted-stays, dropped-stays}
+use Rattle.fe_messages.specs.Answers.{IsFinishedAt, AreAnswered}
 use Rattle.fe_messages.specs.Mails.{reply_of}
+use Rattle.fe_messages.proofs.Answers.{KeepsBelow, answered-append, answered-split, finished_more, keeps_below, kept_stands}
+use Rattle.fe_messages.proofs.Boxes.{AllIn, all_append, all_weaker, boxes-connected, boxes-dropped, boxes-posted_all}
 use Rattle.fe_desk.specs.declared.handed.Handed.{Handed}
 use Rattle.fe_desk.specs.declared.handed.Handed.TheVariants.{Nothing, Cut, Stored}
 use Rattle.fe_desk.specs.declared.step.Step.{Step}
@@ -36,15 +39,13 @@ use Rattle.fe_desk.specs.Standing.{Client, Standing, IsFirstStanding}
 use Rattle.fe_desk.specs.Storing.{handed_after, cut, stored, stored_from, posted, posted_from, cleared, committed, made, is_making, with_room, begun_room, roomy}
 use Rattle.fe_desk.specs.Steps.{find, on_client, new_client, clients_with, with_left, with_decoder, Connects, gone, after_frame, TakesPiece, TakesFrom, TakesBytes, Reads, Acts}
 use Rattle.fe_desk.specs.Taking.{TakesOne, TakesAll}
-use Rattle.fe_desk.specs.Acknowledged.{IsAmong, IsFinishedAt, StandsOn, AreAnswered, IsLast, IsOnItsWay, AsksFor, entries_of, cut_entries, made_entries}
+use Rattle.fe_desk.specs.Acknowledged.{IsAmong, StandsOn, IsLast, IsOnItsWay, AsksFor, entries_of, cut_entries, made_entries}
 use Rattle.fe_desk.specs.Stopping.{MayBegin, StopsMaking, TakesFirst, StopsBefore, StopsUnread, StopsBehind}
 use Rattle.fe_desk.specs.Messages.{left_of, read_by}
 use Rattle.fe_desk.proofs.Emptying.{same_number}
-use Rattle.fe_desk.proofs.Recorded.{kept_of}
-use Rattle.fe_desk.proofs.Boxes.{AllIn, all_append, all_weaker, boxes-connected, boxes-dropped, boxes-posted_all}
-use Rattle.fe_desk.proofs.Answered.{among_more, answered-append, answered-split, finished_more, kept_stands, posts_stand}
+use Rattle.fe_desk.proofs.Answered.{among_more, posts_stand}
 use Rattle.fe_desk.proofs.Messaging.{Makes, KeptStand, StandsTo, message_made, message_stands}
-use Rattle.fe_desk.proofs.Seated.{HasOnly, has_lost, times_lose, connected_loses, dropped_loses, posted_loses, message_has, first_has, none_some, some_same}
+use Rattle.fe_desk.proofs.Seated.{HasOnly, has_lost, times_lose, connected_loses, dropped_loses, posted_loses, posted_entry_loses, message_has, first_has, none_some, some_same}
 use Rattle.fe_desk.proofs.Holding.{Tells, AllTell, Holds, HoldsAt, Remains, way_remains, remains_hold, first_of}
 
 -- ---- a batch is cut
@@ -179,7 +180,8 @@ posted_front begun asked f cs batch groups h =
       state = keeps.state ∙ h.state ∙ ap (λ (es : List Entry). after_all begun es) same;
       answered = subst (λ (es : List Entry). AreAnswered begun es) same h.answered;
       way = mark_moves begun groups f batch last;
-      boxes = boxes-posted_all (StandsTo begun groups asked) asked f batch.entries batch.first
+      boxes = boxes-posted_all (StandsTo begun groups asked) (λ conn session. Contains (asked conn) session) (HasOnly asked) (λ f has. λ session conn is. has.holders session conn is)
+          (λ f e place has. has_lost asked f (posting.posted_entry f e place) (posted_entry_loses f e place) has) f batch.entries batch.first
           (posts_stand begun asked groups (entries_of last.before) batch.entries [] batch.first answered (ends_with begun groups f batch last) (last.first ∙ last.mark)) h.has h.boxes;
       tell = h.tell;
       has = has_lost asked f g (posted_loses f batch) h.has;
@@ -301,17 +303,6 @@ gone_holds begun asked s conn h = by (is_making s conn)
 
 -- ---- messages are taken
 
--- what is kept of a state is at a place before it
-abbrev pub KeepsBelow : ServerState → Type 0
-KeepsBelow begun = (session number : ℕ) (k : Kept) → kept_of begun session number ≡ Some k → k.place < begun.place
-
-pub keeps_below : (begun : ServerState) → IsWithinLimits begun → KeepsBelow begun
-keeps_below begun limits session number k = by (get begun.sessions session) refl
-  where
-    by : (o : Option Session) → get begun.sessions session ≡ o → kept_in o number ≡ Some k → k.place < begun.place
-    by None is kept = cc
-    by (Some x) is kept = ((limits.each session x is).kept number k kept).1
-
 module _ (begun : ServerState) (asked : ℕ → List ℕ) (below : KeepsBelow begun) where
   mark_within : (groups : List (List Entry)) (f : FrontState) (handed : Handed) → IsOnItsWay begun groups f handed → f.durable ≤ begun.place + length (entries_of groups)
   mark_within groups f Nothing way = omega (arith, way)
@@ -324,7 +315,7 @@ module _ (begun : ServerState) (asked : ℕ → List ℕ) (below : KeepsBelow be
   kept_stand : (f : FrontState) (cs : List Client) (handed : Handed) (groups : List (List Entry)) → Holds begun asked f cs handed groups → KeptStand begun groups asked f
   kept_stand f cs handed groups h session number k kept durable =
       let most = mark_within groups f handed h.way in
-      kept_stands begun groups (cut_entries handed ++ f.service.pending) session number k h.answered (below session number)
+      kept_stands begun (entries_of groups) (cut_entries handed ++ f.service.pending) session number k h.answered (below session number)
       (sym (ap (λ (s : ServerState). kept_in (get s.sessions session) number) h.state) ∙ kept) (omega (arith, most, durable))
 
   made_holds : (f g : FrontState) (es : List Entry) (cs : List Client) (handed : Handed) (groups : List (List Entry)) → Makes f es g → AllIn (StandsTo begun groups asked) g.connections → HasOnly asked g

@@ -16,8 +16,9 @@ use Rattle.fe_desk.specs.Ends.{Tears, BreaksOff, Lacks, Breaks, discharged_desk}
 use Rattle.fe_desk.specs.Standing.{Client, Standing, IsFirstStanding, emptied, discharged}
 use Rattle.fe_desk.specs.Taken.{Ends, IsStep}
 use Rattle.fe_desk.proofs.Holding.{AllTell, Tells, Holds, HoldsAt, some_holds, emptied_holds, discharged_holds}
-use Rattle.fe_desk.proofs.Acknowledging.{StepAsks, KeepsBelow, keeps_below, acts_hold, before_holds, unread_holds, behind_holds, first_holds}
-use Rattle.fe_desk.proofs.Boxes.{all_weaker}
+use Rattle.fe_messages.proofs.Answers.{KeepsBelow, keeps_below}
+use Rattle.fe_desk.proofs.Acknowledging.{StepAsks, acts_hold, before_holds, unread_holds, behind_holds, first_holds}
+use Rattle.fe_messages.proofs.Boxes.{all_weaker}
 use Rattle.fe_desk.proofs.Feeding.{discharged_reads}
 
 all_written : (begun : ServerState) (groups : List (List Entry)) (asked : ℕ → List ℕ) (cs : List Client) → AllTell begun groups asked cs → AllByRecursion (IsWritten begun groups asked) cs

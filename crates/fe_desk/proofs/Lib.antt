@@ -22,9 +22,7 @@ pub mod Untouched
 pub mod Growing
 pub mod Stops
 pub mod Ending
-pub mod Recorded
 pub mod Seated
-pub mod Boxes
 pub mod Answered
 pub mod Messaging
 pub mod Holding

@@ -14,19 +14,21 @@ use Rattle.fe_state.proofs.Spent.{legal-flat, finishes_once}
 use Rattle.fe_service.proofs.Turns.{after_append, turns_place}
 use Rattle.fe_mail.specs.declared.mail.Mail.{Mail}
 use Rattle.fe_mail.specs.declared.mail.Mail.TheVariants as mail
+use Rattle.fe_messages.specs.Answers.{IsFinishedAt, IsKeptSince, AreAnswered}
 use Rattle.fe_messages.specs.Mails.{reply_of}
+use Rattle.fe_messages.proofs.Recorded.{kept_of, kept_after}
+use Rattle.fe_messages.proofs.Answers.{KeepsBelow, finished_at, finished_more, keeps_below, legal_answered}
+use Rattle.fe_messages.proofs.Boxes.{all_weaker}
 use Rattle.fe_wire.specs.declared.server_message.ServerMessage.{ServerMessage}
 use Rattle.fe_keeper.specs.Laws.{StandsForOne}
-use Rattle.fe_desk.specs.Acknowledged.{IsAmong, IsFinishedAt, IsKeptSince, StandsOn, IsWritten, AreAnswered, IsAcknowledged, entries_of, stored_groups}
+use Rattle.fe_desk.specs.Acknowledged.{IsAmong, StandsOn, IsWritten, IsAcknowledged, entries_of, stored_groups}
 use Rattle.fe_desk.specs.Crash.{DeskState}
 use Rattle.fe_desk.specs.Laws.{Life, AreLives, kept_groups}
 use Rattle.fe_desk.specs.Lives.{Stop, all_groups, handed_by, stored_by, IsStopOf, AreStops, FinishOnceIn, WrittenStand, AreOneStore, StopsAreLives}
 use Rattle.fe_desk.specs.Standing.{Standing}
-use Rattle.fe_desk.proofs.Acknowledging.{KeepsBelow, entries-append, keeps_below, stands_behind}
-use Rattle.fe_desk.proofs.Answered.{among_behind, finished_at, finished_more}
-use Rattle.fe_desk.proofs.Boxes.{all_weaker}
+use Rattle.fe_desk.proofs.Acknowledging.{entries-append, stands_behind}
+use Rattle.fe_desk.proofs.Answered.{among_behind}
 use Rattle.fe_desk.proofs.Lives.{lives_join}
-use Rattle.fe_desk.proofs.Recorded.{kept_of, kept_after}
 
 -- ---- groups and their entries
 
@@ -36,10 +38,6 @@ after_entries s (group ∷ groups) = after_entries (after_all s group) groups �
 
 place_after : (s : ServerState) (groups : List (List Entry)) → (after_groups s groups).place ≡ s.place + length (entries_of groups)
 place_after s groups = ap (λ (x : ServerState). x.place) (after_entries s groups) ∙ turns_place s (entries_of groups)
-
-legal_answered : (s : ServerState) (es : List Entry) → AreLegal s es → AreAnswered s es
-legal_answered s [] legal = tt
-legal_answered s (e ∷ es) legal = (legal.0.answered, legal_answered (after s e) es legal.1)
 
 history_answered : (s : ServerState) (groups : List (List Entry)) → IsHistory s groups → AreAnswered s (entries_of groups)
 history_answered s groups history = legal_answered s (entries_of groups) (legal-flat s groups history)

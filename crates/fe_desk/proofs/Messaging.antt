@@ -25,11 +25,13 @@ use Rattle.fe_front.specs.declared.outcome.Outcome.{Outcome}
 use Rattle.fe_front.specs.declared.outcome.Outcome.TheVariants as outcome
 use Rattle.fe_front.proofs.Keeping.{Keeps, itself, both, released-keeps, freed-keeps, mailed-keeps}
 use Rattle.fe_front.proofs.Coming.{mailed-stays, cancelled-stays, repeated-stays, released-stays, freed-stays}
+use Rattle.fe_messages.specs.Answers.{IsAnswerIn, AreAnswered}
 use Rattle.fe_messages.specs.Taking.{Takes}
-use Rattle.fe_desk.specs.Acknowledged.{StandsOn, IsKeptSince, IsFinishedAt, AreAnswered, entries_of}
+use Rattle.fe_messages.proofs.Boxes.{AllIn}
+use Rattle.fe_messages.proofs.Boxing.{again, sent_again, message_boxes}
+use Rattle.fe_desk.specs.Acknowledged.{StandsOn, entries_of}
 use Rattle.fe_desk.proofs.Answered.{turns_answered}
 use Rattle.fe_desk.proofs.Seated.{HasOnly, addressed_has}
-use Rattle.fe_desk.proofs.Boxes.{AllIn, boxes-mailed, boxes-attached}
 
 -- entries were made: they are answered, lead to the state now, and are pending after the others
 pub record Makes (f : FrontState) (es : List Entry) (g : FrontState) : Type 0 where
@@ -113,14 +115,6 @@ chosen : (f g : FrontState) (b : Bool) → Keeps f g → Keeps f (if b then g el
 chosen f g true keeps = keeps
 chosen f g false keeps = itself f
 
--- the front where a repeated call is booked
-abbrev again : FrontState → FrontState
-again f = record f { books = call_repeated f.books }
-
--- and the answer that is kept is mailed, if its entry is durable
-abbrev sent_again : FrontState → ℕ → ℕ → ℕ → Kept → FrontState
-sent_again f conn session number k = if nat_lt k.place f.durable then mailed (again f) conn (mail.Answer session number k.answer k.place) else again f
-
 repeated-keeps : (f : FrontState) (conn session number : ℕ) → Keeps f (repeated f conn session number)
 repeated-keeps f conn session number = both f (again f) (repeated f conn session number) (record { state = refl; durable = refl; out = refl }) (by (kept_at f session number))
   where
@@ -179,45 +173,9 @@ module _ (begun : ServerState) (groups : List (List Entry)) (asked : ℕ → Lis
   -- and so does each answer that is kept and durable
   abbrev pub KeptStand : FrontState → Type 0
   KeptStand f = (session number : ℕ) (k : Kept) → kept_at f session number ≡ Some k → k.place < f.durable
-      → IsKeptSince begun session number k.answer k.place ⊎ IsFinishedAt begun (entries_of groups) session number k.answer k.place
-
-  at_front : (f g : FrontState) → g ≡ f → Stand f → Stand g
-  at_front f g is all = subst (λ (x : FrontState). Stand x) (sym is) all
-
-  stand_mailed : (f g : FrontState) (conn : ℕ) (m : Mail) → g ≡ mailed f conn m → StandsTo conn m → Stand f → Stand g
-  stand_mailed f g conn m is such all = at_front (mailed f conn m) g is (boxes-mailed StandsTo f conn m such all)
-
-  stand_repeated : (f : FrontState) (conn session number : ℕ) → Contains (asked conn) session → KeptStand f → Stand f → Stand (repeated f conn session number)
-  stand_repeated f conn session number may kept all = by (kept_at f session number) refl
-    where
-      sent : (k : Kept) → kept_at f session number ≡ Some k → (b : Bool) → nat_lt k.place f.durable ≡ b
-          → Stand (if b then mailed (again f) conn (mail.Answer session number k.answer k.place) else again f)
-      sent k is true below = boxes-mailed StandsTo (again f) conn (mail.Answer session number k.answer k.place) (may, kept session number k is (ltb-true k.place f.durable below)) all
-      sent k is false below = all
-
-      by : (o : Option Kept) → kept_at f session number ≡ o → Stand (option_map_or (sent_again f conn session number) o (again f))
-      by None is = all
-      by (Some k) is = sent k is (nat_lt k.place f.durable) refl
-
-  stand_called : (f g : FrontState) (conn session number : ℕ) (request : Request) (o : Outcome) (es : List Entry) → Contains (asked conn) session → KeptStand f → Called f conn session number request o es g → Stand f
-      → Stand g
-  stand_called f g conn session number request (outcome.Completed n) es may kept r all = at_front _ g r.rest all
-  stand_called f g conn session number request outcome.Waits es may kept r all = at_front _ g r.rest all
-  stand_called f g conn session number request outcome.AlreadyWaiting es may kept r all = at_front (repeated f conn session number) g r.rest (stand_repeated f conn session number may kept all)
-  stand_called f g conn session number request outcome.SentAgain es may kept r all = at_front (repeated f conn session number) g r.rest (stand_repeated f conn session number may kept all)
-  stand_called f g conn session number request outcome.NotYetSynced es may kept r all = at_front (repeated f conn session number) g r.rest (stand_repeated f conn session number may kept all)
+      → IsAnswerIn begun (entries_of groups) session number k.answer k.place
 
   pub message_stands : (f g : FrontState) (conn : ℕ) (m : ClientMessage) (es : List Entry) → HasOnly asked f → KeptStand f → Takes f conn m es g → Stand f → Stand g
-  message_stands f g conn (message.Attach session) es has kept (inl step) all = at_front (attached_to f conn session) g step.1.front (boxes-attached StandsTo f conn session all)
-  message_stands f g conn (message.Attach session) es has kept (inr (r, why, refused)) all = stand_mailed f g conn (mail.Refused session r) refused.front tt all
-  message_stands f g conn (message.Call number request) es has kept (inl (o, step)) all =
-      stand_called f g conn step.0 number request o es (has.sessions conn step.0 (addressed_has f conn number step.0 step.1)) kept step.2 all
-  message_stands f g conn (message.Call number request) es has kept (inr (r, why, refused)) all = stand_mailed (call_refused_by f) g conn (mail.Refused number r) refused.front tt all
-  message_stands f g conn (message.Cancel number) es has kept (inl step) all = stand_mailed (cancelled_from f step.0 number) g conn (mail.Withdrawn number) step.2.front tt all
-  message_stands f g conn (message.Cancel number) es has kept (inr (r, why, refused)) all = stand_mailed f g conn (mail.Refused number r) refused.front tt all
-  message_stands f g conn (message.Settle floor) es has kept (inl step) all = at_front (settled_to f step.0 floor) g step.2.front all
-  message_stands f g conn (message.Settle floor) es has kept (inr (r, why, refused)) all = stand_mailed f g conn (mail.Refused floor r) refused.front tt all
-  message_stands f g conn message.Bye es has kept (inl step) all = at_front (closed_by f step.0) g step.2.front all
-  message_stands f g conn message.Bye es has kept (inr (r, why, refused)) all = stand_mailed f g conn (mail.Refused 0 r) refused.front tt all
-  message_stands f g conn message.Report es has kept (inl step) all = stand_mailed f g conn _ step.1.front tt all
-  message_stands f g conn message.Report es has kept (inr refused) all = stand_mailed f g conn _ refused.front tt all
+  message_stands f g conn m es has kept takes all =
+      message_boxes StandsTo (λ conn number r. tt) (λ conn number. tt) (λ conn text. tt) f conn
+      (λ session number k to is below. (has.sessions conn session (addressed_has f conn number session to), kept session number k is below)) g m es takes all

@@ -17,6 +17,7 @@ use Rattle.fe_wire.specs.Stream.{Decoding}
 use Rattle.fe_wire.specs.declared.client_message.ClientMessage.{ClientMessage}
 use Rattle.fe_wire.specs.declared.client_message.ClientMessage.TheVariants as message
 use Rattle.fe_front.specs.Front.{FrontState}
+use Rattle.fe_messages.specs.Answers.{IsAnswerIn, AreAnswered}
 use Rattle.fe_messages.specs.Mails.{reply_of, spelled}
 use Rattle.fe_desk.specs.declared.fault.DeskFault.{DeskFault}
 use Rattle.fe_desk.specs.declared.handed.Handed.{Handed}
@@ -39,28 +40,13 @@ pub record IsAmong (es : List Entry) (e : Entry) : Type 0 where
   pub behind : List Entry
   pub entries : es ≡ before ++ e ∷ behind
 
--- The answer is that of the entry at the place: its number's own, and the operation table's in the state before it.
-pub record IsFinishedAt (begun : ServerState) (es : List Entry) (session number : ℕ) (answer : Answer) (place : ℕ) : Type 0 where
-  pub before : List Entry
-  pub request : Request
-  pub behind : List Entry
-  pub entries : es ≡ before ++ Finished session number request answer ∷ behind
-  pub at : place ≡ begun.place + length before
-  pub replied : reply (after_all begun before) request ≡ Some answer
-
--- The answer was kept for the number, with its place, when the state was opened.
-pub record IsKeptSince (begun : ServerState) (session number : ℕ) (answer : Answer) (place : ℕ) : Type 0 where
-  pub request : Request
-  pub kept : kept_in (get begun.sessions session) number ≡ Some (record { request = request; answer = answer; place = place })
-  pub earlier : place < begun.place
-
 -- What a mail to a connection tells of the history is in the groups that were stored, and of a session that the connection asked
 -- for: the entry of the session, or an answer with its place, where that was not kept already. A refusal, a withdrawal and a
 -- report tell nothing of it.
 abbrev pub StandsOn : ServerState → List (List Entry) → List ℕ → Mail → Type 0
 StandsOn begun groups asked (mail.Welcome session floor) = Contains asked session × IsAmong (entries_of groups) (Attached session floor)
 StandsOn begun groups asked (mail.Answer session number answer place) =
-    Contains asked session × (IsKeptSince begun session number answer place ⊎ IsFinishedAt begun (entries_of groups) session number answer place)
+    Contains asked session × IsAnswerIn begun (entries_of groups) session number answer place
 StandsOn begun groups asked (mail.Refused number refusal) = Unit {0}
 StandsOn begun groups asked (mail.Withdrawn number) = Unit {0}
 StandsOn begun groups asked (mail.Settled floor) = (session : ℕ) × Contains asked session × IsAmong (entries_of groups) (Settled session floor)
@@ -102,11 +88,6 @@ StepAsksFor asked d (step.Bytes conn piece) = (before after : Decoding) (more : 
 StepAsksFor asked d other = Unit {0}
 
 -- ---- what each step keeps
-
--- each entry that finishes a request has the table's reply to it in the state before
-abbrev pub AreAnswered : ServerState → List Entry → Type 0
-AreAnswered s [] = Unit {0}
-AreAnswered s (e ∷ es) = IsAnswered (directory_of s) e × AreAnswered (after s e) es
 
 -- the entries that are made and not stored: those of a batch that is cut, then those that are pending
 abbrev pub cut_entries : Handed → List Entry

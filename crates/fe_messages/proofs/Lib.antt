@@ -1,1 +1,5 @@
 pub mod Entering
+pub mod Recorded
+pub mod Answers
+pub mod Boxes
+pub mod Boxing

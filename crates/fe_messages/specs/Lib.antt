@@ -1,3 +1,4 @@
 pub mod Mails
 pub mod Taking
 pub mod Enters
+pub mod Answers

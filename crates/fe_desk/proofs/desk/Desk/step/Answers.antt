@@ -2,7 +2,7 @@ use Rattle.std.proofs.Common.{subst}
 use Rattle.fe_desk.specs.Crash.{DeskState}
 use Rattle.fe_desk.specs.Taken.{IsStep}
 use Rattle.fe_desk.specs.within.Desk.{desk_of}
-use Rattle.fe_desk.proofs.Acknowledging.{keeps_below}
+use Rattle.fe_messages.proofs.Answers.{keeps_below}
 use Rattle.fe_desk.proofs.Answering.{step_acknowledged}
 use Rattle.fe_desk.proofs.Stepping.{is_step}
 use Rattle.fe_desk.proofs.desk.Desk.step.Goals as goal

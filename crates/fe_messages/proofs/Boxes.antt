@@ -1,6 +1,6 @@
 -- What holds of each mail in a box still holds where connections come and go, mails are taken, and such mails are made.
 use Rattle.std.proofs.Common.{◌≡◌, ◌≢◌, ℕ, ◌+◌, Bool, true, false, inl, inr, List, [], ◌∷◌, ◌++◌, Option, Some, None, length, drop, refl, sym, ap, subst}
-use Rattle.std.specs.Prelude.{nat_lt, is_some, if◌then◌else◌, Contains}
+use Rattle.std.specs.Prelude.{nat_lt, is_some, if◌then◌else◌}
 use Rattle.std.specs.List.{AllByRecursion}
 use Rattle.std.specs.Option.{option_map_or}
 use Rattle.std.specs.Ordering.{nat_cmp}
@@ -19,16 +19,15 @@ use Rattle.fe_mail.proofs.Lookups.{mails_on-with_session, mails_on-with_mails, m
 use Rattle.fe_front.specs.Front.{FrontState, is_connected}
 use Rattle.fe_front.specs.Steps.{parted, released, freed, departed, withdrawn_from, unboxed, dropped, boxed, overflowed, mailed, connected, attached_to, taken, has_no_cut, cut}
 use Rattle.fe_front.specs.Posting.{delivered, vacated, posted_entry, posted_all}
-use Rattle.fe_desk.proofs.Seated.{HasOnly, has_lost, posted_entry_loses}
 
 -- each mail in a box of these connections is such
 abbrev pub AllIn : (ℕ → Mail → Type 0) → FinMap nat_cmp Connection → Type 0
 AllIn P m = (conn : ℕ) → AllByRecursion (P conn) (mails_on m conn)
 
--- so is the mail of each of the entries, the first of them at this place, to a connection that asked for its session
-abbrev pub AllPosted : (ℕ → List ℕ) → (ℕ → Mail → Type 0) → List Entry → ℕ → Type 0
-AllPosted asked P [] place = Unit {0}
-AllPosted asked P (e ∷ es) place = ((conn : ℕ) → Contains (asked conn) (session_of e) → P conn (mail_of e place)) × AllPosted asked P es (place + 1)
+-- so is the mail of each of the entries, the first of them at this place, to a connection that may get mail of its session
+abbrev pub AllPosted : (ℕ → ℕ → Type 0) → (ℕ → Mail → Type 0) → List Entry → ℕ → Type 0
+AllPosted May P [] place = Unit {0}
+AllPosted May P (e ∷ es) place = ((conn : ℕ) → May conn (session_of e) → P conn (mail_of e place)) × AllPosted May P es (place + 1)
 
 pub all_append : {X : Type 0} (P : X → Type 0) (xs ys : List X) → AllByRecursion P xs → AllByRecursion P ys → AllByRecursion P (xs ++ ys)
 all_append P [] ys all more = more
@@ -140,17 +139,19 @@ module _ (P : ℕ → Mail → Type 0) where
 
   -- ---- posting
 
-  module _ (asked : ℕ → List ℕ) where
-    -- the mail of an entry is such, to a connection that asked for its session
+  -- `May` is which connections may get mail of which sessions: of a front that `Has` it, those that have the session
+  module _ (May : ℕ → ℕ → Type 0) (Has : FrontState → Type 0) (holders : (f : FrontState) → Has f → (session conn : ℕ) → holder_of f.service.seats session ≡ Some conn → May conn session)
+      (stays : (f : FrontState) (e : Entry) (place : ℕ) → Has f → Has (posted_entry f e place)) where
+    -- the mail of an entry is such, to a connection that may get it
     abbrev IsPosted : Entry → ℕ → Type 0
-    IsPosted e place = (conn : ℕ) → Contains (asked conn) (session_of e) → P conn (mail_of e place)
+    IsPosted e place = (conn : ℕ) → May conn (session_of e) → P conn (mail_of e place)
 
-    boxes-delivered : (f : FrontState) (e : Entry) (place : ℕ) → IsPosted e place → HasOnly asked f → AllIn P f.connections → AllIn P (delivered f e place).connections
+    boxes-delivered : (f : FrontState) (e : Entry) (place : ℕ) → IsPosted e place → Has f → AllIn P f.connections → AllIn P (delivered f e place).connections
     boxes-delivered f e place such has all = by (holder_of f.service.seats (session_of e)) refl
       where
         by : (o : Option ℕ) → holder_of f.service.seats (session_of e) ≡ o → AllIn P (option_map_or (λ conn. mailed f conn (mail_of e place)) o f).connections
         by None is = all
-        by (Some conn) is = boxes-mailed f conn (mail_of e place) (such conn (has.holders (session_of e) conn is)) all
+        by (Some conn) is = boxes-mailed f conn (mail_of e place) (such conn (holders f has (session_of e) conn is)) all
 
     boxes-vacated : (f : FrontState) (session : ℕ) → AllIn P f.connections → AllIn P (vacated f session).connections
     boxes-vacated f session all = by (is_closing f.service.seats session)
@@ -159,7 +160,7 @@ module _ (P : ℕ → Mail → Type 0) where
         by true = all
         by false = all
 
-    boxes-posted_entry : (f : FrontState) (e : Entry) (place : ℕ) → IsPosted e place → HasOnly asked f → AllIn P f.connections → AllIn P (posted_entry f e place).connections
+    boxes-posted_entry : (f : FrontState) (e : Entry) (place : ℕ) → IsPosted e place → Has f → AllIn P f.connections → AllIn P (posted_entry f e place).connections
     boxes-posted_entry f (Attached session floor) place such has all = boxes-delivered f (Attached session floor) place such has all
     boxes-posted_entry f (Settled session floor) place such has all = boxes-delivered f (Settled session floor) place such has all
     boxes-posted_entry f (Finished session number request answer) place such has all = boxes-delivered f (Finished session number request answer) place such has all
@@ -167,7 +168,7 @@ module _ (P : ℕ → Mail → Type 0) where
         let g = delivered f (Closed session) place in
         boxes-vacated (freed g session) session (boxes-freed g session (boxes-delivered f (Closed session) place such has all))
 
-    pub boxes-posted_all : (f : FrontState) (es : List Entry) (place : ℕ) → AllPosted asked P es place → HasOnly asked f → AllIn P f.connections → AllIn P (posted_all f es place).connections
+    pub boxes-posted_all : (f : FrontState) (es : List Entry) (place : ℕ) → AllPosted May P es place → Has f → AllIn P f.connections → AllIn P (posted_all f es place).connections
     boxes-posted_all f [] place such has all = all
     boxes-posted_all f (e ∷ es) place such has all =
-        boxes-posted_all (posted_entry f e place) es (place + 1) such.1 (has_lost asked f (posted_entry f e place) (posted_entry_loses f e place) has) (boxes-posted_entry f e place such.0 has all)
+        boxes-posted_all (posted_entry f e place) es (place + 1) such.1 (stays f e place has) (boxes-posted_entry f e place such.0 has all)

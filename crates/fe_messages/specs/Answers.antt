@@ -1,0 +1,45 @@
+-- Which answers the entries of a history give.
+use Rattle.std.specs.Prelude.{◌≡◌, ◌⊎◌, ℕ, ◌+◌, ◌<◌, List, [], ◌∷◌, ◌++◌, length, Some}
+use Rattle.std.specs.FinMap.{get}
+use Rattle.fe_state.specs.Sessions.{kept_in}
+use Rattle.fe_state.specs.State.{ServerState, IsAnswered, directory_of, reply, after, after_all}
+use Rattle.fe_state.specs.declared.answer.Answer.{Answer}
+use Rattle.fe_state.specs.declared.entry.Entry.{Entry}
+use Rattle.fe_state.specs.declared.entry.Entry.TheVariants.{Finished}
+use Rattle.fe_state.specs.declared.request.Request.{Request}
+use Rattle.fe_mail.specs.declared.mail.Mail.{Mail}
+use Rattle.fe_mail.specs.declared.mail.Mail.TheVariants as mail
+
+-- The answer is that of the entry at the place: its number's own, and the operation table's in the state before it.
+pub record IsFinishedAt (begun : ServerState) (es : List Entry) (session number : ℕ) (answer : Answer) (place : ℕ) : Type 0 where
+  pub before : List Entry
+  pub request : Request
+  pub behind : List Entry
+  pub entries : es ≡ before ++ Finished session number request answer ∷ behind
+  pub at : place ≡ begun.place + length before
+  pub replied : reply (after_all begun before) request ≡ Some answer
+
+-- The answer was kept for the number, with its place, when the state was opened.
+pub record IsKeptSince (begun : ServerState) (session number : ℕ) (answer : Answer) (place : ℕ) : Type 0 where
+  pub request : Request
+  pub kept : kept_in (get begun.sessions session) number ≡ Some (record { request = request; answer = answer; place = place })
+  pub earlier : place < begun.place
+
+-- The answer of a number is that of its entry among these, or it was kept before them.
+abbrev pub IsAnswerIn : ServerState → List Entry → ℕ → ℕ → Answer → ℕ → Type 0
+IsAnswerIn begun es session number answer place = IsKeptSince begun session number answer place ⊎ IsFinishedAt begun es session number answer place
+
+-- a mail is no answer, or such an answer
+abbrev pub TellsAnswerIn : ServerState → List Entry → Mail → Type 0
+TellsAnswerIn begun es (mail.Answer session number answer place) = IsAnswerIn begun es session number answer place
+TellsAnswerIn begun es (mail.Welcome session floor) = Unit {0}
+TellsAnswerIn begun es (mail.Refused number refusal) = Unit {0}
+TellsAnswerIn begun es (mail.Withdrawn number) = Unit {0}
+TellsAnswerIn begun es (mail.Settled floor) = Unit {0}
+TellsAnswerIn begun es (mail.Goodbye session) = Unit {0}
+TellsAnswerIn begun es (mail.Report text) = Unit {0}
+
+-- each entry that finishes a request has the table's reply to it in the state before
+abbrev pub AreAnswered : ServerState → List Entry → Type 0
+AreAnswered s [] = Unit {0}
+AreAnswered s (e ∷ es) = IsAnswered (directory_of s) e × AreAnswered (after s e) es
