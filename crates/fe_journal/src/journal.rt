@@ -133,6 +133,8 @@ impl<D: Disk> Journal<D> {
     }
 
     /// The disk, as the calls of the journal left it.
+    // (not inlined, as in `fe_keeper::keeper_over`)
+    #[inline(never)]
     pub fn into_disk(self) -> D
         ensures disk { result ≡ self.disk }
         ensures size { D.size result ≡ device_bytes }

@@ -31,6 +31,9 @@ impl Rooms {
 }
 
 /// The keeper of a state over a journal that keeps it, with room for the batches to come.
+// A keeper is some 9 KB. LLVM takes minutes over a function that moves one several times and also reaches into it, so what makes one or
+// takes one apart is not inlined.
+#[inline(never)]
 pub(crate) fn keeper_over<D: Disk>(
     alloc: Global,
     rooms: Rooms,

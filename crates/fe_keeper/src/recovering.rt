@@ -20,6 +20,8 @@ use fe_state::State;
 use std::alloc::Global;
 
 /// The state of a slot, from what was read of it: the image, and the groups.
+// (not inlined, as in `keeper_over`)
+#[inline(never)]
 pub(crate) fn recovered(
     alloc: Global,
     format: Format,
