@@ -1,7 +1,7 @@
-ghost use Rattle.std.specs.Prelude.{◌≡◌, None, slice_get, OnOk, OnErr, IfErr};
+ghost use Rattle.std.specs.Prelude.{◌≡◌, None, not, slice_get, OnOk, OnErr, IfErr};
 ghost use Rattle.std.specs.FinMap.{get};
 ghost use Rattle.fe_mail.specs.Connections.{mails_on};
-ghost use Rattle.fe_front.specs.Steps.{connected, taken, next_batch, cut};
+ghost use Rattle.fe_front.specs.Steps.{connected, has_no_cut, taken, next_batch, cut};
 ghost use Rattle.fe_front.specs.within.Tables.{front_of, AreSound};
 
 use crate::out::Out;
@@ -37,6 +37,13 @@ impl Tables {
             self.books.mail_taken();
         }
         mail
+    }
+
+    /// Whether some entries are pending, and no batch is out.
+    pub(crate) fn has_cut(&self) -> bool
+        ensures { result ≡ not (has_no_cut (front_of self.now)) }
+    {
+        !(self.out.is_some() || self.service.pending_count() == 0)
     }
 
     /// Hands all pending entries out, if there are some and no batch is out.

@@ -1,4 +1,4 @@
-ghost use Rattle.std.specs.Prelude.{◌≡◌, ◌⊎◌, ◌+◌, ◌↔◌, ◌≤◌, ℕ, List, nat_lt, length, slice_get, Some, None, Ok, Err, IsTrue, IsOk, IsErr, IfOk, IfErr, OnOk, OnErr, MatchResult};
+ghost use Rattle.std.specs.Prelude.{◌≡◌, ◌⊎◌, ◌+◌, ◌↔◌, ◌≤◌, ℕ, List, not, nat_lt, length, slice_get, Some, None, Ok, Err, IsTrue, IsOk, IsErr, IfOk, IfErr, OnOk, OnErr, MatchResult};
 ghost use Rattle.std.specs.Option.{option_map};
 ghost use Rattle.std.specs.FinMap.{get, len};
 ghost use Rattle.fe_waits.specs.Waiting.{AreWaitersOf, AreListedOnce};
@@ -12,7 +12,7 @@ ghost use Rattle.fe_mail.specs.declared.refusal.Refusal as refusals;
 ghost use Rattle.fe_front.specs.Front.{IsFront, IsFirst, has_room, is_connected, is_attached};
 ghost use Rattle.fe_front.specs.Event as event;
 ghost use Rattle.fe_front.specs.Step.{FrontStep};
-ghost use Rattle.fe_front.specs.Steps.{connected, attached_to, settled_to, closed_by, cancelled_by, dropped, departing, next_batch, cut, taken, mailed};
+ghost use Rattle.fe_front.specs.Steps.{connected, attached_to, settled_to, closed_by, cancelled_by, dropped, departing, has_no_cut, next_batch, cut, taken, mailed};
 ghost use Rattle.fe_front.specs.Refusals.{attaching, settling, leaving, cancelling};
 ghost use Rattle.fe_front.specs.Call.{IsCallRefused, WantsMemory, call_refused_by};
 ghost use Rattle.fe_front.specs.Posting.{IsOut, posted};
@@ -165,6 +165,13 @@ impl Front {
         ensures dropped { self.new ≡ dropped self.old conn }
     {
         self.tables.drop_connection(conn)
+    }
+
+    /// Whether a cut hands out a batch: some entries are pending, and no batch is out.
+    pub fn has_cut(&self) -> bool
+        ensures { result ≡ not (has_no_cut self.now) }
+    {
+        self.tables.has_cut()
     }
 
     /// Hands out all pending entries as the batch to store, if there are some and no batch is out.

@@ -6,6 +6,7 @@ use Rattle.fe_disk.specs.Disk.{LeavesOnly}
 use Rattle.fe_disk.proofs.Moments.{started, joined, weaker}
 use Rattle.fe_state.specs.State.{ServerState, after_all}
 use Rattle.fe_state.specs.History.{IsHistory, AreLegal, after_groups}
+use Rattle.fe_state.specs.declared.batch.Batch.{Batch}
 use Rattle.fe_state.specs.declared.entry.Entry.{Entry}
 use Rattle.fe_state.proofs.Histories.{history-append}
 use Rattle.std.specs.Option.{option_map_or}
@@ -68,11 +69,11 @@ take_whole groups n is = take_all n groups (omega (arith, is))
 -- ---- appends
 
 -- one append for each group
-appends_length : {D : Type 0} (s : ServerState) (groups : List (List Entry)) (appends : List (Append D)) → AreAppends s groups appends → length appends ≡ length groups
+pub appends_length : {D : Type 0} (s : ServerState) (groups : List (List Entry)) (appends : List (Append D)) → AreAppends s groups appends → length appends ≡ length groups
 appends_length s [] [] are = refl
 appends_length s [] (append ∷ appends) are = absurd are
 appends_length s (group ∷ groups) [] are = absurd are
-appends_length s (group ∷ groups) (append ∷ appends) are = ap suc (appends_length (after_all s group) groups appends are.2)
+appends_length s (group ∷ groups) (append ∷ appends) are = ap suc (appends_length (after_all s group) groups appends are.3)
 
 -- appends after appends
 appends_both : {D : Type 0} (s t : ServerState) (groups more : List (List Entry)) (first second : List (Append D)) → t ≡ after_groups s groups → AreAppends s groups first → AreAppends t more second
@@ -81,7 +82,7 @@ appends_both s t [] more [] second is one two = subst (λ (u : ServerState). Are
 appends_both s t [] more (append ∷ appends) second is one two = absurd one
 appends_both s t (group ∷ groups) more [] second is one two = absurd one
 appends_both s t (group ∷ groups) more (append ∷ appends) second is one two =
-    (one.0, one.1, appends_both (after_all s group) t groups more appends second is one.2 two)
+    (one.0, one.1, one.2, appends_both (after_all s group) t groups more appends second is one.3 two)
 
 module _ {D : Type 0} (moment : D → ℕ) (left_since : D → ℕ → List ℕ → Type 0) where
   -- what holds before the next append
@@ -156,27 +157,27 @@ module _ {D : Type 0} (honest : D → Type 0) (moment : D → ℕ) (left_since :
   either s entries image (inr after) = leaves_at s (entries ∷ []) 0 1 image (after_all s entries) (omega arith) (omega arith) refl after
 
   -- a group was appended
-  pub commits_group : (may_leave : D → List ℕ → Type 0) → ((disk : D) (image : List ℕ) → honest disk → left_since disk (moment disk) image → may_leave disk image) → (old new : KeeperState D) (end : Option CommitEnd) (entries : List Entry)
-      → 1 ≤ length entries → AreLegal old.state entries → new.state ≡ after_all old.state entries → new.store.has_failed ≡ old.store.has_failed → (honest new.store.disk ↔ honest old.store.disk)
+  pub commits_group : (may_leave : D → List ℕ → Type 0) → ((disk : D) (image : List ℕ) → honest disk → left_since disk (moment disk) image → may_leave disk image) → (old new : KeeperState D) (end : Option CommitEnd) (batch : Batch)
+      → 1 ≤ length batch.entries → AreLegal old.state batch.entries → new.state ≡ after_all old.state batch.entries → new.store.has_failed ≡ old.store.has_failed → (honest new.store.disk ↔ honest old.store.disk)
       → (honest new.store.disk → new.store.has_failed ≡ false → EachStandsFor may_leave new.store.disk new.state)
-      → (honest old.store.disk → old.store.has_failed ≡ false → LeavesOnly moment left_since old.store.disk new.store.disk (StandsForEither old.state (after_all old.state entries)))
+      → (honest old.store.disk → old.store.has_failed ≡ false → LeavesOnly moment left_since old.store.disk new.store.disk (StandsForEither old.state (after_all old.state batch.entries)))
       → Commits honest moment left_since old new end
-  commits_group may_leave only_now old new end entries some legal state still honesty stands run = record {
-    groups = entries ∷ [];
+  commits_group may_leave only_now old new end batch some legal state still honesty stands run = record {
+    groups = batch.entries ∷ [];
     history = (omega (arith, some), legal, tt);
     stored = 1;
     all = inl refl;
     state_is = state;
-    appends = record { before = old; after = new } ∷ [];
-    are_appends = (refl, state, tt);
+    appends = record { batch = batch; before = old; after = new } ∷ [];
+    are_appends = (refl, state, refl, tt);
     any_moment = λ h works.
         let moments = run h works in (
-          weaker moment left_since old.store.disk new.store.disk (StandsForEither old.state (after_all old.state entries)) (LeavesPrefix old.state (entries ∷ []) 0)
-              (λ image two. either old.state entries image two) moments,
+          weaker moment left_since old.store.disk new.store.disk (StandsForEither old.state (after_all old.state batch.entries)) (LeavesPrefix old.state (batch.entries ∷ []) 0)
+              (λ image two. either old.state batch.entries image two) moments,
           omega arith,
           moments.later,
-          started moment left_since new.store.disk (LeavesPrefix old.state (entries ∷ []) 1)
-              (λ image left. leaves_at old.state (entries ∷ []) 1 1 image new.state (omega arith) (omega arith) state (stands (honesty.1 h) (still ∙ works) image (only_now new.store.disk image (honesty.1 h) left))),
+          started moment left_since new.store.disk (LeavesPrefix old.state (batch.entries ∷ []) 1)
+              (λ image left. leaves_at old.state (batch.entries ∷ []) 1 1 image new.state (omega arith) (omega arith) state (stands (honesty.1 h) (still ∙ works) image (only_now new.store.disk image (honesty.1 h) left))),
         );
   }
 
@@ -245,15 +246,15 @@ module _ {D : Type 0} (honest : D → Type 0) (moment : D → ℕ) (left_since :
   unfolding commits_kept
   kept_noted old new end rests acts = (commits_kept old new end rests, none_noted moment [] end acts refl)
 
-  pub group_noted : (may_leave : D → List ℕ → Type 0) → ((disk : D) (image : List ℕ) → honest disk → left_since disk (moment disk) image → may_leave disk image) → (old new : KeeperState D) (end : Option CommitEnd) (entries : List Entry) (a b : List Act)
-      → 1 ≤ length entries → AreLegal old.state entries → new.state ≡ after_all old.state entries → new.store.has_failed ≡ old.store.has_failed → (honest new.store.disk ↔ honest old.store.disk)
+  pub group_noted : (may_leave : D → List ℕ → Type 0) → ((disk : D) (image : List ℕ) → honest disk → left_since disk (moment disk) image → may_leave disk image) → (old new : KeeperState D) (end : Option CommitEnd) (batch : Batch) (a b : List Act)
+      → 1 ≤ length batch.entries → AreLegal old.state batch.entries → new.state ≡ after_all old.state batch.entries → new.store.has_failed ≡ old.store.has_failed → (honest new.store.disk ↔ honest old.store.disk)
       → (honest new.store.disk → new.store.has_failed ≡ false → EachStandsFor may_leave new.store.disk new.state)
-      → (honest old.store.disk → old.store.has_failed ≡ false → LeavesOnly moment left_since old.store.disk new.store.disk (StandsForEither old.state (after_all old.state entries)))
-      → AreNoted moment (record { before = old; after = new } ∷ []) end a b
+      → (honest old.store.disk → old.store.has_failed ≡ false → LeavesOnly moment left_since old.store.disk new.store.disk (StandsForEither old.state (after_all old.state batch.entries)))
+      → AreNoted moment (record { batch = batch; before = old; after = new } ∷ []) end a b
       → (all : Commits honest moment left_since old new end) × AreNoted moment all.appends end a b
   unfolding commits_group
-  group_noted may_leave only_now old new end entries a b some legal state still honesty stands run notes =
-      (commits_group may_leave only_now old new end entries some legal state still honesty stands run, notes)
+  group_noted may_leave only_now old new end batch a b some legal state still honesty stands run notes =
+      (commits_group may_leave only_now old new end batch some legal state still honesty stands run, notes)
 
   pub both_commits : (a b c : KeeperState D) (end : Option CommitEnd) (x y z : List Act) → b.store.has_failed ≡ a.store.has_failed → (honest b.store.disk ↔ honest a.store.disk)
       → (ab : Commits honest moment left_since a b None) → AreNoted moment ab.appends None x y → (bc : Commits honest moment left_since b c end) → AreNoted moment bc.appends end y z

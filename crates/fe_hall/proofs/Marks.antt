@@ -1,219 +1,363 @@
 -- The front under a hall's lock follows the hall's history through each event.
-use Rattle.std.proofs.Common.{◌≡◌, inl, inr, ℕ, zero, suc, ◌+◌, ◌-◌, ◌^◌, ◌<◌, ◌≤◌, Bool, true, false, true≢false, List, [], ◌∷◌, length, Option, Some, None, Result, Ok, Err, IsErr, ◌↔◌, OnOk, OnErr, refl, sym, ap, subst, ◌∙◌, arith}
+use Rattle.std.proofs.Common.{◌≡◌, inr, ℕ, ◌+◌, ◌<◌, ◌≤◌, Bool, true, false, List, [], ◌∷◌, ◌++◌, length, Option, Some, None, Result, Ok, Err, OnOk, OnErr, refl, sym, ap, subst, ◌∙◌, arith, append_assoc, length-append}
 use Rattle.std.proofs.lemmas.Bool.Decides.{nat_tests}
-use Rattle.std.specs.Prelude.{All, IfSome, drop, nat_lt, slice_get, if◌then◌else◌}
-use Rattle.std.specs.FinMap.{get}
-use Rattle.std.specs.Option.{option_map_or}
+use Rattle.std.proofs.lemmas.List.{append-nil, map-append}
+use Rattle.std.specs.Prelude.{IfSome, drop, is_some, nat_eq, nat_lt, slice_get, if◌then◌else◌, ◌||◌, Ok as Right}
+use Rattle.std.specs.List.{AllByRecursion}
+use Rattle.std.specs.Option.{option_map, option_map_or}
+use Rattle.std.specs.Ordering.{nat_cmp}
+use Rattle.std.specs.FinMap.{get, get-empty}
 use mathlib.Core.List.{IsPrefix}
-use Rattle.fe_state.specs.State.{ServerState}
-use Rattle.fe_state.specs.declared.answer.Answer.{Answer}
+use Rattle.fe_state.specs.Sessions.{kept_in}
+use Rattle.fe_state.specs.State.{ServerState, after_all}
 use Rattle.fe_state.specs.declared.batch.Batch.{Batch}
 use Rattle.fe_state.specs.declared.entry.Entry.{Entry}
-use Rattle.fe_replica.proofs.Following.{place_after}
-use Rattle.fe_mail.specs.Books.{Balances, Books, call_refused, mail_taken}
+use Rattle.fe_state.specs.declared.entry.Entry.TheVariants.{Attached, Closed, Settled, Finished}
+use Rattle.fe_state.specs.declared.kept.Kept.{Kept}
+use Rattle.fe_service.proofs.Turns.{after_append}
+use Rattle.fe_mail.specs.Books.{mail_taken}
 use Rattle.fe_mail.specs.Connections.{mails_on, with_mails}
+use Rattle.fe_mail.specs.Mail.{mail_of}
+use Rattle.fe_mail.specs.declared.connection.Connection.{Connection}
 use Rattle.fe_mail.specs.declared.mail.Mail.{Mail}
 use Rattle.fe_mail.specs.declared.mail.Mail.TheVariants as mail
-use Rattle.fe_mail.specs.declared.refusal.Refusal.{Refusal}
-use Rattle.fe_mail.specs.declared.refusal.Refusal.TheVariants.{NoMemory}
 use Rattle.fe_wire.specs.declared.client_message.ClientMessage.{ClientMessage}
-use Rattle.fe_wire.specs.declared.client_message.ClientMessage.TheVariants as message
-use Rattle.fe_front.specs.Boxes.{HoldsDurable, IsBelow}
-use Rattle.fe_front.specs.Call.{call_refused_by}
-use Rattle.fe_front.specs.Event as event
+use Rattle.fe_front.specs.Call.{kept_at}
 use Rattle.fe_front.specs.Front.{FrontState, IsFront}
 use Rattle.fe_front.specs.Posting.{IsOut, posted}
-use Rattle.fe_front.specs.Step.{FrontStep}
-use Rattle.fe_front.specs.Steps.{connected, departing, dropped, taken}
-use Rattle.fe_front.proofs.BoxLaws.{durable_always}
-use Rattle.fe_front.proofs.Events.{connect_step, gone_step, post_step, take_mail_step}
-use Rattle.fe_front.proofs.Keeping.{dropped-keeps}
-use Rattle.fe_messages.specs.Taking.{IsRefused, Takes}
+use Rattle.fe_front.specs.Refusals.{addressed}
+use Rattle.fe_front.specs.Steps.{connected, cut, dropped, has_no_cut, taken}
+use Rattle.fe_front.specs.declared.out.Out.{Out}
+use Rattle.fe_front.proofs.Coming.{dropped-stays, posted-stays}
+use Rattle.fe_front.proofs.Keeping.{dropped-keeps, posted_all-keeps}
+use Rattle.fe_messages.specs.Answers.{AreAnswered, IsAnswerIn, TellsAnswerIn}
+use Rattle.fe_messages.specs.Enters.{Enters}
+use Rattle.fe_messages.specs.Taking.{Takes}
+use Rattle.fe_messages.proofs.Answers.{answer_more, answered-append, answered-split, finished_at, keeps_below, kept_stands, legal_answered}
+use Rattle.fe_messages.proofs.Boxes.{AllPosted, all_weaker, boxes-connected, boxes-dropped, boxes-posted_all, boxes-taken}
+use Rattle.fe_messages.proofs.Boxing.{message_boxes}
 use Rattle.fe_hall.specs.declared.act.Act.{Act}
+use Rattle.fe_hall.specs.declared.act.Act.TheVariants.{Began, Cut, Told}
 use Rattle.fe_hall.specs.declared.receipt.Receipt.{Receipt}
 use Rattle.fe_hall.specs.declared.taking.Taking.{Taking}
 use Rattle.fe_hall.specs.declared.taking.Taking.TheVariants as taking
-use Rattle.fe_hall.specs.Acts.{mark_of}
-use Rattle.fe_hall.specs.Commits.{IsStored}
-use Rattle.fe_hall.specs.Marks.{HoldsBelow, IsBegun, IsMarked, MayBeTold}
+use Rattle.fe_hall.specs.Acts.{IsLegal, MayCome, WasCut, WasStoredLast, batches_of, cuts_in, entries_in, stores_in}
+use Rattle.fe_hall.specs.Marks.{BoxesTell, IsBegun, IsMarked, MayBeTold, made_entries, out_batches, out_of}
+use Rattle.fe_hall.specs.Rules.{ComesAfter, CutsAfter, pending_batch}
 use Rattle.fe_hall.specs.Writes.{receipt_of}
-use Rattle.fe_hall.proofs.Acts.{mark_rises}
+use Rattle.fe_hall.proofs.Acts.{answer_within, begins_so, cut_few, cuts_append, cuts_rise, entries_append, one_cut, prefix_trans, prefix_whole, stored_cut, stored_rise, told_may}
 
--- ---- the answers in a box, one by one
+-- ---- answers in boxes
 
-below_at : (mark : ℕ) (ms : List Mail) (k : ℕ) (m : Mail) → slice_get ms k ≡ Some m → All (IsBelow mark) ms → IsBelow mark m
-below_at mark [] k m is all = absurd cc
-below_at mark (x ∷ ms) zero m is all = subst (IsBelow mark) (ap (λ (o : Option Mail). option_map_or (λ y. y) o x) is) (all 0 x (omega arith))
-below_at mark (x ∷ ms) (suc k) m is all = below_at mark ms k m is (λ j d in_it. all (suc j) d (omega arith))
+tells_more : (begun : ServerState) (es more : List Entry) (m : Mail) → TellsAnswerIn begun es m → TellsAnswerIn begun (es ++ more) m
+tells_more begun es more (mail.Answer session number answer place) is = answer_more begun es more session number answer place is
+tells_more begun es more (mail.Welcome session floor) is = tt
+tells_more begun es more (mail.Refused number refusal) is = tt
+tells_more begun es more (mail.Withdrawn number) is = tt
+tells_more begun es more (mail.Settled floor) is = tt
+tells_more begun es more (mail.Goodbye session) is = tt
+tells_more begun es more (mail.Report text) is = tt
 
-one_below : (mark : ℕ) (m : Mail) → ((session number place : ℕ) (answer : Answer) → m ≡ mail.Answer session number answer place → place < mark) → IsBelow mark m
-one_below mark (mail.Answer session number answer place) at = at session number place answer refl
-one_below mark (mail.Welcome session floor) at = tt
-one_below mark (mail.Refused number refusal) at = tt
-one_below mark (mail.Withdrawn number) at = tt
-one_below mark (mail.Settled floor) at = tt
-one_below mark (mail.Goodbye session) at = tt
-one_below mark (mail.Report text) at = tt
+boxes_more : (begun : ServerState) (es more : List Entry) (f : FrontState) → BoxesTell begun es f → BoxesTell begun (es ++ more) f
+boxes_more begun es more f boxes conn = all_weaker (TellsAnswerIn begun es) (TellsAnswerIn begun (es ++ more)) (tells_more begun es more) (mails_on f.connections conn) (boxes conn)
 
-all_below : (mark : ℕ) (ms : List Mail) → ((k session number place : ℕ) (answer : Answer) → slice_get ms k ≡ Some (mail.Answer session number answer place) → place < mark) → All (IsBelow mark) ms
-all_below mark [] at k d in_it = absurd (omega arith)
-all_below mark (x ∷ ms) at zero d in_it = one_below mark x (λ session number place answer is. at 0 session number place answer (ap (λ (y : Mail). Some y) is))
-all_below mark (x ∷ ms) at (suc k) d in_it = all_below mark ms (λ j session number place answer is. at (suc j) session number place answer is) k d (omega arith)
+-- the mails of entries that are posted tell their answers
+posts_tell : (begun : ServerState) (all front es rest : List Entry) (place : ℕ) → AreAnswered begun all → all ≡ front ++ (es ++ rest) → place ≡ begun.place + length front
+    → AllPosted (λ conn session. Unit {0}) (λ conn. TellsAnswerIn begun all) es place
+posts_tell begun all front [] rest place answered is at = tt
+posts_tell begun all front (e ∷ es) rest place answered is at = (
+  λ conn may. of e is,
+  posts_tell begun all (front ++ e ∷ []) es rest (place + 1) answered (is ∙ sym (append_assoc front (e ∷ []) (es ++ rest))) (let many = length-append front (e ∷ []) in omega (arith, at, many)),
+)
+  where
+    of : (e : Entry) → all ≡ front ++ (e ∷ (es ++ rest)) → TellsAnswerIn begun all (mail_of e place)
+    of (Attached session floor) is = tt
+    of (Closed session) is = tt
+    of (Settled session floor) is = tt
+    of (Finished session number request answer) is = inr (finished_at begun all front (es ++ rest) session number request answer place answered is at)
 
-holds_below : (f : FrontState) → HoldsDurable f → HoldsBelow f f.durable
-holds_below f holds conn k session number place answer is = below_at f.durable (mails_on f.connections conn) k (mail.Answer session number answer place) is (holds conn)
-
-holds_durable : (f : FrontState) → HoldsBelow f f.durable → HoldsDurable f
-holds_durable f holds conn = all_below f.durable (mails_on f.connections conn) (holds conn)
-
--- ---- events
+-- ---- events that make nothing
 
 -- a hall begins
-pub begun_marked : (f : FrontState) (acts : List Act) → IsBegun f (mark_of acts) → IsMarked f acts
-begun_marked f acts (begun, first, place) =
-    let durable = first.durable ∙ place in
-    record { stored = omega (arith, durable); boxes = holds_below f (durable_always.first begun f first) }
+pub begun_marked : (f : FrontState) (acts : List Act) → IsBegun f acts → IsLegal acts → IsMarked f 0 acts
+begun_marked f acts (begun, first, begins) legal = record {
+  begun = begun;
+  past = [];
+  begins = begins;
+  is_legal = legal;
+  posted = [];
+  out = None;
+  counted = refl;
+  stored = (batches_of (stores_in acts), refl);
+  cut = (cuts_in acts, refl);
+  same_out = first.out;
+  durable = omega (arith, first.durable);
+  state = first.state ∙ sym (ap (λ (es : List Entry). after_all begun es) first.pending);
+  answered = subst (λ (es : List Entry). AreAnswered begun es) (sym first.pending) tt;
+  boxes = λ conn.
+      let none : mails_on f.connections conn ≡ [] = ap (λ m. mails_on m conn) first.connections ∙ ap (λ o. option_map_or (λ (c : Connection). c.mails) o []) (get-empty nat_cmp conn) in
+      subst (λ (ms : List Mail). AllByRecursion (TellsAnswerIn begun []) ms) (sym none) tt;
+}
 
--- an event after which no more is durable
-step_marked : (f g : FrontState) (e : event.Event) (es : List Entry) (acts : List Act) → IsFront f → FrontStep f e es g → g.durable ≡ f.durable → IsMarked f acts → IsMarked g acts
-step_marked f g e es acts front step same marked =
-    let up = marked.stored in
-    record { stored = omega (arith, same, up); boxes = holds_below g (durable_always.step f g e es front step (holds_durable f marked.boxes)) }
+-- state, pending entries, the batch that is out and the mark stay
+record Remains (f g : FrontState) : Type 0 where
+  pub state : g.service.state ≡ f.service.state
+  pub pending : g.service.pending ≡ f.service.pending
+  pub out : g.out ≡ f.out
+  pub durable : g.durable ≡ f.durable
 
-pub marked_still : (f g : FrontState) (acts : List Act) → g ≡ f → IsMarked f acts → IsMarked g acts
-marked_still f g acts same marked = subst (λ (h : FrontState). IsMarked h acts) (sym same) marked
+remains_marked : (f g : FrontState) (count : ℕ) (acts : List Act) → Remains f g → ((begun : ServerState) (es : List Entry) → BoxesTell begun es f → BoxesTell begun es g) → IsMarked f count acts → IsMarked g count acts
+remains_marked f g count acts same boxes m =
+    let made : made_entries m.posted m.out f ≡ made_entries m.posted m.out g = ap (λ (es : List Entry). entries_in m.posted ++ (entries_in (out_batches m.out) ++ es)) (sym same.pending) in
+    record {
+      begun = m.begun;
+      past = m.past;
+      begins = m.begins;
+      is_legal = m.is_legal;
+      posted = m.posted;
+      out = m.out;
+      counted = m.counted;
+      stored = m.stored;
+      cut = m.cut;
+      same_out = same.out ∙ m.same_out;
+      durable = same.durable ∙ m.durable;
+      state = same.state ∙ m.state ∙ ap (λ (es : List Entry). after_all m.begun es) made;
+      answered = subst (λ (es : List Entry). AreAnswered m.begun es) made m.answered;
+      boxes = boxes m.begun (entries_in m.posted) m.boxes;
+    }
 
-pub connected_marked : {A E : Type 0} (f g : FrontState) (conn : ℕ) (result : Result A E) (acts : List Act) → IsFront f → get f.connections conn ≡ None → OnOk result (g ≡ connected f conn)
-    → OnErr result (g ≡ f) → IsMarked f acts → IsMarked g acts
-connected_marked f g conn (Ok u) acts front none is err marked =
-    step_marked f g (event.Connect conn) [] acts front (connect_step f g conn none is) (ap (λ (h : FrontState). h.durable) is) marked
-connected_marked f g conn (Err e) acts front none ok is marked = marked_still f g acts is marked
+pub marked_still : (f g : FrontState) (count : ℕ) (acts : List Act) → g ≡ f → IsMarked f count acts → IsMarked g count acts
+marked_still f g count acts same marked = subst (λ (h : FrontState). IsMarked h count acts) (sym same) marked
 
-pub gone_marked : (f g : FrontState) (conn count : ℕ) (acts : List Act) → IsFront f → count ≡ departing f conn → g ≡ dropped f conn → IsMarked f acts → IsMarked g acts
-gone_marked f g conn count acts front counted is marked =
-    step_marked f g (event.Gone conn count) [] acts front (gone_step f g conn count counted is) (ap (λ (h : FrontState). h.durable) is ∙ (dropped-keeps f conn).durable) marked
+pub connected_marked : {A E : Type 0} (f g : FrontState) (conn : ℕ) (result : Result A E) (count : ℕ) (acts : List Act) → OnOk result (g ≡ connected f conn) → OnErr result (g ≡ f)
+    → IsMarked f count acts → IsMarked g count acts
+connected_marked f g conn (Ok u) count acts is err marked =
+    marked_still (connected f conn) g count acts is
+    (remains_marked f (connected f conn) count acts (record { state = refl; pending = refl; out = refl; durable = refl }) (λ begun es. boxes-connected (λ q. TellsAnswerIn begun es) f conn) marked)
+connected_marked f g conn (Err e) count acts ok is marked = marked_still f g count acts is marked
 
--- ---- mails that are taken
+pub gone_marked : (f g : FrontState) (conn count : ℕ) (acts : List Act) → g ≡ dropped f conn → IsMarked f count acts → IsMarked g count acts
+gone_marked f g conn count acts is marked =
+    let keeps = dropped-keeps f conn in
+    marked_still (dropped f conn) g count acts is
+    (remains_marked f (dropped f conn) count acts (record { state = keeps.state; pending = (dropped-stays f conn).pending; out = keeps.out; durable = keeps.durable })
+    (λ begun es. boxes-dropped (λ q. TellsAnswerIn begun es) f conn) marked)
 
-taken_durable : (f : FrontState) (conn : ℕ) → (taken f conn).durable ≡ f.durable
-taken_durable f conn = by (nat_lt 0 (length (mails_on f.connections conn)))
+pub taken_marked : (f g : FrontState) (conn count : ℕ) (acts : List Act) → g ≡ taken f conn → IsMarked f count acts → IsMarked g count acts
+taken_marked f g conn count acts is marked =
+    marked_still (taken f conn) g count acts is (remains_marked f (taken f conn) count acts (by (nat_lt 0 (length (mails_on f.connections conn)))) (λ begun es. boxes-taken (λ q. TellsAnswerIn begun es) f conn) marked)
   where
-    by : (b : Bool) → (if b then record f { connections = with_mails f.connections conn (drop 1 (mails_on f.connections conn)); books = mail_taken f.books } else f).durable ≡ f.durable
-    by true = refl
-    by false = refl
+    by : (b : Bool) → Remains f (if b then record f { connections = with_mails f.connections conn (drop 1 (mails_on f.connections conn)); books = mail_taken f.books } else f)
+    by true = record { state = refl; pending = refl; out = refl; durable = refl }
+    by false = record { state = refl; pending = refl; out = refl; durable = refl }
 
-pub taken_marked : (f g : FrontState) (conn : ℕ) (m : Option Mail) (acts : List Act) → IsFront f → m ≡ slice_get (mails_on f.connections conn) 0 → g ≡ taken f conn → IsMarked f acts → IsMarked g acts
-taken_marked f g conn m acts front first is marked =
-    step_marked f g (event.TakeMail conn m) [] acts front (take_mail_step f g conn m first is) (ap (λ (h : FrontState). h.durable) is ∙ taken_durable f conn) marked
-
--- what is first in a box may be told
-pub first_may : (f : FrontState) (conn : ℕ) (m : Mail) (more : Bool) (acts : List Act) → Some m ≡ slice_get (mails_on f.connections conn) 0 → IsMarked f acts → MayBeTold (taking.Mail m more) acts
-first_may f conn (mail.Answer session number answer place) more acts first marked =
-    let below = marked.boxes conn 0 session number place answer (sym first) in
-    let up = marked.stored in
-    omega (arith, below, up)
-first_may f conn (mail.Welcome session floor) more acts first marked = tt
-first_may f conn (mail.Refused number refusal) more acts first marked = tt
-first_may f conn (mail.Withdrawn number) more acts first marked = tt
-first_may f conn (mail.Settled floor) more acts first marked = tt
-first_may f conn (mail.Goodbye session) more acts first marked = tt
-first_may f conn (mail.Report text) more acts first marked = tt
-
--- ---- batches that are posted
-
--- a batch that was the last to be stored ends at the state's place
-stored_to : (batch : Batch) (s : ServerState) → IsStored batch s → s.place ≡ batch.first + length batch.entries
-stored_to batch s stored =
-    let place = ap (λ (t : ServerState). t.place) stored.state_is in
-    let begins = stored.continues.begins in
-    omega (arith, place, place_after stored.before batch.entries, begins)
-
-pub posted_marked : {A E : Type 0} (f g : FrontState) (batch : Batch) (result : Result A E) (s : ServerState) (acts later : List Act) → IsFront f → (IsErr result ↔ (¬ IsOut f.out batch))
-    → OnOk result (g ≡ posted f batch) → OnErr result (g ≡ f) → IsStored batch s → s.place ≤ mark_of later → mark_of acts ≤ mark_of later → IsMarked f acts → IsMarked g later
-posted_marked {E} f g batch (Ok u) s acts later front refused is err stored noted rises marked =
-    let step = post_step f g {E = E} batch (Ok u) refused u refl is in
-    let durable = ap (λ (h : FrontState). h.durable) is in
-    record { stored = omega (arith, durable, noted, stored_to batch s stored); boxes = holds_below g (durable_always.step f g (event.Post batch) [] front step (holds_durable f marked.boxes)) }
-posted_marked f g batch (Err e) s acts later front refused ok is stored noted rises marked =
-    let up = marked.stored in
-    let durable = ap (λ (h : FrontState). h.durable) is in
-    record { stored = omega (arith, durable, up, rises); boxes = subst (λ (h : FrontState). HoldsBelow h h.durable) (sym is) marked.boxes }
+-- a batch that was posted has an entry, or more
+pub posted_few : (f : FrontState) (count : ℕ) (acts : List Act) → IsMarked f count acts → count ≤ f.durable
+posted_few f count acts m =
+    let few = cut_few m.begun m.past acts m.posted (out_batches m.out) m.begins m.is_legal m.cut in
+    omega (arith, m.counted, m.durable, few)
 
 -- ---- messages that are taken
 
--- books balance still where a refused call is booked
-refused_balance : (b : Books) (waiting left : ℕ) → Balances b waiting left → Balances (call_refused b) waiting left
-refused_balance b waiting left balance = by b.spent (nat_lt b.calls (2 ^ 63 - 1)) refl
-  where
-    by : (spent few : Bool) → nat_lt b.calls (2 ^ 63 - 1) ≡ few
-        → Balances (if spent then b else if few then record b { calls = b.calls + 1; refused = b.refused + 1 } else record b { spent = true }) waiting left
-    by true few is = balance
-    by false true is = record {
-      columns = record {
-        calls = omega (arith, balance.columns.calls);
-        mails = balance.columns.mails;
-        few_calls = let below : b.calls < 2 ^ 63 - 1 = grind (arith, nat_tests) in omega (arith, below);
-        few_mails = balance.columns.few_mails;
-      };
-      waiting_is = balance.waiting_is;
-      left_is = balance.left_is;
+pub takes_marked : (f g : FrontState) (conn : ℕ) (m : ClientMessage) (es : List Entry) (count : ℕ) (acts : List Act) → Enters f es g → Takes f conn m es g → IsMarked f count acts → IsMarked g count acts
+takes_marked f g conn message es count acts enters takes m =
+    let begun : ServerState = m.begun in
+    let front : List Entry = entries_in m.posted in
+    let rest : List Entry = entries_in (out_batches m.out) ++ f.service.pending in
+    let made : made_entries m.posted m.out f ++ es ≡ made_entries m.posted m.out g =
+    append_assoc front rest es ∙ ap (λ (xs : List Entry). front ++ xs) (append_assoc (entries_in (out_batches m.out)) f.service.pending es ∙ ap (λ (xs : List Entry). entries_in (out_batches m.out) ++ xs) (sym enters.pending)) in
+    let whole : IsLegal (Began begun ∷ m.past) = subst IsLegal m.begins m.is_legal in
+    let kept : (session number : ℕ) (k : Kept) → addressed f conn number ≡ Right session → kept_at f session number ≡ Some k → k.place < f.durable → IsAnswerIn begun front session number k.answer k.place =
+    λ session number k to is below. kept_stands begun front rest session number k m.answered (keeps_below begun whole.0 session number)
+    (sym (ap (λ (s : ServerState). kept_in (get s.sessions session) number) m.state) ∙ is) (omega (arith, m.durable, below)) in
+    record {
+      begun = begun;
+      past = m.past;
+      begins = m.begins;
+      is_legal = m.is_legal;
+      posted = m.posted;
+      out = m.out;
+      counted = m.counted;
+      stored = m.stored;
+      cut = m.cut;
+      same_out = enters.out ∙ m.same_out;
+      durable = enters.durable ∙ m.durable;
+      state =
+          enters.state ∙ ap (λ (s : ServerState). after_all s es) m.state ∙ sym (after_append begun (made_entries m.posted m.out f) es)
+          ∙ ap (λ (xs : List Entry). after_all begun xs) made;
+      answered =
+          subst (λ (xs : List Entry). AreAnswered begun xs) made
+          (answered-append begun (made_entries m.posted m.out f) es m.answered (subst (λ (s : ServerState). AreAnswered s es) m.state (legal_answered f.service.state es enters.legal)));
+      boxes = message_boxes (λ q. TellsAnswerIn begun front) (λ q number r. tt) (λ q number. tt) (λ q text. tt) f conn kept g message es takes m.boxes;
     }
-    by false false is = record {
-      columns = record { calls = balance.columns.calls; mails = balance.columns.mails; few_calls = balance.columns.few_calls; few_mails = balance.columns.few_mails };
-      waiting_is = λ e. absurd (true≢false e);
-      left_is = λ e. absurd (true≢false e);
-    }
 
-refused_front : (f : FrontState) → IsFront f → IsFront (call_refused_by f)
-refused_front f front = record {
-  service = front.service;
-  tied = record {
-    agree = front.tied.agree;
-    place = front.tied.place;
-    few_out = front.tied.few_out;
-    out_first = front.tied.out_first;
-    balance = refused_balance f.books _ _ front.tied.balance;
-  };
-  few_waiting = front.few_waiting;
-  few_pending = front.few_pending;
-}
+-- ---- batches that are cut
 
-module _ (f g : FrontState) (conn : ℕ) (es : List Entry) (acts : List Act) (front : IsFront f) (same : g.durable ≡ f.durable) (marked : IsMarked f acts) where
-  -- a refusal that is told
-  refused_marked : (number : ℕ) (r : Refusal) → IsRefused f conn number r es g → IsMarked g acts
-  refused_marked number r told = step_marked f g (event.Tell conn (mail.Refused number r)) es acts front (tt, record { entries = told.entries; front = told.front }) same marked
+none_there : (o : Option Out) (b : Bool) → (is_some o || b) ≡ false → (o ≡ None) × (b ≡ false)
+none_there None b is = (refl, is)
+none_there (Some o) b is = absurd (cc is)
 
-  call_refused_marked : (number : ℕ) (r : Refusal) → IsRefused (call_refused_by f) conn number r es g → IsMarked g acts
-  call_refused_marked number r told =
-      step_marked (call_refused_by f) g (event.Tell conn (mail.Refused number r)) es acts (refused_front f front) (tt, record { entries = told.entries; front = told.front }) same
-      (record { stored = marked.stored; boxes = marked.boxes })
+no_batch : (o : Option Out) (out : Option Batch) → o ≡ None → o ≡ option_map out_of out → out ≡ None
+no_batch o None none is = refl
+no_batch o (Some b) none is = absurd (cc (sym none ∙ is))
 
-  pub takes_marked : (m : ClientMessage) → Takes f conn m es g → IsMarked g acts
-  takes_marked (message.Attach session) (inl step) = step_marked f g (event.Attach conn session) es acts front step same marked
-  takes_marked (message.Attach session) (inr told) = refused_marked session told.0 told.2
-  takes_marked (message.Call number request) (inl called) = step_marked f g (event.Call conn number request called.0) es acts front called.1 same marked
-  takes_marked (message.Call number request) (inr told) = call_refused_marked number told.0 told.2
-  takes_marked (message.Cancel number) (inl step) = step_marked f g (event.Cancel conn number) es acts front step same marked
-  takes_marked (message.Cancel number) (inr told) = refused_marked number told.0 told.2
-  takes_marked (message.Settle shared) (inl step) = step_marked f g (event.Settle conn shared) es acts front step same marked
-  takes_marked (message.Settle shared) (inr told) = refused_marked shared told.0 told.2
-  takes_marked message.Bye (inl step) = step_marked f g (event.Bye conn) es acts front step same marked
-  takes_marked message.Bye (inr told) = refused_marked 0 told.0 told.2
-  takes_marked message.Report (inl step) = step_marked f g (event.Tell conn _) es acts front step same marked
-  takes_marked message.Report (inr told) = refused_marked 0 NoMemory told
+module _ (f : FrontState) (count : ℕ) (acts : List Act) (m : IsMarked f count acts) (some : has_no_cut f ≡ false) where
+  no_out : m.out ≡ None
+  no_out = no_batch f.out m.out (none_there f.out (nat_eq (length f.service.pending) 0) some).0 m.same_out
+
+  posted_cut : IsPrefix m.posted (cuts_in acts)
+  posted_cut = subst (λ (bs : List Batch). IsPrefix bs (cuts_in acts)) (append-nil m.posted) (subst (λ (o : Option Batch). IsPrefix (m.posted ++ out_batches o) (cuts_in acts)) no_out m.cut)
+
+  pub cut_next : CutsAfter acts count (pending_batch f)
+  cut_next = record {
+    begun = m.begun;
+    past = m.past;
+    begins = m.begins;
+    before = m.posted;
+    stored = m.stored;
+    counted = m.counted;
+    first = m.durable;
+    some = by (length f.service.pending) (none_there f.out (nat_eq (length f.service.pending) 0) some).1;
+  }
+    where
+      by : (n : ℕ) → nat_eq n 0 ≡ false → 0 < n
+      by n is = grind (arith, nat_tests)
+
+  module _ (later : List Act) (legal : IsLegal later) (c : ComesAfter acts (Cut (pending_batch f)) later) (many : length (cuts_in c.earlier) ≡ count) where
+    all_cut : cuts_in later ≡ m.posted ++ pending_batch f ∷ []
+    all_cut =
+        let before : IsPrefix m.posted (cuts_in c.earlier) = prefix_trans m.posted (cuts_in acts) (cuts_in c.earlier) posted_cut (cuts_rise acts c.earlier c.seen) in
+        let same : cuts_in c.earlier ≡ m.posted = prefix_whole m.posted (cuts_in c.earlier) before (many ∙ m.counted) in
+        ap cuts_in c.is ∙ cuts_append c.earlier (Cut (pending_batch f) ∷ []) ∙ ap (λ (bs : List Batch). bs ++ pending_batch f ∷ []) same
+
+    last_cut : IsPrefix (m.posted ++ pending_batch f ∷ []) (cuts_in later)
+    last_cut = ([], append-nil (m.posted ++ pending_batch f ∷ []) ∙ sym all_cut)
+
+    pub cut_was : WasCut later count (pending_batch f)
+    cut_was = (m.posted, sym m.counted, last_cut)
+
+    pub cut_marked : (g : FrontState) → g ≡ cut f → IsMarked g count later
+    cut_marked g is =
+        let h : FrontState = record f { service = record f.service { pending = [] }; out = Some (record { first = f.durable; length = length f.service.pending }) } in
+        let now : g ≡ h = is ∙ ap (λ (b : Bool). if b then f else h) some in
+        let rises : IsPrefix acts later = prefix_trans acts c.earlier later c.seen (Cut (pending_batch f) ∷ [], sym c.is) in
+        let (rest, begins) = begins_so m.begun m.past acts later m.begins rises in
+        let pending : List Entry = f.service.pending in
+        let made : made_entries m.posted m.out f ≡ made_entries m.posted (Some (pending_batch f)) h =
+        ap (λ (o : Option Batch). made_entries m.posted o f) no_out ∙ ap (λ (es : List Entry). entries_in m.posted ++ es) (sym (append-nil (pending ++ []) ∙ append-nil pending)) in
+        marked_still h g count later now (record {
+          begun = m.begun;
+          past = rest;
+          begins = begins;
+          is_legal = legal;
+          posted = m.posted;
+          out = Some (pending_batch f);
+          counted = m.counted;
+          stored = prefix_trans m.posted (batches_of (stores_in acts)) (batches_of (stores_in later)) m.stored (stored_rise acts later rises);
+          cut = last_cut;
+          same_out = refl;
+          durable = m.durable;
+          state = m.state ∙ ap (λ (es : List Entry). after_all m.begun es) made;
+          answered = subst (λ (es : List Entry). AreAnswered m.begun es) made m.answered;
+          boxes = m.boxes;
+        })
+
+-- ---- batches that are posted
+
+module _ (f g : FrontState) (batch : Batch) (count : ℕ) (acts seat later : List Act) (legal : IsLegal later) (p : IsPrefix acts later) (q : IsPrefix seat later) (last : WasStoredLast seat batch) (front : IsFront f)
+    (is_out : IsOut f.out batch) (is : g ≡ posted f batch) (m : IsMarked f count acts) where
+  -- what is marked of a front whose batch that is out is this
+  abbrev WithOut : Option Batch → Type 0
+  WithOut o = IsPrefix (m.posted ++ out_batches o) (cuts_in acts) × (f.out ≡ option_map out_of o) × (f.service.state ≡ after_all m.begun (made_entries m.posted o f))
+      × AreAnswered m.begun (made_entries m.posted o f)
+
+  abbrev before : List Batch
+  before = batches_of last.0
+
+  stored_last : IsPrefix (before ++ batch ∷ []) (batches_of (stores_in later))
+  stored_last =
+      let all : batches_of (stores_in seat) ≡ before ++ batch ∷ [] = ap batches_of last.2 ∙ map-append (λ (s : Batch × ℕ). s.0) last.0 ((batch, last.1) ∷ []) in
+      subst (λ (bs : List Batch). IsPrefix bs (batches_of (stores_in later))) all (stored_rise seat later q)
+
+  with_batch : (b : Batch) → WithOut (Some b) → IsMarked g (count + 1) later
+  with_batch b (was_cut, out, state, answered) =
+      let begun : ServerState = m.begun in
+      let so = begins_so begun m.past acts later m.begins p in
+      let same_place : IsOut (Some (out_of b)) batch = subst (λ (o : Option Out). IsOut o batch) out is_out in
+      let first : b.first ≡ f.durable = subst (λ (o : Option Out). IfSome o (λ x. x.first ≡ f.durable)) out front.tied.out_first in
+      let here : IsPrefix (m.posted ++ b ∷ []) (cuts_in later) = prefix_trans (m.posted ++ b ∷ []) (cuts_in acts) (cuts_in later) was_cut (cuts_rise acts later p) in
+      let there : IsPrefix (before ++ batch ∷ []) (cuts_in later) =
+      prefix_trans (before ++ batch ∷ []) (batches_of (stores_in later)) (cuts_in later) stored_last (stored_cut begun so.0 later so.1 legal) in
+      let one = one_cut begun so.0 later m.posted before b batch so.1 legal here there (sym same_place.0) in
+      let now : List Batch = m.posted ++ batch ∷ [] in
+      let pending : List Entry = f.service.pending in
+      let entries : entries_in now ≡ entries_in m.posted ++ entries_in (batch ∷ []) = entries_append m.posted (batch ∷ []) in
+      let size : length (batch.entries ++ []) ≡ length batch.entries = ap length (append-nil batch.entries) in
+      let made : made_entries m.posted (Some b) f ≡ made_entries now None g =
+      ap (λ (x : Batch). made_entries m.posted (Some x) f) one.1 ∙ sym (append_assoc (entries_in m.posted) (entries_in (batch ∷ [])) pending) ∙ ap (λ (es : List Entry). es ++ pending) (sym entries)
+      ∙ ap (λ (es : List Entry). entries_in now ++ es) (sym (ap (λ (h : FrontState). h.service.pending) is ∙ (posted-stays f batch).pending)) in
+      let all : AreAnswered begun (made_entries now None g) = subst (λ (es : List Entry). AreAnswered begun es) made answered in
+      let posts : AllPosted (λ conn session. Unit {0}) (λ conn. TellsAnswerIn begun (entries_in now)) batch.entries batch.first =
+      posts_tell begun (entries_in now) (entries_in m.posted) batch.entries [] batch.first (answered-split begun (entries_in now) (g.service.pending) all).0 entries (omega (arith, same_place.0, first, m.durable)) in
+      let old_boxes : BoxesTell begun (entries_in now) f = subst (λ (es : List Entry). BoxesTell begun es f) (sym entries) (boxes_more begun (entries_in m.posted) (entries_in (batch ∷ [])) f m.boxes) in
+      record {
+        begun = begun;
+        past = so.0;
+        begins = so.1;
+        is_legal = legal;
+        posted = now;
+        out = None;
+        counted = omega (arith, m.counted, length-append m.posted (batch ∷ []));
+        stored = subst (λ (bs : List Batch). IsPrefix (bs ++ batch ∷ []) (batches_of (stores_in later))) (sym one.0) stored_last;
+        cut = subst (λ (bs : List Batch). IsPrefix bs (cuts_in later)) (sym (append-nil now)) (subst (λ (x : Batch). IsPrefix (m.posted ++ x ∷ []) (cuts_in later)) one.1 here);
+        same_out = ap (λ (h : FrontState). h.out) is;
+        durable =
+            let mark = ap (λ (h : FrontState). h.durable) is in
+            let many = ap length entries ∙ length-append (entries_in m.posted) (entries_in (batch ∷ [])) in
+            omega (arith, mark, same_place.0, first, m.durable, many, size);
+        state = ap (λ (h : FrontState). h.service.state) is ∙ (posted_all-keeps f batch.entries batch.first).state ∙ state ∙ ap (λ (es : List Entry). after_all begun es) made;
+        answered = all;
+        boxes =
+            subst (λ (h : FrontState). BoxesTell begun (entries_in now) h) (sym is)
+            (boxes-posted_all (λ conn. TellsAnswerIn begun (entries_in now)) (λ conn session. Unit {0}) (λ h. Unit {0}) (λ h has session conn holds. tt) (λ h e place has. tt) f batch.entries batch.first posts tt old_boxes);
+      }
+
+  pub posted_marked : IsMarked g (count + 1) later
+  posted_marked = by m.out (m.cut, m.same_out, m.state, m.answered)
+    where
+      by : (o : Option Batch) → WithOut o → IsMarked g (count + 1) later
+      by None w = absurd (subst (λ (o : Option Out). IsOut o batch) w.1 is_out)
+      by (Some b) w = with_batch b w
 
 -- ---- what may be told
+
+-- what is first in a box may be told
+pub first_may : (f : FrontState) (conn : ℕ) (m : Mail) (more : Bool) (count : ℕ) (acts : List Act) → Some m ≡ slice_get (mails_on f.connections conn) 0 → IsMarked f count acts → MayBeTold (taking.Mail m more) acts
+first_may f conn m more count acts first marked = by m (there (mails_on f.connections conn) first (marked.boxes conn))
+  where
+    there : (ms : List Mail) → Some m ≡ slice_get ms 0 → AllByRecursion (TellsAnswerIn marked.begun (entries_in marked.posted)) ms → TellsAnswerIn marked.begun (entries_in marked.posted) m
+    there [] is all = absurd (cc is)
+    there (x ∷ ms) is all = let same : x ≡ m = cc is in subst (TellsAnswerIn marked.begun (entries_in marked.posted)) same all.0
+
+    by : (m : Mail) → TellsAnswerIn marked.begun (entries_in marked.posted) m → MayBeTold (taking.Mail m more) acts
+    by (mail.Answer session number answer place) is =
+        subst (λ (zs : List Act). MayCome zs (Told (record { session = session; number = number; answer = answer; place = place }))) (sym marked.begins)
+        (answer_within marked.begun marked.posted (batches_of (stores_in marked.past)) session number answer place
+        (subst (λ (zs : List Act). IsPrefix marked.posted (batches_of (stores_in zs))) marked.begins marked.stored) is)
+    by (mail.Welcome session floor) is = tt
+    by (mail.Refused number refusal) is = tt
+    by (mail.Withdrawn number) is = tt
+    by (mail.Settled floor) is = tt
+    by (mail.Goodbye session) is = tt
+    by (mail.Report text) is = tt
 
 -- what may be told after some acts may be told later
 pub may_later : (t : Taking) (xs ys : List Act) → IsPrefix xs ys → MayBeTold t xs → MayBeTold t ys
 may_later (taking.Mail mail more) xs ys p may = by (receipt_of mail) may
   where
-    up : mark_of xs ≤ mark_of ys
-    up = mark_rises xs ys p
-
-    by : (o : Option Receipt) → IfSome o (λ r. r.place < mark_of xs) → IfSome o (λ r. r.place < mark_of ys)
+    by : (o : Option Receipt) → IfSome o (λ r. MayCome xs (Told r)) → IfSome o (λ r. MayCome ys (Told r))
     by None may = tt
-    by (Some r) may = omega (arith, may, up)
+    by (Some r) may = told_may xs ys r p may
 may_later taking.Gone xs ys p may = tt
 may_later taking.Stopped xs ys p may = tt
 may_later taking.Spent xs ys p may = tt

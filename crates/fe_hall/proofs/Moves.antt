@@ -5,12 +5,13 @@ use Rattle.std.proofs.lemmas.Bool.Decides.{nat_tests}
 use mathlib.Core.List.{IsPrefix}
 use prog.Atomic.{either}
 use Rattle.logbook.specs.Pages.{Cell, cell, keeps, no_nib, step, Moves, Goes}
+use Rattle.fe_state.specs.declared.batch.Batch.{Batch}
 use Rattle.fe_hall.specs.declared.act.Act.{Act}
-use Rattle.fe_hall.specs.declared.act.Act.TheVariants.{Stored, Told}
+use Rattle.fe_hall.specs.declared.act.Act.TheVariants.{Cut, Stored, Told}
 use Rattle.fe_hall.specs.declared.receipt.Receipt.{Receipt}
-use Rattle.fe_hall.specs.Acts.{IsLegal, mark_of, stores_in}
-use Rattle.fe_hall.specs.Rules.{IsKept, Adds, AddsNext, Counts}
-use Rattle.fe_hall.proofs.Acts.{told_legal, stored_legal, stores_append, mark_rises}
+use Rattle.fe_hall.specs.Acts.{IsLegal, MayCome, WasCut, cuts_in, stores_in}
+use Rattle.fe_hall.specs.Rules.{IsKept, Adds, AddsNext, CutsAfter, CutsNext, Counts}
+use Rattle.fe_hall.proofs.Acts.{cut_may, cuts_append, legal_append, store_may, stores_append, told_may}
 
 abbrev pub shown : List Act → List Act
 shown log = []
@@ -18,16 +19,24 @@ shown log = []
 abbrev pub moved : List Act → List Act → ℕ → Type 0
 moved xs ys n = Unit {0}
 
-told_none : (log : List Act) (r : Receipt) → stores_in (log ++ Told r ∷ []) ≡ stores_in log
-told_none log r = stores_append log (Told r ∷ []) ∙ append-nil (stores_in log)
+-- the two words
+abbrev cells : ℕ → ℕ → List Cell
+cells stores cuts = (stores, true) ∷ (cuts, true) ∷ []
 
-stored_one : (log : List Act) (place moment : ℕ) → length (stores_in (log ++ Stored place moment ∷ [])) ≡ length (stores_in log) + 1
-stored_one log place moment = ap length (stores_append log (Stored place moment ∷ [])) ∙ length-append (stores_in log) ((place, moment) ∷ [])
+kept_with : (log : List Act) (stores cuts : ℕ) → stores ≡ length (stores_in log) → cuts ≡ length (cuts_in log) → IsLegal log → IsKept (cells stores cuts) log
+kept_with log stores cuts s c legal = record { words = ap (λ (n : ℕ). cells n cuts) s ∙ ap (λ (n : ℕ). cells (length (stores_in log)) n) c; legal = legal }
 
-pub tells_moves : (v : List Act) (r : Receipt) → r.place < mark_of v → Moves IsKept shown moved 0 (v, (no_nib, None)) (λ n. n) (Adds (step 0 0 0 (Told r)) (v, (no_nib, None)))
-tells_moves v r below cs log kept pre away =
+-- an act that is neither a cut nor a store
+told_stores : (log : List Act) (r : Receipt) → length (stores_in log) ≡ length (stores_in (log ++ Told r ∷ []))
+told_stores log r = ap length (sym (stores_append log (Told r ∷ []) ∙ append-nil (stores_in log)))
+
+told_cuts : (log : List Act) (r : Receipt) → length (cuts_in log) ≡ length (cuts_in (log ++ Told r ∷ []))
+told_cuts log r = ap length (sym (cuts_append log (Told r ∷ []) ∙ append-nil (cuts_in log)))
+
+pub tells_moves : (v : List Act) (r : Receipt) → MayCome v (Told r) → Moves IsKept shown moved 0 (v, (no_nib, None)) (λ n. n) (Adds (step 0 0 0 (Told r)) (v, (no_nib, None)))
+tells_moves v r may cs log kept pre away =
     let P : List Cell → Type 0 = λ c. (0 < length c) × ((cell c 0).1 ≡ true) × Goes IsKept shown moved 0 (v, (no_nib, None)) (λ n. n) (Adds (step 0 0 0 (Told r)) (v, (no_nib, None))) c log in
-    let legal' : IsLegal (log ++ Told r ∷ []) = told_legal log r kept.legal (omega (arith, mark_rises v log pre)) in
+    let legal' : IsLegal (log ++ Told r ∷ []) = legal_append log (Told r) kept.legal (told_may v log r pre may) in
     subst P (sym kept.words) (
       omega arith,
       refl,
@@ -36,7 +45,7 @@ tells_moves v r below cs log kept pre away =
         Told r ∷ [],
         None,
         tt,
-        record { words = ap (λ (k : ℕ). (k, true) ∷ []) (ap length (sym (told_none log r))); legal = legal' },
+        kept_with (log ++ Told r ∷ []) (length (stores_in log)) (length (cuts_in log)) (told_stores log r) (told_cuts log r) legal',
         inl (refl, refl),
         (record { earlier = log; seen = pre; is = refl }, legal'),
       ),
@@ -45,8 +54,8 @@ tells_moves v r below cs log kept pre away =
 pub counts_moves : (v : List Act) (ask : Act) → Moves IsKept shown moved 0 (v, (no_nib, None)) (λ n. n) (Counts (step 0 0 0 ask) (v, (no_nib, None)))
 counts_moves v ask cs log kept pre away =
     let P : List Cell → Type 0 = λ c. (0 < length c) × ((cell c 0).1 ≡ true) × Goes IsKept shown moved 0 (v, (no_nib, None)) (λ n. n) (Counts (step 0 0 0 ask) (v, (no_nib, None))) c log in
-    let all : log ++ [] ≡ log = append-nil log in
-    let legal' : IsLegal (log ++ []) = subst IsLegal (sym all) kept.legal in
+    let all : log ≡ log ++ [] = sym (append-nil log) in
+    let legal' : IsLegal (log ++ []) = subst IsLegal all kept.legal in
     subst P (sym kept.words) (
       omega arith,
       refl,
@@ -55,40 +64,83 @@ counts_moves v ask cs log kept pre away =
         [],
         None,
         tt,
-        record { words = ap (λ (l : List Act). (length (stores_in l), true) ∷ []) (sym all); legal = legal' },
+        kept_with (log ++ []) (length (stores_in log)) (length (cuts_in log)) (ap (λ (l : List Act). length (stores_in l)) all) (ap (λ (l : List Act). length (cuts_in l)) all) legal',
         inl (refl, refl),
-        (ap (λ (l : List Act). length (stores_in l)) all, legal'),
+        (ap (λ (l : List Act). length (stores_in l)) (sym all), legal'),
       ),
     )
 
-pub stores_goes : (log v : List Act) (place moment old : ℕ) → IsLegal log → IsPrefix v log → (b : Bool) → (length (stores_in log) == old) ≡ b
-    → Goes IsKept shown moved 0 (v, (no_nib, None)) (λ n. either (n == old) (old + 1) n) (AddsNext (step 0 old (old + 1) (Stored place moment)) (v, (no_nib, None))) ((length (stores_in log), true) ∷ []) log
-stores_goes log v place moment old legal pre true is =
+-- ---- stores
+
+stores_goes : (log v : List Act) (batch : Batch) (moment old : ℕ) → WasCut v old batch → IsLegal log → IsPrefix v log → (b : Bool) → (length (stores_in log) == old) ≡ b
+    → Goes IsKept shown moved 0 (v, (no_nib, None)) (λ n. either (n == old) (old + 1) n) (AddsNext (step 0 old (old + 1) (Stored batch moment)) (v, (no_nib, None))) (cells (length (stores_in log)) (length (cuts_in log))) log
+stores_goes log v batch moment old was legal pre true is =
     let here : length (stores_in log) ≡ old = grind (arith, nat_tests) in
-    let legal' : IsLegal (log ++ Stored place moment ∷ []) = stored_legal log place moment legal in
-    let n : either (length (stores_in log) == old) (old + 1) (length (stores_in log)) ≡ length (stores_in (log ++ Stored place moment ∷ [])) = rw is (omega (arith, here, stored_one log place moment)) in (
+    let legal' : IsLegal (log ++ Stored batch moment ∷ []) = legal_append log (Stored batch moment) legal (store_may v log old moment batch was pre legal here) in
+    let one : length (stores_in (log ++ Stored batch moment ∷ [])) ≡ length (stores_in log) + 1 =
+    ap length (stores_append log (Stored batch moment ∷ [])) ∙ length-append (stores_in log) ((batch, moment) ∷ []) in
+    let stores : either (length (stores_in log) == old) (old + 1) (length (stores_in log)) ≡ length (stores_in (log ++ Stored batch moment ∷ [])) = rw is (omega (arith, here, one)) in
+    let cuts : length (cuts_in log) ≡ length (cuts_in (log ++ Stored batch moment ∷ [])) = ap length (sym (cuts_append log (Stored batch moment ∷ []) ∙ append-nil (cuts_in log))) in (
       keeps,
-      Stored place moment ∷ [],
+      Stored batch moment ∷ [],
       None,
       tt,
-      record { words = ap (λ (k : ℕ). (k, true) ∷ []) n; legal = legal' },
+      kept_with (log ++ Stored batch moment ∷ []) (either (length (stores_in log) == old) (old + 1) (length (stores_in log))) (length (cuts_in log)) stores cuts legal',
       inl (refl, refl),
       rw is ((record { earlier = log; seen = pre; is = refl }, here), legal'),
     )
-stores_goes log v place moment old legal pre false is =
-    let all : log ++ [] ≡ log = append-nil log in
-    let legal' : IsLegal (log ++ []) = subst IsLegal (sym all) legal in
-    let n : either (length (stores_in log) == old) (old + 1) (length (stores_in log)) ≡ length (stores_in (log ++ [])) = rw is (ap (λ (l : List Act). length (stores_in l)) (sym all)) in (
+stores_goes log v batch moment old was legal pre false is =
+    let all : log ≡ log ++ [] = sym (append-nil log) in
+    let legal' : IsLegal (log ++ []) = subst IsLegal all legal in
+    let stores : either (length (stores_in log) == old) (old + 1) (length (stores_in log)) ≡ length (stores_in (log ++ [])) = rw is (ap (λ (l : List Act). length (stores_in l)) all) in (
       keeps,
       [],
       None,
       tt,
-      record { words = ap (λ (k : ℕ). (k, true) ∷ []) n; legal = legal' },
+      kept_with (log ++ []) (either (length (stores_in log) == old) (old + 1) (length (stores_in log))) (length (cuts_in log)) stores (ap (λ (l : List Act). length (cuts_in l)) all) legal',
       inl (refl, refl),
       rw is (tt, legal'),
     )
 
-pub stores_moves : (v : List Act) (place moment old : ℕ) → Moves IsKept shown moved 0 (v, (no_nib, None)) (λ n. either (n == old) (old + 1) n) (AddsNext (step 0 old (old + 1) (Stored place moment)) (v, (no_nib, None)))
-stores_moves v place moment old cs log kept pre away =
-    let P : List Cell → Type 0 = λ c. (0 < length c) × ((cell c 0).1 ≡ true) × Goes IsKept shown moved 0 (v, (no_nib, None)) (λ n. either (n == old) (old + 1) n) (AddsNext (step 0 old (old + 1) (Stored place moment)) (v, (no_nib, None))) c log in
-    subst P (sym kept.words) (omega arith, refl, stores_goes log v place moment old kept.legal pre (length (stores_in log) == old) refl)
+pub stores_moves : (v : List Act) (batch : Batch) (moment old : ℕ) → WasCut v old batch
+    → Moves IsKept shown moved 0 (v, (no_nib, None)) (λ n. either (n == old) (old + 1) n) (AddsNext (step 0 old (old + 1) (Stored batch moment)) (v, (no_nib, None)))
+stores_moves v batch moment old was cs log kept pre away =
+    let P : List Cell → Type 0 = λ c. (0 < length c) × ((cell c 0).1 ≡ true) × Goes IsKept shown moved 0 (v, (no_nib, None)) (λ n. either (n == old) (old + 1) n) (AddsNext (step 0 old (old + 1) (Stored batch moment)) (v, (no_nib, None))) c log in
+    subst P (sym kept.words) (omega arith, refl, stores_goes log v batch moment old was kept.legal pre (length (stores_in log) == old) refl)
+
+-- ---- cuts
+
+cuts_goes : (log v : List Act) (batch : Batch) (old : ℕ) → CutsAfter v old batch → IsLegal log → IsPrefix v log → (b : Bool) → (length (cuts_in log) == old) ≡ b
+    → Goes IsKept shown moved 1 (v, (no_nib, None)) (λ n. either (n == old) (old + 1) n) (CutsNext (step 1 old (old + 1) (Cut batch)) (v, (no_nib, None))) (cells (length (stores_in log)) (length (cuts_in log))) log
+cuts_goes log v batch old next legal pre true is =
+    let here : length (cuts_in log) ≡ old = grind (arith, nat_tests) in
+    let legal' : IsLegal (log ++ Cut batch ∷ []) = legal_append log (Cut batch) legal (cut_may v log old batch next pre legal here) in
+    let one : length (cuts_in (log ++ Cut batch ∷ [])) ≡ length (cuts_in log) + 1 = ap length (cuts_append log (Cut batch ∷ [])) ∙ length-append (cuts_in log) (batch ∷ []) in
+    let cuts : either (length (cuts_in log) == old) (old + 1) (length (cuts_in log)) ≡ length (cuts_in (log ++ Cut batch ∷ [])) = rw is (omega (arith, here, one)) in
+    let stores : length (stores_in log) ≡ length (stores_in (log ++ Cut batch ∷ [])) = ap length (sym (stores_append log (Cut batch ∷ []) ∙ append-nil (stores_in log))) in (
+      keeps,
+      Cut batch ∷ [],
+      None,
+      tt,
+      kept_with (log ++ Cut batch ∷ []) (length (stores_in log)) (either (length (cuts_in log) == old) (old + 1) (length (cuts_in log))) stores cuts legal',
+      inl (refl, refl),
+      rw is ((record { earlier = log; seen = pre; is = refl }, here), legal'),
+    )
+cuts_goes log v batch old next legal pre false is =
+    let all : log ≡ log ++ [] = sym (append-nil log) in
+    let legal' : IsLegal (log ++ []) = subst IsLegal all legal in
+    let cuts : either (length (cuts_in log) == old) (old + 1) (length (cuts_in log)) ≡ length (cuts_in (log ++ [])) = rw is (ap (λ (l : List Act). length (cuts_in l)) all) in (
+      keeps,
+      [],
+      None,
+      tt,
+      kept_with (log ++ []) (length (stores_in log)) (either (length (cuts_in log) == old) (old + 1) (length (cuts_in log))) (ap (λ (l : List Act). length (stores_in l)) all) cuts legal',
+      inl (refl, refl),
+      rw is (tt, legal'),
+    )
+
+pub cuts_moves : (v : List Act) (batch : Batch) (old : ℕ) → CutsAfter v old batch
+    → Moves IsKept shown moved 1 (v, (no_nib, None)) (λ n. either (n == old) (old + 1) n) (CutsNext (step 1 old (old + 1) (Cut batch)) (v, (no_nib, None)))
+cuts_moves v batch old next cs log kept pre away =
+    let P : List Cell → Type 0 = λ c. (1 < length c) × ((cell c 1).1 ≡ true) × Goes IsKept shown moved 1 (v, (no_nib, None)) (λ n. either (n == old) (old + 1) n) (CutsNext (step 1 old (old + 1) (Cut batch)) (v, (no_nib, None))) c log in
+    subst P (sym kept.words) (omega arith, refl, cuts_goes log v batch old next kept.legal pre (length (cuts_in log) == old) refl)

@@ -1,24 +1,22 @@
 -- The history notes the groups that a committing side stored.
-use Rattle.std.proofs.Common.{◌≡◌, inl, inr, ℕ, ◌≤◌, List, [], ◌∷◌, ◌++◌, length, map, Option, Some, None, refl, sym, ap, subst, ◌∙◌, append_assoc}
+use Rattle.std.proofs.Common.{◌≡◌, inl, inr, ℕ, List, [], ◌∷◌, ◌++◌, length, map, Option, Some, None, refl, sym, ap, subst, ◌∙◌, append_assoc}
 use Rattle.std.proofs.lemmas.List.{append-nil, map-append}
 use mathlib.Core.List.{IsPrefix}
+use Rattle.fe_state.specs.declared.batch.Batch.{Batch}
 use Rattle.fe_hall.specs.declared.act.Act.{Act}
 use Rattle.fe_hall.specs.declared.act.Act.TheVariants.{Stored}
 use Rattle.fe_hall.specs.declared.commit_end.CommitEnd.{CommitEnd}
 use Rattle.fe_hall.specs.declared.commit_end.CommitEnd.TheVariants.{Strange}
-use Rattle.fe_hall.specs.Acts.{IsLegal, mark_of, stores_in}
+use Rattle.fe_hall.specs.Acts.{stores_in}
 use Rattle.fe_hall.specs.Commits.{Append, AreNoted, AreNotes, noted}
 use Rattle.fe_hall.specs.Rules.{ComesAfter}
-use Rattle.fe_hall.proofs.Acts.{mark_stored, prefix_self, prefix_trans, stores_append, stores_same}
+use Rattle.fe_hall.proofs.Acts.{prefix_self, prefix_trans, stores_append, stores_same}
 
--- a group that comes next is noted, and lies below the mark
-pub note_adds : (old new : List Act) (place moment stored : ℕ) → stored ≡ length (stores_in old) → (c : ComesAfter old (Stored place moment) new) → length (stores_in c.earlier) ≡ stored
-    → stores_in new ≡ stores_in old ++ (place, moment) ∷ []
-note_adds old new place moment stored count c same =
-    ap stores_in c.is ∙ stores_append c.earlier (Stored place moment ∷ []) ∙ ap (λ (s : List (ℕ × ℕ)). s ++ (place, moment) ∷ []) (stores_same old c.earlier c.seen (same ∙ count))
-
-pub note_marks : (old new : List Act) (place moment : ℕ) → IsLegal new → ComesAfter old (Stored place moment) new → place ≤ mark_of new
-note_marks old new place moment legal c = subst (λ (acts : List Act). place ≤ mark_of acts) (sym c.is) (mark_stored c.earlier place moment (subst IsLegal c.is legal))
+-- a batch that is stored next is noted
+pub note_adds : (old new : List Act) (batch : Batch) (moment stored : ℕ) → stored ≡ length (stores_in old) → (c : ComesAfter old (Stored batch moment) new) → length (stores_in c.earlier) ≡ stored
+    → stores_in new ≡ stores_in old ++ (batch, moment) ∷ []
+note_adds old new batch moment stored count c same =
+    ap stores_in c.is ∙ stores_append c.earlier (Stored batch moment ∷ []) ∙ ap (λ (s : List (Batch × ℕ)). s ++ (batch, moment) ∷ []) (stores_same old c.earlier c.seen (same ∙ count))
 
 module _ {D : Type 0} (moment : D → ℕ) where
   -- nothing was stored
@@ -35,15 +33,15 @@ module _ {D : Type 0} (moment : D → ℕ) where
       (subst (λ (h : List Act). IsPrefix a h) (sym same) (prefix_self a), [], ap stores_in same ∙ sym (append-nil (stores_in a)), inr (refl, noted moment append, refl))
 
   -- notes after notes
-  both_notes : (first second : List (Append D)) (end : Option CommitEnd) (n m : List (ℕ × ℕ)) → AreNotes moment first None n → AreNotes moment second end m → AreNotes moment (first ++ second) end (n ++ m)
+  both_notes : (first second : List (Append D)) (end : Option CommitEnd) (n m : List (Batch × ℕ)) → AreNotes moment first None n → AreNotes moment second end m → AreNotes moment (first ++ second) end (n ++ m)
   both_notes first second end n m (inr strange) two = absurd (cc (strange.0))
   both_notes first second end n m (inl one) (inl two) =
-      inl (ap (λ (s : List (ℕ × ℕ)). s ++ m) one ∙ ap (λ (s : List (ℕ × ℕ)). map (noted moment) first ++ s) two ∙ sym (map-append (noted moment) first second))
+      inl (ap (λ (s : List (Batch × ℕ)). s ++ m) one ∙ ap (λ (s : List (Batch × ℕ)). map (noted moment) first ++ s) two ∙ sym (map-append (noted moment) first second))
   both_notes first second end n m (inl one) (inr (strange, last, two)) =
       inr (
         strange,
         last,
-        append_assoc n m (last ∷ []) ∙ ap (λ (s : List (ℕ × ℕ)). s ++ (m ++ last ∷ [])) one ∙ ap (λ (s : List (ℕ × ℕ)). map (noted moment) first ++ s) two
+        append_assoc n m (last ∷ []) ∙ ap (λ (s : List (Batch × ℕ)). s ++ (m ++ last ∷ [])) one ∙ ap (λ (s : List (Batch × ℕ)). map (noted moment) first ++ s) two
             ∙ sym (map-append (noted moment) first second),
       )
 
@@ -52,7 +50,7 @@ module _ {D : Type 0} (moment : D → ℕ) where
   both_noted first second end a b c (p, n, one, are) (q, m, two, also) = (
     prefix_trans a b c p q,
     n ++ m,
-    two ∙ ap (λ (s : List (ℕ × ℕ)). s ++ m) one ∙ append_assoc (stores_in a) n m,
+    two ∙ ap (λ (s : List (Batch × ℕ)). s ++ m) one ∙ append_assoc (stores_in a) n m,
     both_notes first second end n m are also,
   )
 

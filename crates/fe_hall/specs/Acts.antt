@@ -1,48 +1,84 @@
--- What happened in a hall, in one order: groups were stored, and answers were told.
-use Rattle.std.specs.Prelude.{◌≡◌, ℕ, ◌<◌, max, Bool, List, [], ◌∷◌, ◌++◌, slice_get, Some, IfSome, MatchBool}
+-- What happened in a hall, in one order: batches were cut and stored, and answers were told.
+use Rattle.std.specs.Prelude.{◌≡◌, ℕ, ◌+◌, ◌<◌, Bool, List, [], ◌∷◌, ◌++◌, length, map, slice_get, Some, IfSome, MatchBool}
+use Rattle.std.specs.List.{flat_map}
 use mathlib.Core.List.{IsPrefix}
+use Rattle.fe_state.specs.State.{ServerState, IsWithinLimits}
+use Rattle.fe_state.specs.declared.batch.Batch.{Batch}
+use Rattle.fe_state.specs.declared.entry.Entry.{Entry}
 use Rattle.fe_mail.specs.declared.mail.Mail.{Mail}
+use Rattle.fe_messages.specs.Answers.{IsAnswerIn}
 use Rattle.fe_hall.specs.declared.receipt.Receipt.{Receipt}
 use Rattle.fe_hall.specs.declared.act.Act.{Act}
-use Rattle.fe_hall.specs.declared.act.Act.TheVariants.{Began, Stored, Told}
+use Rattle.fe_hall.specs.declared.act.Act.TheVariants.{Began, Cut, Stored, Told}
 use Rattle.fe_hall.specs.declared.taking.Taking.{Taking}
 use Rattle.fe_hall.specs.declared.taking.Taking.TheVariants as taking
 use Rattle.fe_hall.specs.Writes.{receipt_of}
 
--- the groups that were stored: of each the place after it, and the moment at which its append had ended
-abbrev pub stores_in : List Act → List (ℕ × ℕ)
+-- the batches that were cut
+abbrev pub cuts_in : List Act → List Batch
+cuts_in [] = []
+cuts_in (Began state ∷ acts) = cuts_in acts
+cuts_in (Cut batch ∷ acts) = batch ∷ cuts_in acts
+cuts_in (Stored batch moment ∷ acts) = cuts_in acts
+cuts_in (Told r ∷ acts) = cuts_in acts
+
+-- the batches that were stored, each with the moment at which its append had ended
+abbrev pub stores_in : List Act → List (Batch × ℕ)
 stores_in [] = []
-stores_in (Began place ∷ acts) = stores_in acts
-stores_in (Stored place moment ∷ acts) = (place, moment) ∷ stores_in acts
+stores_in (Began state ∷ acts) = stores_in acts
+stores_in (Cut batch ∷ acts) = stores_in acts
+stores_in (Stored batch moment ∷ acts) = (batch, moment) ∷ stores_in acts
 stores_in (Told r ∷ acts) = stores_in acts
 
--- all entries before this mark are stored after these acts, where all before the first mark were
-abbrev pub mark_from : ℕ → List Act → ℕ
-mark_from mark [] = mark
-mark_from mark (Began place ∷ acts) = mark_from mark acts
-mark_from mark (Stored place moment ∷ acts) = mark_from (max mark place) acts
-mark_from mark (Told r ∷ acts) = mark_from mark acts
+-- the batches of stores
+abbrev pub batches_of : List (Batch × ℕ) → List Batch
+batches_of stores = map (λ s. s.0) stores
 
--- an answer is told only when its entry lies below the mark of what was stored before
-abbrev pub GoesOn : ℕ → List Act → Type 0
-GoesOn mark [] = Unit {0}
-GoesOn mark (Began place ∷ acts) = ⊥
-GoesOn mark (Stored place moment ∷ acts) = GoesOn (max mark place) acts
-GoesOn mark (Told r ∷ acts) = (r.place < mark) × GoesOn mark acts
+-- the entries of batches, in their order
+abbrev pub entries_in : List Batch → List Entry
+entries_in batches = flat_map (λ b. b.entries) batches
+
+-- the place after these batches
+abbrev pub place_after : ServerState → List Batch → ℕ
+place_after begun batches = begun.place + length (entries_in batches)
+
+-- What may happen in a hall that began with this state, after these acts: a batch is cut once those before it are stored, and goes on where
+-- they end; the batch that was cut is stored; and an answer is told only once its entry is stored, and it is that entry's.
+abbrev pub MayFollow : ServerState → List Act → Act → Type 0
+MayFollow begun past (Began state) = ⊥
+MayFollow begun past (Cut batch) =
+    (cuts_in past ≡ batches_of (stores_in past)) × (batch.first ≡ place_after begun (cuts_in past)) × (0 < length batch.entries)
+MayFollow begun past (Stored batch moment) = cuts_in past ≡ batches_of (stores_in past) ++ batch ∷ []
+MayFollow begun past (Told r) = IsAnswerIn begun (entries_in (batches_of (stores_in past))) r.session r.number r.answer r.place
+
+-- each act may follow those before it
+abbrev pub GoesOn : ServerState → List Act → List Act → Type 0
+GoesOn begun past [] = Unit {0}
+GoesOn begun past (a ∷ acts) = MayFollow begun past a × GoesOn begun (past ++ a ∷ []) acts
 
 -- a history of a hall begins once, and then goes on so
 abbrev pub IsLegal : List Act → Type 0
 IsLegal [] = ⊥
-IsLegal (Began place ∷ acts) = GoesOn place acts
-IsLegal (Stored place moment ∷ acts) = ⊥
+IsLegal (Began state ∷ acts) = IsWithinLimits state × GoesOn state [] acts
+IsLegal (Cut batch ∷ acts) = ⊥
+IsLegal (Stored batch moment ∷ acts) = ⊥
 IsLegal (Told r ∷ acts) = ⊥
 
--- all entries before this mark are stored after these acts
-abbrev pub mark_of : List Act → ℕ
-mark_of [] = 0
-mark_of (Began place ∷ acts) = mark_from place acts
-mark_of (Stored place moment ∷ acts) = 0
-mark_of (Told r ∷ acts) = 0
+-- an act may come after a history
+abbrev pub MayCome : List Act → Act → Type 0
+MayCome [] a = ⊥
+MayCome (Began state ∷ past) a = MayFollow state past a
+MayCome (Cut batch ∷ past) a = ⊥
+MayCome (Stored batch moment ∷ past) a = ⊥
+MayCome (Told r ∷ past) a = ⊥
+
+-- a batch was cut, after this many others
+abbrev pub WasCut : List Act → ℕ → Batch → Type 0
+WasCut acts count batch = (before : List Batch) × (length before ≡ count) × IsPrefix (before ++ batch ∷ []) (cuts_in acts)
+
+-- a batch was stored, and none after it
+abbrev pub WasStoredLast : List Act → Batch → Type 0
+WasStoredLast acts batch = (before : List (Batch × ℕ)) × (moment : ℕ) × (stores_in acts ≡ before ++ (batch, moment) ∷ [])
 
 -- the act is one of these
 abbrev pub StandsIn : List Act → Act → Type 0
@@ -87,8 +123,8 @@ pub record Gathered : Type 0 where
   pub history : List Act
 
 -- there are more of these than of those, which come first
-abbrev pub HasMore : List (ℕ × ℕ) → List (ℕ × ℕ) → Type 0
-HasMore stores all = (other : ℕ × ℕ) × (others : List (ℕ × ℕ)) × (all ≡ stores ++ other ∷ others)
+abbrev pub HasMore : List (Batch × ℕ) → List (Batch × ℕ) → Type 0
+HasMore stores all = (other : Batch × ℕ) × (others : List (Batch × ℕ)) × (all ≡ stores ++ other ∷ others)
 
 -- What a hall leaves: receipts, the history, and whether the hall's committing side noted every group in it.
 pub record Account : Type 0 where

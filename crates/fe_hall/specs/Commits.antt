@@ -24,8 +24,9 @@ pub record IsStored (batch : Batch) (s : ServerState) : Type 0 where
   pub continues : Continues before batch.first batch.entries
   pub state_is : s ≡ after_all before batch.entries
 
--- an append that succeeded: the keeper as it began, and the keeper as it ended, with which the batch is posted
+-- an append that succeeded: the batch, the keeper as it began, and the keeper as it ended
 pub record Append (D : Type 0) : Type 0 where
+  pub batch : Batch
   pub before : KeeperState D
   pub after : KeeperState D
 
@@ -35,7 +36,7 @@ AreAppends s [] [] = Unit {0}
 AreAppends s [] (append ∷ appends) = ⊥
 AreAppends s (group ∷ groups) [] = ⊥
 AreAppends s (group ∷ groups) (append ∷ appends) =
-    (append.before.state ≡ s) × (append.after.state ≡ after_all s group) × AreAppends (after_all s group) groups appends
+    (append.before.state ≡ s) × (append.after.state ≡ after_all s group) × (append.batch.entries ≡ group) × AreAppends (after_all s group) groups appends
 
 -- From this disk on, and up to the last, each image that a stop leaves stands for a prefix of the history with n groups or more. From the
 -- end of the next append on the prefix has one group more, and so on. Each append begins where the one before it has ended, or later.
@@ -61,18 +62,18 @@ pub record Commits {D : Type 0} (honest : D → Type 0) (moment : D → ℕ) (le
   pub any_moment : honest old.store.disk → old.store.has_failed ≡ false
       → HoldsSince moment left_since old.state groups 0 old.store.disk appends new.store.disk
 
--- what the history notes of an append: the place after its group, and the moment of its end
-abbrev pub noted : {D : Type 0} → (D → ℕ) → Append D → ℕ × ℕ
-noted moment append = (append.after.state.place, moment append.after.store.disk)
+-- what the history notes of an append: the batch, and the moment of its end
+abbrev pub noted : {D : Type 0} → (D → ℕ) → Append D → Batch × ℕ
+noted moment append = (append.batch, moment append.after.store.disk)
 
 -- What was noted of these appends, in their order: all of them, except the last where something is strange.
-abbrev pub AreNotes : {D : Type 0} → (D → ℕ) → List (Append D) → Option CommitEnd → List (ℕ × ℕ) → Type 0
-AreNotes moment appends end notes = (notes ≡ map (noted moment) appends) ⊎ ((end ≡ Some Strange) × (last : ℕ × ℕ) × (notes ++ last ∷ [] ≡ map (noted moment) appends))
+abbrev pub AreNotes : {D : Type 0} → (D → ℕ) → List (Append D) → Option CommitEnd → List (Batch × ℕ) → Type 0
+AreNotes moment appends end notes = (notes ≡ map (noted moment) appends) ⊎ ((end ≡ Some Strange) × (last : Batch × ℕ) × (notes ++ last ∷ [] ≡ map (noted moment) appends))
 
 -- The history notes these appends in their order, and none besides.
 abbrev pub AreNoted : {D : Type 0} → (D → ℕ) → List (Append D) → Option CommitEnd → List Act → List Act → Type 0
 AreNoted moment appends end before after =
-    IsPrefix before after × (notes : List (ℕ × ℕ)) × (stores_in after ≡ stores_in before ++ notes) × AreNotes moment appends end notes
+    IsPrefix before after × (notes : List (Batch × ℕ)) × (stores_in after ≡ stores_in before ++ notes) × AreNotes moment appends end notes
 
 -- ---- ends
 

@@ -1,11 +1,13 @@
 -- What a hold of a hall's lock did to the front, and why it did nothing.
-use Rattle.std.specs.Prelude.{◌≡◌, ◌⊎◌, ℕ, ◌≤◌, Bool, true, false, [], length, nat_lt, Option, Some, None}
+use Rattle.std.specs.Prelude.{◌≡◌, ◌⊎◌, ℕ, ◌≤◌, Bool, true, false, List, [], length, nat_lt, Option, Some, None}
 use Rattle.fe_mail.specs.Connections.{mails_on}
 use Rattle.fe_front.specs.Event as event
 use Rattle.fe_front.specs.Front.{FrontState, is_connected}
 use Rattle.fe_front.specs.Step.{FrontStep}
 use Rattle.fe_state.specs.declared.batch.Batch.{Batch}
 use Rattle.fe_front.specs.Posting.{IsOut}
+use Rattle.fe_hall.specs.Acts.{WasCut}
+use Rattle.fe_hall.specs.declared.act.Act.{Act}
 use Rattle.fe_hall.specs.Seats.{most_counted, posts_more}
 use Rattle.fe_hall.specs.declared.shared.Cutting.{Cutting}
 use Rattle.fe_hall.specs.declared.shared.Cutting.TheVariants as cutting
@@ -51,8 +53,16 @@ abbrev pub IsUnposted : FrontState → Batch → Unposted → Type 0
 IsUnposted f batch (unposted.Full full) = posts_more f.books batch ≡ false
 IsUnposted f batch (unposted.Strange strange) = (posts_more f.books batch ≡ true) × (¬ IsOut f.out batch)
 
--- A batch was cut; or none was, and where the hall is stopped all that was made is durable, so that nothing is left to store.
+-- A batch was cut; or none was, and where the hall is stopped all that was made is durable, so that nothing is left to store; or
+-- another side cut batches, and nothing happens.
 abbrev pub Cuts : FrontState → Bool → Option Cutting → FrontState → Type 0
 Cuts f stopped (Some (cutting.Batch cut)) g = FrontStep f (event.Cut (Some cut.batch)) [] g
 Cuts f stopped (Some (cutting.Stopped all)) g = FrontStep f (event.Cut None) [] g × (stopped ≡ true) × (g.durable ≡ g.service.state.place)
+Cuts f stopped (Some (cutting.Strange uncut)) g = g ≡ f
 Cuts f stopped None g = FrontStep f (event.Cut None) [] g
+
+-- the batch that was cut was cut in this history
+abbrev pub IsCutIn : Cutting → List Act → Type 0
+IsCutIn (cutting.Batch cut) acts = WasCut acts cut.count cut.batch
+IsCutIn (cutting.Stopped all) acts = Unit {0}
+IsCutIn (cutting.Strange uncut) acts = Unit {0}

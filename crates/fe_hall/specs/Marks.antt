@@ -1,34 +1,71 @@
--- What is under a hall's lock follows the hall's history: what is durable in the front is stored.
-use Rattle.std.specs.Prelude.{◌≡◌, ℕ, ◌<◌, ◌≤◌, List, Some, IfSome, slice_get}
-use Rattle.fe_state.specs.State.{ServerState}
-use Rattle.fe_state.specs.declared.answer.Answer.{Answer}
+-- What is under a hall's lock follows the hall's history: the front's entries are those of the batches that were cut, and what is pending.
+use Rattle.std.specs.Prelude.{◌≡◌, ℕ, Bool, List, [], ◌∷◌, ◌++◌, length, Option, None, Some, IfSome}
+use Rattle.std.specs.List.{AllByRecursion}
+use Rattle.std.specs.Option.{option_map}
+use mathlib.Core.List.{IsPrefix}
+use Rattle.fe_state.specs.State.{ServerState, after_all}
+use Rattle.fe_state.specs.declared.batch.Batch.{Batch}
+use Rattle.fe_state.specs.declared.entry.Entry.{Entry}
 use Rattle.fe_mail.specs.Connections.{mails_on}
-use Rattle.fe_mail.specs.declared.mail.Mail.TheVariants as mail
 use Rattle.fe_front.specs.Front.{FrontState, IsFirst}
+use Rattle.fe_front.specs.declared.out.Out.{Out}
+use Rattle.fe_messages.specs.Answers.{AreAnswered, TellsAnswerIn}
 use Rattle.fe_hall.specs.declared.act.Act.{Act}
+use Rattle.fe_hall.specs.declared.act.Act.TheVariants.{Began, Told}
 use Rattle.fe_hall.specs.declared.taking.Taking.{Taking}
 use Rattle.fe_hall.specs.declared.taking.Taking.TheVariants as taking
-use Rattle.fe_hall.specs.Acts.{mark_of}
+use Rattle.fe_hall.specs.Acts.{IsLegal, MayCome, batches_of, cuts_in, entries_in, place_after, stores_in}
 use Rattle.fe_hall.specs.Writes.{receipt_of}
 
--- a front as it begins, over a state with all entries before this place
-abbrev pub IsBegun : FrontState → ℕ → Type 0
-IsBegun f place = (begun : ServerState) × IsFirst begun f × (begun.place ≡ place)
+-- a front as it begins, in a hall whose history is just this
+abbrev pub IsBegun : FrontState → List Act → Type 0
+IsBegun f acts = (begun : ServerState) × IsFirst begun f × (acts ≡ Began begun ∷ [])
 
--- each answer in a box has a place below the mark
-abbrev pub HoldsBelow : FrontState → ℕ → Type 0
-HoldsBelow f mark =
-    (conn k session number place : ℕ) (answer : Answer) → slice_get (mails_on f.connections conn) k ≡ Some (mail.Answer session number answer place)
-    → place < mark
+-- the batch that is out
+abbrev pub out_batches : Option Batch → List Batch
+out_batches None = []
+out_batches (Some batch) = batch ∷ []
 
--- What is durable in a front is stored after these acts, and each answer in its boxes is of a durable entry.
-pub record IsMarked (f : FrontState) (acts : List Act) : Type 0 where
-  pub stored : f.durable ≤ mark_of acts
-  pub boxes : HoldsBelow f f.durable
+-- what the front knows of it
+abbrev pub out_of : Batch → Out
+out_of batch = record { first = batch.first; length = length batch.entries }
 
--- what came of a look into a box may be told after these acts: the entry of an answer is stored
+-- each answer in a box is one that these entries give
+abbrev pub BoxesTell : ServerState → List Entry → FrontState → Type 0
+BoxesTell begun es f = (conn : ℕ) → AllByRecursion (TellsAnswerIn begun es) (mails_on f.connections conn)
+
+-- all entries that were made: those of the batches that were posted, of the one that is out, and those that are pending
+abbrev pub made_entries : List Batch → Option Batch → FrontState → List Entry
+made_entries posted out f = entries_in posted ++ (entries_in (out_batches out) ++ f.service.pending)
+
+-- A front whose posted batches, this many, were stored in the history, and whose batch that is out was cut next: its state is the one after
+-- all entries that were made, each answered as the table says, and each answer in its boxes is of an entry that was posted.
+pub record IsMarked (f : FrontState) (count : ℕ) (acts : List Act) : Type 0 where
+  pub begun : ServerState
+  pub past : List Act
+  pub begins : acts ≡ Began begun ∷ past
+  pub is_legal : IsLegal acts
+  pub posted : List Batch
+  pub out : Option Batch
+  pub counted : count ≡ length posted
+  pub stored : IsPrefix posted (batches_of (stores_in acts))
+  pub cut : IsPrefix (posted ++ out_batches out) (cuts_in acts)
+  pub same_out : f.out ≡ option_map out_of out
+  pub durable : f.durable ≡ place_after begun posted
+  pub state : f.service.state ≡ after_all begun (made_entries posted out f)
+  pub answered : AreAnswered begun (made_entries posted out f)
+  pub boxes : BoxesTell begun (entries_in posted) f
+
+-- what is under the lock of a hall, without its ledgers
+pub record SharedState : Type 0 where
+  pub front : FrontState
+  pub history : List Act
+  pub made : ℕ
+  pub stopped : Bool
+
+-- what came of a look into a box may be told after these acts
 abbrev pub MayBeTold : Taking → List Act → Type 0
-MayBeTold (taking.Mail mail more) acts = IfSome (receipt_of mail) (λ r. r.place < mark_of acts)
+MayBeTold (taking.Mail mail more) acts = IfSome (receipt_of mail) (λ r. MayCome acts (Told r))
 MayBeTold taking.Gone acts = Unit {0}
 MayBeTold taking.Stopped acts = Unit {0}
 MayBeTold taking.Spent acts = Unit {0}

@@ -19,9 +19,13 @@ pub struct Account {
 }
 
 impl Model for Account {
+    ghost use Rattle.std.specs.Coded.{codes};
+    ghost use Rattle.fe_hall.specs.contracts.act.Act as acts;
     ghost use Rattle.fe_hall.specs.Acts.{Account, IsLegal};
 
     ghost Value = { Account };
+
+    ghost coded = { Prim.hlevel (codes, acts.the_row.coded) };
 
     ghost view = { λ a. record { receipts = a.receipts.items; history = a.history.log; own = a.own } };
 
@@ -58,7 +62,7 @@ impl Account {
         }
     }
 
-    /// Whether the hall's committing side noted every group in the history. Only a second committing side could make it false.
+    /// Whether the hall's committing side noted every batch in the history. Only a second committing side could make it false.
     pub fn own(&self) -> bool
         ensures { result ≡ self.now.own }
     {

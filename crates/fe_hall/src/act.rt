@@ -1,12 +1,14 @@
 use crate::receipt::Receipt;
+use fe_state::{Batch, State};
 
 /// What happened in a hall, in the one order that its threads agree on. The code keeps no list of them.
-#[derive(Clone, Copy)]
 pub enum Act {
-    /// It began, over a store that has all entries before this place.
-    Began { place: u64 },
-    /// A group was stored: the place after it, and the moment of the disk at which its append had ended.
-    Stored { place: u64, moment: u64 },
+    /// It began, over a store of this state.
+    Began(State),
+    /// A batch was cut, to be stored.
+    Cut(Batch),
+    /// The batch that was cut last was stored: the moment of the disk at which its append had ended.
+    Stored(Batch, u64),
     /// An answer was taken out of its box, to be told to its client.
     Told(Receipt),
 }

@@ -3,7 +3,7 @@ ghost use Rattle.fe_hall.specs.Commits.{end_of, end_of_post};
 ghost use Rattle.fe_hall.specs.declared.commit_end.CommitEnd.{CommitEnd as Ends};
 
 use crate::commit_end::CommitEnd;
-use crate::shared::Unposted;
+use crate::shared::{Uncut, Unposted};
 use crate::store_seat::Unnoted;
 use fe_keeper::Fault;
 use std::marker::Model;
@@ -35,7 +35,16 @@ impl Break {
         Break { end }
     }
 
-    /// A group was not noted in the history.
+    /// No batch was cut.
+    pub(crate) fn of_cut(_why: Uncut) -> Break
+        ensures { result ≡ Ends.Strange }
+    {
+        Break {
+            end: CommitEnd::Strange,
+        }
+    }
+
+    /// A batch was not noted in the history.
     pub(crate) fn of_note(_why: Unnoted) -> Break
         ensures { result ≡ Ends.Strange }
     {

@@ -51,11 +51,15 @@ pub struct Audit {
 }
 
 impl Model for Audit {
+    ghost use Rattle.std.specs.Coded.{codes};
+    ghost use Rattle.fe_hall.specs.contracts.act.Act as acts;
     ghost use Rattle.std.specs.Prelude.{◌≡◌, false, map};
     ghost use Rattle.fe_mail.specs.Books.{AddUp};
     ghost use Rattle.fe_hall.specs.Audits.{Audited};
 
     ghost Value = { Audited };
+
+    ghost coded = { Prim.hlevel (codes, acts.the_row.coded) };
 
     ghost view = { λ a. record {
       books = a.books;

@@ -4,12 +4,14 @@ ghost use Rattle.std.specs.Prelude.{◌≡◌, ◌≢◌, ◌↔◌, true, false
 ghost use Rattle.fe_keeper.specs.Ends.{Rests};
 ghost use Rattle.fe_keeper.specs.Stands.{EachStandsFor};
 ghost use Rattle.fe_keeper.specs.declared.fault.Fault.TheVariants.{Device};
+ghost use Rattle.fe_hall.specs.Acts.{WasCut};
 ghost use Rattle.fe_hall.specs.Commits.{AreNoted, Commits, IsStill, IsStored, HasFailed, TellsEnd};
 ghost use Rattle.fe_hall.specs.declared.commit_end.CommitEnd.{CommitEnd};
 
 use crate::breaking::Break;
 use crate::ended::Ended;
 use crate::hall::Hall;
+use crate::history::History;
 use crate::shared::{CutBatch, Cutting};
 use crate::store_seat::StoreSeat;
 use crate::tally::Tally;
@@ -40,12 +42,14 @@ pub fn commit_side<C: Tally, M: Tally, D: Disk, R: Wait>(
     // It names what is always true of the keeper (`docs/DECISIONS.md`, "Toolchain").
     let _ = keeper.state();
     let mut slices = true;
+    let mut cuts = hall.history();
     for _ in rt.forever() {
-        let cut = match hall.next_batch(rt) {
+        let cut = match hall.next_batch(rt, &mut cuts) {
             Cutting::Batch(cut) => cut,
             Cutting::Stopped(all) => return Ended::stopped(all),
+            Cutting::Strange(why) => return Ended::broken(Break::of_cut(why), hall.stop(rt)),
         };
-        if let Some(why) = commit(rt, hall, keeper, seat, cut) {
+        if let Some(why) = commit(rt, hall, keeper, seat, cut, &cuts) {
             return Ended::broken(why, hall.stop(rt));
         }
         match tend(keeper, slices) {
@@ -63,7 +67,9 @@ fn commit<C: Tally, M: Tally, D: Disk, R: Wait>(
     keeper: &mut Keeper<D>,
     seat: &mut StoreSeat<M>,
     cut: CutBatch,
+    cuts: &History<M>,
 ) -> Option<Break>
+    requires cut { WasCut cuts.now cut.count cut.batch }
     ensures commits { (all : Commits D.honest D.moment D.left_since keeper.old keeper.new result)
         × AreNoted D.moment all.appends result seat.old seat.new }
     ensures stands { D.honest keeper.new.store.disk → keeper.new.store.has_failed ≡ false
@@ -76,14 +82,14 @@ fn commit<C: Tally, M: Tally, D: Disk, R: Wait>(
     ensures unstopped { result ≢ Some CommitEnd.Stopped }
     ensures honesty { D.honest keeper.new.store.disk ↔ D.honest keeper.old.store.disk }
 {
-    let batch = cut.into_batch(keeper);
+    let (batch, count) = cut.into_batch(keeper);
     match keeper.append(batch) {
         Ok(batch) => {
-            if let Err(why) = hall.note(keeper, seat) {
+            if let Err(why) = hall.note(&batch, count, cuts, keeper, seat) {
                 drop(batch);
                 return Some(Break::of_note(why));
             }
-            match hall.post(rt, batch, keeper, seat) {
+            match hall.post(rt, batch, seat) {
                 Ok(_) => None,
                 Err(why) => Some(Break::of_post(why)),
             }

@@ -18,9 +18,13 @@ pub struct Gathered<M: Tally> {
 }
 
 impl<M: Tally> Model for Gathered<M> {
+    ghost use Rattle.std.specs.Coded.{codes};
+    ghost use Rattle.fe_hall.specs.contracts.act.Act as acts;
     ghost use Rattle.fe_hall.specs.Acts.{EachTold, Gathered};
 
     ghost Value = { Gathered };
+
+    ghost coded = { Prim.hlevel (codes, acts.the_row.coded) };
 
     ghost view = { λ g. record { items = g.list.items; whole = g.list.whole; history = g.history } };
 

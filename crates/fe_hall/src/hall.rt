@@ -1,10 +1,10 @@
 ghost use Rattle.std.specs.Prelude.{◌≡◌, ◌≤◌, ◌∷◌, ◌++◌, [], ◌+◌, IfOk, IfErr, OnOk, OnErr, length, true};
 ghost use Rattle.fe_hall.specs.Seats.{HasRested, ReadSeat, TookNoMessage, WriteSeat, first_read_seat, first_write_seat, message_answered, taking_answered, most_connections};
 ghost use mathlib.Core.List.{IsPrefix};
-ghost use Rattle.fe_hall.specs.Acts.{TakingTold, mark_of, stores_in};
+ghost use Rattle.fe_hall.specs.Acts.{TakingTold, WasCut, WasStoredLast, stores_in};
 ghost use Rattle.fe_hall.specs.Commits.{IsStored};
+ghost use Rattle.fe_hall.specs.Holds.{IsCutIn};
 ghost use Rattle.fe_hall.specs.Marks.{IsBegun, MayBeTold};
-ghost use Rattle.fe_hall.specs.declared.act.Act.TheVariants as act;
 
 use crate::baton::{Baton, Grip};
 use crate::call_seat::CallSeat;
@@ -34,7 +34,7 @@ use std::sync::{Condvar, Wait};
 pub struct Hall<C: Tally, M: Tally> {
     lock: Lock<C, M>,
     baton: Baton,
-    /// The word of its history, and that history as it began.
+    /// The words of its history, and that history as it began.
     chronicle: Chronicle<M>,
     begun: History<M>,
     /// Rung when entries are pending, and when the hall is stopped.
@@ -47,8 +47,8 @@ pub struct Hall<C: Tally, M: Tally> {
 }
 
 impl<C: Tally, M: Tally> Hall<C, M> {
-    /// A hall around a front that is as `Front::new` gave it, and the seat of its committing side. The history begins at the place of
-    /// the front's state. The blanks make its ledgers, of 2^62 + 1 parts each. Where there is no memory the front comes back.
+    /// A hall around a front that is as `Front::new` gave it, and the seat of its committing side. The history begins with the front's
+    /// state. The blanks make its ledgers, of 2^62 + 1 parts each. Where there is no memory the front comes back.
     pub fn new(
         alloc: Global,
         front: Front,
@@ -56,13 +56,13 @@ impl<C: Tally, M: Tally> Hall<C, M> {
         mails: Blank,
         history: NewHistory,
     ) -> Result<(Hall<C, M>, StoreSeat<M>), (AllocError, Front)>
-        requires begun { IsBegun front history.place }
+        requires begun { IsBegun front history.acts }
         requires calls { (calls.name ≡ C.name) × (calls.parts ≡ C.parts) × (C.all ≡ C.parts)
             × (C.all ≡ most_connections + 1) }
         requires mails { (mails.name ≡ M.name) × (mails.parts ≡ M.parts) × (M.all ≡ M.parts)
             × (M.all ≡ most_connections + 1) }
         requires history { history.book ≡ M.book }
-        ensures seat { IfOk result (λ hall. hall.1 ≡ act.Began history.place ∷ []) }
+        ensures seat { IfOk result (λ hall. hall.1 ≡ history.acts) }
         ensures front { IfErr result (λ e. e.1 ≡ front) }
     {
         match bells(alloc) {
@@ -242,12 +242,15 @@ impl<C: Tally, M: Tally> Hall<C, M> {
         }
     }
 
-    /// Waits for entries and cuts them, or says that the hall is stopped and nothing is left to store. A cut makes room for events.
-    pub(crate) fn next_batch<R: Wait>(&self, rt: &R) -> Cutting {
+    /// Waits for entries and cuts them, or says that the hall is stopped and nothing is left to store. A cut makes room for events. The
+    /// history learns of it.
+    pub(crate) fn next_batch<R: Wait>(&self, rt: &R, cuts: &mut History<M>) -> Cutting
+        ensures { IsCutIn result cuts.new }
+    {
         let mut grip = Grip::none();
         let mut hold = self.lock.enter(rt);
         for _ in rt.forever() {
-            if let Some(cutting) = hold.cut() {
+            if let Some(cutting) = hold.cut(&self.chronicle, cuts) {
                 hold.end();
                 self.room.notify_all();
                 return cutting;
@@ -257,21 +260,19 @@ impl<C: Tally, M: Tally> Hall<C, M> {
         unreachable!()
     }
 
-    /// Posts the batch that the keeper stored last, and rings for each connection with mail.
-    pub(crate) fn post<D: Disk, R: Wait>(
+    /// Posts the batch that was stored last, and rings for each connection with mail.
+    pub(crate) fn post<R: Wait>(
         &self,
         rt: &R,
         batch: Batch,
-        keeper: &Keeper<D>,
         seat: &StoreSeat<M>,
     ) -> Result<Posted, Unposted>
-        requires stored { IsStored batch keeper.now.state }
-        requires noted { keeper.now.state.place ≤ mark_of seat.now }
+        requires stored { WasStoredLast seat.now batch }
         ensures { IfOk result (λ posted. posted.durable ≡ batch.first + length batch.entries) }
     {
         let mut wakes = [false; BELLS as usize];
         let mut hold = self.lock.enter(rt);
-        let outcome = hold.post(batch, keeper, seat, &mut wakes);
+        let outcome = hold.post(batch, seat, &mut wakes);
         hold.mark_watched(&mut wakes);
         hold.end();
         for at in 0..self.bells.len() {
@@ -282,19 +283,23 @@ impl<C: Tally, M: Tally> Hall<C, M> {
         outcome
     }
 
-    /// Adds the group that a keeper has just stored to the history (`StoreSeat::note`).
+    /// Adds the batch that a keeper has just stored to the history (`StoreSeat::note`).
     pub(crate) fn note<D: Disk>(
         &self,
+        batch: &Batch,
+        count: u64,
+        cuts: &History<M>,
         keeper: &Keeper<D>,
         seat: &mut StoreSeat<M>,
     ) -> Result<(), Unnoted>
+        requires cut { WasCut cuts.now count batch.now }
+        requires stored { IsStored batch.now keeper.now.state }
         ensures this { IsPrefix seat.old seat.new }
         ensures noted { OnOk result
-            (stores_in seat.new ≡ stores_in seat.old ++ (keeper.now.state.place, D.moment keeper.now.store.disk) ∷ []) }
-        ensures marked { OnOk result (keeper.now.state.place ≤ mark_of seat.new) }
+            (stores_in seat.new ≡ stores_in seat.old ++ (batch.now, D.moment keeper.now.store.disk) ∷ []) }
         ensures unnoted { OnErr result (seat.new ≡ seat.old) }
     {
-        seat.note(&self.chronicle, keeper)
+        seat.note(&self.chronicle, batch, count, cuts, keeper)
     }
 
     /// Its history as it began.

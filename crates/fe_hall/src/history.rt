@@ -1,23 +1,25 @@
-//! The history of a hall. It exists in proofs alone, except for one word that counts the stored groups.
+//! The history of a hall. It exists in proofs alone, except for two words that count the batches that were stored and cut.
 
 ghost use Rattle.std.specs.Prelude.{◌≡◌, ◌^◌, ◌==◌, ◌<◌, ◌≤◌, ◌∷◌, ◌++◌, [], true, length, IsTrue};
 ghost use mathlib.Core.List.{IsPrefix};
 ghost use Rattle.fe_hall.specs.declared.act.Act.TheVariants as act;
-ghost use Rattle.fe_hall.specs.Acts.{IsLegal, mark_of, stores_in};
-ghost use Rattle.fe_hall.specs.Rules.{ComesAfter, word_of};
+ghost use Rattle.fe_hall.specs.Acts.{IsLegal, MayCome, WasCut, cuts_in, stores_in};
+ghost use Rattle.fe_hall.specs.Commits.{IsStored};
+ghost use Rattle.fe_hall.specs.Rules.{ComesAfter, CutsAfter, cuts_of, pending_batch, stores_of};
 
 use crate::account::Account;
 use crate::act::Act;
 use crate::receipt::Receipt;
 use crate::tally::Tally;
 use fe_disk::Disk;
+use fe_front::Front;
 use fe_keeper::Keeper;
-use fe_state::Answer;
+use fe_state::{Answer, Batch, State};
 use logbook::{Gain, Offer, Opening, Plain, Play, Rule, Seen, Start, Word};
 use std::alloc::Global;
 use std::marker::{Model, PhantomData};
 
-/// The rule of the history: the word counts the stored groups, and an answer comes only after its entry was stored.
+/// The rule of the history: its words count the batches that were stored and cut, and each act may follow those before it.
 pub struct Law;
 
 impl Rule<Act, u64> for Law {
@@ -50,11 +52,11 @@ impl Gain<Act, u64> for Nothing {
 /// How a history begins.
 struct Begin;
 
-impl Opening<u64, Act> for Begin {
+impl Opening<State, Act> for Begin {
     ghost use Rattle.std.specs.Prelude.{[], ◌∷◌};
     ghost use Rattle.fe_hall.specs.declared.act.Act.TheVariants.{Began};
 
-    ghost log = { λ n place. Began place ∷ [] };
+    ghost log = { λ n state. Began state ∷ [] };
 }
 
 /// The step that adds an answer.
@@ -75,7 +77,33 @@ impl Plain<Receipt, Act, u64> for Telling {
     ghost state = { λ receipt. None };
 }
 
-/// The step that adds a group: all that a keeper has stored, at its disk's moment.
+/// The step that adds a cut: of all that is pending in a front.
+struct Cutting;
+
+impl Play<Act, u64> for Cutting {
+    ghost use Rattle.fe_hall.specs.Rules.{CutsNext};
+
+    ghost then = { CutsNext };
+}
+
+impl Plain<Front, Act, u64> for Cutting {
+    ghost use Rattle.std.specs.Prelude.{None};
+    ghost use Rattle.fe_hall.specs.declared.act.Act.TheVariants.{Cut};
+    ghost use Rattle.fe_hall.specs.Rules.{pending_batch};
+
+    ghost ask = { λ front. Cut (pending_batch front) };
+
+    ghost state = { λ front. None };
+}
+
+/// A batch that a keeper has stored.
+#[derive(Clone, Copy)]
+struct Appended<'a, D: Disk> {
+    batch: &'a Batch,
+    keeper: &'a Keeper<D>,
+}
+
+/// The step that adds a store: of that batch, at the moment of the keeper's disk.
 struct Storing;
 
 impl Play<Act, u64> for Storing {
@@ -84,16 +112,16 @@ impl Play<Act, u64> for Storing {
     ghost then = { AddsNext };
 }
 
-impl<D: Disk> Plain<Keeper<D>, Act, u64> for Storing {
+impl<'a, D: Disk> Plain<Appended<'a, D>, Act, u64> for Storing {
     ghost use Rattle.std.specs.Prelude.{None};
     ghost use Rattle.fe_hall.specs.declared.act.Act.TheVariants.{Stored};
 
-    ghost ask = { λ keeper. Stored keeper.state.place (D.moment keeper.store.disk) };
+    ghost ask = { λ a. Stored a.batch.now (D.moment a.keeper.now.store.disk) };
 
-    ghost state = { λ keeper. None };
+    ghost state = { λ a. None };
 }
 
-/// The step that counts the groups.
+/// The step that counts the stores.
 struct Counting;
 
 impl Play<Act, u64> for Counting {
@@ -105,57 +133,62 @@ impl Play<Act, u64> for Counting {
 /// A history that has no name yet, and in which nothing happened. Each call of a program names one.
 #[derive(Drop)]
 pub struct NewHistory {
-    word: Word<Act, u64, Law>,
+    stores: Word<Act, u64, Law>,
+    cuts: Word<Act, u64, Law>,
     seen: Seen<Act, u64, Law>,
-    place: u64,
 }
 
 impl Model for NewHistory {
-    ghost use Rattle.std.specs.Prelude.{◌≡◌, [], ◌∷◌};
-    ghost use Rattle.fe_hall.specs.declared.act.Act.TheVariants.{Began};
-    ghost use Rattle.fe_hall.specs.Rules.{Unnamed, word_of};
+    ghost use Rattle.std.specs.Coded.{codes};
+    ghost use Rattle.fe_hall.specs.contracts.act.Act as acts;
+    ghost use Rattle.std.specs.Prelude.{◌≡◌};
+    ghost use Rattle.fe_hall.specs.Acts.{IsLegal};
+    ghost use Rattle.fe_hall.specs.Rules.{Unnamed, cuts_of, stores_of};
 
     ghost Value = { Unnamed };
 
-    ghost view = { λ n. record { book = n.seen.book; place = n.place } };
+    ghost coded = { Prim.hlevel (codes, acts.the_row.coded) };
 
-    ghost invariant = { λ n. (n.word ≡ word_of n.seen.book) × (n.seen.log ≡ Began n.place ∷ []) };
+    ghost view = { λ n. record { book = n.seen.book; acts = n.seen.log } };
+
+    ghost invariant = { λ n. (n.stores ≡ stores_of n.seen.book) × (n.cuts ≡ cuts_of n.seen.book) × IsLegal n.seen.log };
 }
 
 impl NewHistory {
-    /// It begins over a store that has all entries before this place.
-    pub fn new(place: u64) -> NewHistory
-        ensures { result.place ≡ place }
+    /// It begins over a store of this state.
+    pub fn new(state: &State) -> NewHistory
+        ensures { result.acts ≡ act.Began state.now ∷ [] }
     {
-        let (seen, mut pens) = Seen::open_row::<u64, Begin>(&place, Start::alone(), 1);
-        let mut pen = pens.take();
+        // It names the state's limits.
+        let _ = state.place();
+        let (seen, mut pens) = Seen::open_row::<State, Begin>(state, Start::alone(), 2);
+        let mut first = pens.take();
+        let mut second = pens.take();
         NewHistory {
-            word: Word::tracked(0, &mut pen),
+            stores: Word::tracked(0, &mut first),
+            cuts: Word::tracked(0, &mut second),
             seen,
-            place,
         }
     }
 
     /// The account of a hall that did not begin: no receipts, and nothing happened.
     pub fn account(&self, alloc: Global) -> Account
-        ensures { result ≡ record { receipts = []; history = act.Began self.now.place ∷ []; own = true } }
+        ensures account { result ≡ record { receipts = []; history = self.now.acts; own = true } }
+        ensures legal { IsLegal self.now.acts }
     {
         Account::new(Vec::new(alloc), self.seen.again())
     }
 
-    /// Its word, and what was seen of it.
+    /// Its words, and what was seen of it.
     pub(crate) fn named<M: Tally>(self) -> (Chronicle<M>, History<M>)
         requires { self.book ≡ M.book }
-        ensures { result.1 ≡ act.Began self.place ∷ [] }
+        ensures { result.1 ≡ self.acts }
     {
-        let NewHistory {
-            word,
-            seen,
-            place: _,
-        } = self;
+        let NewHistory { stores, cuts, seen } = self;
         (
             Chronicle {
-                word,
+                stores,
+                cuts,
                 of: PhantomData,
             },
             History {
@@ -166,12 +199,14 @@ impl NewHistory {
     }
 }
 
-/// The word of a hall's history, which all threads share.
+/// The words of a hall's history, which all threads share.
 #[derive(Drop)]
 pub(crate) struct Chronicle<M: Tally> {
-    word: Word<Act, u64, Law>,
+    stores: Word<Act, u64, Law>,
+    cuts: Word<Act, u64, Law>,
     of: PhantomData<M>,
-    ghost word_is: { word ≡ word_of M.book },
+    ghost stores_are: { stores ≡ stores_of M.book },
+    ghost cuts_are: { cuts ≡ cuts_of M.book },
 }
 
 /// A beginning of a hall's history, as a thread has seen it. Contracts see its acts.
@@ -182,11 +217,15 @@ pub struct History<M: Tally> {
 }
 
 impl<M: Tally> Model for History<M> {
+    ghost use Rattle.std.specs.Coded.{codes};
+    ghost use Rattle.fe_hall.specs.contracts.act.Act as acts;
     ghost use Rattle.std.specs.Prelude.{◌≡◌, List};
     ghost use Rattle.fe_hall.specs.declared.act.Act.{Act};
     ghost use Rattle.fe_hall.specs.Acts.{IsLegal};
 
     ghost Value = { List Act };
+
+    ghost coded = { Prim.hlevel (codes, acts.the_row.coded) };
 
     ghost view = { λ h. h.seen.log };
 
@@ -205,6 +244,15 @@ impl<M: Tally> History<M> {
         }
     }
 
+    /// The same, which is legal.
+    pub(crate) fn legal(self) -> History<M>
+        ensures same { result ≡ self }
+        ensures legal { IsLegal result }
+    {
+        let History { seen, of } = self;
+        History { seen, of }
+    }
+
     /// Afterwards it is what both have seen.
     pub(crate) fn learn(&mut self, other: &History<M>)
         ensures this { IsPrefix self.old self.new }
@@ -214,39 +262,69 @@ impl<M: Tally> History<M> {
         self.seen.learn(&other.seen);
     }
 
-    /// Adds an answer whose entry was stored before.
+    /// Adds an answer, which is that of an entry that was stored before.
     pub(crate) fn tell(&mut self, chronicle: &Chronicle<M>, receipt: Receipt)
-        requires { receipt.place < mark_of self.old }
+        requires { MayCome self.old (act.Told receipt) }
         ensures { ComesAfter self.old (act.Told receipt) self.new }
     {
         let mut offer: Offer<Act, u64, Law, Nothing> = self
             .seen
             .plain::<Nothing, Receipt, Telling>(&receipt);
         let _ = chronicle
-            .word
+            .stores
             .load::<Telling, Nothing>(&mut self.seen, &mut offer);
     }
 
-    /// Adds the group that a keeper has just stored, if the history has this many groups so far. Whether it did.
+    /// Adds a cut of all that is pending in a front, if the history has this many cuts so far. Whether it did.
+    pub(crate) fn cut(&mut self, chronicle: &Chronicle<M>, count: u64, front: &Front) -> bool
+        requires few { count < 2 ^ 63 }
+        requires next { CutsAfter self.old count (pending_batch front.now) }
+        ensures this { IsPrefix self.old self.new }
+        ensures legal { IsLegal self.new }
+        ensures cut { IsTrue result
+            → (c : ComesAfter self.old (act.Cut (pending_batch front.now)) self.new)
+            × (length (cuts_in c.earlier) ≡ count) }
+    {
+        let mut offer: Offer<Act, u64, Law, Nothing> = self
+            .seen
+            .plain::<Nothing, Front, Cutting>(front);
+        let mut pen = self.seen.no_pen();
+        let found = chronicle
+            .cuts
+            .compare_exchange::<Cutting, Nothing>(
+                count,
+                count + 1,
+                &mut self.seen,
+                &mut offer,
+                &mut pen,
+            );
+        found == count
+    }
+
+    /// Adds a batch that was cut, and that a keeper has just stored, if the history has this many stores so far. Whether it did.
     pub(crate) fn store<D: Disk>(
         &mut self,
         chronicle: &Chronicle<M>,
         stored: u64,
+        batch: &Batch,
         keeper: &Keeper<D>,
     ) -> bool
         requires few { stored < 2 ^ 63 }
+        requires cut { WasCut self.old stored batch.now }
+        requires stored { IsStored batch.now keeper.now.state }
         ensures this { IsPrefix self.old self.new }
         ensures legal { IsLegal self.new }
         ensures stored { IsTrue result
-            → (c : ComesAfter self.old (act.Stored keeper.now.state.place (D.moment keeper.now.store.disk)) self.new)
+            → (c : ComesAfter self.old (act.Stored batch.now (D.moment keeper.now.store.disk)) self.new)
             × (length (stores_in c.earlier) ≡ stored) }
     {
+        let appended = Appended { batch, keeper };
         let mut offer: Offer<Act, u64, Law, Nothing> = self
             .seen
-            .plain::<Nothing, Keeper<D>, Storing>(keeper);
+            .plain::<Nothing, Appended<'_, D>, Storing>(&appended);
         let mut pen = self.seen.no_pen();
         let found = chronicle
-            .word
+            .stores
             .compare_exchange::<Storing, Nothing>(
                 stored,
                 stored + 1,
@@ -257,7 +335,7 @@ impl<M: Tally> History<M> {
         found == stored
     }
 
-    /// How many groups were stored in all.
+    /// How many batches were stored in all.
     pub(crate) fn count(&mut self, chronicle: &Chronicle<M>) -> u64
         ensures count { result ≡ length (stores_in self.new) }
         ensures this { IsPrefix self.old self.new }
@@ -273,7 +351,7 @@ impl<M: Tally> History<M> {
             .seen
             .plain::<Nothing, Receipt, Telling>(&none);
         chronicle
-            .word
+            .stores
             .load::<Counting, Nothing>(&mut self.seen, &mut offer)
     }
 

@@ -9,24 +9,21 @@ ghost use Rattle.fe_front.specs.Ringing.{Rings};
 ghost use Rattle.fe_front.specs.Step.{FrontStep};
 ghost use Rattle.fe_messages.specs.Taking.{Takes};
 ghost use mathlib.Core.List.{IsPrefix};
-ghost use Rattle.fe_hall.specs.Acts.{mark_of};
+ghost use Rattle.fe_hall.specs.Acts.{WasStoredLast};
 ghost use Rattle.fe_hall.specs.Marks.{MayBeTold};
-ghost use Rattle.fe_hall.specs.Commits.{IsStored};
-ghost use Rattle.fe_hall.specs.Holds.{Cuts, IsDrained, IsUnposted, Leaves, TakesMail};
+ghost use Rattle.fe_hall.specs.Holds.{Cuts, IsCutIn, IsDrained, IsUnposted, Leaves, TakesMail};
 ghost use Rattle.fe_hall.specs.Seats.{HasRested, ReadSeat, TookNoMessage, WriteSeat, first_read_seat, first_write_seat, message_answered, taking_answered, posts_more};
 
 use crate::baton::Grip;
 use crate::call_seat::CallSeat;
-use crate::history::History;
+use crate::history::{Chronicle, History};
 use crate::mail_seat::MailSeat;
 use crate::shared::{Cutting, HasStopped, Made, Posted, Rest, Shared, Unconnected, Unposted};
 use crate::standing::Standing;
 use crate::store_seat::StoreSeat;
 use crate::taking::Taking;
 use crate::tally::Tally;
-use fe_disk::Disk;
 use fe_front::BELLS;
-use fe_keeper::Keeper;
 use fe_state::Batch;
 use fe_wire::ClientMessage;
 use std::alloc::Global;
@@ -188,27 +185,26 @@ impl<'a, C: Tally, M: Tally> Hold<'a, C, M> {
     }
 
     /// The event that the pending entries are handed out (`Shared::cut`).
-    pub(crate) fn cut(&mut self) -> Option<Cutting>
+    pub(crate) fn cut(&mut self, chronicle: &Chronicle<M>, cuts: &mut History<M>) -> Option<Cutting>
         requires fresh { self.old.used ≡ false }
         ensures used { self.new.used ≡ true }
         ensures cuts { Cuts (under self.old.shared).front (under self.old.shared).stopped result
             (under self.new.shared).front }
+        ensures noted { IfSome result (λ cutting. IsCutIn cutting cuts.new) }
     {
         self.used = true;
-        self.shared.cut()
+        self.shared.cut(chronicle, cuts)
     }
 
     /// The event that a batch is posted (`Shared::post`).
-    pub(crate) fn post<D: Disk>(
+    pub(crate) fn post(
         &mut self,
         batch: Batch,
-        keeper: &Keeper<D>,
         seat: &StoreSeat<M>,
         wakes: &mut [bool; BELLS as usize],
     ) -> Result<Posted, Unposted>
         requires fresh { self.old.used ≡ false }
-        requires stored { IsStored batch keeper.now.state }
-        requires noted { keeper.now.state.place ≤ mark_of seat.now }
+        requires stored { WasStoredLast seat.now batch }
         ensures used { self.new.used ≡ true }
         ensures refused { IfErr result (IsUnposted (under self.old.shared).front batch) }
         ensures step { OnOk result
@@ -218,7 +214,7 @@ impl<'a, C: Tally, M: Tally> Hold<'a, C, M> {
         ensures err { OnErr result ((under self.new.shared).front ≡ (under self.old.shared).front) }
     {
         self.used = true;
-        self.shared.post(batch, keeper, seat, wakes)
+        self.shared.post(batch, seat, wakes)
     }
 
     /// Stops the hall. This is no event of the front, and the hold makes none after it.
@@ -273,7 +269,7 @@ impl<'a, C: Tally, M: Tally> Hold<'a, C, M> {
         self.shared.rest(seat, made)
     }
 
-    /// The history learns what was stored (`Shared::teach`).
+    /// The history learns what was cut and stored (`Shared::teach`).
     pub(crate) fn teach(&self, history: &mut History<M>)
         ensures this { IsPrefix history.old history.new }
         ensures that { IsPrefix (under self.now.shared).history history.new }

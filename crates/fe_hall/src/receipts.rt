@@ -15,9 +15,13 @@ pub struct Receipts<M: Tally> {
 }
 
 impl<M: Tally> Model for Receipts<M> {
+    ghost use Rattle.std.specs.Coded.{codes};
+    ghost use Rattle.fe_hall.specs.contracts.act.Act as acts;
     ghost use Rattle.fe_hall.specs.Acts.{EachTold, Receipts};
 
     ghost Value = { Receipts };
+
+    ghost coded = { Prim.hlevel (codes, acts.the_row.coded) };
 
     ghost view = { λ r. record { conn = r.conn; items = r.items.items; history = r.history } };
 

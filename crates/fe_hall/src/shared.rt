@@ -7,19 +7,19 @@ ghost use Rattle.fe_front.specs.Front.{has_room, is_connected};
 ghost use Rattle.fe_mail.specs.Books.{AddUp};
 ghost use Rattle.fe_front.specs.Event as event;
 ghost use Rattle.fe_front.specs.Posting.{IsOut};
+ghost use Rattle.fe_front.specs.Steps.{has_no_cut};
 ghost use Rattle.fe_front.specs.Ringing.{Rings};
 ghost use Rattle.fe_front.specs.Step.{FrontStep};
 ghost use Rattle.fe_messages.specs.Taking.{Takes};
 ghost use mathlib.Core.List.{IsPrefix};
-ghost use Rattle.fe_hall.specs.Acts.{mark_of};
-ghost use Rattle.fe_hall.specs.Marks.{IsBegun, IsMarked, MayBeTold};
-ghost use Rattle.fe_hall.specs.Commits.{IsStored};
-ghost use Rattle.fe_hall.specs.Holds.{Cuts, Ends, IsDrained, IsOver, IsUnposted, TakesMail};
+ghost use Rattle.fe_hall.specs.Acts.{IsLegal, WasStoredLast};
+ghost use Rattle.fe_hall.specs.Marks.{IsBegun, MayBeTold};
+ghost use Rattle.fe_hall.specs.Holds.{Cuts, Ends, IsCutIn, IsDrained, IsOver, IsUnposted, TakesMail};
 ghost use Rattle.fe_hall.specs.Seats.{HasRested, IsOpen, ReadSeat, TookNoMessage, WriteSeat, first_read_seat, first_write_seat, message_taken, message_answered, taking_answered, takes_more, posts_more, most_connections};
 
 use crate::account::Account;
 use crate::call_seat::CallSeat;
-use crate::history::History;
+use crate::history::{Chronicle, History};
 use crate::mail_seat::MailSeat;
 use crate::seats::Seats;
 use crate::standing::Standing;
@@ -34,6 +34,7 @@ use fe_messages::take_message;
 use fe_state::Batch;
 use fe_wire::ClientMessage;
 use std::alloc::Global;
+use std::marker::Model;
 use std::sync::ledger::{Blank, Book, Share};
 
 /// How many connections a hall makes, 2^62.
@@ -50,8 +51,10 @@ pub(crate) struct Shared<C: Tally, M: Tally> {
     mails: Book<M>,
     spare_calls: Share<C>,
     spare_mails: Share<M>,
-    /// What was stored, at least as far as it is posted.
+    /// What was cut, and what was stored, at least as far as it is posted.
     history: History<M>,
+    /// How many batches were posted.
+    posted: u64,
     /// How many connections were made.
     made: u64,
     watchers: Watchers,
@@ -62,9 +65,23 @@ pub(crate) struct Shared<C: Tally, M: Tally> {
     ghost few: { made ≤ most_connections },
     ghost call_parts: { (spare_calls.parts + made ≡ C.all) × (spare_calls.amount ≡ 0)
         × (C.all ≡ most_connections + 1) },
-    ghost marked: { IsMarked front history },
     ghost mail_parts: { (spare_mails.parts + made ≡ M.all) × (spare_mails.amount ≡ 0)
         × (M.all ≡ most_connections + 1) },
+}
+
+impl<C: Tally, M: Tally> Model for Shared<C, M> {
+    ghost use Rattle.std.specs.Coded.{codes};
+    ghost use Rattle.fe_front.specs.Front.{front_code};
+    ghost use Rattle.fe_hall.specs.contracts.act.Act as acts;
+    ghost use Rattle.fe_hall.specs.Marks.{IsMarked, SharedState};
+
+    ghost Value = { SharedState };
+
+    ghost coded = { Prim.hlevel (codes, front_code, acts.the_row.coded) };
+
+    ghost view = { λ s. record { front = s.front; history = s.history; made = s.made; stopped = s.stopped } };
+
+    ghost invariant = { λ s. IsMarked s.front s.posted s.history };
 }
 
 /// Shows that a hall is stopped and that all that was made in it is durable. Only a cut makes one.
@@ -73,27 +90,34 @@ pub(crate) struct AllDurable {
     place: u64,
 }
 
-/// A batch as it was cut, still to be stored. Only a cut makes one, and nothing changes it. It is not `Drop`, so whoever has one
-/// hands it to a keeper.
+/// A batch as it was cut, still to be stored, and how many were cut before it. Only a cut makes one, and nothing changes it. It is not
+/// `Drop`, so whoever has one hands it to a keeper.
 pub(crate) struct CutBatch {
     batch: Batch,
+    count: u64,
 }
 
 impl CutBatch {
-    /// The batch, for this keeper.
-    pub(crate) fn into_batch<D: Disk>(self, _keeper: &Keeper<D>) -> Batch
-        ensures { result ≡ self.batch }
+    /// The batch, for this keeper, and how many were cut before it.
+    pub(crate) fn into_batch<D: Disk>(self, _keeper: &Keeper<D>) -> (Batch, u64)
+        ensures { result ≡ (self.batch, self.count) }
     {
-        let CutBatch { batch } = self;
-        batch
+        let CutBatch { batch, count } = self;
+        (batch, count)
     }
 }
+
+/// Shows that another side noted a cut in the history. Only a cut makes one.
+#[derive(Clone, Copy)]
+pub(crate) struct Uncut(());
 
 /// What a cut gave.
 pub(crate) enum Cutting {
     Batch(CutBatch),
     /// The hall is stopped, and nothing is left to store.
     Stopped(AllDurable),
+    /// Nothing is cut any more.
+    Strange(Uncut),
 }
 
 /// Shows that a batch was posted. Only a post makes one.
@@ -174,7 +198,8 @@ impl<C: Tally, M: Tally> Shared<C, M> {
         mails: Blank,
         history: History<M>,
     ) -> Shared<C, M>
-        requires begun { IsBegun front (mark_of history) }
+        requires begun { IsBegun front history }
+        requires legal { IsLegal history }
         requires calls { (calls.name ≡ C.name) × (calls.parts ≡ C.parts) × (C.all ≡ C.parts)
             × (C.all ≡ most_connections + 1) }
         requires mails { (mails.name ≡ M.name) × (mails.parts ≡ M.parts) × (M.all ≡ M.parts)
@@ -190,6 +215,7 @@ impl<C: Tally, M: Tally> Shared<C, M> {
             spare_calls,
             spare_mails,
             history,
+            posted: 0,
             made: 0,
             watchers: Watchers::new(alloc),
             stopped: false,
@@ -392,7 +418,7 @@ impl<C: Tally, M: Tally> Shared<C, M> {
         }
     }
 
-    /// The history learns what was stored, at least as far as it is posted.
+    /// The history learns what was cut, and what was stored, at least as far as it is posted.
     pub(crate) fn teach(&self, history: &mut History<M>)
         ensures this { IsPrefix history.old history.new }
         ensures that { IsPrefix self.now.history history.new }
@@ -465,18 +491,39 @@ impl<C: Tally, M: Tally> Shared<C, M> {
         seat.rest(&self.calls, rest);
     }
 
-    /// Hands all pending entries out, if there are some and no batch is out. `None`: there may be some later.
-    pub(crate) fn cut(&mut self) -> Option<Cutting>
-        ensures { Cuts self.old.front self.old.stopped result self.new.front }
+    /// Hands all pending entries out, if there are some and no batch is out. `None`: there may be some later. The history has the cut then.
+    pub(crate) fn cut(&mut self, chronicle: &Chronicle<M>, cuts: &mut History<M>) -> Option<Cutting>
+        ensures cuts { Cuts self.old.front self.old.stopped result self.new.front }
+        ensures noted { IfSome result (λ cutting. IsCutIn cutting cuts.new) }
     {
-        if let Some(batch) = self.front.cut() {
-            return Some(Cutting::Batch(CutBatch { batch }));
+        if self.front.has_cut() {
+            return Some(self.cut_batch(chronicle, cuts));
         }
         let place = self.front.state().place();
         if self.stopped && self.front.durable() == place {
             return Some(Cutting::Stopped(AllDurable { place }));
         }
         None
+    }
+
+    /// Hands all pending entries out, and notes the cut. Nothing changes if another side noted one.
+    fn cut_batch(&mut self, chronicle: &Chronicle<M>, cuts: &mut History<M>) -> Cutting
+        requires some { has_no_cut self.old.front ≡ false }
+        ensures cuts { Cuts self.old.front self.old.stopped (Some result) self.new.front }
+        ensures noted { IsCutIn result cuts.new }
+    {
+        let _ = self.front.state();
+        let count = self.posted;
+        let mut history = self.history.again();
+        if !history.cut(chronicle, count, &self.front) {
+            return Cutting::Strange(Uncut(()));
+        }
+        let Some(batch) = self.front.cut() else {
+            unreachable!()
+        };
+        cuts.learn(&history);
+        self.history = history;
+        Cutting::Batch(CutBatch { batch, count })
     }
 
     /// Whether the mails of a batch stay within the books of a hall.
@@ -487,34 +534,34 @@ impl<C: Tally, M: Tally> Shared<C, M> {
         self.front.books().mails <= MOST - count
     }
 
-    /// The batch that is out, which the keeper stored last, is durable now: mails its entries, and marks the bells of the connections
-    /// whose boxes change. It is not posted where a book has no room for its mails.
-    pub(crate) fn post<D: Disk>(
+    /// The batch that is out, which was stored last, is durable now: mails its entries, and marks the bells of the connections whose
+    /// boxes change. It is not posted where a book has no room for its mails.
+    pub(crate) fn post(
         &mut self,
         batch: Batch,
-        keeper: &Keeper<D>,
         seat: &StoreSeat<M>,
         wakes: &mut [bool; BELLS as usize],
     ) -> Result<Posted, Unposted>
-        requires stored { IsStored batch keeper.now.state }
-        requires noted { keeper.now.state.place ≤ mark_of seat.now }
+        requires stored { WasStoredLast seat.now batch }
         ensures refused { IfErr result (IsUnposted self.old.front batch) }
         ensures step { OnOk result (FrontStep self.old.front (event.Post batch) [] self.new.front) }
         ensures durable { IfOk result (λ posted. posted.durable ≡ batch.first + length batch.entries) }
         ensures rings { Rings self.old.front self.new.front wakes.old wakes.new }
         ensures err { OnErr result (self.new.front ≡ self.old.front) }
     {
-        let _ = keeper;
         if !self.posts_more(&batch) {
             drop(batch);
             return Err(Unposted::Full(FullBook(())));
         }
-        self.history.learn(seat.history());
         let _ = self.front.state();
         match self.front.post_ringing(batch, wakes) {
-            Ok(()) => Ok(Posted {
-                durable: self.front.durable(),
-            }),
+            Ok(()) => {
+                self.history.learn(seat.history());
+                self.posted += 1;
+                Ok(Posted {
+                    durable: self.front.durable(),
+                })
+            }
             Err(strange) => {
                 drop(strange);
                 Err(Unposted::Strange(NotOut(())))
@@ -553,6 +600,7 @@ impl<C: Tally, M: Tally> Shared<C, M> {
             spare_calls,
             spare_mails,
             history,
+            posted: _,
             made: _,
             watchers,
             stopped: _,

@@ -5,7 +5,7 @@ ghost use Rattle.fe_mail.specs.declared.mail.Mail.{Mail as Told};
 ghost use Rattle.fe_messages.specs.Mails.{spelled};
 ghost use Rattle.fe_hall.specs.Writes.{AreTaken, IsWritten, IsTold, TakesOn, IsBatch, AreSpelled, end_for, receipts_with};
 ghost use mathlib.Core.List.{IsPrefix};
-ghost use Rattle.fe_hall.specs.Acts.{AreTold};
+ghost use Rattle.fe_hall.specs.Acts.{AreTold, IsLegal};
 ghost use Rattle.fe_hall.specs.Seats.{TookNoMail};
 ghost use Rattle.fe_hall.specs.declared.taking.Taking.TheVariants as Taken;
 
@@ -47,6 +47,8 @@ pub fn write_side<C: Tally, M: Tally, H: WriteHalf, R: Wait>(
     ensures wrote { (mails : List Told) × AreTaken seat result.0 result.1.items mails
         × (H.tells half.old → IsWritten (H.got half.old) mails result.2 (H.got half.new))
         × AreTold mails result.1.history }
+    // In that history an answer is the one of its entry, which was stored before.
+    ensures legal { IsLegal result.1.history }
     ensures own { result.1.conn ≡ result.0.conn }
     ensures tells { H.tells half.old → H.tells half.new }
     ensures failed { result.2 ≡ WriteEnd.Device → H.failed half.new }
@@ -69,6 +71,7 @@ pub fn write_side<C: Tally, M: Tally, H: WriteHalf, R: Wait>(
         ..
     } = writing;
     let conn = seat.conn();
+    let history = history.legal();
     (seat, Receipts::of(conn, receipts, history), end)
 }
 

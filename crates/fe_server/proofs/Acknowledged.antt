@@ -1,89 +1,90 @@
--- Whatever was told is held.
-use Rattle.std.proofs.Common.{◌≡◌, ◌⊎◌, inl, inr, ⊎_elim, ℕ, zero, suc, ◌+◌, ◌<◌, ◌≤◌, max, Bool, true, false, Option, Some, List, [], ◌∷◌, ◌++◌, length, map, refl, sym, ap, subst, ◌∙◌, arith}
-use Rattle.std.specs.Prelude.{slice_get, MatchBool}
-use Rattle.std.proofs.lemmas.List.{append-nil}
-use Rattle.std.proofs.Math.Nat.{max-eq_left, max-eq_right}
+-- Whatever was told is right, and is held.
+use Rattle.std.proofs.Common.{◌≡◌, ◌⊎◌, inl, inr, ⊎_elim, ℕ, zero, suc, ◌+◌, ◌<◌, ◌≤◌, Bool, true, false, Option, Some, List, [], ◌∷◌, ◌++◌, length, map, refl, sym, ap, subst, ◌∙◌, arith}
+use Rattle.std.specs.Prelude.{flat_map, slice_get, take, MatchBool}
+use Rattle.std.proofs.lemmas.List.{append-nil, length-append, length-map, length-take-le, take-take}
 use Rattle.fe_disk.specs.Disk.{LeavesOnly}
-use Rattle.fe_state.specs.State.{ServerState}
+use Rattle.fe_state.specs.State.{ServerState, after_all}
+use Rattle.fe_state.specs.declared.batch.Batch.{Batch}
 use Rattle.fe_state.specs.declared.entry.Entry.{Entry}
+use Rattle.fe_state.specs.declared.entry.Entry.TheVariants.{Finished}
+use Rattle.fe_replica.proofs.Following.{place_after}
 use Rattle.fe_keeper.specs.Keeper.{KeeperState}
 use Rattle.fe_keeper.specs.Prefix.{LeavesPrefix}
+use Rattle.fe_messages.specs.Answers.{IsAnswerIn}
 use mathlib.Core.List.{IsPrefix}
-use Rattle.fe_hall.proofs.Acts.{prefix_self, prefix_trans, stores_append}
-use Rattle.fe_hall.specs.Acts.{Account, EachTold, GoesOn, HasMore, IsAccountOf, IsLegal, mark_from, stores_in}
-use Rattle.fe_hall.specs.Commits.{Append, AreNoted, AreNotes, Commits, HoldsSince, noted}
+use Rattle.fe_hall.proofs.Acts.{goes_at, prefix_self, prefix_trans, stores_rise}
+use Rattle.fe_hall.proofs.Committed.{appends_length}
+use Rattle.fe_hall.specs.Acts.{Account, EachTold, GoesOn, HasMore, IsAccountOf, IsLegal, batches_of, entries_in, stores_in}
+use Rattle.fe_hall.specs.Commits.{Append, AreAppends, AreNoted, AreNotes, Commits, HoldsSince, noted}
 use Rattle.fe_hall.specs.declared.act.Act.{Act}
-use Rattle.fe_hall.specs.declared.act.Act.TheVariants.{Began, Stored, Told}
+use Rattle.fe_hall.specs.declared.act.Act.TheVariants.{Began, Told}
 use Rattle.fe_hall.specs.declared.commit_end.CommitEnd.{CommitEnd}
 use Rattle.fe_hall.specs.declared.receipt.Receipt.{Receipt}
 use Rattle.fe_server.specs.Acknowledged.{IsHeld, IsAcknowledged}
 use Rattle.fe_server.specs.Serving.{HasNoted}
 
--- ---- what lies below the mark
+-- ---- the group of an entry
 
--- a group that was stored, which has the entry of a place
-record HasStored (stores : List (ℕ × ℕ)) (place : ℕ) : Type 0 where
+abbrev flat : List (List Entry) → List Entry
+flat groups = flat_map (λ group. group) groups
+
+-- one of the first n groups has the entry of a place
+record HasGroup {D : Type 0} (appends : List (Append D)) (n place : ℕ) : Type 0 where
   pub at : ℕ
-  pub store : ℕ × ℕ
-  pub is_there : slice_get stores at ≡ Some store
-  pub below : place < store.0
-
-one_later : (s : ℕ × ℕ) (stores : List (ℕ × ℕ)) (place : ℕ) → HasStored stores place → HasStored (s ∷ stores) place
-one_later s stores place h = record { at = suc h.at; store = h.store; is_there = h.is_there; below = h.below }
-
-below_max : (mark p place : ℕ) → place < max mark p → (place < mark) ⊎ (place < p)
-below_max mark p place below = by (le_or mark p)
-  where
-    le_or : (a b : ℕ) → (a ≤ b) ⊎ (b ≤ a)
-    le_or zero b = inl (omega arith)
-    le_or (suc a) zero = inr (omega arith)
-    le_or (suc a) (suc b) = ⊎_elim (λ (le : a ≤ b). inl (omega (arith, le))) (λ (le : b ≤ a). inr (omega (arith, le))) (le_or a b)
-
-    by : (mark ≤ p) ⊎ (p ≤ mark) → (place < mark) ⊎ (place < p)
-    by (inl le) = inr (omega (arith, below, max-eq_right le))
-    by (inr le) = inl (omega (arith, below, max-eq_left le))
-
-below_mark : (mark : ℕ) (acts : List Act) (place : ℕ) → place < mark_from mark acts → (place < mark) ⊎ HasStored (stores_in acts) place
-below_mark mark [] place below = inl below
-below_mark mark (Began p ∷ acts) place below = below_mark mark acts place below
-below_mark mark (Told r ∷ acts) place below = below_mark mark acts place below
-below_mark mark (Stored p m ∷ acts) place below =
-    ⊎_elim
-    (λ (low : place < max mark p).
-    ⊎_elim (λ (first : place < mark). inl first) (λ (this : place < p). inr (record { at = 0; store = (p, m); is_there = refl; below = this })) (below_max mark p place low))
-    (λ (later : HasStored (stores_in acts) place). inr (one_later (p, m) (stores_in acts) place later)) (below_mark (max mark p) acts place below)
-
--- an answer that was told lies below the mark of what came before it
-told_below : (mark : ℕ) (earlier later : List Act) (r : Receipt) → GoesOn mark (earlier ++ Told r ∷ later) → r.place < mark_from mark earlier
-told_below mark [] later r legal = legal.0
-told_below mark (Began p ∷ earlier) later r legal = absurd legal
-told_below mark (Stored p m ∷ earlier) later r legal = told_below (max mark p) earlier later r legal
-told_below mark (Told q ∷ earlier) later r legal = told_below mark earlier later r legal.1
-
--- ---- appends
-
--- the first of some stores are those of the whole
-get_front : {A : Type 0} (xs ys : List A) (k : ℕ) (x : A) → slice_get xs k ≡ Some x → slice_get (xs ++ ys) k ≡ Some x
-get_front [] ys k x is = absurd cc
-get_front (y ∷ xs) ys zero x is = is
-get_front (y ∷ xs) ys (suc k) x is = get_front xs ys k x is
-
-get_short : {A : Type 0} (xs : List A) (k : ℕ) (x : A) → slice_get xs k ≡ Some x → k < length xs
-get_short [] k x is = absurd cc
-get_short (y ∷ xs) zero x is = omega arith
-get_short (y ∷ xs) (suc k) x is = let less = get_short xs k x is in omega (arith, less)
-
--- what was noted is noted of an append
-record IsNoted {D : Type 0} (moment : D → ℕ) (appends : List (Append D)) (k : ℕ) (store : ℕ × ℕ) : Type 0 where
   pub append : Append D
-  pub is_there : slice_get appends k ≡ Some append
-  pub is_noted : noted moment append ≡ store
+  pub is_there : slice_get appends at ≡ Some append
+  pub before : at < n
+  pub not_earlier : append.before.state.place ≤ place
+  pub has_it : place < append.after.state.place
 
-noted_of : {D : Type 0} (moment : D → ℕ) (appends : List (Append D)) (k : ℕ) (store : ℕ × ℕ) → slice_get (map (noted moment) appends) k ≡ Some store → IsNoted moment appends k store
-noted_of moment [] k store is = absurd cc
-noted_of moment (a ∷ appends) zero store is = record { append = a; is_there = refl; is_noted = cc }
-noted_of moment (a ∷ appends) (suc k) store is =
-    let n = noted_of moment appends k store is in record { append = n.append; is_there = n.is_there; is_noted = n.is_noted }
+le_or : (a b : ℕ) → (a ≤ b) ⊎ (b < a)
+le_or zero b = inl (omega arith)
+le_or (suc a) zero = inr (omega arith)
+le_or (suc a) (suc b) = ⊎_elim (λ (le : a ≤ b). inl (omega (arith, le))) (λ (lt : b < a). inr (omega (arith, lt))) (le_or a b)
+
+group_of : {D : Type 0} (s : ServerState) (groups : List (List Entry)) (appends : List (Append D)) (n place : ℕ) → AreAppends s groups appends → s.place ≤ place → place < s.place + length (flat (take n groups))
+    → HasGroup appends n place
+group_of s groups appends zero place are low high = absurd (omega (arith, low, high))
+group_of s [] appends (suc n) place are low high = absurd (omega (arith, low, high))
+group_of s (group ∷ groups) [] (suc n) place are low high = absurd are
+group_of s (group ∷ groups) (append ∷ appends) (suc n) place are low high =
+    let ends : (after_all s group).place ≡ s.place + length group = place_after s group in
+    let begins = ap (λ (t : ServerState). t.place) are.0 in
+    let leads = ap (λ (t : ServerState). t.place) are.1 in
+    let size = length-append group (flat (take n groups)) in
+    ⊎_elim
+    (λ (le : s.place + length group ≤ place).
+    let h = group_of (after_all s group) groups appends n place are.3 (omega (arith, ends, le)) (omega (arith, ends, size, high)) in
+    record { at = suc h.at; append = h.append; is_there = h.is_there; before = omega (arith, h.before); not_earlier = h.not_earlier; has_it = h.has_it })
+    (λ (lt : place < s.place + length group).
+    record { at = 0; append = append; is_there = refl; before = omega arith; not_earlier = omega (arith, begins, low); has_it = omega (arith, leads, ends, lt) })
+    (le_or (s.place + length group) place)
+
+-- the entries of the first appends that were noted are those of the first groups
+noted_entries : {D : Type 0} (moment : D → ℕ) (s : ServerState) (groups : List (List Entry)) (appends : List (Append D)) (n : ℕ) → AreAppends s groups appends
+    → entries_in (batches_of (take n (map (noted moment) appends))) ≡ flat (take n groups)
+noted_entries moment s groups appends zero are = refl
+noted_entries moment s [] [] (suc n) are = refl
+noted_entries moment s [] (append ∷ appends) (suc n) are = absurd are
+noted_entries moment s (group ∷ groups) [] (suc n) are = absurd are
+noted_entries moment s (group ∷ groups) (append ∷ appends) (suc n) are =
+    ap (λ (es : List Entry). es ++ entries_in (batches_of (take n (map (noted moment) appends)))) are.2
+    ∙ ap (λ (es : List Entry). group ++ es) (noted_entries moment (after_all s group) groups appends n are.3)
+
+-- a beginning is the first of a list
+front_is : {A : Type 0} (xs ys : List A) → IsPrefix xs ys → xs ≡ take (length xs) ys
+front_is xs ys p = sym (ap (λ t. take (length xs) t) (sym p.1) ∙ first xs p.0)
+  where
+    first : {A : Type 0} (xs rest : List A) → take (length xs) (xs ++ rest) ≡ xs
+    first [] rest = refl
+    first (x ∷ xs) rest = ap (λ t. x ∷ t) (first xs rest)
+
+-- what was noted is of the first appends
+notes_front : {D : Type 0} (moment : D → ℕ) (appends : List (Append D)) (end : Option CommitEnd) (notes : List (Batch × ℕ)) → AreNotes moment appends end notes → IsPrefix notes (map (noted moment) appends)
+notes_front moment appends end notes (inl all) = ([], append-nil notes ∙ all)
+notes_front moment appends end notes (inr (strange, last, all)) = (last ∷ [], all)
+
+-- ---- images
 
 module _ {D : Type 0} (moment : D → ℕ) (left_since : D → ℕ → List ℕ → Type 0) (begun : ServerState) (history : List (List Entry)) (last : D) where
   first_holds : (n : ℕ) (here : D) (appends : List (Append D)) → HoldsSince moment left_since begun history n here appends last → LeavesOnly moment left_since here last (LeavesPrefix begun history n)
@@ -105,63 +106,102 @@ module _ {D : Type 0} (moment : D → ℕ) (left_since : D → ℕ → List ℕ 
 
 -- ---- together
 
--- what was noted is of the first appends
-notes_front : {D : Type 0} (moment : D → ℕ) (appends : List (Append D)) (end : Option CommitEnd) (notes : List (ℕ × ℕ)) → AreNotes moment appends end notes → IsPrefix notes (map (noted moment) appends)
-notes_front moment appends end notes (inl all) = ([], append-nil notes ∙ all)
-notes_front moment appends end notes (inr (strange, last, all)) = (last ∷ [], all)
-
 module _ {D : Type 0} (honest : D → Type 0) (moment : D → ℕ) (left_since : D → ℕ → List ℕ → Type 0) (old new : KeeperState D) (end : CommitEnd) (commits : Commits honest moment left_since old new (Some end)) where
-  module _ (notes : List (ℕ × ℕ)) (are_notes : AreNotes moment commits.appends (Some end) notes) (h : honest old.store.disk) (fine : old.store.has_failed ≡ false) where
-    module _ (acts : List Act) (stored : stores_in acts ≡ notes) (legal : GoesOn old.state.place acts) where
-      stored_holds : (earlier later : List Act) (r : Receipt) → acts ≡ earlier ++ Told r ∷ later → HasStored (stores_in earlier) r.place
-          → IsHeld moment left_since old.state commits.groups commits.appends new.store.disk (length (stores_in earlier)) r.place
-      stored_holds earlier later r is has =
-          let all : stores_in earlier ++ stores_in (Told r ∷ later) ≡ notes = sym (stores_append earlier (Told r ∷ later)) ∙ sym (ap stores_in is) ∙ stored in
-          let front = notes_front moment commits.appends (Some end) notes are_notes in
-          let noted_there : slice_get notes has.at ≡ Some has.store =
-          subst (λ (s : List (ℕ × ℕ)). slice_get s has.at ≡ Some has.store) all (get_front (stores_in earlier) (stores_in (Told r ∷ later)) has.at has.store has.is_there) in
-          let there : slice_get (map (noted moment) commits.appends) has.at ≡ Some has.store =
-          subst (λ (s : List (ℕ × ℕ)). slice_get s has.at ≡ Some has.store) front.1 (get_front notes front.0 has.at has.store noted_there) in
-          let n = noted_of moment commits.appends has.at has.store there in
-          let count : 0 + has.at + 1 ≡ has.at + 1 = omega arith in
-          record {
-            at = has.at;
-            append = n.append;
-            is_there = n.is_there;
-            before = get_short (stores_in earlier) has.at has.store has.is_there;
-            has_it = subst (λ (s : ℕ × ℕ). r.place < s.0) (sym n.is_noted) has.below;
-            every_image =
-                subst (λ (j : ℕ). LeavesOnly moment left_since n.append.after.store.disk new.store.disk (LeavesPrefix old.state commits.groups j)) count
-                (append_holds moment left_since old.state commits.groups new.store.disk 0 old.store.disk commits.appends has.at n.append n.is_there (commits.any_moment h fine));
-          }
+  abbrev stored_groups : List (List Entry)
+  stored_groups = take commits.stored commits.groups
 
-      held_by : (earlier later : List Act) (r : Receipt) → Began old.state.place ∷ acts ≡ earlier ++ Told r ∷ later
-          → (r.place < old.state.place) ⊎ IsHeld moment left_since old.state commits.groups commits.appends new.store.disk (length (stores_in earlier)) r.place
-      held_by [] later r is = absurd (cc is)
-      held_by (e ∷ earlier) later r is =
-          let head : Began old.state.place ≡ e = cc is in
-          let tail : acts ≡ earlier ++ Told r ∷ later = cc is in
-          let below = below_mark old.state.place earlier r.place (told_below old.state.place earlier later r (subst (λ (a : List Act). GoesOn old.state.place a) tail legal)) in
-          subst (λ (a : Act). (r.place < old.state.place) ⊎ IsHeld moment left_since old.state commits.groups commits.appends new.store.disk (length (stores_in (a ∷ earlier))) r.place) head
-          (⊎_elim (λ (first : r.place < old.state.place). inl first) (λ (has : HasStored (stores_in earlier) r.place). inr (stored_holds earlier later r tail has)) below)
+  module _ (acts : List Act) (front : IsPrefix (stores_in acts) (map (noted moment) commits.appends)) (goes : GoesOn old.state [] acts) (earlier later : List Act) (r : Receipt) (is : acts ≡ earlier ++ Told r ∷ later) where
+    count : ℕ
+    count = length (stores_in earlier)
 
-  pub acknowledged : (account : Account) (seat : List Act) → AreNoted moment commits.appends (Some end) (Began old.state.place ∷ []) seat → IsPrefix seat account.history → IsLegal account.history
+    -- what was stored before the answer was told
+    before_it : stores_in earlier ≡ take (length (stores_in earlier)) (map (noted moment) commits.appends)
+    before_it = front_is (stores_in earlier) (map (noted moment) commits.appends)
+        (prefix_trans (stores_in earlier) (stores_in acts) (map (noted moment) commits.appends) (stores_rise earlier acts (Told r ∷ later, sym is)) front)
+
+    entries_are : entries_in (batches_of (stores_in earlier)) ≡ flat (take (length (stores_in earlier)) stored_groups)
+    entries_are = ap (λ (s : List (Batch × ℕ)). entries_in (batches_of s)) before_it ∙ noted_entries moment old.state stored_groups commits.appends (length (stores_in earlier)) commits.are_appends
+
+    few : length (stores_in earlier) ≤ commits.stored
+    few =
+        let p = prefix_trans (stores_in earlier) (stores_in acts) (map (noted moment) commits.appends) (stores_rise earlier acts (Told r ∷ later, sym is)) front in
+        let all = ap length p.1 in
+        let some = length-append (stores_in earlier) p.0 in
+        let each = length-map commits.appends (noted moment) in
+        let one = appends_length old.state stored_groups commits.appends commits.are_appends in
+        let most = length-take-le commits.stored commits.groups in
+        omega (arith, all, some, each, one, most)
+
+    answer_is : IsAnswerIn old.state (flat (take (length (stores_in earlier)) stored_groups)) r.session r.number r.answer r.place
+    answer_is =
+        subst (λ (es : List Entry). IsAnswerIn old.state es r.session r.number r.answer r.place) entries_are
+        (goes_at old.state [] earlier later (Told r) (subst (λ (a : List Act). GoesOn old.state [] a) is goes))
+
+    told_right : IsAnswerIn old.state (flat (take (length (stores_in earlier)) commits.groups)) r.session r.number r.answer r.place
+    told_right =
+        subst (λ (gs : List (List Entry)). IsAnswerIn old.state (flat gs) r.session r.number r.answer r.place) (take-take (length (stores_in earlier)) commits.stored commits.groups few) answer_is
+
+    told_held : honest old.store.disk → old.store.has_failed ≡ false → (r.place < old.state.place) ⊎ IsHeld moment left_since old.state commits.groups commits.appends new.store.disk (length (stores_in earlier)) r.place
+    told_held h fine = by answer_is
+      where
+        by : IsAnswerIn old.state (flat (take (length (stores_in earlier)) stored_groups)) r.session r.number r.answer r.place
+            → (r.place < old.state.place) ⊎ IsHeld moment left_since old.state commits.groups commits.appends new.store.disk (length (stores_in earlier)) r.place
+        by (inl kept) = inl kept.earlier
+        by (inr f) =
+            let size = ap length f.entries ∙ length-append f.before (Finished r.session r.number f.request r.answer ∷ f.behind) in
+            let g = group_of old.state stored_groups commits.appends (length (stores_in earlier)) r.place commits.are_appends (omega (arith, f.at)) (omega (arith, f.at, size)) in
+            let count : 0 + g.at + 1 ≡ g.at + 1 = omega arith in
+            inr (record {
+              at = g.at;
+              append = g.append;
+              is_there = g.is_there;
+              before = g.before;
+              not_earlier = g.not_earlier;
+              has_it = g.has_it;
+              every_image =
+                  subst (λ (j : ℕ). LeavesOnly moment left_since g.append.after.store.disk new.store.disk (LeavesPrefix old.state commits.groups j)) count
+                  (append_holds moment left_since old.state commits.groups new.store.disk 0 old.store.disk commits.appends g.at g.append g.is_there (commits.any_moment h fine));
+            })
+
+  module _ (acts : List Act) (front : IsPrefix (stores_in acts) (map (noted moment) commits.appends)) (goes : GoesOn old.state [] acts) where
+    all_right : (earlier later : List Act) (r : Receipt) → Began old.state ∷ acts ≡ earlier ++ Told r ∷ later
+        → IsAnswerIn old.state (flat (take (length (stores_in earlier)) commits.groups)) r.session r.number r.answer r.place
+    all_right [] later r is = absurd (cc is)
+    all_right (e ∷ earlier) later r is =
+        let head : Began old.state ≡ e = cc is in
+        let tail : acts ≡ earlier ++ Told r ∷ later = cc is in
+        subst (λ (a : Act). IsAnswerIn old.state (flat (take (length (stores_in (a ∷ earlier))) commits.groups)) r.session r.number r.answer r.place) head (told_right acts front goes earlier later r tail)
+
+    all_held : honest old.store.disk → old.store.has_failed ≡ false → (earlier later : List Act) (r : Receipt) → Began old.state ∷ acts ≡ earlier ++ Told r ∷ later
+        → (r.place < old.state.place) ⊎ IsHeld moment left_since old.state commits.groups commits.appends new.store.disk (length (stores_in earlier)) r.place
+    all_held h fine [] later r is = absurd (cc is)
+    all_held h fine (e ∷ earlier) later r is =
+        let head : Began old.state ≡ e = cc is in
+        let tail : acts ≡ earlier ++ Told r ∷ later = cc is in
+        subst (λ (a : Act). (r.place < old.state.place) ⊎ IsHeld moment left_since old.state commits.groups commits.appends new.store.disk (length (stores_in (a ∷ earlier))) r.place) head
+        (told_held acts front goes earlier later r tail h fine)
+
+  pub acknowledged : (account : Account) (seat : List Act) → AreNoted moment commits.appends (Some end) (Began old.state ∷ []) seat → IsPrefix seat account.history → IsLegal account.history
       → MatchBool account.own (stores_in account.history ≡ stores_in seat) (HasMore (stores_in seat) (stores_in account.history)) → EachTold account.receipts account.history
       → IsAcknowledged honest moment left_since old new end account
   acknowledged account seat (p, notes, is, are_notes) this legal own told =
-      let whole = prefix_trans (Began old.state.place ∷ []) seat account.history p this in
-      let begins : Began old.state.place ∷ whole.0 ≡ account.history = whole.1 in
+      let whole = prefix_trans (Began old.state ∷ []) seat account.history p this in
+      let begins : Began old.state ∷ whole.0 ≡ account.history = whole.1 in
+      let goes : GoesOn old.state [] whole.0 = (subst IsLegal (sym begins) legal).1 in
       let stored : MatchBool account.own (stores_in account.history ≡ notes) (HasMore notes (stores_in account.history)) =
-      subst (λ (s : List (ℕ × ℕ)). MatchBool account.own (stores_in account.history ≡ s) (HasMore s (stores_in account.history))) is own in
+      subst (λ (s : List (Batch × ℕ)). MatchBool account.own (stores_in account.history ≡ s) (HasMore s (stores_in account.history))) is own in
+      let front : account.own ≡ true → IsPrefix (stores_in whole.0) (map (noted moment) commits.appends) =
+      λ alone.
+      let same : stores_in account.history ≡ notes = subst (λ (b : Bool). MatchBool b (stores_in account.history ≡ notes) (HasMore notes (stores_in account.history))) alone stored in
+      subst (λ (s : List (Batch × ℕ)). IsPrefix s (map (noted moment) commits.appends)) (sym (ap stores_in begins ∙ same)) (notes_front moment commits.appends (Some end) notes are_notes) in
       record {
         commits = commits;
         notes = notes;
         are_notes = are_notes;
         stored = stored;
         told = told;
-        held = λ alone h fine earlier later r at.
-            let same : stores_in account.history ≡ notes = subst (λ (b : Bool). MatchBool b (stores_in account.history ≡ notes) (HasMore notes (stores_in account.history))) alone stored in
-            held_by notes are_notes h fine whole.0 (ap stores_in begins ∙ same) (subst IsLegal (sym begins) legal) earlier later r (begins ∙ at);
+        right = λ alone earlier later r at. all_right whole.0 (front alone) goes earlier later r (begins ∙ at);
+        held = λ alone h fine earlier later r at. all_held whole.0 (front alone) goes h fine earlier later r (begins ∙ at);
       }
 
 -- with what a committing side gave back, and the account of its hall
@@ -170,11 +210,11 @@ pub ended_acknowledged : {D : Type 0} (honest : D → Type 0) (moment : D → �
 ended_acknowledged honest moment left_since may_leave failures old new end seat account receipts seen (all, notes) of told = acknowledged honest moment left_since old new end all.commits account seat notes of.this of.legal of.own told
 
 -- a hall that did not begin
-pub unbegun_acknowledged : {D : Type 0} (honest : D → Type 0) (moment : D → ℕ) (left_since : D → ℕ → List ℕ → Type 0) (may_leave : D → List ℕ → Type 0) (failures : D → ℕ) (old new : KeeperState D) (end : CommitEnd) (account : Account) (place : ℕ)
-    → HasNoted honest moment left_since may_leave failures old new end (Began old.state.place ∷ []) → account ≡ record { receipts = []; history = Began place ∷ []; own = true } → place ≡ old.state.place → IsAcknowledged honest moment left_since old new end account
-unbegun_acknowledged honest moment left_since may_leave failures old new end account place (all, notes) is here =
-    let acts : List Act = Began old.state.place ∷ [] in
-    let none : Account = record { receipts = []; history = acts; own = true } in
-    let same : none ≡ account = sym (is ∙ ap (λ (p : ℕ). record { receipts = []; history = Began p ∷ []; own = true }) here) in
+pub unbegun_acknowledged : {D : Type 0} (honest : D → Type 0) (moment : D → ℕ) (left_since : D → ℕ → List ℕ → Type 0) (may_leave : D → List ℕ → Type 0) (failures : D → ℕ) (old new : KeeperState D) (end : CommitEnd) (account : Account) (acts : List Act)
+    → HasNoted honest moment left_since may_leave failures old new end (Began old.state ∷ []) → account ≡ record { receipts = []; history = acts; own = true } → acts ≡ Began old.state ∷ [] → IsLegal acts → IsAcknowledged honest moment left_since old new end account
+unbegun_acknowledged honest moment left_since may_leave failures old new end account acts (all, notes) is here legal =
+    let began : List Act = Began old.state ∷ [] in
+    let none : Account = record { receipts = []; history = began; own = true } in
+    let same : none ≡ account = sym (is ∙ ap (λ (a : List Act). record { receipts = []; history = a; own = true }) here) in
     subst (λ (a : Account). IsAcknowledged honest moment left_since old new end a) same
-    (acknowledged honest moment left_since old new end all.commits none acts notes (prefix_self acts) tt refl tt)
+    (acknowledged honest moment left_since old new end all.commits none began notes (prefix_self began) (subst IsLegal here legal) refl tt)

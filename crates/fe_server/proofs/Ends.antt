@@ -17,10 +17,10 @@ use Rattle.fe_server.specs.Serving.{HasNoted, IsAnswerAt, fault_of_end}
 module _ {D : Type 0} (honest : D → Type 0) (may_leave : D → List ℕ → Type 0) (moment : D → ℕ) (left_since : D → ℕ → List ℕ → Type 0) (failures : D → ℕ) where
   -- nothing was done
   pub none_committed : ((disk : D) (image : List ℕ) → honest disk → left_since disk (moment disk) image → may_leave disk image) → (k : KeeperState D)
-      → (honest k.store.disk → k.store.has_failed ≡ false → EachStandsFor may_leave k.store.disk k.state) → HasNoted honest moment left_since may_leave failures k k Stopped (Began k.state.place ∷ [])
+      → (honest k.store.disk → k.store.has_failed ≡ false → EachStandsFor may_leave k.store.disk k.state) → HasNoted honest moment left_since may_leave failures k k Stopped (Began k.state ∷ [])
   none_committed only_now k stands =
       let rests = rests_itself honest may_leave moment left_since only_now k stands in
-      let kept = kept_noted honest moment left_since k k (Some Stopped) rests (Began k.state.place ∷ []) in
+      let kept = kept_noted honest moment left_since k k (Some Stopped) rests (Began k.state ∷ []) in
       (record { commits = kept.0; stands = stands; tells = still_itself failures k; honesty = rests.honesty }, kept.1)
 
 -- a hall that was stopped is closed

@@ -1,10 +1,12 @@
--- Whatever a client was told is in every image that a stop may leave from then on.
-use Rattle.std.specs.Prelude.{◌≡◌, ◌⊎◌, ℕ, ◌+◌, ◌<◌, true, false, List, ◌∷◌, ◌++◌, length, slice_get, Some, MatchBool}
+-- Whatever a client was told is right, and is in every image that a stop may leave from then on.
+use Rattle.std.specs.Prelude.{◌≡◌, ◌⊎◌, ℕ, ◌+◌, ◌<◌, ◌≤◌, true, false, List, ◌∷◌, ◌++◌, flat_map, length, slice_get, take, Some, MatchBool}
 use Rattle.fe_disk.specs.Disk.{LeavesOnly}
 use Rattle.fe_state.specs.State.{ServerState}
+use Rattle.fe_state.specs.declared.batch.Batch.{Batch}
 use Rattle.fe_state.specs.declared.entry.Entry.{Entry}
 use Rattle.fe_keeper.specs.Keeper.{KeeperState}
 use Rattle.fe_keeper.specs.Prefix.{LeavesPrefix}
+use Rattle.fe_messages.specs.Answers.{IsAnswerIn}
 use Rattle.fe_hall.specs.Acts.{Account, EachTold, HasMore, stores_in}
 use Rattle.fe_hall.specs.Commits.{Append, AreNotes, Commits}
 use Rattle.fe_hall.specs.declared.act.Act.{Act}
@@ -19,17 +21,20 @@ pub record IsHeld {D : Type 0} (moment : D → ℕ) (left_since : D → ℕ → 
   pub append : Append D
   pub is_there : slice_get appends at ≡ Some append
   pub before : at < n
+  pub not_earlier : append.before.state.place ≤ place
   pub has_it : place < append.after.state.place
   pub every_image : LeavesOnly moment left_since append.after.store.disk last (LeavesPrefix begun groups (at + 1))
 
 -- A server ended so. It stored groups and noted these of them; its history has the notes in their order, and the answer of each receipt.
--- If nobody else noted groups in its hall, then before each answer was told a group with its entry was stored, which every image has had
--- since; or the store had the entry from the beginning.
+-- If nobody else noted groups in its hall, then each answer that was told is that of its entry in the groups that were stored before, or
+-- it was kept from the beginning; and every image since its group was stored has that group.
 pub record IsAcknowledged {D : Type 0} (honest : D → Type 0) (moment : D → ℕ) (left_since : D → ℕ → List ℕ → Type 0) (old new : KeeperState D) (end : CommitEnd) (account : Account) : Type 0 where
   pub commits : Commits honest moment left_since old new (Some end)
-  pub notes : List (ℕ × ℕ)
+  pub notes : List (Batch × ℕ)
   pub are_notes : AreNotes moment commits.appends (Some end) notes
   pub stored : MatchBool account.own (stores_in account.history ≡ notes) (HasMore notes (stores_in account.history))
   pub told : EachTold account.receipts account.history
+  pub right : account.own ≡ true → (earlier later : List Act) (r : Receipt) → account.history ≡ earlier ++ Told r ∷ later
+      → IsAnswerIn old.state (flat_map (λ group. group) (take (length (stores_in earlier)) commits.groups)) r.session r.number r.answer r.place
   pub held : account.own ≡ true → honest old.store.disk → old.store.has_failed ≡ false → (earlier later : List Act) (r : Receipt) → account.history ≡ earlier ++ Told r ∷ later
       → (r.place < old.state.place) ⊎ IsHeld moment left_since old.state commits.groups commits.appends new.store.disk (length (stores_in earlier)) r.place

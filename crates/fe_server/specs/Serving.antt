@@ -33,7 +33,7 @@ pub record HasCommitted {D : Type 0} (honest : D → Type 0) (moment : D → ℕ
 -- The same, and the history of a hall that began with that keeper notes what was stored.
 abbrev pub HasNoted : {D : Type 0} → (D → Type 0) → (D → ℕ) → (D → ℕ → List ℕ → Type 0) → (D → List ℕ → Type 0) → (D → ℕ) → KeeperState D → KeeperState D → CommitEnd → List Act → Type 0
 HasNoted honest moment left_since may_leave failures old new end acts =
-    (all : HasCommitted honest moment left_since may_leave failures old new end) × AreNoted moment all.commits.appends (Some end) (Began old.state.place ∷ []) acts
+    (all : HasCommitted honest moment left_since may_leave failures old new end) × AreNoted moment all.commits.appends (Some end) (Began old.state ∷ []) acts
 
 -- ---- what a server answers
 

@@ -69,11 +69,11 @@ impl<C: Tally, M: Tally> Opened<C, M> {
         requires calls { IsBlankOf C.name C.parts C.all calls.name calls.parts }
         requires mails { IsBlankOf M.name M.parts M.all mails.name mails.parts }
         requires history { history.book ≡ M.book }
-        requires place { history.place ≡ state.now.place }
+        requires acts { history.acts ≡ act.Began state.now ∷ [] }
         ensures begun { IfOk result (λ opened. opened.0.begun.value ≡ state.now) }
         ensures most { IfOk result (λ opened. opened.0.house.most ≡ settings.now.connections) }
         ensures keeps { IfOk result (λ opened. opened.0.house.keeps ≡ nat_lt 0 settings.now.accepts) }
-        ensures seat { IfOk result (λ opened. opened.1 ≡ act.Began history.place ∷ []) }
+        ensures seat { IfOk result (λ opened. opened.1 ≡ history.acts) }
     {
         let Ok(door) = entrance.door() else {
             drop(history);
@@ -127,6 +127,8 @@ impl<C: Tally, M: Tally> Opened<C, M> {
     }
 
     /// The account of the hall, whose committing side ended with a fault.
+    // (not inlined, as in `fe_keeper::keeper_over`)
+    #[inline(never)]
     pub(crate) fn account(self, over: Over, seat: StoreSeat<M>) -> Account
         requires fault { IsSome (fault_of_end over.end) }
         ensures leaves { (kept : Kept) × IsAccountOf seat kept.items kept.history result }
@@ -137,6 +139,8 @@ impl<C: Tally, M: Tally> Opened<C, M> {
     }
 
     /// Closes the hall with what is in the register. `state` is what is stored.
+    // (not inlined, as in `fe_keeper::keeper_over`)
+    #[inline(never)]
     pub(crate) fn close(
         self,
         over: Over,
@@ -255,7 +259,7 @@ impl<C: Tally, M: Tally> House<C, M> {
         keeper: Keeper<D>,
         seat: StoreSeat<M>,
     ) -> (Keeper<D>, Over, StoreSeat<M>)
-        requires { seat ≡ act.Began keeper.state.place ∷ [] }
+        requires { seat ≡ act.Began keeper.state ∷ [] }
         ensures { HasNoted D.honest D.moment D.left_since D.may_leave D.failures keeper result.0 result.1.end result.2 }
     {
         let mut keeper = keeper;

@@ -106,13 +106,13 @@ pub fn serve_store<D: Disk + Drop + Send, G: Gate + Sync, R: Clock + Threads + W
         (λ served. All (IsBorneOut served.keeper.state served.audit.sent) served.audit.receipts) }
     // If the number of connections is bounded, these are the receipts of each of them.
     ensures whole { IfOk result (λ served. 0 < settings.now.accepts → IsTrue served.audit.whole) }
-    // Whatever a client was told is in every image that a stop may leave from then on: before an answer was told, a
-    // group with its entry was stored, and each image since the end of its append stands for a state with that group.
+    // Whatever a client was told is right, and in every image that a stop may leave from then on: an answer that was told is the one
+    // of its entry, in a group that was stored before, and each image since the end of its append stands for a state with that group.
     // After a fault this holds if the account's `own` is true.
     ensures acknowledged { (end : Ended) × IsAnswerAt end (fault_in result)
         × IsAcknowledged D.honest D.moment D.left_since keeper (keeper_in result) end (account_in result) }
 {
-    let history = NewHistory::new(keeper.state().place());
+    let history = NewHistory::new(keeper.state());
     serve_as::<Brand, Brand, D, G, R>(
         rt,
         alloc,
@@ -146,7 +146,7 @@ fn serve_as<
     requires calls { IsBlankOf C.name C.parts C.all calls.name calls.parts }
     requires mails { IsBlankOf M.name M.parts M.all mails.name mails.parts }
     requires history { history.book ≡ M.book }
-    requires place { history.place ≡ keeper.state.place }
+    requires acts { history.acts ≡ act.Began keeper.state ∷ [] }
     ensures committed { (end : Ended)
         × HasCommitted D.honest D.moment D.left_since D.may_leave D.failures keeper (keeper_in result) end
         × IsAnswerAt end (fault_in result) }
@@ -215,7 +215,7 @@ fn closed<C: Tally, M: Tally, D: Disk>(
 /// What a server leaves if memory is short before it serves a client.
 fn unserved<D: Disk>(keeper: Keeper<D>, account: Account) -> Failed<D>
     ensures committed { HasNoted D.honest D.moment D.left_since D.may_leave D.failures keeper result.keeper hall.Stopped
-        (act.Began keeper.state.place ∷ []) }
+        (act.Began keeper.state ∷ []) }
     ensures fault { result.fault ≡ fault.Memory }
     ensures account { result.account ≡ account }
 {
@@ -263,7 +263,7 @@ fn run<
     requires begun { opened.now.begun.value ≡ keeper.state }
     requires most { opened.now.house.most ≡ settings.now.connections }
     requires keeps { opened.now.house.keeps ≡ nat_lt 0 settings.now.accepts }
-    requires seat { seat ≡ act.Began keeper.state.place ∷ [] }
+    requires seat { seat ≡ act.Began keeper.state ∷ [] }
     ensures { HasNoted D.honest D.moment D.left_since D.may_leave D.failures keeper result.0 result.1.end result.2 }
 {
     let house = opened.house();
@@ -271,7 +271,7 @@ fn run<
         thread::scope_env(),
         rt,
         move |scope| -> (Keeper<D>, Over, StoreSeat<M>)
-            requires { (C.all ≡ C.parts) × (M.all ≡ M.parts) × (seat ≡ act.Began keeper.state.place ∷ []) }
+            requires { (C.all ≡ C.parts) × (M.all ≡ M.parts) × (seat ≡ act.Began keeper.state ∷ []) }
             ensures { HasNoted D.honest D.moment D.left_since D.may_leave D.failures keeper
                 result.0 result.1.end result.2 }
         {
@@ -304,7 +304,7 @@ fn run_in<
 ) -> (Keeper<D>, Over, StoreSeat<M>)
     requires calls { C.all ≡ C.parts }
     requires mails { M.all ≡ M.parts }
-    requires seat { seat ≡ act.Began keeper.state.place ∷ [] }
+    requires seat { seat ≡ act.Began keeper.state ∷ [] }
     ensures { HasNoted D.honest D.moment D.left_since D.may_leave D.failures keeper result.0 result.1.end result.2 }
 {
     let promise = Committed {
@@ -313,7 +313,7 @@ fn run_in<
     let committing = scope.spawn_with(
         promise,
         move || -> (Keeper<D>, Over, StoreSeat<M>)
-            requires { seat ≡ act.Began keeper.state.place ∷ [] }
+            requires { seat ≡ act.Began keeper.state ∷ [] }
             ensures { HasNoted D.honest D.moment D.left_since D.may_leave D.failures keeper
                 result.0 result.1.end result.2 }
         { house.commit(rt, keeper, seat) },

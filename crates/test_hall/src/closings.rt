@@ -1,7 +1,8 @@
 //! Halls that are closed with receipts that none of their connections got.
 
-ghost use Rattle.std.specs.Prelude.{◌≡◌, ◌+◌};
+ghost use Rattle.std.specs.Prelude.{◌≡◌, ◌+◌, ◌∷◌, []};
 ghost use Rattle.fe_hall.specs.Seats.{most_connections};
+ghost use Rattle.fe_hall.specs.declared.act.Act.TheVariants as act;
 
 use crate::rows::FIRST_PATH;
 use crate::saying::{Say, message_of};
@@ -123,7 +124,7 @@ fn close_as<C: Tally, M: Tally, R: Abort + Wait>(
     requires mails { (mails.name ≡ M.name) × (mails.parts ≡ M.parts) × (M.all ≡ M.parts)
         × (M.all ≡ most_connections + 1) }
     requires history { history.book ≡ M.book }
-    requires place { history.place ≡ keeper.state.place }
+    requires acts { history.acts ≡ act.Began keeper.state ∷ [] }
 {
     let (hall, seat) = hall_over::<C, M>(alloc, keeper.state(), calls, mails, history)
         .ok()
@@ -157,7 +158,7 @@ fn closed<R: Abort + Clock + Threads + Wait + Sync>(
     let receipts = ReceiptList::of(Vec::from_slice(alloc, &[case.receipt])?);
     let keeper = stored(rt, alloc);
     let (calls, mails) = (Blank::new(PARTS), Blank::new(PARTS));
-    let history = NewHistory::new(keeper.state().place());
+    let history = NewHistory::new(keeper.state());
     let count = case.connections;
     Ok(close_as::<Brand, Brand, R>(
         rt, alloc, keeper, count, sent, receipts, calls, mails, history,

@@ -4,8 +4,9 @@
 //! a read side reports that memory ran out for its stream or its list, and the committing side goes on if it can't
 //! begin a checkpoint.
 
-ghost use Rattle.std.specs.Prelude.{◌≡◌, ◌+◌};
+ghost use Rattle.std.specs.Prelude.{◌≡◌, ◌+◌, ◌∷◌, []};
 ghost use Rattle.fe_hall.specs.Seats.{most_connections};
+ghost use Rattle.fe_hall.specs.declared.act.Act.TheVariants as act;
 
 use crate::saying::{Say, put_said};
 use crate::stage::{PARTS, hall_over};
@@ -117,7 +118,7 @@ fn store_as<C: Tally, M: Tally, R: Abort + Wait>(
     requires mails { (mails.name ≡ M.name) × (mails.parts ≡ M.parts) × (M.all ≡ M.parts)
         × (M.all ≡ most_connections + 1) }
     requires history { history.book ≡ M.book }
-    requires place { history.place ≡ keeper.old.state.place }
+    requires acts { history.acts ≡ act.Began keeper.old.state ∷ [] }
 {
     let (hall, mut stored) = hall_over::<C, M>(alloc, keeper.state(), calls, mails, history).ok()?;
     let end = store(rt, alloc, &hall, keeper, &mut stored);
@@ -132,7 +133,7 @@ fn store_group<R: Abort + Wait>(
     keeper: &mut Keeper<Liar>,
 ) -> Option<CommitEnd> {
     let blanks = (Blank::new(PARTS), Blank::new(PARTS));
-    let history = NewHistory::new(keeper.state().place());
+    let history = NewHistory::new(keeper.state());
     store_as::<Brand, Brand, R>(rt, alloc, keeper, blanks.0, blanks.1, history)
 }
 

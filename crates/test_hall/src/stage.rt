@@ -1,7 +1,8 @@
 //! Plays in a hall: each client has two threads, and one more thread stores.
 
-ghost use Rattle.std.specs.Prelude.{◌≡◌, ◌+◌};
+ghost use Rattle.std.specs.Prelude.{◌≡◌, ◌+◌, ◌∷◌, []};
 ghost use Rattle.fe_hall.specs.Seats.{most_connections};
+ghost use Rattle.fe_hall.specs.declared.act.Act.TheVariants as act;
 
 use crate::board::Board;
 use crate::halves::{ClientRead, ClientWrite};
@@ -60,7 +61,7 @@ pub fn perform<D: Disk + Drop + Send, R: Abort + Clock + Threads + Wait + Sync>(
     hold: &Hold,
     keeper: Keeper<D>,
 ) -> Played<D> {
-    let history = NewHistory::new(keeper.state().place());
+    let history = NewHistory::new(keeper.state());
     perform_as::<Brand, Brand, D, R>(
         rt,
         alloc,
@@ -93,7 +94,7 @@ fn perform_as<
     requires mails { (mails.name ≡ M.name) × (mails.parts ≡ M.parts) × (M.all ≡ M.parts)
         × (M.all ≡ most_connections + 1) }
     requires history { history.book ≡ M.book }
-    requires place { history.place ≡ keeper.state.place }
+    requires acts { history.acts ≡ act.Began keeper.state ∷ [] }
 {
     let (hall, seat) = hall_over::<C, M>(alloc, keeper.state(), calls, mails, history)
         .ok()
@@ -149,7 +150,7 @@ pub fn hall_over<C: Tally, M: Tally>(
     requires mails { (mails.name ≡ M.name) × (mails.parts ≡ M.parts) × (M.all ≡ M.parts)
         × (M.all ≡ most_connections + 1) }
     requires history { history.book ≡ M.book }
-    requires place { history.place ≡ state.now.place }
+    requires acts { history.acts ≡ act.Began state.now ∷ [] }
 {
     let front = Front::new(alloc, state.copy()?)?;
     match Hall::new(alloc, front, calls, mails, history) {

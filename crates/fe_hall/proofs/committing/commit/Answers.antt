@@ -1,5 +1,6 @@
-use Rattle.std.proofs.Common.{Some, None, sym, subst, rules}
+use Rattle.std.proofs.Common.{◌≡◌, ℕ, Some, None, [], ◌∷◌, ◌++◌, sym, ap, subst, rules}
 use Rattle.fe_state.specs.declared.batch.Batch.{Batch}
+use Rattle.fe_hall.specs.Acts.{stores_in}
 use Rattle.fe_hall.specs.Commits.{AreNoted, Commits, IsStored, TellsEnd, end_of}
 use Rattle.fe_hall.specs.declared.commit_end.CommitEnd.{CommitEnd}
 use Rattle.fe_hall.specs.declared.commit_end.CommitEnd.TheVariants.{Strange}
@@ -7,31 +8,38 @@ use Rattle.fe_hall.proofs.Committed.{group_noted, commits_fault, fault_tells, ap
 use Rattle.fe_hall.proofs.Noted.{none_noted, one_noted, one_unnoted}
 use Rattle.fe_hall.proofs.committing.commit.Goals as goal
 
-pub post-requires : goal.post-requires
-post-requires g c =
-    let old = c.args.keeper.now in
+pub note-requires-clause-stored : goal.note-requires-clause-stored
+note-requires-clause-stored g c =
     let e = c.in-Ok.ensures.appended in
     let new = c.append.new.self in
-    let stored : IsStored c.into_batch-batch.result new.state = record { before = old.state; continues = e.continues; state_is = e.state } in
-    record { stored = subst (λ (b : Batch). IsStored b new.state) (sym c.in-Ok.ensures.returned) stored; noted = search rules }
+    let stored : IsStored c.into_batch-batch.result.0 new.state = record { before = c.args.keeper.now.state; continues = e.continues; state_is = e.state } in
+    subst (λ (b : Batch). IsStored b new.state) (sym c.in-Ok.ensures.returned) stored
 
 pub returns-in-Ok-post-clause-commits : goal.returns-in-Ok-post-clause-commits
 returns-in-Ok-post-clause-commits g c =
     let e = c.in-Ok.ensures.appended in
     let old = c.args.keeper.now in
     let new = c.append.new.self in
-    group_noted g.D.Disk.honest g.D.Disk.moment g.D.Disk.left_since g.D.Disk.may_leave g.met.D.Disk.only_now old new None c.into_batch-batch.result.entries c.args.seat.now c.note.new.seat e.continues.some e.continues.legal e.state
-    (appended_works old.store new.store c.into_batch-batch.result.entries new.store.disk e.store) c.append.ensures.honesty c.append.ensures.durable c.append.ensures.any_moment
-    (one_noted g.D.Disk.moment (record { before = old; after = new }) _ c.args.seat.now c.note.new.seat c.note.ensures.this (search rules))
+    let batch : Batch = c.into_batch-batch.result.0 in
+    let moment : ℕ = g.D.Disk.moment new.store.disk in
+    let noted : stores_in c.note.new.seat ≡ stores_in c.args.seat.now ++ (c.in-Ok.batch, moment) ∷ [] = search rules in
+    group_noted g.D.Disk.honest g.D.Disk.moment g.D.Disk.left_since g.D.Disk.may_leave g.met.D.Disk.only_now old new None batch c.args.seat.now c.note.new.seat e.continues.some e.continues.legal e.state
+    (appended_works old.store new.store batch.entries new.store.disk e.store) c.append.ensures.honesty c.append.ensures.durable c.append.ensures.any_moment
+    (one_noted g.D.Disk.moment (record { batch = batch; before = old; after = new }) _ c.args.seat.now c.note.new.seat c.note.ensures.this
+    (subst (λ (b : Batch). stores_in c.note.new.seat ≡ stores_in c.args.seat.now ++ (b, moment) ∷ []) c.in-Ok.ensures.returned noted))
 
 pub returns-in-Ok-clause-commits : goal.returns-in-Ok-clause-commits
 returns-in-Ok-clause-commits g c =
     let e = c.in-Ok.ensures.appended in
     let old = c.args.keeper.now in
     let new = c.append.new.self in
-    group_noted g.D.Disk.honest g.D.Disk.moment g.D.Disk.left_since g.D.Disk.may_leave g.met.D.Disk.only_now old new (Some c.of_post.result) c.into_batch-batch.result.entries c.args.seat.now c.note.new.seat e.continues.some e.continues.legal e.state
-    (appended_works old.store new.store c.into_batch-batch.result.entries new.store.disk e.store) c.append.ensures.honesty c.append.ensures.durable c.append.ensures.any_moment
-    (one_noted g.D.Disk.moment (record { before = old; after = new }) _ c.args.seat.now c.note.new.seat c.note.ensures.this (search rules))
+    let batch : Batch = c.into_batch-batch.result.0 in
+    let moment : ℕ = g.D.Disk.moment new.store.disk in
+    let noted : stores_in c.note.new.seat ≡ stores_in c.args.seat.now ++ (c.in-Ok.batch, moment) ∷ [] = search rules in
+    group_noted g.D.Disk.honest g.D.Disk.moment g.D.Disk.left_since g.D.Disk.may_leave g.met.D.Disk.only_now old new (Some c.of_post.result) batch c.args.seat.now c.note.new.seat e.continues.some e.continues.legal e.state
+    (appended_works old.store new.store batch.entries new.store.disk e.store) c.append.ensures.honesty c.append.ensures.durable c.append.ensures.any_moment
+    (one_noted g.D.Disk.moment (record { batch = batch; before = old; after = new }) _ c.args.seat.now c.note.new.seat c.note.ensures.this
+    (subst (λ (b : Batch). stores_in c.note.new.seat ≡ stores_in c.args.seat.now ++ (b, moment) ∷ []) c.in-Ok.ensures.returned noted))
 
 pub returns-in-Err-note-clause-commits : goal.returns-in-Err-note-clause-commits
 returns-in-Err-note-clause-commits g c =
@@ -39,30 +47,33 @@ returns-in-Err-note-clause-commits g c =
     let old = c.args.keeper.now in
     let new = c.append.new.self in
     let seat = c.args.seat.now in
+    let batch : Batch = c.into_batch-batch.result.0 in
     subst (λ (end : CommitEnd). (all : Commits g.D.Disk.honest g.D.Disk.moment g.D.Disk.left_since old new (Some end)) × AreNoted g.D.Disk.moment all.appends (Some end) seat c.note.new.seat)
     (sym c.of_note.ensures)
-    (group_noted g.D.Disk.honest g.D.Disk.moment g.D.Disk.left_since g.D.Disk.may_leave g.met.D.Disk.only_now old new (Some Strange) c.into_batch-batch.result.entries c.args.seat.now c.note.new.seat e.continues.some e.continues.legal e.state
-    (appended_works old.store new.store c.into_batch-batch.result.entries new.store.disk e.store) c.append.ensures.honesty c.append.ensures.durable c.append.ensures.any_moment
-    (one_unnoted g.D.Disk.moment (record { before = old; after = new }) c.args.seat.now c.note.new.seat c.in-Err-note.ensures.unnoted))
+    (group_noted g.D.Disk.honest g.D.Disk.moment g.D.Disk.left_since g.D.Disk.may_leave g.met.D.Disk.only_now old new (Some Strange) batch c.args.seat.now c.note.new.seat e.continues.some e.continues.legal e.state
+    (appended_works old.store new.store batch.entries new.store.disk e.store) c.append.ensures.honesty c.append.ensures.durable c.append.ensures.any_moment
+    (one_unnoted g.D.Disk.moment (record { batch = batch; before = old; after = new }) c.args.seat.now c.note.new.seat c.in-Err-note.ensures.unnoted))
 
 pub returns-clause-commits : goal.returns-clause-commits
 returns-clause-commits g c =
     let e = c.in-Err.ensures in
+    let batch : Batch = c.into_batch-batch.result.0 in
     let all =
     commits_fault g.D.Disk.honest g.D.Disk.may_leave g.D.Disk.moment g.D.Disk.left_since g.met.D.Disk.only_now c.args.keeper.now c.append.new.self c.append.ensures.durable g.D.Disk.failures c.in-Err.fault
-    c.into_batch-batch.result.first c.into_batch-batch.result.entries e.ends e.err c.append.ensures.any_moment in
+    batch.first batch.entries e.ends e.err c.append.ensures.any_moment in
     let seat = c.args.seat.now in
     subst (λ (end : CommitEnd). (all : Commits g.D.Disk.honest g.D.Disk.moment g.D.Disk.left_since c.args.keeper.now c.append.new.self (Some end)) × AreNoted g.D.Disk.moment all.appends (Some end) seat seat)
     (sym c.of_store.ensures.end) (all.0, none_noted g.D.Disk.moment all.0.appends (Some (end_of c.in-Err.fault)) seat all.1)
 
 pub returns-clause-tells : goal.returns-clause-tells
 returns-clause-tells g c =
+    let batch : Batch = c.into_batch-batch.result.0 in
     subst (λ (end : CommitEnd). TellsEnd g.D.Disk.failures c.args.keeper.now c.append.new.self (Some end)) (sym c.of_store.ensures.end)
-    (fault_tells g.D.Disk.failures c.args.keeper.now c.append.new.self c.in-Err.fault c.into_batch-batch.result.first c.into_batch-batch.result.entries c.in-Err.ensures.ends)
+    (fault_tells g.D.Disk.failures c.args.keeper.now c.append.new.self c.in-Err.fault batch.first batch.entries c.in-Err.ensures.ends)
 
 pub returns-in-Ok-post-clause-stored : goal.returns-in-Ok-post-clause-stored
 returns-in-Ok-post-clause-stored g c = λ none.
     let e = c.in-Ok.ensures.appended in
     let new = c.append.new.self in
-    let stored : IsStored c.into_batch-batch.result new.state = record { before = c.args.keeper.now.state; continues = e.continues; state_is = e.state } in
-    subst (λ (b : Batch). IsStored b new.state) c.into_batch-batch.ensures stored
+    let stored : IsStored c.into_batch-batch.result.0 new.state = record { before = c.args.keeper.now.state; continues = e.continues; state_is = e.state } in
+    subst (λ (b : Batch). IsStored b new.state) (ap (λ (p : Batch × ℕ). p.0) c.into_batch-batch.ensures) stored

@@ -25,7 +25,7 @@ returns-in-Some-commit-clause-commits g c =
     let old = c.args.keeper.now in
     let new = c.commit.new.keeper in
     subst (λ (end : CommitEnd). (all : Commits g.D.Disk.honest g.D.Disk.moment g.D.Disk.left_since old new (Some end)) × AreNoted g.D.Disk.moment all.appends (Some end) c.args.seat.now c.commit.new.seat)
-    (sym c.broken.ensures)
+    (sym c.broken-in-Some-commit.ensures)
     (both_commits g.D.Disk.honest g.D.Disk.moment g.D.Disk.left_since old c.loop.keeper new (Some c.in-Some-commit.why) c.args.seat.now c.loop.seat c.commit.new.seat here.still.works here.honesty
     here.commits.0 here.commits.1 stored.0 stored.1)
 
@@ -72,3 +72,8 @@ pub returns-in-Stopped-clause-commits : goal.returns-in-Stopped-clause-commits
 returns-in-Stopped-clause-commits g c =
     let here = c.loop.invariant.commits in
     ended_noted g.D.Disk.honest g.D.Disk.moment g.D.Disk.left_since c.args.keeper.now c.loop.keeper (Some c.stopped.result) c.args.seat.now c.loop.seat here.0 here.1
+
+pub returns-in-Strange-clause-commits : goal.returns-in-Strange-clause-commits
+returns-in-Strange-clause-commits g c =
+    let here = c.loop.invariant.commits in
+    ended_noted g.D.Disk.honest g.D.Disk.moment g.D.Disk.left_since c.args.keeper.now c.loop.keeper (Some c.broken.result) c.args.seat.now c.loop.seat here.0 here.1

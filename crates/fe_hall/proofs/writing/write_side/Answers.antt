@@ -1,4 +1,6 @@
-use Rattle.std.proofs.Common.{rules}
+use Rattle.std.proofs.Common.{List, sym, subst, rules}
+use Rattle.fe_hall.specs.Acts.{AreTold}
+use Rattle.fe_hall.specs.declared.act.Act.{Act}
 use Rattle.fe_hall.proofs.Acts.{receipts_told}
 use Rattle.fe_hall.proofs.Written.{as_taken}
 use Rattle.fe_hall.proofs.writing.write_side.Goals as goal
@@ -7,9 +9,10 @@ pub of-requires : goal.of-requires
 of-requires g c =
     let w = c.write_all-end.ensures.wrote in
     let took = as_taken w.1 (search rules) c.depart.ensures.untaken in
-    receipts_told _ w.0 _ took.receipts w.3
+    receipts_told _ w.0 _ took.receipts (subst (λ (h : List Act). AreTold w.0 h) (sym c.legal-history.ensures.same) w.3)
 
 pub returns-clause-wrote : goal.returns-clause-wrote
 returns-clause-wrote g c =
     let w = c.write_all-end.ensures.wrote in
-    rw c.of.ensures (w.0, as_taken w.1 (search rules) c.depart.ensures.untaken, w.2, w.3)
+    let told = subst (λ (h : List Act). AreTold w.0 h) (sym c.legal-history.ensures.same) w.3 in
+    rw c.of.ensures (w.0, as_taken w.1 (search rules) c.depart.ensures.untaken, w.2, told)

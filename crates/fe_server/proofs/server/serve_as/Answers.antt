@@ -15,8 +15,8 @@ returns-in_default-clause-acknowledged g c =
     let u = c.unserved.result in (
       Stopped,
       inl c.unserved.ensures.fault,
-      unbegun_acknowledged g.D.Disk.honest g.D.Disk.moment g.D.Disk.left_since g.D.Disk.may_leave g.D.Disk.failures c.args.keeper u.keeper Stopped u.account c.args.history.place c.unserved.ensures.committed
-          (c.unserved.ensures.account ∙ c.account-nothing.ensures) c.requires.place,
+      unbegun_acknowledged g.D.Disk.honest g.D.Disk.moment g.D.Disk.left_since g.D.Disk.may_leave g.D.Disk.failures c.args.keeper u.keeper Stopped u.account c.args.history.acts c.unserved.ensures.committed
+          (c.unserved.ensures.account ∙ c.account-nothing.ensures.account) c.requires.acts c.account-nothing.ensures.legal,
     )
 
 pub returns-clause-committed : goal.returns-clause-committed

@@ -4,7 +4,7 @@ use Rattle.fe_hall.proofs.history.History.store.Goals as goal
 
 pub compare_exchange-found-requires : goal.compare_exchange-found-requires
 compare_exchange-found-requires g c =
-    let h = c.args.chronicle.now.word_is in
+    let h = c.args.chronicle.now.stores_are in
     let offer = c.plain-offer.ensures in
     let pen = c.no_pen-pen.ensures in
     let keeper = c.args.keeper.now in (
@@ -12,7 +12,8 @@ compare_exchange-found-requires g c =
       c.self.invariant.0 ∙ sym (ap (λ w. w.book) h),
       pen.0 ∙ (c.self.invariant.0 ∙ sym (ap (λ w. w.book) h)),
       offer.0,
-      rw (ap (λ w. w.key) h, pen.1, offer.1, offer.3) (stores_moves c.self.inside.seen.log keeper.state.place (g.D.Disk.moment keeper.store.disk) c.args.stored),
+      rw (ap (λ w. w.key) h, pen.1, offer.1, offer.3)
+          (stores_moves c.self.inside.seen.log c.args.batch.now (g.D.Disk.moment keeper.store.disk) c.args.stored (rw c.self.view_is c.requires.cut)),
     )
 
 pub returns-clause-stored : goal.returns-clause-stored

@@ -1,37 +1,32 @@
-use Rattle.std.proofs.Common.{◌≡◌, ◌≤◌, ap, arith, rules}
+use Rattle.std.proofs.Common.{arith, rules}
 use Rattle.std.specs.Prelude.{IsTrue}
-use Rattle.fe_hall.specs.Acts.{mark_of}
 use Rattle.fe_hall.specs.Seats.{posts_more}
-use Rattle.fe_hall.proofs.Acts.{mark_rises}
-use Rattle.fe_hall.proofs.Marks.{posted_marked}
+use Rattle.fe_hall.proofs.Marks.{posted_few, posted_marked}
 use Rattle.fe_hall.proofs.Risings.{posted_goes, posted_steps}
 use Rattle.fe_hall.proofs.shared.Shared.post.Goals as goal
 
+-- each batch that was posted has an entry, and there are fewer than 2^63
+pub overflow_add-self : goal.overflow_add-self
+overflow_add-self g c =
+    let s = c.self.inside in
+    let few = posted_few s.front s.posted s.history c.self.invariant in
+    let tied = c.state.ensures.front.tied.place in
+    let limit = c.state.ensures.limits.place in
+    omega (arith, few, tied, limit)
+
+pub invariant_of-self-inside : goal.invariant_of-self-inside
+invariant_of-self-inside g c =
+    let s = c.self.inside in
+    let e = c.post_ringing.ensures in
+    let more : IsTrue (posts_more s.front.books c.args.batch) = search rules in
+    let goes = posted_goes s.front c.post_ringing.new.self c.args.batch c.post_ringing.result c.state.ensures.front s.open more e.refused e.posted e.err in
+    (goes.books, (omega (arith, s.calls_agree, goes.calls), (omega (arith, s.mails_agree, goes.taken), (s.few, (s.call_parts, (s.mail_parts, tt))))))
+
 pub invariant_of-self : goal.invariant_of-self
 invariant_of-self g c =
-    let s = c.args.self.now in
+    let s = c.self.inside in
     let e = c.post_ringing.ensures in
-    let front = c.state.ensures.front in
-    let more : IsTrue (posts_more s.front.books c.args.batch) = search rules in
-    let goes = posted_goes s.front c.post_ringing.new.self c.args.batch c.post_ringing.result front s.open more e.refused e.posted e.err in
-    let later = c.learn.new.self in
-    let rises = mark_rises c.history.result.now later c.learn.ensures.that in
-    let same : mark_of c.history.result.now ≡ mark_of c.args.seat.now = ap mark_of c.history.ensures in
-    let noted : c.args.keeper.now.state.place ≤ mark_of later = omega (arith, c.requires.noted, same, rises) in
-    record {
-      «open» = goes.books;
-      calls_agree = omega (arith, s.calls_agree, goes.calls);
-      mails_agree = omega (arith, s.mails_agree, goes.taken);
-      few = s.few;
-      marked =
-          posted_marked s.front c.post_ringing.new.self c.args.batch c.post_ringing.result c.args.keeper.now.state s.history later front e.refused e.posted e.err c.requires.stored noted
-          (mark_rises s.history later c.learn.ensures.this) s.marked;
-      call_parts = s.call_parts;
-      mail_parts = s.mail_parts;
-    }
-
-pub returns-in-Ok-clause-step : goal.returns-in-Ok-clause-step
-returns-in-Ok-clause-step g c =
-    let e = c.post_ringing.ensures in
-    let step = posted_steps c.args.self.now.front c.post_ringing.new.self c.args.batch c.post_ringing.result e.refused e.posted in
-    rw c.in-Ok.is at step
+    let steps = posted_steps s.front c.post_ringing.new.self c.args.batch c.post_ringing.result e.refused e.posted in
+    let step = rw c.in-Ok.is at steps in
+    posted_marked s.front c.post_ringing.new.self c.args.batch s.posted s.history c.history.result.now c.learn.new.self c.learn.ensures.legal c.learn.ensures.this c.learn.ensures.that
+    (rw c.history.ensures c.requires.stored) c.state.ensures.front step.0 step.1.front c.self.invariant

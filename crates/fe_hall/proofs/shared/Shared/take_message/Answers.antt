@@ -1,19 +1,21 @@
-use Rattle.std.proofs.Common.{arith}
+use Rattle.std.proofs.Common.{sym, subst, arith}
+use Rattle.std.specs.Prelude.{IsTrue}
+use Rattle.fe_hall.specs.Marks.{SharedState}
+use Rattle.fe_hall.specs.Seats.{takes_more}
 use Rattle.fe_hall.proofs.Marks.{takes_marked}
 use Rattle.fe_hall.proofs.Risings.{takes_goes}
 use Rattle.fe_hall.proofs.shared.Shared.take_message.Goals as goal
 
+pub invariant_of-self-inside : goal.invariant_of-self-inside
+invariant_of-self-inside g c =
+    let s = c.self.inside in
+    let t = c.take_message.ensures.taken in
+    let more : IsTrue (takes_more s.front.books) = subst (λ (x : SharedState). IsTrue (takes_more x.front.books)) (sym c.self.view_is) c.requires.more in
+    let goes = takes_goes s.front c.take_message.new.front c.conn-conn.result c.args.message t.0 c.state.ensures.front s.open more t.1 in
+    (goes.books, (omega (arith, s.calls_agree, goes.calls, c.take.ensures.book), (omega (arith, s.mails_agree, goes.taken), (s.few, (s.call_parts, (s.mail_parts, tt))))))
+
 pub invariant_of-self : goal.invariant_of-self
 invariant_of-self g c =
-    let s = c.args.self.now in
+    let s = c.self.inside in
     let t = c.take_message.ensures.taken in
-    let goes = takes_goes s.front c.take_message.new.front c.conn-conn.result c.args.message t.0 c.state.ensures.front s.open c.requires.more t.1 in
-    record {
-      «open» = goes.books;
-      calls_agree = omega (arith, s.calls_agree, goes.calls, c.take.ensures.book);
-      mails_agree = omega (arith, s.mails_agree, goes.taken);
-      few = s.few;
-      marked = takes_marked s.front c.take_message.new.front c.conn-conn.result t.0 s.history c.state.ensures.front t.2.durable s.marked c.args.message t.1;
-      call_parts = s.call_parts;
-      mail_parts = s.mail_parts;
-    }
+    takes_marked s.front c.take_message.new.front c.conn-conn.result c.args.message t.0 s.posted s.history t.2 t.1 c.self.invariant

@@ -1,32 +1,35 @@
-use Rattle.std.proofs.Common.{◌≡◌, ℕ, List, [], ◌∷◌, ◌++◌, length, sym, ap, ◌∙◌, arith, rules, length-append}
-use Rattle.fe_hall.specs.Acts.{stores_in}
+use Rattle.std.proofs.Common.{◌≡◌, ℕ, List, [], ◌∷◌, ◌++◌, length, sym, ap, subst, ◌∙◌, arith, rules, length-append}
+use Rattle.fe_state.specs.declared.batch.Batch.{Batch}
+use Rattle.fe_hall.specs.Acts.{WasCut, stores_in}
 use Rattle.fe_hall.specs.declared.act.Act.{Act}
-use Rattle.fe_hall.proofs.Noted.{note_adds, note_marks}
+use Rattle.fe_hall.proofs.Acts.{cut_later, prefix_trans}
+use Rattle.fe_hall.proofs.Noted.{note_adds}
 use Rattle.fe_hall.proofs.store_seat.StoreSeat.note.Goals as goal
+
+pub store-requires-clause-cut : goal.store-requires-clause-cut
+store-requires-clause-cut g c =
+    subst (λ (n : ℕ). WasCut c.learn.new.self n c.args.batch.now) (sym c.if-self-count.false)
+    (cut_later c.args.cuts.now c.learn.new.self c.args.count c.args.batch.now c.learn.ensures.that c.requires.cut)
 
 pub invariant_of-self : goal.invariant_of-self
 invariant_of-self g c =
-    let keeper = c.args.keeper.now in
-    let place : ℕ = keeper.state.place in
-    let moment : ℕ = g.D.Disk.moment keeper.store.disk in
+    let batch : Batch = c.args.batch.now in
+    let moment : ℕ = g.D.Disk.moment c.args.keeper.now.store.disk in
     let before : List Act = c.again-history.result in
     let s = c.store.ensures.stored (search rules) in
     let count : c.self.inside.stored ≡ length (stores_in before) = c.self.invariant ∙ ap (λ (h : List Act). length (stores_in h)) (sym c.again-history.ensures.same) in
-    let adds = note_adds before c.store.new.self place moment c.self.inside.stored count s.0 s.1 in
-    omega (arith, count, ap length adds, length-append (stores_in before) ((place, moment) ∷ []))
+    let adds =
+    note_adds before c.store.new.self batch moment c.self.inside.stored count
+    (record { earlier = s.0.earlier; seen = prefix_trans before c.learn.new.self s.0.earlier c.learn.ensures.this s.0.seen; is = s.0.is }) s.1 in
+    omega (arith, count, ap length adds, length-append (stores_in before) ((batch, moment) ∷ []))
 
 pub returns-clause-noted : goal.returns-clause-noted
 returns-clause-noted g c =
-    let keeper = c.args.keeper.now in
-    let place : ℕ = keeper.state.place in
-    let moment : ℕ = g.D.Disk.moment keeper.store.disk in
+    let batch : Batch = c.args.batch.now in
+    let moment : ℕ = g.D.Disk.moment c.args.keeper.now.store.disk in
     let before : List Act = c.again-history.result in
     let s = c.store.ensures.stored (search rules) in
     let count : c.self.inside.stored ≡ length (stores_in before) = c.self.invariant ∙ ap (λ (h : List Act). length (stores_in h)) (sym c.again-history.ensures.same) in
-    note_adds before c.store.new.self place moment c.self.inside.stored count s.0 s.1
-    ∙ ap (λ (h : List Act). stores_in h ++ (place, moment) ∷ []) (c.again-history.ensures.same ∙ c.self.view_is)
-
-pub returns-clause-marked : goal.returns-clause-marked
-returns-clause-marked g c =
-    let keeper = c.args.keeper.now in
-    note_marks c.again-history.result c.store.new.self keeper.state.place (g.D.Disk.moment keeper.store.disk) c.store.ensures.legal (c.store.ensures.stored (search rules)).0
+    note_adds before c.store.new.self batch moment c.self.inside.stored count
+    (record { earlier = s.0.earlier; seen = prefix_trans before c.learn.new.self s.0.earlier c.learn.ensures.this s.0.seen; is = s.0.is }) s.1
+    ∙ ap (λ (h : List Act). stores_in h ++ (batch, moment) ∷ []) (c.again-history.ensures.same ∙ c.self.view_is)

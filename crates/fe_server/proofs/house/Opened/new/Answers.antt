@@ -1,5 +1,4 @@
-use Rattle.std.proofs.Common.{sym}
 use Rattle.fe_server.proofs.house.Opened.new.Goals as goal
 
 pub new-requires-clause-begun : goal.new-requires-clause-begun
-new-requires-clause-begun g c = (c.args.state.now, c.in-Ok-front_over.ensures, sym c.requires.place)
+new-requires-clause-begun g c = (c.args.state.now, c.in-Ok-front_over.ensures, c.requires.acts)
