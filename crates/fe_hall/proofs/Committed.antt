@@ -18,7 +18,7 @@ use Rattle.fe_keeper.specs.declared.fault.Fault.{Fault}
 use Rattle.fe_keeper.specs.declared.fault.Fault.TheVariants.{Device, Failed, NoMemory, Mismatch, Damaged, Unformatted}
 use Rattle.fe_hall.proofs.Noted.{none_noted, both_noted, turn_noted}
 use Rattle.fe_hall.specs.Commits.{Append, AreAppends, AreNoted, HoldsSince, Commits, IsStill, HasFailed, TellsEnd, end_of}
-use Rattle.fe_hall.specs.declared.act.Act.{Act}
+use Rattle.fe_history.specs.declared.act.Act.{Act}
 use Rattle.fe_hall.specs.declared.commit_end.CommitEnd.{CommitEnd}
 use Rattle.fe_hall.specs.declared.commit_end.CommitEnd.TheVariants.{Store, Strange}
 

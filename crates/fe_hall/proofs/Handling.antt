@@ -6,7 +6,7 @@ use Rattle.std.proofs.lemmas.List.{append-nil, length-append, length-take-le, ta
 use Rattle.std.proofs.lemmas.List.Elements.{filter-append}
 use Rattle.std.proofs.lemmas.List.Sums.{sum_by-append}
 use Rattle.fe_wire.specs.declared.client_message.ClientMessage.{ClientMessage}
-use Rattle.fe_hall.specs.Seats.{ReadSeat, TookNoMessage, calls_in, message_taken}
+use Rattle.fe_shared.specs.Seats.{ReadSeat, TookNoMessage, calls_in, message_taken}
 use Rattle.fe_hall.specs.Reads.{is_sent, sent_among, listed_with, most_listed, AreHandled, HandlesStream}
 use Rattle.fe_hall.specs.declared.ends.ReadEnd.{ReadEnd}
 

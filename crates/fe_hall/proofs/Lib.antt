@@ -1,12 +1,5 @@
-pub mod BorneOut
-pub mod Kept
-pub mod Risings
 pub mod Committed
 pub mod Streams
 pub mod Handling
 pub mod Written
-pub mod Sent
-pub mod Acts
-pub mod Moves
 pub mod Noted
-pub mod Marks

@@ -3,20 +3,12 @@ use Rattle.std.proofs.Common.{◌≡◌, inl, inr, ℕ, List, [], ◌∷◌, ◌
 use Rattle.std.proofs.lemmas.List.{append-nil, map-append}
 use mathlib.Core.List.{IsPrefix}
 use Rattle.fe_state.specs.declared.batch.Batch.{Batch}
-use Rattle.fe_hall.specs.declared.act.Act.{Act}
-use Rattle.fe_hall.specs.declared.act.Act.TheVariants.{Stored}
+use Rattle.fe_history.specs.declared.act.Act.{Act}
 use Rattle.fe_hall.specs.declared.commit_end.CommitEnd.{CommitEnd}
 use Rattle.fe_hall.specs.declared.commit_end.CommitEnd.TheVariants.{Strange}
-use Rattle.fe_hall.specs.Acts.{stores_in}
+use Rattle.fe_history.specs.Acts.{stores_in}
 use Rattle.fe_hall.specs.Commits.{Append, AreNoted, AreNotes, noted}
-use Rattle.fe_hall.specs.Rules.{ComesAfter}
-use Rattle.fe_hall.proofs.Acts.{prefix_self, prefix_trans, stores_append, stores_same}
-
--- a batch that is stored next is noted
-pub note_adds : (old new : List Act) (batch : Batch) (moment stored : ℕ) → stored ≡ length (stores_in old) → (c : ComesAfter old (Stored batch moment) new) → length (stores_in c.earlier) ≡ stored
-    → stores_in new ≡ stores_in old ++ (batch, moment) ∷ []
-note_adds old new batch moment stored count c same =
-    ap stores_in c.is ∙ stores_append c.earlier (Stored batch moment ∷ []) ∙ ap (λ (s : List (Batch × ℕ)). s ++ (batch, moment) ∷ []) (stores_same old c.earlier c.seen (same ∙ count))
+use Rattle.fe_history.proofs.Acts.{prefix_self, prefix_trans}
 
 module _ {D : Type 0} (moment : D → ℕ) where
   -- nothing was stored

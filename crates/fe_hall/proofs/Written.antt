@@ -11,17 +11,18 @@ use Rattle.fe_mail.specs.declared.mail.Mail.{Mail}
 use Rattle.fe_wire.specs.Spelling.{reply_spelling}
 use Rattle.fe_messages.specs.Mails.{reply_of, spelled}
 use Rattle.fe_wire.specs.declared.server_message.ServerMessage.{ServerMessage}
-use Rattle.fe_hall.specs.declared.receipt.Receipt.{Receipt}
+use Rattle.fe_history.specs.declared.receipt.Receipt.{Receipt}
 use Rattle.fe_hall.specs.declared.write_end.WriteEnd.{WriteEnd}
 use Rattle.fe_hall.specs.declared.write_end.WriteEnd.TheVariants.{Gone, Device, Stopped, Spent, NoMemory}
-use Rattle.fe_hall.specs.declared.standing.Standing.{Standing}
-use Rattle.fe_hall.specs.declared.standing.Standing.TheVariants as standing
-use Rattle.fe_hall.specs.declared.taking.Taking.{Taking}
-use Rattle.fe_hall.specs.declared.taking.Taking.TheVariants as taking
-use Rattle.fe_hall.specs.declared.brief.Brief.{Brief}
-use Rattle.fe_hall.specs.Briefs.{brief_of, last_of}
-use Rattle.fe_hall.specs.Seats.{WriteSeat, TookNoMail, mail_taken, taking_answered}
-use Rattle.fe_hall.specs.Writes.{receipt_of, receipts_with, IsBatch, BreaksOff, MayLackLast, IsWritten, AreTaken, TakesOn, IsNoFault, IsTold, AreSpelled, end_for}
+use Rattle.fe_shared.specs.declared.standing.Standing.{Standing}
+use Rattle.fe_shared.specs.declared.standing.Standing.TheVariants as standing
+use Rattle.fe_shared.specs.declared.taking.Taking.{Taking}
+use Rattle.fe_shared.specs.declared.taking.Taking.TheVariants as taking
+use Rattle.fe_shared.specs.declared.brief.Brief.{Brief}
+use Rattle.fe_shared.specs.Briefs.{brief_of, last_of}
+use Rattle.fe_shared.specs.Seats.{WriteSeat, TookNoMail, mail_taken, taking_answered}
+use Rattle.fe_history.specs.Receipts.{receipt_of}
+use Rattle.fe_hall.specs.Writes.{receipts_with, IsBatch, BreaksOff, MayLackLast, IsWritten, AreTaken, TakesOn, IsNoFault, IsTold, AreSpelled, end_for}
 
 -- ---- lists
 

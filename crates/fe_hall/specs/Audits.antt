@@ -2,12 +2,12 @@
 use Rattle.std.specs.Prelude.{◌≡◌, Bool, true, false, List, Result, Ok, Err}
 use Rattle.fe_mail.specs.Books.{AddUp, Books}
 use Rattle.fe_wire.specs.declared.client_message.ClientMessage.{ClientMessage}
-use Rattle.fe_hall.specs.Acts.{Account}
-use Rattle.fe_hall.specs.Seats.{Seats}
-use Rattle.fe_hall.specs.declared.act.Act.{Act}
+use Rattle.fe_history.specs.Acts.{Account}
+use Rattle.fe_shared.specs.Seats.{Seats}
+use Rattle.fe_history.specs.declared.act.Act.{Act}
 use Rattle.fe_hall.specs.declared.closing.Unclosed.{Unclosed}
 use Rattle.fe_hall.specs.declared.closing.Unclosed.TheVariants.{SeatMissing, StrangeReceipt}
-use Rattle.fe_hall.specs.declared.receipt.Receipt.{Receipt}
+use Rattle.fe_history.specs.declared.receipt.Receipt.{Receipt}
 
 -- its books, what its connections sent, the receipts for the answers that they took, whether they are those of each write side, and
 -- what happened in it

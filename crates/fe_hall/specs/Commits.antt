@@ -6,23 +6,16 @@ use Rattle.fe_state.specs.State.{ServerState, after_all}
 use Rattle.fe_state.specs.History.{IsHistory, after_groups}
 use Rattle.fe_state.specs.declared.batch.Batch.{Batch}
 use Rattle.fe_state.specs.declared.entry.Entry.{Entry}
-use Rattle.fe_replica.specs.Taking.{Continues}
 use Rattle.fe_keeper.specs.Keeper.{KeeperState}
 use Rattle.fe_keeper.specs.Prefix.{LeavesPrefix}
 use Rattle.fe_keeper.specs.declared.fault.Fault.{Fault}
 use Rattle.fe_keeper.specs.declared.fault.Fault.TheVariants.{Device, Failed, NoMemory, Mismatch, Damaged, Unformatted}
-use Rattle.fe_hall.specs.Acts.{stores_in}
-use Rattle.fe_hall.specs.declared.shared.Unposted.{Unposted}
-use Rattle.fe_hall.specs.declared.shared.Unposted.TheVariants as unposted
-use Rattle.fe_hall.specs.declared.act.Act.{Act}
+use Rattle.fe_history.specs.Acts.{stores_in}
+use Rattle.fe_shared.specs.declared.shared.batches.Unposted.{Unposted}
+use Rattle.fe_shared.specs.declared.shared.batches.Unposted.TheVariants as unposted
+use Rattle.fe_history.specs.declared.act.Act.{Act}
 use Rattle.fe_hall.specs.declared.commit_end.CommitEnd.{CommitEnd}
 use Rattle.fe_hall.specs.declared.commit_end.CommitEnd.TheVariants.{Stopped, Store, Strange, Spent}
-
--- the batch was the last to be stored: it led to this state
-pub record IsStored (batch : Batch) (s : ServerState) : Type 0 where
-  pub before : ServerState
-  pub continues : Continues before batch.first batch.entries
-  pub state_is : s ≡ after_all before batch.entries
 
 -- an append that succeeded: the batch, the keeper as it began, and the keeper as it ended
 pub record Append (D : Type 0) : Type 0 where

@@ -1,11 +1,4 @@
-pub mod Briefs
-pub mod Receipts
-pub mod Seats
-pub mod Holds
 pub mod Commits
 pub mod Reads
 pub mod Writes
-pub mod Acts
-pub mod Rules
-pub mod Marks
 pub mod Audits

@@ -9,9 +9,9 @@ use Rattle.fe_wire.specs.declared.client_message.ClientMessage.TheVariants.{Atta
 use Rattle.fe_wire.specs.declared.version.Version.TheVariants.{Two}
 use Rattle.fe_hall.specs.declared.ends.ReadEnd.{ReadEnd}
 use Rattle.fe_hall.specs.declared.ends.ReadEnd.TheVariants.{Closed, Device, BadFrame, Gone, Turns, Stopped, Spent, NoMemory}
-use Rattle.fe_hall.specs.declared.standing.Standing.{Standing}
-use Rattle.fe_hall.specs.declared.standing.Standing.TheVariants as standing
-use Rattle.fe_hall.specs.Seats.{ReadSeat, calls_in}
+use Rattle.fe_shared.specs.declared.standing.Standing.{Standing}
+use Rattle.fe_shared.specs.declared.standing.Standing.TheVariants as standing
+use Rattle.fe_shared.specs.Seats.{ReadSeat, calls_in}
 
 -- the message is an attach or a call
 abbrev pub is_sent : ClientMessage → Bool

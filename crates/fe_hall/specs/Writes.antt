@@ -2,27 +2,17 @@
 use Rattle.std.specs.Prelude.{◌≡◌, ℕ, ◌+◌, ◌-◌, ◌<◌, ◌≤◌, List, ◌++◌, length, take, Option, Some, None, Result, Ok, Err}
 use Rattle.std.specs.List.{filter_map}
 use Rattle.fe_mail.specs.declared.mail.Mail.{Mail}
-use Rattle.fe_mail.specs.declared.mail.Mail.TheVariants as mail
 use Rattle.fe_messages.specs.Mails.{spelled}
-use Rattle.fe_hall.specs.declared.receipt.Receipt.{Receipt}
+use Rattle.fe_history.specs.Receipts.{receipt_of}
+use Rattle.fe_history.specs.declared.receipt.Receipt.{Receipt}
 use Rattle.fe_hall.specs.declared.write_end.WriteEnd.{WriteEnd}
 use Rattle.fe_hall.specs.declared.write_end.WriteEnd.TheVariants.{Gone, Device, Stopped, Spent, NoMemory}
-use Rattle.fe_hall.specs.declared.standing.Standing.{Standing}
-use Rattle.fe_hall.specs.declared.standing.Standing.TheVariants as standing
-use Rattle.fe_hall.specs.declared.taking.Taking.{Taking}
-use Rattle.fe_hall.specs.declared.taking.Taking.TheVariants as taking
-use Rattle.fe_hall.specs.Briefs.{last_of}
-use Rattle.fe_hall.specs.Seats.{WriteSeat}
-
--- an answer has a receipt, and no other mail has one
-abbrev pub receipt_of : Mail → Option Receipt
-receipt_of (mail.Answer session number answer place) = Some (record { session = session; number = number; answer = answer; place = place })
-receipt_of (mail.Welcome session floor) = None
-receipt_of (mail.Refused number refusal) = None
-receipt_of (mail.Withdrawn number) = None
-receipt_of (mail.Settled floor) = None
-receipt_of (mail.Goodbye session) = None
-receipt_of (mail.Report text) = None
+use Rattle.fe_shared.specs.declared.standing.Standing.{Standing}
+use Rattle.fe_shared.specs.declared.standing.Standing.TheVariants as standing
+use Rattle.fe_shared.specs.declared.taking.Taking.{Taking}
+use Rattle.fe_shared.specs.declared.taking.Taking.TheVariants as taking
+use Rattle.fe_shared.specs.Briefs.{last_of}
+use Rattle.fe_shared.specs.Seats.{WriteSeat}
 
 -- how many receipts a side keeps at most
 abbrev pub most_receipts : ℕ

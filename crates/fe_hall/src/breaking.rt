@@ -3,9 +3,9 @@ ghost use Rattle.fe_hall.specs.Commits.{end_of, end_of_post};
 ghost use Rattle.fe_hall.specs.declared.commit_end.CommitEnd.{CommitEnd as Ends};
 
 use crate::commit_end::CommitEnd;
-use crate::shared::{Uncut, Unposted};
-use crate::store_seat::Unnoted;
+use fe_history::Unnoted;
 use fe_keeper::Fault;
+use fe_shared::{Uncut, Unposted};
 use std::marker::Model;
 
 /// Why the committing side goes no further: a value that shows it, or a fault. Contracts see the end that comes of it.

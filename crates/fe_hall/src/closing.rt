@@ -2,24 +2,17 @@
 
 ghost use Rattle.std.specs.Prelude.{◌≡◌, ◌≢◌, ◌↔◌, ℕ, false, map, All, Any, Err, IfOk, IfErr, IsErr};
 ghost use Rattle.fe_mail.specs.Books.{AddUp};
-ghost use Rattle.fe_hall.specs.Acts.{IsAccountOf};
+ghost use Rattle.fe_history.specs.Acts.{IsAccountOf};
 ghost use Rattle.fe_hall.specs.Audits.{IsAudit, IsMissing, account_left};
-ghost use Rattle.fe_hall.specs.Receipts.{IsBorneOut, IsFirstStrange, IsStrange};
+ghost use Rattle.fe_history.specs.Receipts.{IsBorneOut, IsFirstStrange, IsStrange};
 ghost use Rattle.fe_hall.specs.declared.closing.Unclosed.TheVariants.{StrangeReceipt};
 
-use crate::account::Account;
 use crate::hall::Hall;
-use crate::history::History;
-use crate::receipt::Receipt;
-use crate::receipt_list::ReceiptList;
-use crate::seats::Seats;
-use crate::shared::SeatMissing;
-use crate::store_seat::StoreSeat;
-use crate::strange::first_strange;
-use crate::tally::Tally;
 use fe_disk::Disk;
 use fe_front::Books;
+use fe_history::{Account, History, Receipt, ReceiptList, StoreSeat, Tally, first_strange};
 use fe_keeper::Keeper;
+use fe_shared::{SeatMissing, Seats};
 use fe_state::State;
 use fe_wire::ClientMessage;
 use std::marker::Model;
@@ -52,7 +45,7 @@ pub struct Audit {
 
 impl Model for Audit {
     ghost use Rattle.std.specs.Coded.{codes};
-    ghost use Rattle.fe_hall.specs.contracts.act.Act as acts;
+    ghost use Rattle.fe_history.specs.contracts.act.Act as acts;
     ghost use Rattle.std.specs.Prelude.{◌≡◌, false, map};
     ghost use Rattle.fe_mail.specs.Books.{AddUp};
     ghost use Rattle.fe_hall.specs.Audits.{Audited};

@@ -4,19 +4,17 @@ ghost use Rattle.std.specs.Prelude.{◌≡◌, ◌≢◌, ◌↔◌, true, false
 ghost use Rattle.fe_keeper.specs.Ends.{Rests};
 ghost use Rattle.fe_keeper.specs.Stands.{EachStandsFor};
 ghost use Rattle.fe_keeper.specs.declared.fault.Fault.TheVariants.{Device};
-ghost use Rattle.fe_hall.specs.Acts.{WasCut};
-ghost use Rattle.fe_hall.specs.Commits.{AreNoted, Commits, IsStill, IsStored, HasFailed, TellsEnd};
+ghost use Rattle.fe_history.specs.Acts.{IsStored, WasCut};
+ghost use Rattle.fe_hall.specs.Commits.{AreNoted, Commits, IsStill, HasFailed, TellsEnd};
 ghost use Rattle.fe_hall.specs.declared.commit_end.CommitEnd.{CommitEnd};
 
 use crate::breaking::Break;
 use crate::ended::Ended;
 use crate::hall::Hall;
-use crate::history::History;
-use crate::shared::{CutBatch, Cutting};
-use crate::store_seat::StoreSeat;
-use crate::tally::Tally;
 use fe_disk::Disk;
+use fe_history::{History, StoreSeat, Tally};
 use fe_keeper::{Fault, Keeper};
+use fe_shared::{CutBatch, Cutting};
 use std::sync::Wait;
 
 /// A checkpoint is begun once more bytes of the journal are used than these.

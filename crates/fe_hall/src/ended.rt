@@ -3,7 +3,7 @@ ghost use Rattle.fe_hall.specs.declared.commit_end.CommitEnd.TheVariants.{Stoppe
 
 use crate::breaking::Break;
 use crate::commit_end::CommitEnd;
-use crate::shared::{AllDurable, HasStopped};
+use fe_shared::{AllDurable, HasStopped};
 use std::marker::Model;
 
 /// The end of a committing side, whose hall is stopped. Contracts see why it ended.

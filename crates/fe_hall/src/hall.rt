@@ -1,26 +1,20 @@
 ghost use Rattle.std.specs.Prelude.{◌≡◌, ◌≤◌, ◌∷◌, ◌++◌, [], ◌+◌, IfOk, IfErr, OnOk, OnErr, length, true};
-ghost use Rattle.fe_hall.specs.Seats.{HasRested, ReadSeat, TookNoMessage, WriteSeat, first_read_seat, first_write_seat, message_answered, taking_answered, most_connections};
+ghost use Rattle.fe_shared.specs.Seats.{HasRested, ReadSeat, TookNoMessage, WriteSeat, first_read_seat, first_write_seat, message_answered, taking_answered, most_connections};
 ghost use mathlib.Core.List.{IsPrefix};
-ghost use Rattle.fe_hall.specs.Acts.{TakingTold, WasCut, WasStoredLast, stores_in};
-ghost use Rattle.fe_hall.specs.Commits.{IsStored};
-ghost use Rattle.fe_hall.specs.Holds.{IsCutIn};
-ghost use Rattle.fe_hall.specs.Marks.{IsBegun, MayBeTold};
+ghost use Rattle.fe_history.specs.Acts.{IsStored, WasCut, WasStoredLast, stores_in};
+ghost use Rattle.fe_shared.specs.Holds.{IsCutIn};
+ghost use Rattle.fe_shared.specs.Marks.{IsBegun, MayBeTold, TakingTold};
 
 use crate::baton::{Baton, Grip};
-use crate::call_seat::CallSeat;
-use crate::gathered::Gathered;
-use crate::history::{Chronicle, History, NewHistory};
 use crate::hold::Lock;
-use crate::mail_seat::MailSeat;
-use crate::receipt::Receipt;
-use crate::shared::{Cutting, HasStopped, Posted, Shared, Unconnected, Unposted};
-use crate::standing::Standing;
-use crate::store_seat::{StoreSeat, Unnoted};
-use crate::taking::Taking;
-use crate::tally::Tally;
 use fe_disk::Disk;
 use fe_front::{BELLS, Front};
+use fe_history::{Chronicle, Gathered, History, NewHistory, Receipt, StoreSeat, Tally, Unnoted};
 use fe_keeper::Keeper;
+use fe_shared::{
+    CallSeat, Cutting, HasStopped, MailSeat, Posted, Shared, Standing, Taking, Unconnected,
+    Unposted,
+};
 use fe_state::Batch;
 use fe_wire::ClientMessage;
 use std::alloc::{AllocError, Global};
@@ -170,7 +164,7 @@ impl<C: Tally, M: Tally> Hall<C, M> {
         let mut hold = self.lock.enter(rt);
         let made = hold.made();
         for _ in rt.forever() {
-            if let Some(rest) = hold.rest(seat, made) {
+            if let Some(rest) = hold.rest(seat, &made) {
                 hold.depart(seat, rest);
                 hold.end();
                 self.ring(conn);
@@ -268,7 +262,7 @@ impl<C: Tally, M: Tally> Hall<C, M> {
         seat: &StoreSeat<M>,
     ) -> Result<Posted, Unposted>
         requires stored { WasStoredLast seat.now batch }
-        ensures { IfOk result (λ posted. posted.durable ≡ batch.first + length batch.entries) }
+        ensures { IfOk result (λ posted. posted ≡ batch.first + length batch.entries) }
     {
         let mut wakes = [false; BELLS as usize];
         let mut hold = self.lock.enter(rt);

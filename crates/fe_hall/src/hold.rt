@@ -9,21 +9,18 @@ ghost use Rattle.fe_front.specs.Ringing.{Rings};
 ghost use Rattle.fe_front.specs.Step.{FrontStep};
 ghost use Rattle.fe_messages.specs.Taking.{Takes};
 ghost use mathlib.Core.List.{IsPrefix};
-ghost use Rattle.fe_hall.specs.Acts.{WasStoredLast};
-ghost use Rattle.fe_hall.specs.Marks.{MayBeTold};
-ghost use Rattle.fe_hall.specs.Holds.{Cuts, IsCutIn, IsDrained, IsUnposted, Leaves, TakesMail};
-ghost use Rattle.fe_hall.specs.Seats.{HasRested, ReadSeat, TookNoMessage, WriteSeat, first_read_seat, first_write_seat, message_answered, taking_answered, posts_more};
+ghost use Rattle.fe_history.specs.Acts.{WasStoredLast};
+ghost use Rattle.fe_shared.specs.Marks.{MayBeTold};
+ghost use Rattle.fe_shared.specs.Holds.{Cuts, IsCutIn, IsDrained, IsUnposted, Leaves, TakesMail};
+ghost use Rattle.fe_shared.specs.Seats.{HasRested, ReadSeat, TookNoMessage, WriteSeat, first_read_seat, first_write_seat, message_answered, taking_answered, posts_more};
 
 use crate::baton::Grip;
-use crate::call_seat::CallSeat;
-use crate::history::{Chronicle, History};
-use crate::mail_seat::MailSeat;
-use crate::shared::{Cutting, HasStopped, Made, Posted, Rest, Shared, Unconnected, Unposted};
-use crate::standing::Standing;
-use crate::store_seat::StoreSeat;
-use crate::taking::Taking;
-use crate::tally::Tally;
 use fe_front::BELLS;
+use fe_history::{Chronicle, History, StoreSeat, Tally};
+use fe_shared::{
+    CallSeat, Cutting, HasStopped, Made, MailSeat, Posted, Rest, Shared, Standing, Taking,
+    Unconnected, Unposted,
+};
 use fe_state::Batch;
 use fe_wire::ClientMessage;
 use std::alloc::Global;
@@ -209,7 +206,7 @@ impl<'a, C: Tally, M: Tally> Hold<'a, C, M> {
         ensures refused { IfErr result (IsUnposted (under self.old.shared).front batch) }
         ensures step { OnOk result
             (FrontStep (under self.old.shared).front (event.Post batch) [] (under self.new.shared).front) }
-        ensures durable { IfOk result (λ posted. posted.durable ≡ batch.first + length batch.entries) }
+        ensures durable { IfOk result (λ posted. posted ≡ batch.first + length batch.entries) }
         ensures rings { Rings (under self.old.shared).front (under self.new.shared).front wakes.old wakes.new }
         ensures err { OnErr result ((under self.new.shared).front ≡ (under self.old.shared).front) }
     {
@@ -259,11 +256,11 @@ impl<'a, C: Tally, M: Tally> Hold<'a, C, M> {
     }
 
     /// Whether a read side need not wait for what was made before (`Shared::rest`). This is no event of the front.
-    pub(crate) fn rest(&mut self, seat: &CallSeat<C>, made: Made) -> Option<Rest>
+    pub(crate) fn rest(&mut self, seat: &CallSeat<C>, made: &Made) -> Option<Rest>
         ensures same { self.new.used ≡ self.old.used }
         ensures own { IfSome result (λ rest. rest.conn ≡ seat.now.conn) }
         ensures drained { IfSome result (λ rest. rest.short ≡ false
-            → IsDrained (under self.old.shared).front (under self.old.shared).stopped seat.now.conn made.place) }
+            → IsDrained (under self.old.shared).front (under self.old.shared).stopped seat.now.conn made.now) }
         ensures front { (under self.new.shared).front ≡ (under self.old.shared).front }
     {
         self.shared.rest(seat, made)

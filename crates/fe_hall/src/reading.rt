@@ -2,16 +2,15 @@
 
 ghost use Rattle.std.specs.Prelude.{◌≡◌, ◌≢◌, ◌↔◌, ◌<◌, ◌++◌, [], ℕ, List, length, IsNone, IsSome, Some, IfNone, IfSome, OnSome, MatchOption};
 ghost use Rattle.fe_wire.specs.declared.client_message.ClientMessage.{ClientMessage as Message};
-ghost use Rattle.fe_hall.specs.Seats.{HasDeparted, HasRested, ReadSeat, TookNoMessage, message_taken};
+ghost use Rattle.fe_shared.specs.Seats.{HasDeparted, HasRested, ReadSeat, TookNoMessage, message_taken};
 ghost use Rattle.fe_hall.specs.Reads.{IsQuietEnd, is_sent, listed_with, AreHandled, EndsEarly, EndsAmong, HandlesStream, IsAt, IsOfMessages, IsTold};
 
 use crate::baton::Grip;
-use crate::call_seat::CallSeat;
 use crate::ends::ReadEnd;
 use crate::hall::Hall;
 use crate::halves::{Gate, ReadHalf};
-use crate::standing::Standing;
-use crate::tally::Tally;
+use fe_history::Tally;
+use fe_shared::{CallSeat, Standing};
 use fe_wire::{ClientMessage, Decoder, Version};
 use std::alloc::Global;
 use std::sync::Wait;

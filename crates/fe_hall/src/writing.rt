@@ -5,22 +5,18 @@ ghost use Rattle.fe_mail.specs.declared.mail.Mail.{Mail as Told};
 ghost use Rattle.fe_messages.specs.Mails.{spelled};
 ghost use Rattle.fe_hall.specs.Writes.{AreTaken, IsWritten, IsTold, TakesOn, IsBatch, AreSpelled, end_for, receipts_with};
 ghost use mathlib.Core.List.{IsPrefix};
-ghost use Rattle.fe_hall.specs.Acts.{AreTold, IsLegal};
-ghost use Rattle.fe_hall.specs.Seats.{TookNoMail};
-ghost use Rattle.fe_hall.specs.declared.taking.Taking.TheVariants as Taken;
+ghost use Rattle.fe_history.specs.Acts.{AreTold, IsLegal};
+ghost use Rattle.fe_shared.specs.Seats.{TookNoMail};
+ghost use Rattle.fe_shared.specs.declared.taking.Taking.TheVariants as Taken;
 
 use crate::baton::Grip;
 use crate::hall::Hall;
 use crate::halves::{HalfFault, WriteHalf};
-use crate::history::History;
-use crate::mail_seat::MailSeat;
-use crate::receipt::Receipt;
-use crate::receipts::Receipts;
-use crate::taking::Taking;
-use crate::tally::Tally;
 use crate::write_end::WriteEnd;
 use fe_front::Mail;
+use fe_history::{History, Receipt, Receipts, Tally};
 use fe_messages::Reply;
+use fe_shared::{MailSeat, Taking};
 use std::alloc::{AllocError, Global};
 use std::sync::Wait;
 

@@ -12,14 +12,14 @@ use Rattle.fe_keeper.specs.Keeper.{KeeperState}
 use Rattle.fe_keeper.specs.Prefix.{LeavesPrefix}
 use Rattle.fe_messages.specs.Answers.{IsAnswerIn}
 use mathlib.Core.List.{IsPrefix}
-use Rattle.fe_hall.proofs.Acts.{goes_at, prefix_self, prefix_trans, stores_rise}
+use Rattle.fe_history.proofs.Acts.{goes_at, prefix_self, prefix_trans, stores_rise}
 use Rattle.fe_hall.proofs.Committed.{appends_length}
-use Rattle.fe_hall.specs.Acts.{Account, EachTold, GoesOn, HasMore, IsAccountOf, IsLegal, batches_of, entries_in, stores_in}
+use Rattle.fe_history.specs.Acts.{Account, EachTold, GoesOn, HasMore, IsAccountOf, IsLegal, batches_of, entries_in, stores_in}
 use Rattle.fe_hall.specs.Commits.{Append, AreAppends, AreNoted, AreNotes, Commits, HoldsSince, noted}
-use Rattle.fe_hall.specs.declared.act.Act.{Act}
-use Rattle.fe_hall.specs.declared.act.Act.TheVariants.{Began, Told}
+use Rattle.fe_history.specs.declared.act.Act.{Act}
+use Rattle.fe_history.specs.declared.act.Act.TheVariants.{Began, Told}
 use Rattle.fe_hall.specs.declared.commit_end.CommitEnd.{CommitEnd}
-use Rattle.fe_hall.specs.declared.receipt.Receipt.{Receipt}
+use Rattle.fe_history.specs.declared.receipt.Receipt.{Receipt}
 use Rattle.fe_server.specs.Acknowledged.{IsHeld, IsAcknowledged}
 use Rattle.fe_server.specs.Serving.{HasNoted}
 

@@ -5,7 +5,7 @@ use Rattle.std.specs.Prelude.{IfOk, IsTrue, nat_lt}
 use Rattle.fe_keeper.specs.Keeper.{KeeperState}
 use Rattle.fe_keeper.specs.Stands.{EachStandsFor}
 use Rattle.fe_hall.proofs.Committed.{kept_noted, rests_itself, still_itself}
-use Rattle.fe_hall.specs.declared.act.Act.TheVariants.{Began}
+use Rattle.fe_history.specs.declared.act.Act.TheVariants.{Began}
 use Rattle.fe_hall.specs.declared.commit_end.CommitEnd.{CommitEnd}
 use Rattle.fe_hall.specs.declared.commit_end.CommitEnd.TheVariants.{Stopped, Store, Strange, Spent}
 use Rattle.fe_server.specs.declared.served.Served.{Served}

@@ -7,12 +7,12 @@ use Rattle.fe_state.specs.declared.entry.Entry.{Entry}
 use Rattle.fe_keeper.specs.Keeper.{KeeperState}
 use Rattle.fe_keeper.specs.Prefix.{LeavesPrefix}
 use Rattle.fe_messages.specs.Answers.{IsAnswerIn}
-use Rattle.fe_hall.specs.Acts.{Account, EachTold, HasMore, stores_in}
+use Rattle.fe_history.specs.Acts.{Account, EachTold, HasMore, stores_in}
 use Rattle.fe_hall.specs.Commits.{Append, AreNotes, Commits}
-use Rattle.fe_hall.specs.declared.act.Act.{Act}
-use Rattle.fe_hall.specs.declared.act.Act.TheVariants.{Told}
+use Rattle.fe_history.specs.declared.act.Act.{Act}
+use Rattle.fe_history.specs.declared.act.Act.TheVariants.{Told}
 use Rattle.fe_hall.specs.declared.commit_end.CommitEnd.{CommitEnd}
-use Rattle.fe_hall.specs.declared.receipt.Receipt.{Receipt}
+use Rattle.fe_history.specs.declared.receipt.Receipt.{Receipt}
 
 -- One of the first n groups has the entry of that place. From the end of its append on, up to the last disk, each image that a stop leaves
 -- stands for a prefix of the history with that group.

@@ -2,7 +2,7 @@
 use Rattle.std.specs.Prelude.{◌≡◌, ℕ, Bool, false, ◌&&◌, ◌||◌, not, Option, Some, None}
 use Rattle.fe_mail.specs.Books.{AddUp}
 use Rattle.fe_hall.specs.Audits.{Audited}
-use Rattle.fe_hall.specs.Seats.{Seats, both_seats, one_seat}
+use Rattle.fe_shared.specs.Seats.{Seats, both_seats, one_seat}
 
 -- the seats of all connections that ended, with that of one more, which booked this many calls or mails
 abbrev pub joined_to : Option Seats → ℕ → Option Seats

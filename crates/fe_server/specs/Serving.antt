@@ -8,11 +8,11 @@ use Rattle.fe_server.specs.declared.failed.Failed.{Failed}
 use Rattle.fe_server.specs.declared.served.Served.{Served}
 use Rattle.fe_server.specs.declared.stop_fault.StopFault.{StopFault}
 use Rattle.fe_server.specs.declared.stop_fault.StopFault.TheVariants as fault
-use Rattle.fe_hall.specs.Acts.{Account}
+use Rattle.fe_history.specs.Acts.{Account}
 use Rattle.fe_hall.specs.Commits.{AreNoted, Commits, TellsEnd}
-use Rattle.fe_hall.specs.Seats.{most_connections}
-use Rattle.fe_hall.specs.declared.act.Act.{Act}
-use Rattle.fe_hall.specs.declared.act.Act.TheVariants.{Began}
+use Rattle.fe_shared.specs.Seats.{most_connections}
+use Rattle.fe_history.specs.declared.act.Act.{Act}
+use Rattle.fe_history.specs.declared.act.Act.TheVariants.{Began}
 use Rattle.fe_hall.specs.declared.commit_end.CommitEnd.{CommitEnd}
 use Rattle.fe_hall.specs.declared.commit_end.CommitEnd.TheVariants.{Stopped, Store, Strange, Spent}
 

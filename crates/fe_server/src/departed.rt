@@ -2,10 +2,10 @@
 
 ghost use Rattle.std.specs.Prelude.{◌≡◌, ◌⊎◌, ◌∷◌, ◌++◌, [], true, false, Some, IsTrue, All, IfOk, IfErr, IsSome, map};
 ghost use mathlib.Core.List.{IsPrefix};
-ghost use Rattle.fe_hall.specs.Acts.{EachTold, IsAccountOf};
+ghost use Rattle.fe_history.specs.Acts.{EachTold, IsAccountOf};
 ghost use Rattle.fe_hall.specs.Audits.{IsAudit, account_left};
-ghost use Rattle.fe_hall.specs.Receipts.{IsBorneOut};
-ghost use Rattle.fe_hall.specs.Seats.{Seats as Totals};
+ghost use Rattle.fe_history.specs.Receipts.{IsBorneOut};
+ghost use Rattle.fe_shared.specs.Seats.{Seats as Totals};
 ghost use Rattle.fe_server.specs.declared.stop_fault.StopFault.TheVariants as fault;
 ghost use Rattle.fe_server.specs.Departed.{IsClean, joined_to, lacks};
 ghost use Rattle.fe_server.specs.Serving.{fault_of_end};

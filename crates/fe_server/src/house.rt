@@ -2,11 +2,11 @@
 
 ghost use Rattle.std.specs.Prelude.{◌≡◌, ◌⊎◌, ◌∷◌, [], false, IsTrue, All, IfOk, IfErr, IfSome, IsSome, nat_lt};
 ghost use Rattle.fe_front.specs.Front.{IsFirst};
-ghost use Rattle.fe_hall.specs.Acts.{EachTold, Gathered as Kept, IsAccountOf};
+ghost use Rattle.fe_history.specs.Acts.{EachTold, Gathered as Kept, IsAccountOf};
 ghost use Rattle.fe_hall.specs.Audits.{account_left};
-ghost use Rattle.fe_hall.specs.Receipts.{IsBorneOut};
-ghost use Rattle.fe_hall.specs.Seats.{first_read_seat, first_write_seat};
-ghost use Rattle.fe_hall.specs.declared.act.Act.TheVariants as act;
+ghost use Rattle.fe_history.specs.Receipts.{IsBorneOut};
+ghost use Rattle.fe_shared.specs.Seats.{first_read_seat, first_write_seat};
+ghost use Rattle.fe_history.specs.declared.act.Act.TheVariants as act;
 ghost use Rattle.fe_server.specs.Departed.{IsClean};
 ghost use Rattle.fe_server.specs.Serving.{HasNoted, IsBlankOf, fault_of_end};
 ghost use Rattle.fe_server.specs.declared.stop_fault.StopFault.TheVariants as fault;

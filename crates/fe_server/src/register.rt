@@ -1,7 +1,7 @@
 //! Which connections a server has.
 
 ghost use Rattle.std.specs.Prelude.{◌≡◌, ◌⊎◌, ◌+◌, ◌-◌, ◌≤◌, ◌↔◌, true, false, None, IfSome, IsSome, nat_lt};
-ghost use Rattle.fe_hall.specs.Seats.{first_read_seat, first_write_seat};
+ghost use Rattle.fe_shared.specs.Seats.{first_read_seat, first_write_seat};
 ghost use Rattle.fe_server.specs.Serving.{fault_of_end};
 
 use crate::departed::Departed;

@@ -2,9 +2,9 @@
 
 ghost use Rattle.std.specs.Prelude.{◌≡◌, ◌≢◌, ◌<◌, ◌∷◌, ℕ, [], false, IsTrue, All, IfOk, IsErrOf, nat_lt};
 ghost use Rattle.fe_mail.specs.Books.{AddUp};
-ghost use Rattle.fe_hall.specs.Acts.{EachTold, Gathered as Kept, IsAccountOf};
-ghost use Rattle.fe_hall.specs.Receipts.{IsBorneOut};
-ghost use Rattle.fe_hall.specs.declared.act.Act.TheVariants as act;
+ghost use Rattle.fe_history.specs.Acts.{EachTold, Gathered as Kept, IsAccountOf};
+ghost use Rattle.fe_history.specs.Receipts.{IsBorneOut};
+ghost use Rattle.fe_history.specs.declared.act.Act.TheVariants as act;
 ghost use Rattle.fe_hall.specs.declared.commit_end.CommitEnd.{CommitEnd as Ended};
 ghost use Rattle.fe_hall.specs.declared.commit_end.CommitEnd.TheVariants as hall;
 ghost use Rattle.fe_journal.specs.Layout.{device_bytes};

@@ -1,8 +1,8 @@
 //! Halls that are closed with receipts that none of their connections got.
 
 ghost use Rattle.std.specs.Prelude.{◌≡◌, ◌+◌, ◌∷◌, []};
-ghost use Rattle.fe_hall.specs.Seats.{most_connections};
-ghost use Rattle.fe_hall.specs.declared.act.Act.TheVariants as act;
+ghost use Rattle.fe_shared.specs.Seats.{most_connections};
+ghost use Rattle.fe_history.specs.declared.act.Act.TheVariants as act;
 
 use crate::rows::FIRST_PATH;
 use crate::saying::{Say, message_of};

@@ -5,8 +5,8 @@
 //! begin a checkpoint.
 
 ghost use Rattle.std.specs.Prelude.{◌≡◌, ◌+◌, ◌∷◌, []};
-ghost use Rattle.fe_hall.specs.Seats.{most_connections};
-ghost use Rattle.fe_hall.specs.declared.act.Act.TheVariants as act;
+ghost use Rattle.fe_shared.specs.Seats.{most_connections};
+ghost use Rattle.fe_history.specs.declared.act.Act.TheVariants as act;
 
 use crate::saying::{Say, put_said};
 use crate::stage::{PARTS, hall_over};

@@ -1,8 +1,8 @@
 //! Plays in a hall: each client has two threads, and one more thread stores.
 
 ghost use Rattle.std.specs.Prelude.{◌≡◌, ◌+◌, ◌∷◌, []};
-ghost use Rattle.fe_hall.specs.Seats.{most_connections};
-ghost use Rattle.fe_hall.specs.declared.act.Act.TheVariants as act;
+ghost use Rattle.fe_shared.specs.Seats.{most_connections};
+ghost use Rattle.fe_history.specs.declared.act.Act.TheVariants as act;
 
 use crate::board::Board;
 use crate::halves::{ClientRead, ClientWrite};

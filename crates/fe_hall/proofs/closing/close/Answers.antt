@@ -1,9 +1,9 @@
 use Rattle.std.proofs.Common.{◌≡◌, map, refl, sym, subst, true≢false}
 use Rattle.std.specs.Prelude.{Any}
 use Rattle.fe_state.specs.State.{ServerState}
-use Rattle.fe_hall.specs.Receipts.{IsStrange, IsFirstStrange}
+use Rattle.fe_history.specs.Receipts.{IsStrange, IsFirstStrange}
 use Rattle.fe_hall.specs.declared.closing.Unclosed.TheVariants.{StrangeReceipt}
-use Rattle.fe_hall.proofs.BorneOut.{all_as, none_strange}
+use Rattle.fe_history.proofs.BorneOut.{all_as, none_strange}
 use Rattle.fe_hall.proofs.closing.close.Goals as goal
 
 pub returns-in-Ok-clause-receipts : goal.returns-in-Ok-clause-receipts

@@ -1,7 +1,7 @@
 use Rattle.std.proofs.Common.{◌≡◌, ◌∙◌, Bool, true, refl, sym, subst, true≢false, rules}
 use Rattle.std.specs.Prelude.{MatchBool}
-use Rattle.fe_hall.proofs.BorneOut.{one_strange, all_borne_out, none_is}
-use Rattle.fe_hall.specs.Acts.{HasMore, stores_in}
+use Rattle.fe_history.proofs.BorneOut.{one_strange, all_borne_out, none_is}
+use Rattle.fe_history.specs.Acts.{HasMore, stores_in}
 use Rattle.fe_hall.proofs.closing.settle.Goals as goal
 
 pub returns-in-Some-strange-clause-refused : goal.returns-in-Some-strange-clause-refused

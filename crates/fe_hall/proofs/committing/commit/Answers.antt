@@ -1,7 +1,7 @@
 use Rattle.std.proofs.Common.{◌≡◌, ℕ, Some, None, [], ◌∷◌, ◌++◌, sym, ap, subst, rules}
 use Rattle.fe_state.specs.declared.batch.Batch.{Batch}
-use Rattle.fe_hall.specs.Acts.{stores_in}
-use Rattle.fe_hall.specs.Commits.{AreNoted, Commits, IsStored, TellsEnd, end_of}
+use Rattle.fe_history.specs.Acts.{IsStored, stores_in}
+use Rattle.fe_hall.specs.Commits.{AreNoted, Commits, TellsEnd, end_of}
 use Rattle.fe_hall.specs.declared.commit_end.CommitEnd.{CommitEnd}
 use Rattle.fe_hall.specs.declared.commit_end.CommitEnd.TheVariants.{Strange}
 use Rattle.fe_hall.proofs.Committed.{group_noted, commits_fault, fault_tells, appended_works}

@@ -1,7 +1,7 @@
 use Rattle.std.proofs.Common.{List, sym, subst, rules}
-use Rattle.fe_hall.specs.Acts.{AreTold}
-use Rattle.fe_hall.specs.declared.act.Act.{Act}
-use Rattle.fe_hall.proofs.Acts.{receipts_told}
+use Rattle.fe_history.specs.Acts.{AreTold}
+use Rattle.fe_history.specs.declared.act.Act.{Act}
+use Rattle.fe_history.proofs.Acts.{receipts_told}
 use Rattle.fe_hall.proofs.Written.{as_taken}
 use Rattle.fe_hall.proofs.writing.write_side.Goals as goal
 

@@ -1,6 +1,6 @@
 use Rattle.std.proofs.Common.{All, sym, subst, ◌∙◌}
 use Rattle.fe_state.specs.State.{ServerState}
-use Rattle.fe_hall.specs.Receipts.{IsBorneOut}
+use Rattle.fe_history.specs.Receipts.{IsBorneOut}
 use Rattle.fe_server.proofs.Ends.{closed_answers, unclosed_answers, fault_answers}
 use Rattle.fe_server.proofs.server.closed.Goals as goal
 

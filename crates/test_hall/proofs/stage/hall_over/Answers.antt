@@ -1,6 +1,6 @@
 use Rattle.std.proofs.Common.{[], ◌∷◌, ap, sym, ◌∙◌}
 use Rattle.fe_state.specs.State.{ServerState}
-use Rattle.fe_hall.specs.declared.act.Act.TheVariants.{Began}
+use Rattle.fe_history.specs.declared.act.Act.TheVariants.{Began}
 use Rattle.test_hall.proofs.stage.hall_over.Goals as goal
 
 pub new-requires-2-clause-begun : goal.new-requires-2-clause-begun

@@ -1,6 +1,6 @@
 use Rattle.std.proofs.Common.{List, sym, subst, ◌∙◌}
-use Rattle.fe_hall.specs.Marks.{IsBegun}
-use Rattle.fe_hall.specs.declared.act.Act.{Act}
+use Rattle.fe_shared.specs.Marks.{IsBegun}
+use Rattle.fe_history.specs.declared.act.Act.{Act}
 use Rattle.fe_hall.proofs.hall.Hall.new.Goals as goal
 
 pub new-requires-clause-begun : goal.new-requires-clause-begun

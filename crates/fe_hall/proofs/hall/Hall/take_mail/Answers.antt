@@ -1,4 +1,4 @@
-use Rattle.fe_hall.proofs.Marks.{may_later}
+use Rattle.fe_shared.proofs.Marks.{may_later}
 use Rattle.fe_hall.proofs.hall.Hall.take_mail.Goals as goal
 
 pub tell-requires : goal.tell-requires

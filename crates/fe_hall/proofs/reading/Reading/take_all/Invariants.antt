@@ -1,6 +1,6 @@
 use Rattle.std.proofs.Common.{◌≡◌, List, ◌++◌, take}
 use Rattle.fe_wire.specs.declared.client_message.ClientMessage.{ClientMessage}
-use Rattle.fe_hall.specs.Seats.{ReadSeat}
+use Rattle.fe_shared.specs.Seats.{ReadSeat}
 use Rattle.fe_hall.specs.Reads.{AreHandled}
 use Rattle.fe_hall.proofs.reading.Reading.take_all.Given as goal
 

@@ -1,9 +1,10 @@
 use Rattle.std.proofs.Common.{Bool, List, [], ◌∷◌, sym, ap, subst, ◌∙◌, arith, rules}
 use Rattle.std.proofs.lemmas.Result.{err_from_is_err_and}
-use Rattle.fe_hall.specs.Acts.{TakingTold, WasTold}
-use Rattle.fe_hall.specs.Seats.{WriteSeat}
-use Rattle.fe_hall.specs.declared.act.Act.{Act}
-use Rattle.fe_hall.specs.declared.taking.Taking.{Taking}
+use Rattle.fe_history.specs.Acts.{WasTold}
+use Rattle.fe_shared.specs.Marks.{TakingTold}
+use Rattle.fe_shared.specs.Seats.{WriteSeat}
+use Rattle.fe_history.specs.declared.act.Act.{Act}
+use Rattle.fe_shared.specs.declared.taking.Taking.{Taking}
 use Rattle.fe_hall.proofs.Written.{takes_same, takes_one, spelled_one, lacks_one, spells_none, answered_mail, answered_end, none_since}
 use Rattle.fe_hall.proofs.writing.Writing.take_mail.Goals as goal
 

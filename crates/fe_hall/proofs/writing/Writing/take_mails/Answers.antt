@@ -1,6 +1,6 @@
 use Rattle.std.proofs.Common.{inl, inr, ◌<◌, ℕ, Bool, List, [], ◌++◌, length, subst, arith}
 use Rattle.std.proofs.lemmas.Result.{err_from_is_err_and}
-use Rattle.fe_hall.proofs.Acts.{prefix_self, prefix_trans, told_both}
+use Rattle.fe_history.proofs.Acts.{prefix_self, prefix_trans, told_both}
 use Rattle.fe_hall.proofs.Written.{takes_none, takes_on, batch_none, batch_more, spelled_more, spells_on}
 use Rattle.fe_hall.proofs.writing.Writing.take_mails.Goals as goal
 

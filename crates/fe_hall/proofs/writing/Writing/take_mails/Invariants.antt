@@ -2,7 +2,7 @@ use Rattle.std.proofs.Common.{◌≡◌, ◌⊎◌, [], List}
 use Rattle.fe_mail.specs.declared.mail.Mail.{Mail}
 use Rattle.fe_messages.specs.Mails.{spelled}
 use mathlib.Core.List.{IsPrefix}
-use Rattle.fe_hall.specs.Acts.{AreTold}
+use Rattle.fe_history.specs.Acts.{AreTold}
 use Rattle.fe_hall.specs.Writes.{TakesOn, IsBatch}
 use Rattle.fe_hall.proofs.writing.Writing.take_mails.Given as goal
 

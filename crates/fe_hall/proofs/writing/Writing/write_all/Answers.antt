@@ -1,6 +1,6 @@
 use Rattle.std.proofs.Common.{[], ◌++◌, sym}
 use Rattle.std.proofs.lemmas.List.{append-nil}
-use Rattle.fe_hall.proofs.Acts.{told_both}
+use Rattle.fe_history.proofs.Acts.{told_both}
 use Rattle.fe_hall.proofs.Written.{takes_none, takes_on, wrote_more, written_more}
 use Rattle.fe_hall.proofs.writing.Writing.write_all.Goals as goal
 

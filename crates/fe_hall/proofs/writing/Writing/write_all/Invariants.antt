@@ -1,7 +1,7 @@
 use Rattle.std.proofs.Common.{◌≡◌, ◌++◌, List, []}
 use Rattle.fe_mail.specs.declared.mail.Mail.{Mail}
 use Rattle.fe_messages.specs.Mails.{spelled}
-use Rattle.fe_hall.specs.Acts.{AreTold}
+use Rattle.fe_history.specs.Acts.{AreTold}
 use Rattle.fe_hall.specs.Writes.{TakesOn}
 use Rattle.fe_hall.proofs.writing.Writing.write_all.Given as goal
 

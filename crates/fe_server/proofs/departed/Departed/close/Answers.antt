@@ -1,5 +1,5 @@
 use Rattle.std.proofs.Common.{◌≡◌, true, false, ◌∙◌, rules}
-use Rattle.fe_hall.specs.Acts.{Account}
+use Rattle.fe_history.specs.Acts.{Account}
 use Rattle.fe_server.specs.Departed.{lacks}
 use Rattle.fe_server.proofs.Accounts.{account_told}
 use Rattle.fe_server.proofs.Ends.{kept_whole}

@@ -1,6 +1,6 @@
 use Rattle.std.proofs.Common.{Some, List, subst, sym, ◌∙◌}
 use Rattle.fe_hall.specs.Commits.{AreNoted}
-use Rattle.fe_hall.specs.declared.act.Act.{Act}
+use Rattle.fe_history.specs.declared.act.Act.{Act}
 use Rattle.fe_hall.specs.declared.commit_end.CommitEnd.{CommitEnd}
 use Rattle.fe_server.specs.Serving.{HasNoted}
 use Rattle.fe_server.proofs.house.House.commit.Goals as goal

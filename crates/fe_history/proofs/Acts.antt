@@ -1,0 +1,359 @@
+-- What happened stays legal, batch by batch.
+use Rattle.std.proofs.Common.{◌≡◌, ◌⊎◌, inl, inr, ℕ, ◌+◌, ◌<◌, ◌≤◌, List, [], ◌∷◌, ◌++◌, length, refl, ap, sym, ◌∙◌, subst, arith, append_assoc, length-append}
+use Rattle.std.proofs.lemmas.List.{append-nil, length-map, map-append}
+use Rattle.std.proofs.lemmas.List.Concat.{flat_map-append}
+use mathlib.Core.List.{IsPrefix}
+use Rattle.fe_state.specs.State.{ServerState}
+use Rattle.fe_state.specs.declared.answer.Answer.{Answer}
+use Rattle.fe_state.specs.declared.batch.Batch.{Batch}
+use Rattle.fe_state.specs.declared.entry.Entry.{Entry}
+use Rattle.fe_messages.specs.Answers.{IsAnswerIn}
+use Rattle.fe_messages.proofs.Answers.{answer_more}
+use Rattle.fe_history.specs.declared.act.Act.{Act}
+use Rattle.fe_history.specs.declared.act.Act.TheVariants.{Began, Cut, Stored, Told}
+use Rattle.fe_history.specs.declared.receipt.Receipt.{Receipt}
+use Rattle.std.specs.List.{filter_map, cons_option}
+use Rattle.std.specs.Prelude.{zero, suc, take, slice_get, Option, Some, None, IfSome, Result, Ok, Err, OnOk, OnErr, false}
+use Rattle.fe_mail.specs.declared.mail.Mail.{Mail}
+use Rattle.fe_history.specs.Receipts.{receipt_of}
+use Rattle.fe_history.specs.Acts.{GoesOn, HasMore, IsLegal, MayCome, MayFollow, ReceiptList, WasCut, batches_of, cuts_in, entries_in, place_after, stores_in, StandsIn, EachTold, WasTold, AreTold}
+use Rattle.fe_history.specs.Rules.{ComesAfter, CutsAfter}
+
+-- ---- lists
+
+pub prefix_trans : {A : Type 0} (xs ys zs : List A) → IsPrefix xs ys → IsPrefix ys zs → IsPrefix xs zs
+prefix_trans xs ys zs p q = (p.0 ++ q.0, sym (append_assoc xs p.0 q.0) ∙ (ap (λ w. w ++ q.0) p.1 ∙ q.1))
+
+pub prefix_self : {A : Type 0} (xs : List A) → IsPrefix xs xs
+prefix_self xs = ([], append-nil xs)
+
+-- a beginning of the same length is the whole
+pub prefix_whole : {A : Type 0} (xs ys : List A) → IsPrefix xs ys → length ys ≡ length xs → ys ≡ xs
+prefix_whole {A} xs ys p same = by p.0 p.1
+  where
+    by : (rest : List A) → xs ++ rest ≡ ys → ys ≡ xs
+    by [] is = sym is ∙ append-nil xs
+    by (z ∷ zs) is = absurd (omega (arith, ap length is, length-append xs (z ∷ zs), same))
+
+-- two lists with one more each are the same where these are, up to their lengths
+fronts_same : {A : Type 0} (xs ys : List A) (x y : A) → xs ++ x ∷ [] ≡ ys ++ y ∷ [] → (xs ≡ ys) × (x ≡ y)
+fronts_same [] [] x y is = (refl, cc is)
+fronts_same [] (w ∷ ys) x y is = absurd (omega (arith, ap length is, length-append ys (y ∷ [])))
+fronts_same (z ∷ xs) [] x y is = absurd (omega (arith, ap length is, length-append xs (x ∷ [])))
+fronts_same (z ∷ xs) (w ∷ ys) x y is =
+    let head : z ≡ w = cc is in
+    let tail : xs ++ x ∷ [] ≡ ys ++ y ∷ [] = cc is in
+    let rest = fronts_same xs ys x y tail in
+    (ap (λ v. v ∷ xs) head ∙ ap (λ vs. w ∷ vs) rest.0, rest.1)
+
+prefix_length : {A : Type 0} (xs ys : List A) → IsPrefix xs ys → length xs ≤ length ys
+prefix_length xs ys p = omega (arith, ap length p.1, length-append xs p.0)
+
+-- ---- an act after others
+
+goes_append : (begun : ServerState) (past acts : List Act) (a : Act) → GoesOn begun past acts → MayFollow begun (past ++ acts) a → GoesOn begun past (acts ++ a ∷ [])
+goes_append begun past [] a goes may = (subst (λ (p : List Act). MayFollow begun p a) (append-nil past) may, tt)
+goes_append begun past (x ∷ acts) a goes may =
+    (goes.0, goes_append begun (past ++ x ∷ []) acts a goes.1 (subst (λ (p : List Act). MayFollow begun p a) (sym (append_assoc past (x ∷ []) acts)) may))
+
+pub legal_append : (log : List Act) (a : Act) → IsLegal log → MayCome log a → IsLegal (log ++ a ∷ [])
+legal_append [] a legal may = absurd legal
+legal_append (Began s ∷ log) a legal may = (legal.0, goes_append s [] log a legal.1 may)
+legal_append (Cut b ∷ log) a legal may = absurd legal
+legal_append (Stored b m ∷ log) a legal may = absurd legal
+legal_append (Told q ∷ log) a legal may = absurd legal
+
+-- an act of a history may follow those before it
+pub goes_at : (begun : ServerState) (past earlier later : List Act) (a : Act) → GoesOn begun past (earlier ++ a ∷ later) → MayFollow begun (past ++ earlier) a
+goes_at begun past [] later a goes = subst (λ (p : List Act). MayFollow begun p a) (sym (append-nil past)) goes.0
+goes_at begun past (x ∷ earlier) later a goes =
+    subst (λ (p : List Act). MayFollow begun p a) (append_assoc past (x ∷ []) earlier) (goes_at begun (past ++ x ∷ []) earlier later a goes.1)
+
+-- ---- cuts and stores
+
+pub cuts_append : (xs ys : List Act) → cuts_in (xs ++ ys) ≡ cuts_in xs ++ cuts_in ys
+cuts_append [] ys = refl
+cuts_append (Began s ∷ xs) ys = cuts_append xs ys
+cuts_append (Cut b ∷ xs) ys = ap (λ bs. b ∷ bs) (cuts_append xs ys)
+cuts_append (Stored b m ∷ xs) ys = cuts_append xs ys
+cuts_append (Told q ∷ xs) ys = cuts_append xs ys
+
+pub stores_append : (xs ys : List Act) → stores_in (xs ++ ys) ≡ stores_in xs ++ stores_in ys
+stores_append [] ys = refl
+stores_append (Began s ∷ xs) ys = stores_append xs ys
+stores_append (Cut b ∷ xs) ys = stores_append xs ys
+stores_append (Stored b m ∷ xs) ys = ap (λ s. (b, m) ∷ s) (stores_append xs ys)
+stores_append (Told q ∷ xs) ys = stores_append xs ys
+
+pub cuts_rise : (xs ys : List Act) → IsPrefix xs ys → IsPrefix (cuts_in xs) (cuts_in ys)
+cuts_rise xs ys p = (cuts_in p.0, sym (cuts_append xs p.0) ∙ ap cuts_in p.1)
+
+pub stores_rise : (xs ys : List Act) → IsPrefix xs ys → IsPrefix (stores_in xs) (stores_in ys)
+stores_rise xs ys p = (stores_in p.0, sym (stores_append xs p.0) ∙ ap stores_in p.1)
+
+-- the batches of more stores
+pub batches_rise : (xs ys : List (Batch × ℕ)) → IsPrefix xs ys → IsPrefix (batches_of xs) (batches_of ys)
+batches_rise xs ys p = (batches_of p.0, sym (map-append (λ (s : Batch × ℕ). s.0) xs p.0) ∙ ap batches_of p.1)
+
+pub stored_rise : (xs ys : List Act) → IsPrefix xs ys → IsPrefix (batches_of (stores_in xs)) (batches_of (stores_in ys))
+stored_rise xs ys p = batches_rise (stores_in xs) (stores_in ys) (stores_rise xs ys p)
+
+pub entries_append : (xs ys : List Batch) → entries_in (xs ++ ys) ≡ entries_in xs ++ entries_in ys
+entries_append xs ys = flat_map-append (λ (b : Batch). b.entries) xs ys
+
+-- an answer of these batches is one of more
+pub answer_within : (begun : ServerState) (xs ys : List Batch) (session number : ℕ) (answer : Answer) (place : ℕ) → IsPrefix xs ys → IsAnswerIn begun (entries_in xs) session number answer place
+    → IsAnswerIn begun (entries_in ys) session number answer place
+answer_within begun xs ys session number answer place p is =
+    subst (λ (es : List Entry). IsAnswerIn begun es session number answer place) (sym (entries_append xs p.0) ∙ ap entries_in p.1) (answer_more begun (entries_in xs) (entries_in p.0) session number answer place is)
+
+-- what may be told may be told later
+pub told_may : (xs ys : List Act) (r : Receipt) → IsPrefix xs ys → MayCome xs (Told r) → MayCome ys (Told r)
+told_may [] ys r p may = absurd may
+told_may (Began s ∷ xs) ys r p may =
+    subst (λ (zs : List Act). MayCome zs (Told r)) p.1
+    (answer_within s (batches_of (stores_in xs)) (batches_of (stores_in (xs ++ p.0))) r.session r.number r.answer r.place (stored_rise xs (xs ++ p.0) (p.0, refl)) may)
+told_may (Cut b ∷ xs) ys r p may = absurd may
+told_may (Stored b m ∷ xs) ys r p may = absurd may
+told_may (Told q ∷ xs) ys r p may = absurd may
+
+-- ---- what is always true of cuts and stores
+
+-- all that was cut is stored, or all but the last
+abbrev IsBalanced : List Act → Type 0
+IsBalanced acts = (cuts_in acts ≡ batches_of (stores_in acts)) ⊎ ((b : Batch) × (cuts_in acts ≡ batches_of (stores_in acts) ++ b ∷ []))
+
+-- each batch has entries, and begins where the one before it ends
+abbrev AreInOrder : ℕ → List Batch → Type 0
+AreInOrder at [] = Unit {0}
+AreInOrder at (b ∷ bs) = (b.first ≡ at) × (0 < length b.entries) × AreInOrder (at + length b.entries) bs
+
+order_append : (at : ℕ) (bs : List Batch) (b : Batch) → AreInOrder at bs → b.first ≡ at + length (entries_in bs) → 0 < length b.entries → AreInOrder at (bs ++ b ∷ [])
+order_append at [] b order first some = (omega (arith, first), some, tt)
+order_append at (x ∷ bs) b order first some =
+    (order.0, order.1, order_append (at + length x.entries) bs b order.2 (omega (arith, first, length-append x.entries (entries_in bs))) some)
+
+record IsSound (begun : ServerState) (acts : List Act) : Type 0 where
+  pub balanced : IsBalanced acts
+  pub ordered : AreInOrder begun.place (cuts_in acts)
+
+sound_append : (begun : ServerState) (past : List Act) (a : Act) → IsSound begun past → MayFollow begun past a → IsSound begun (past ++ a ∷ [])
+sound_append begun past (Began s) sound may = absurd may
+sound_append begun past (Cut b) sound may =
+    let cuts : cuts_in (past ++ Cut b ∷ []) ≡ cuts_in past ++ b ∷ [] = cuts_append past (Cut b ∷ []) in
+    let stores : stores_in past ≡ stores_in (past ++ Cut b ∷ []) = sym (stores_append past (Cut b ∷ []) ∙ append-nil (stores_in past)) in
+    record {
+      balanced = inr (b, cuts ∙ ap (λ (bs : List Batch). bs ++ b ∷ []) (may.0 ∙ ap batches_of stores));
+      ordered = subst (λ (bs : List Batch). AreInOrder begun.place bs) (sym cuts) (order_append begun.place (cuts_in past) b sound.ordered may.1 may.2);
+    }
+sound_append begun past (Stored b m) sound may =
+    let cuts : cuts_in past ≡ cuts_in (past ++ Stored b m ∷ []) = sym (cuts_append past (Stored b m ∷ []) ∙ append-nil (cuts_in past)) in
+    let stores : batches_of (stores_in (past ++ Stored b m ∷ [])) ≡ batches_of (stores_in past) ++ b ∷ [] =
+    ap batches_of (stores_append past (Stored b m ∷ [])) ∙ map-append (λ (s : Batch × ℕ). s.0) (stores_in past) ((b, m) ∷ []) in
+    record { balanced = inl (sym cuts ∙ may ∙ sym stores); ordered = subst (λ (bs : List Batch). AreInOrder begun.place bs) cuts sound.ordered }
+sound_append begun past (Told r) sound may =
+    let cuts : cuts_in past ≡ cuts_in (past ++ Told r ∷ []) = sym (cuts_append past (Told r ∷ []) ∙ append-nil (cuts_in past)) in
+    let stores : stores_in past ≡ stores_in (past ++ Told r ∷ []) = sym (stores_append past (Told r ∷ []) ∙ append-nil (stores_in past)) in
+    record { balanced = still past (past ++ Told r ∷ []) cuts stores sound.balanced; ordered = subst (λ (bs : List Batch). AreInOrder begun.place bs) cuts sound.ordered }
+  where
+    still : (xs ys : List Act) → cuts_in xs ≡ cuts_in ys → stores_in xs ≡ stores_in ys → IsBalanced xs → IsBalanced ys
+    still xs ys cuts stores (inl all) = inl (sym cuts ∙ all ∙ ap batches_of stores)
+    still xs ys cuts stores (inr (b, all)) = inr (b, sym cuts ∙ all ∙ ap (λ (s : List (Batch × ℕ)). batches_of s ++ b ∷ []) stores)
+
+sound_goes : (begun : ServerState) (past acts : List Act) → IsSound begun past → GoesOn begun past acts → IsSound begun (past ++ acts)
+sound_goes begun past [] sound goes = subst (IsSound begun) (sym (append-nil past)) sound
+sound_goes begun past (a ∷ acts) sound goes = subst (IsSound begun) (append_assoc past (a ∷ []) acts) (sound_goes begun (past ++ a ∷ []) acts (sound_append begun past a sound goes.0) goes.1)
+
+legal_sound : (begun : ServerState) (past acts : List Act) → acts ≡ Began begun ∷ past → IsLegal acts → IsSound begun past
+legal_sound begun past acts begins legal =
+    let whole : IsLegal (Began begun ∷ past) = subst IsLegal begins legal in
+    sound_goes begun [] past (record { balanced = inl refl; ordered = tt }) whole.1
+
+-- what was stored was cut
+pub stored_cut : (begun : ServerState) (past acts : List Act) → acts ≡ Began begun ∷ past → IsLegal acts → IsPrefix (batches_of (stores_in acts)) (cuts_in acts)
+stored_cut begun past acts begins legal = subst (λ (xs : List Act). IsPrefix (batches_of (stores_in xs)) (cuts_in xs)) (sym begins) (by (legal_sound begun past acts begins legal).balanced)
+  where
+    by : IsBalanced past → IsPrefix (batches_of (stores_in past)) (cuts_in past)
+    by (inl all) = ([], append-nil (batches_of (stores_in past)) ∙ sym all)
+    by (inr (b, all)) = (b ∷ [], sym all)
+
+-- a batch of some that are in order begins no earlier than they do
+begins_later : (at : ℕ) (bs cs : List Batch) (c : Batch) → AreInOrder at (bs ++ c ∷ cs) → at ≤ c.first
+begins_later at [] cs c order = omega (arith, order.0)
+begins_later at (b ∷ bs) cs c order = omega (arith, begins_later (at + length b.entries) bs cs c order.2)
+
+-- each batch has an entry, or more
+order_few : (at : ℕ) (xs ys : List Batch) → AreInOrder at (xs ++ ys) → length xs ≤ length (entries_in xs)
+order_few at [] ys order = omega arith
+order_few at (x ∷ xs) ys order =
+    omega (arith, order.1, order_few (at + length x.entries) xs ys order.2, length-append x.entries (entries_in xs))
+
+-- batches that are in order and begin at one place are the same, after the same others
+one_first : (at : ℕ) (xs ys zs ws : List Batch) (b c : Batch) → AreInOrder at (xs ++ b ∷ ys) → xs ++ b ∷ ys ≡ zs ++ c ∷ ws → b.first ≡ c.first → (xs ≡ zs) × (b ≡ c)
+one_first at [] ys [] ws b c order is first = (refl, cc is)
+one_first at [] ys (z ∷ zs) ws b c order is first =
+    let same : ys ≡ zs ++ c ∷ ws = cc is in
+    let later = begins_later (at + length b.entries) zs ws c (subst (λ (bs : List Batch). AreInOrder (at + length b.entries) bs) same order.2) in
+    absurd (omega (arith, order.0, order.1, later, first))
+one_first at (x ∷ xs) ys [] ws b c order is first =
+    let same : x ≡ c = cc is in
+    let later = begins_later (at + length x.entries) xs ys b order.2 in
+    absurd (omega (arith, order.0, order.1, later, first, ap (λ (y : Batch). y.first) same))
+one_first at (x ∷ xs) ys (z ∷ zs) ws b c order is first =
+    let head : x ≡ z = cc is in
+    let tail : xs ++ b ∷ ys ≡ zs ++ c ∷ ws = cc is in
+    let rest = one_first (at + length x.entries) xs ys zs ws b c order.2 tail first in
+    (ap (λ (y : Batch). y ∷ xs) head ∙ ap (λ (t : List Batch). z ∷ t) rest.0, rest.1)
+
+-- two batches that were cut, and begin at one place, are the same
+pub one_cut : (begun : ServerState) (past acts : List Act) (xs zs : List Batch) (b c : Batch) → acts ≡ Began begun ∷ past → IsLegal acts → IsPrefix (xs ++ b ∷ []) (cuts_in acts) → IsPrefix (zs ++ c ∷ []) (cuts_in acts)
+    → b.first ≡ c.first → (xs ≡ zs) × (b ≡ c)
+one_cut begun past acts xs zs b c begins legal p q first =
+    let order : AreInOrder begun.place (cuts_in acts) = subst (λ (a : List Act). AreInOrder begun.place (cuts_in a)) (sym begins) (legal_sound begun past acts begins legal).ordered in
+    let here : xs ++ b ∷ p.0 ≡ cuts_in acts = sym (append_assoc xs (b ∷ []) p.0) ∙ p.1 in
+    let there : zs ++ c ∷ q.0 ≡ cuts_in acts = sym (append_assoc zs (c ∷ []) q.0) ∙ q.1 in
+    one_first begun.place xs p.0 zs q.0 b c (subst (λ (bs : List Batch). AreInOrder begun.place bs) (sym here) order) (here ∙ sym there) first
+
+-- so has each batch that was cut
+pub cut_few : (begun : ServerState) (past acts : List Act) (xs ys : List Batch) → acts ≡ Began begun ∷ past → IsLegal acts → IsPrefix (xs ++ ys) (cuts_in acts) → length xs ≤ length (entries_in xs)
+cut_few begun past acts xs ys begins legal p =
+    let order : AreInOrder begun.place (cuts_in acts) = subst (λ (a : List Act). AreInOrder begun.place (cuts_in a)) (sym begins) (legal_sound begun past acts begins legal).ordered in
+    order_few begun.place xs (ys ++ p.0) (subst (λ (bs : List Batch). AreInOrder begun.place bs) (sym p.1 ∙ append_assoc xs ys p.0) order)
+
+pub cut_later : (xs ys : List Act) (count : ℕ) (batch : Batch) → IsPrefix xs ys → WasCut xs count batch → WasCut ys count batch
+cut_later xs ys count batch p (before, size, cut) = (before, size, prefix_trans (before ++ batch ∷ []) (cuts_in xs) (cuts_in ys) cut (cuts_rise xs ys p))
+
+-- ---- what may come next
+
+-- a history that goes on from one that began so began so too
+pub begins_so : (begun : ServerState) (past xs ys : List Act) → xs ≡ Began begun ∷ past → IsPrefix xs ys → (rest : List Act) × (ys ≡ Began begun ∷ rest)
+begins_so begun past xs ys begins p = (past ++ p.0, sym p.1 ∙ ap (λ (zs : List Act). zs ++ p.0) begins)
+
+-- a cut, where as many were cut as were stored before
+pub cut_may : (v log : List Act) (count : ℕ) (batch : Batch) → CutsAfter v count batch → IsPrefix v log → IsLegal log → length (cuts_in log) ≡ count → MayCome log (Cut batch)
+cut_may v log count batch next pre legal here =
+    let (rest, begins) = begins_so next.begun next.past v log next.begins pre in
+    let stored : IsPrefix next.before (batches_of (stores_in log)) = prefix_trans next.before (batches_of (stores_in v)) (batches_of (stores_in log)) next.stored (stored_rise v log pre) in
+    let cut : IsPrefix (batches_of (stores_in log)) (cuts_in log) = stored_cut next.begun rest log begins legal in
+    let few = prefix_length next.before (batches_of (stores_in log)) stored in
+    let more = prefix_length (batches_of (stores_in log)) (cuts_in log) cut in
+    let all : batches_of (stores_in log) ≡ next.before = prefix_whole next.before (batches_of (stores_in log)) stored (omega (arith, few, more, here, next.counted)) in
+    let both : cuts_in log ≡ batches_of (stores_in log) = prefix_whole (batches_of (stores_in log)) (cuts_in log) cut (omega (arith, few, more, here, next.counted)) in
+    let first : batch.first ≡ place_after next.begun (cuts_in log) = next.first ∙ ap (λ (bs : List Batch). place_after next.begun bs) (sym (both ∙ all)) in
+    subst (λ (zs : List Act). MayCome zs (Cut batch)) (sym begins)
+    (subst (λ (zs : List Act). cuts_in zs ≡ batches_of (stores_in zs)) begins both, subst (λ (zs : List Act). batch.first ≡ place_after next.begun (cuts_in zs)) begins first, next.some)
+
+-- a store of the batch that was cut next
+pub store_may : (v log : List Act) (count moment : ℕ) (batch : Batch) → WasCut v count batch → IsPrefix v log → IsLegal log → length (stores_in log) ≡ count → MayCome log (Stored batch moment)
+store_may v [] count moment batch was pre legal here = absurd legal
+store_may v (Cut b ∷ log) count moment batch was pre legal here = absurd legal
+store_may v (Stored b m ∷ log) count moment batch was pre legal here = absurd legal
+store_may v (Told q ∷ log) count moment batch was pre legal here = absurd legal
+store_may v (Began begun ∷ log) count moment batch (before, size, cut) pre legal here = by (legal_sound begun log (Began begun ∷ log) refl legal).balanced
+  where
+    there : IsPrefix (before ++ batch ∷ []) (cuts_in log)
+    there = prefix_trans (before ++ batch ∷ []) (cuts_in v) (cuts_in log) cut (cuts_rise v (Began begun ∷ log) pre)
+
+    stored : ℕ
+    stored = length (batches_of (stores_in log))
+
+    as_many : stored ≡ count
+    as_many = length-map (stores_in log) (λ (s : Batch × ℕ). s.0) ∙ here
+
+    by : IsBalanced log → MayFollow begun log (Stored batch moment)
+    by (inl all) =
+        let most = prefix_length (before ++ batch ∷ []) (cuts_in log) there in
+        absurd (omega (arith, most, length-append before (batch ∷ []), ap length all, as_many, size))
+    by (inr (b, all)) =
+        let one : length (cuts_in log) ≡ stored + 1 = ap length all ∙ length-append (batches_of (stores_in log)) (b ∷ []) in
+        let whole : cuts_in log ≡ before ++ batch ∷ [] =
+        prefix_whole (before ++ batch ∷ []) (cuts_in log) there (omega (arith, one, length-append before (batch ∷ []), as_many, size)) in
+        let same = fronts_same (batches_of (stores_in log)) before b batch (sym all ∙ whole) in
+        whole ∙ ap (λ (bs : List Batch). bs ++ batch ∷ []) (sym same.0)
+
+-- ---- acts of a beginning
+
+-- what is in a beginning is in the whole
+get_rises : {A : Type 0} (xs rest : List A) (k : ℕ) (x : A) → slice_get xs k ≡ Some x → slice_get (xs ++ rest) k ≡ Some x
+get_rises [] rest k x h = absurd cc
+get_rises (y ∷ xs) rest zero x h = h
+get_rises (y ∷ xs) rest (suc k) x h = get_rises xs rest k x h
+
+get_last : {A : Type 0} (xs : List A) (x : A) → slice_get (xs ++ x ∷ []) (length xs) ≡ Some x
+get_last [] x = refl
+get_last (y ∷ xs) x = get_last xs x
+
+pub stands_later : (xs ys : List Act) (a : Act) → IsPrefix xs ys → StandsIn xs a → StandsIn ys a
+stands_later xs ys a p s = (s.0, subst (λ (zs : List Act). slice_get zs s.0 ≡ Some a) p.1 (get_rises xs p.0 s.0 a s.1))
+
+pub stands_last : (xs ys : List Act) (a : Act) → ys ≡ xs ++ a ∷ [] → StandsIn ys a
+stands_last xs ys a is = (length xs, subst (λ (zs : List Act). slice_get zs (length xs) ≡ Some a) (sym is) (get_last xs a))
+
+-- with as many stores a beginning has all of them
+pub stores_same : (xs ys : List Act) → IsPrefix xs ys → length (stores_in ys) ≡ length (stores_in xs) → stores_in ys ≡ stores_in xs
+stores_same xs ys p same = prefix_whole (stores_in xs) (stores_in ys) (stores_rise xs ys p) same
+
+-- a batch that is stored next is noted
+pub note_adds : (old new : List Act) (batch : Batch) (moment stored : ℕ) → stored ≡ length (stores_in old) → (c : ComesAfter old (Stored batch moment) new) → length (stores_in c.earlier) ≡ stored
+    → stores_in new ≡ stores_in old ++ (batch, moment) ∷ []
+note_adds old new batch moment stored count c same =
+    ap stores_in c.is ∙ stores_append c.earlier (Stored batch moment ∷ []) ∙ ap (λ (s : List (Batch × ℕ)). s ++ (batch, moment) ∷ []) (stores_same old c.earlier c.seen (same ∙ count))
+
+-- with another number of stores the whole has more than the beginning
+pub stores_more : (xs ys : List Act) → IsPrefix xs ys → (length (stores_in ys) ≡ length (stores_in xs) → ⊥) → HasMore (stores_in xs) (stores_in ys)
+stores_more xs ys p other = by (stores_in p.0) (sym (stores_append xs p.0) ∙ ap stores_in p.1)
+  where
+    by : (rest : List (Batch × ℕ)) → stores_in xs ++ rest ≡ stores_in ys → HasMore (stores_in xs) (stores_in ys)
+    by [] is = absurd (other (ap length (sym is ∙ append-nil (stores_in xs))))
+    by (s ∷ rest) is = (s, rest, sym is)
+
+-- ---- answers that were told
+
+pub each_later : (rs : List Receipt) (xs ys : List Act) → IsPrefix xs ys → EachTold rs xs → EachTold rs ys
+each_later [] xs ys p told = tt
+each_later (r ∷ rs) xs ys p told = (stands_later xs ys (Told r) p told.0, each_later rs xs ys p told.1)
+
+pub each_both : (rs ts : List Receipt) (acts : List Act) → EachTold rs acts → EachTold ts acts → EachTold (rs ++ ts) acts
+each_both [] ts acts one two = two
+each_both (r ∷ rs) ts acts one two = (one.0, each_both rs ts acts one.1 two)
+
+told_option : (o : Option Receipt) (xs ys : List Act) → IsPrefix xs ys → IfSome o (λ r. StandsIn xs (Told r)) → IfSome o (λ r. StandsIn ys (Told r))
+told_option None xs ys p told = tt
+told_option (Some r) xs ys p told = stands_later xs ys (Told r) p told
+
+pub was_later : (m : Mail) (xs ys : List Act) → IsPrefix xs ys → WasTold m xs → WasTold m ys
+was_later m xs ys p told = told_option (receipt_of m) xs ys p told
+
+pub told_later : (ms : List Mail) (xs ys : List Act) → IsPrefix xs ys → AreTold ms xs → AreTold ms ys
+told_later [] xs ys p told = tt
+told_later (m ∷ ms) xs ys p told = (was_later m xs ys p told.0, told_later ms xs ys p told.1)
+
+pub told_both : (ms ns : List Mail) (xs ys : List Act) → IsPrefix xs ys → AreTold ms xs → AreTold ns ys → AreTold (ms ++ ns) ys
+told_both [] ns xs ys p one two = two
+told_both (m ∷ ms) ns xs ys p one two = (was_later m xs ys p one.0, told_both ms ns xs ys p one.1 two)
+
+each_option : (o : Option Receipt) (rs : List Receipt) (acts : List Act) → IfSome o (λ r. StandsIn acts (Told r)) → EachTold rs acts → EachTold (cons_option o rs) acts
+each_option None rs acts one all = all
+each_option (Some r) rs acts one all = (one, all)
+
+-- the receipts of mails
+each_of : (ms : List Mail) (acts : List Act) → AreTold ms acts → EachTold (filter_map receipt_of ms) acts
+each_of [] acts told = tt
+each_of (m ∷ ms) acts told = each_option (receipt_of m) (filter_map receipt_of ms) acts told.0 (each_of ms acts told.1)
+
+each_first : (n : ℕ) (rs : List Receipt) (acts : List Act) → EachTold rs acts → EachTold (take n rs) acts
+each_first zero rs acts told = tt
+each_first (suc n) [] acts told = tt
+each_first (suc n) (r ∷ rs) acts told = (told.0, each_first n rs acts told.1)
+
+pub receipts_told : (kept : List Receipt) (ms : List Mail) (acts : List Act) → kept ≡ take 1024 (filter_map receipt_of ms) → AreTold ms acts → EachTold kept acts
+receipts_told kept ms acts is told = subst (λ (rs : List Receipt). EachTold rs acts) (sym is) (each_first 1024 (filter_map receipt_of ms) acts (each_of ms acts told))
+
+-- the receipts of another side, added to those of one
+pub gathered_told : {A E : Type 0} (added : Result A E) (old new : ReceiptList) (others slice : List Receipt) (xs ys zs : List Act) → slice ≡ others → OnOk added (new ≡ record old { items = old.items ++ slice })
+    → OnErr added (new ≡ record old { whole = false }) → IsPrefix xs zs → IsPrefix ys zs → EachTold old.items xs → EachTold others ys → EachTold new.items zs
+gathered_told (Ok a) old new others slice xs ys zs same ok err p q one two =
+    subst (λ (rs : List Receipt). EachTold rs zs) (ap (λ (rs : List Receipt). old.items ++ rs) (sym same) ∙ sym (ap (λ (l : ReceiptList). l.items) ok))
+    (each_both old.items others zs (each_later old.items xs zs p one) (each_later others ys zs q two))
+gathered_told (Err e) old new others slice xs ys zs same ok err p q one two =
+    subst (λ (rs : List Receipt). EachTold rs zs) (sym (ap (λ (l : ReceiptList). l.items) err)) (each_later old.items xs zs p one)

@@ -1,0 +1,146 @@
+-- The steps on a hall's history keep its rule.
+use Rattle.std.proofs.Common.{◌≡◌, ℕ, ◌+◌, ◌<◌, ◌==◌, Bool, true, false, List, [], ◌∷◌, ◌++◌, length, refl, ap, sym, ◌∙◌, subst, arith, inl, length-append, None}
+use Rattle.std.proofs.lemmas.List.{append-nil}
+use Rattle.std.proofs.lemmas.Bool.Decides.{nat_tests}
+use mathlib.Core.List.{IsPrefix}
+use prog.Atomic.{either}
+use Rattle.logbook.specs.Pages.{Cell, cell, keeps, no_nib, step, Moves, Goes}
+use Rattle.fe_state.specs.declared.batch.Batch.{Batch}
+use Rattle.fe_history.specs.declared.act.Act.{Act}
+use Rattle.fe_history.specs.declared.act.Act.TheVariants.{Cut, Stored, Told}
+use Rattle.fe_history.specs.declared.receipt.Receipt.{Receipt}
+use Rattle.fe_history.specs.Acts.{IsLegal, MayCome, WasCut, cuts_in, stores_in}
+use Rattle.fe_history.specs.Rules.{IsKept, Adds, AddsNext, CutsAfter, CutsNext, Counts}
+use Rattle.fe_history.proofs.Acts.{cut_may, cuts_append, legal_append, store_may, stores_append, told_may}
+
+abbrev pub shown : List Act → List Act
+shown log = []
+
+abbrev pub moved : List Act → List Act → ℕ → Type 0
+moved xs ys n = Unit {0}
+
+-- the two words
+abbrev cells : ℕ → ℕ → List Cell
+cells stores cuts = (stores, true) ∷ (cuts, true) ∷ []
+
+kept_with : (log : List Act) (stores cuts : ℕ) → stores ≡ length (stores_in log) → cuts ≡ length (cuts_in log) → IsLegal log → IsKept (cells stores cuts) log
+kept_with log stores cuts s c legal = record { words = ap (λ (n : ℕ). cells n cuts) s ∙ ap (λ (n : ℕ). cells (length (stores_in log)) n) c; legal = legal }
+
+-- an act that is neither a cut nor a store
+told_stores : (log : List Act) (r : Receipt) → length (stores_in log) ≡ length (stores_in (log ++ Told r ∷ []))
+told_stores log r = ap length (sym (stores_append log (Told r ∷ []) ∙ append-nil (stores_in log)))
+
+told_cuts : (log : List Act) (r : Receipt) → length (cuts_in log) ≡ length (cuts_in (log ++ Told r ∷ []))
+told_cuts log r = ap length (sym (cuts_append log (Told r ∷ []) ∙ append-nil (cuts_in log)))
+
+pub tells_moves : (v : List Act) (r : Receipt) → MayCome v (Told r) → Moves IsKept shown moved 0 (v, (no_nib, None)) (λ n. n) (Adds (step 0 0 0 (Told r)) (v, (no_nib, None)))
+tells_moves v r may cs log kept pre away =
+    let P : List Cell → Type 0 = λ c. (0 < length c) × ((cell c 0).1 ≡ true) × Goes IsKept shown moved 0 (v, (no_nib, None)) (λ n. n) (Adds (step 0 0 0 (Told r)) (v, (no_nib, None))) c log in
+    let legal' : IsLegal (log ++ Told r ∷ []) = legal_append log (Told r) kept.legal (told_may v log r pre may) in
+    subst P (sym kept.words) (
+      omega arith,
+      refl,
+      (
+        keeps,
+        Told r ∷ [],
+        None,
+        tt,
+        kept_with (log ++ Told r ∷ []) (length (stores_in log)) (length (cuts_in log)) (told_stores log r) (told_cuts log r) legal',
+        inl (refl, refl),
+        (record { earlier = log; seen = pre; is = refl }, legal'),
+      ),
+    )
+
+pub counts_moves : (v : List Act) (ask : Act) → Moves IsKept shown moved 0 (v, (no_nib, None)) (λ n. n) (Counts (step 0 0 0 ask) (v, (no_nib, None)))
+counts_moves v ask cs log kept pre away =
+    let P : List Cell → Type 0 = λ c. (0 < length c) × ((cell c 0).1 ≡ true) × Goes IsKept shown moved 0 (v, (no_nib, None)) (λ n. n) (Counts (step 0 0 0 ask) (v, (no_nib, None))) c log in
+    let all : log ≡ log ++ [] = sym (append-nil log) in
+    let legal' : IsLegal (log ++ []) = subst IsLegal all kept.legal in
+    subst P (sym kept.words) (
+      omega arith,
+      refl,
+      (
+        keeps,
+        [],
+        None,
+        tt,
+        kept_with (log ++ []) (length (stores_in log)) (length (cuts_in log)) (ap (λ (l : List Act). length (stores_in l)) all) (ap (λ (l : List Act). length (cuts_in l)) all) legal',
+        inl (refl, refl),
+        (ap (λ (l : List Act). length (stores_in l)) (sym all), legal'),
+      ),
+    )
+
+-- ---- stores
+
+stores_goes : (log v : List Act) (batch : Batch) (moment old : ℕ) → WasCut v old batch → IsLegal log → IsPrefix v log → (b : Bool) → (length (stores_in log) == old) ≡ b
+    → Goes IsKept shown moved 0 (v, (no_nib, None)) (λ n. either (n == old) (old + 1) n) (AddsNext (step 0 old (old + 1) (Stored batch moment)) (v, (no_nib, None))) (cells (length (stores_in log)) (length (cuts_in log))) log
+stores_goes log v batch moment old was legal pre true is =
+    let here : length (stores_in log) ≡ old = grind (arith, nat_tests) in
+    let legal' : IsLegal (log ++ Stored batch moment ∷ []) = legal_append log (Stored batch moment) legal (store_may v log old moment batch was pre legal here) in
+    let one : length (stores_in (log ++ Stored batch moment ∷ [])) ≡ length (stores_in log) + 1 =
+    ap length (stores_append log (Stored batch moment ∷ [])) ∙ length-append (stores_in log) ((batch, moment) ∷ []) in
+    let stores : either (length (stores_in log) == old) (old + 1) (length (stores_in log)) ≡ length (stores_in (log ++ Stored batch moment ∷ [])) = rw is (omega (arith, here, one)) in
+    let cuts : length (cuts_in log) ≡ length (cuts_in (log ++ Stored batch moment ∷ [])) = ap length (sym (cuts_append log (Stored batch moment ∷ []) ∙ append-nil (cuts_in log))) in (
+      keeps,
+      Stored batch moment ∷ [],
+      None,
+      tt,
+      kept_with (log ++ Stored batch moment ∷ []) (either (length (stores_in log) == old) (old + 1) (length (stores_in log))) (length (cuts_in log)) stores cuts legal',
+      inl (refl, refl),
+      rw is ((record { earlier = log; seen = pre; is = refl }, here), legal'),
+    )
+stores_goes log v batch moment old was legal pre false is =
+    let all : log ≡ log ++ [] = sym (append-nil log) in
+    let legal' : IsLegal (log ++ []) = subst IsLegal all legal in
+    let stores : either (length (stores_in log) == old) (old + 1) (length (stores_in log)) ≡ length (stores_in (log ++ [])) = rw is (ap (λ (l : List Act). length (stores_in l)) all) in (
+      keeps,
+      [],
+      None,
+      tt,
+      kept_with (log ++ []) (either (length (stores_in log) == old) (old + 1) (length (stores_in log))) (length (cuts_in log)) stores (ap (λ (l : List Act). length (cuts_in l)) all) legal',
+      inl (refl, refl),
+      rw is (tt, legal'),
+    )
+
+pub stores_moves : (v : List Act) (batch : Batch) (moment old : ℕ) → WasCut v old batch
+    → Moves IsKept shown moved 0 (v, (no_nib, None)) (λ n. either (n == old) (old + 1) n) (AddsNext (step 0 old (old + 1) (Stored batch moment)) (v, (no_nib, None)))
+stores_moves v batch moment old was cs log kept pre away =
+    let P : List Cell → Type 0 = λ c. (0 < length c) × ((cell c 0).1 ≡ true) × Goes IsKept shown moved 0 (v, (no_nib, None)) (λ n. either (n == old) (old + 1) n) (AddsNext (step 0 old (old + 1) (Stored batch moment)) (v, (no_nib, None))) c log in
+    subst P (sym kept.words) (omega arith, refl, stores_goes log v batch moment old was kept.legal pre (length (stores_in log) == old) refl)
+
+-- ---- cuts
+
+cuts_goes : (log v : List Act) (batch : Batch) (old : ℕ) → CutsAfter v old batch → IsLegal log → IsPrefix v log → (b : Bool) → (length (cuts_in log) == old) ≡ b
+    → Goes IsKept shown moved 1 (v, (no_nib, None)) (λ n. either (n == old) (old + 1) n) (CutsNext (step 1 old (old + 1) (Cut batch)) (v, (no_nib, None))) (cells (length (stores_in log)) (length (cuts_in log))) log
+cuts_goes log v batch old next legal pre true is =
+    let here : length (cuts_in log) ≡ old = grind (arith, nat_tests) in
+    let legal' : IsLegal (log ++ Cut batch ∷ []) = legal_append log (Cut batch) legal (cut_may v log old batch next pre legal here) in
+    let one : length (cuts_in (log ++ Cut batch ∷ [])) ≡ length (cuts_in log) + 1 = ap length (cuts_append log (Cut batch ∷ [])) ∙ length-append (cuts_in log) (batch ∷ []) in
+    let cuts : either (length (cuts_in log) == old) (old + 1) (length (cuts_in log)) ≡ length (cuts_in (log ++ Cut batch ∷ [])) = rw is (omega (arith, here, one)) in
+    let stores : length (stores_in log) ≡ length (stores_in (log ++ Cut batch ∷ [])) = ap length (sym (stores_append log (Cut batch ∷ []) ∙ append-nil (stores_in log))) in (
+      keeps,
+      Cut batch ∷ [],
+      None,
+      tt,
+      kept_with (log ++ Cut batch ∷ []) (length (stores_in log)) (either (length (cuts_in log) == old) (old + 1) (length (cuts_in log))) stores cuts legal',
+      inl (refl, refl),
+      rw is ((record { earlier = log; seen = pre; is = refl }, here), legal'),
+    )
+cuts_goes log v batch old next legal pre false is =
+    let all : log ≡ log ++ [] = sym (append-nil log) in
+    let legal' : IsLegal (log ++ []) = subst IsLegal all legal in
+    let cuts : either (length (cuts_in log) == old) (old + 1) (length (cuts_in log)) ≡ length (cuts_in (log ++ [])) = rw is (ap (λ (l : List Act). length (cuts_in l)) all) in (
+      keeps,
+      [],
+      None,
+      tt,
+      kept_with (log ++ []) (length (stores_in log)) (either (length (cuts_in log) == old) (old + 1) (length (cuts_in log))) (ap (λ (l : List Act). length (stores_in l)) all) cuts legal',
+      inl (refl, refl),
+      rw is (tt, legal'),
+    )
+
+pub cuts_moves : (v : List Act) (batch : Batch) (old : ℕ) → CutsAfter v old batch
+    → Moves IsKept shown moved 1 (v, (no_nib, None)) (λ n. either (n == old) (old + 1) n) (CutsNext (step 1 old (old + 1) (Cut batch)) (v, (no_nib, None)))
+cuts_moves v batch old next cs log kept pre away =
+    let P : List Cell → Type 0 = λ c. (1 < length c) × ((cell c 1).1 ≡ true) × Goes IsKept shown moved 1 (v, (no_nib, None)) (λ n. either (n == old) (old + 1) n) (CutsNext (step 1 old (old + 1) (Cut batch)) (v, (no_nib, None))) c log in
+    subst P (sym kept.words) (omega arith, refl, cuts_goes log v batch old next kept.legal pre (length (cuts_in log) == old) refl)

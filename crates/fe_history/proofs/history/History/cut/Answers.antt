@@ -1,0 +1,21 @@
+use Rattle.std.proofs.Common.{sym, ◌∙◌, ap}
+use Rattle.fe_history.specs.Rules.{pending_batch}
+use Rattle.fe_history.proofs.Moves.{cuts_moves}
+use Rattle.fe_history.proofs.history.History.cut.Goals as goal
+
+pub compare_exchange-found-requires : goal.compare_exchange-found-requires
+compare_exchange-found-requires g c =
+    let h = c.args.chronicle.now.cuts_are in
+    let offer = c.plain-offer.ensures in
+    let pen = c.no_pen-pen.ensures in (
+      ap (λ w. w.tracked) h,
+      c.self.invariant.0 ∙ sym (ap (λ w. w.book) h),
+      pen.0 ∙ (c.self.invariant.0 ∙ sym (ap (λ w. w.book) h)),
+      offer.0,
+      rw (ap (λ w. w.key) h, pen.1, offer.1, offer.3) (cuts_moves c.self.inside.seen.log (pending_batch c.args.front.now) c.args.count (rw c.self.view_is c.requires.next)),
+    )
+
+pub returns-clause-cut : goal.returns-clause-cut
+returns-clause-cut g c = λ is.
+    let then = rw (c.plain-offer.ensures.1, is) at c.compare_exchange-found.ensures.7 in
+    rw (← c.self.view_is) then.0

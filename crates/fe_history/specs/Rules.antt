@@ -1,0 +1,64 @@
+-- The rule of a hall's history, and what the steps on it tell.
+use Rattle.std.specs.Prelude.{ℕ, ◌≡◌, ◌<◌, ◌==◌, true, List, [], ◌∷◌, ◌++◌, length, MatchBool}
+use mathlib.Core.List.{IsPrefix}
+use Rattle.logbook.specs.Pages.{Cell, Step, View, Book, Named}
+use Rattle.fe_state.specs.State.{ServerState}
+use Rattle.fe_state.specs.declared.batch.Batch.{Batch}
+use Rattle.fe_front.specs.Front.{FrontState}
+use Rattle.fe_history.specs.declared.act.Act.{Act}
+use Rattle.fe_history.specs.declared.act.Act.TheVariants.{Began}
+use Rattle.fe_history.specs.Acts.{IsLegal, batches_of, cuts_in, place_after, stores_in}
+
+-- the words are how many batches were stored, and how many were cut; and what happened is legal
+pub record IsKept (cells : List Cell) (log : List Act) : Type 0 where
+  pub words : cells ≡ (length (stores_in log), true) ∷ (length (cuts_in log), true) ∷ []
+  pub legal : IsLegal log
+
+-- the words of a book
+abbrev pub stores_of : Book → Named
+stores_of b = record { tracked = true; key = 0; book = b }
+
+abbrev pub cuts_of : Book → Named
+cuts_of b = record { tracked = true; key = 1; book = b }
+
+-- a book that has no name yet, and its history
+pub record Unnamed : Type 0 where
+  pub book : Book
+  pub acts : List Act
+
+-- all that is pending in a front, as the batch that a cut hands out
+abbrev pub pending_batch : FrontState → Batch
+pending_batch f = record { first = f.durable; entries = f.service.pending }
+
+-- A batch may be cut after this many others: they were stored in this history, and it goes on where they end.
+pub record CutsAfter (acts : List Act) (count : ℕ) (batch : Batch) : Type 0 where
+  pub begun : ServerState
+  pub past : List Act
+  pub begins : acts ≡ Began begun ∷ past
+  pub before : List Batch
+  pub stored : IsPrefix before (batches_of (stores_in acts))
+  pub counted : count ≡ length before
+  pub first : batch.first ≡ place_after begun before
+  pub some : 0 < length batch.entries
+
+-- the act came after all of these, and maybe after more
+pub record ComesAfter (before : List Act) (act : Act) (after : List Act) : Type 0 where
+  pub earlier : List Act
+  pub seen : IsPrefix before earlier
+  pub is : after ≡ earlier ++ act ∷ []
+
+-- an act was added
+abbrev pub Adds : Step Act → View Act ℕ → ℕ → View Act ℕ → Type 0
+Adds s v found w = ComesAfter v.0 s.ask w.0 × IsLegal w.0
+
+-- it was added if as many batches had been cut as were expected
+abbrev pub CutsNext : Step Act → View Act ℕ → ℕ → View Act ℕ → Type 0
+CutsNext s v found w = MatchBool (found == s.old) ((c : ComesAfter v.0 s.ask w.0) × (length (cuts_in c.earlier) ≡ s.old)) (Unit {0}) × IsLegal w.0
+
+-- it was added if as many had been stored
+abbrev pub AddsNext : Step Act → View Act ℕ → ℕ → View Act ℕ → Type 0
+AddsNext s v found w = MatchBool (found == s.old) ((c : ComesAfter v.0 s.ask w.0) × (length (stores_in c.earlier) ≡ s.old)) (Unit {0}) × IsLegal w.0
+
+-- how many batches were stored
+abbrev pub Counts : Step Act → View Act ℕ → ℕ → View Act ℕ → Type 0
+Counts s v found w = (length (stores_in w.0) ≡ found) × IsLegal w.0

@@ -1,0 +1,98 @@
+ghost use Rattle.std.specs.Prelude.{◌≡◌, ◌++◌, [], true, false, OnOk, OnErr};
+ghost use mathlib.Core.List.{IsPrefix};
+ghost use Rattle.fe_history.specs.Acts.{EachTold, Gathered, Receipts as OfSide};
+
+use crate::history::History;
+use crate::receipt::Receipt;
+use crate::receipt_list::ReceiptList;
+use crate::receipts::Receipts;
+use crate::tally::Tally;
+use std::alloc::{AllocError, Global};
+use std::marker::Model;
+
+/// The receipts of the write sides of a hall that ended, and the history in which each of their answers was told.
+#[derive(Drop)]
+pub struct Gathered<M: Tally> {
+    list: ReceiptList,
+    history: History<M>,
+}
+
+impl<M: Tally> Model for Gathered<M> {
+    ghost use Rattle.std.specs.Coded.{codes};
+    ghost use Rattle.fe_history.specs.contracts.act.Act as acts;
+    ghost use Rattle.fe_history.specs.Acts.{EachTold, Gathered};
+
+    ghost Value = { Gathered };
+
+    ghost coded = { Prim.hlevel (codes, acts.the_row.coded) };
+
+    ghost view = { λ g. record { items = g.list.items; whole = g.list.whole; history = g.history } };
+
+    ghost invariant = { λ g. EachTold g.list.items g.history };
+}
+
+impl<M: Tally> Gathered<M> {
+    /// No side has ended.
+    pub fn none(alloc: Global, history: History<M>) -> Gathered<M>
+        ensures { result ≡ record { items = []; whole = true; history = history } }
+    {
+        Gathered {
+            list: ReceiptList::new(alloc),
+            history,
+        }
+    }
+
+    /// Adds the receipts of another side of the same hall. Where there is no memory it is not whole any more.
+    pub fn add(&mut self, other: Receipts<M>) -> Result<(), AllocError>
+        ensures ok { OnOk result
+            ((self.new.items ≡ self.old.items ++ other.items) × (self.new.whole ≡ self.old.whole)) }
+        ensures err { OnErr result ((self.new.items ≡ self.old.items) × (self.new.whole ≡ false)) }
+        ensures this { IsPrefix self.old.history self.new.history }
+        ensures that { IsPrefix other.history self.new.history }
+    {
+        let (items, history) = other.into_parts();
+        self.history.learn(&history);
+        drop(history);
+        let added = self.list.add(items.as_slice());
+        drop(items);
+        added
+    }
+
+    /// Learns what another side of the same hall saw, and drops its receipts: it is not whole any more.
+    pub fn learn(&mut self, other: Receipts<M>)
+        ensures items { self.new.items ≡ self.old.items }
+        ensures whole { self.new.whole ≡ false }
+        ensures this { IsPrefix self.old.history self.new.history }
+        ensures that { IsPrefix other.history self.new.history }
+    {
+        let (items, history) = other.into_parts();
+        drop(items);
+        self.history.learn(&history);
+        drop(history);
+        self.list.miss();
+    }
+
+    /// Whether it has the receipts of each side that was added or learned from.
+    pub fn is_whole(&self) -> bool
+        ensures { result ≡ self.now.whole }
+    {
+        self.list.is_whole()
+    }
+
+    pub fn as_slice(&self) -> &[Receipt]
+        ensures { result.now ≡ self.now.items }
+    {
+        self.list.as_slice()
+    }
+
+    /// The receipts, and the history with their answers.
+    pub fn into_parts(self) -> (ReceiptList, History<M>)
+        ensures items { result.0.items ≡ self.items }
+        ensures whole { result.0.whole ≡ self.whole }
+        ensures history { result.1 ≡ self.history }
+        ensures told { EachTold result.0.items result.1 }
+    {
+        let Gathered { list, history } = self;
+        (list, history)
+    }
+}

@@ -1,0 +1,365 @@
+//! The history of a hall. It exists in proofs alone, except for two words that count the batches that were stored and cut.
+
+ghost use Rattle.std.specs.Prelude.{◌≡◌, ◌^◌, ◌==◌, ◌<◌, ◌≤◌, ◌∷◌, ◌++◌, [], true, length, IsTrue};
+ghost use mathlib.Core.List.{IsPrefix};
+ghost use Rattle.fe_history.specs.declared.act.Act.TheVariants as act;
+ghost use Rattle.fe_history.specs.Acts.{IsLegal, IsStored, MayCome, WasCut, cuts_in, stores_in};
+ghost use Rattle.fe_history.specs.Rules.{ComesAfter, CutsAfter, cuts_of, pending_batch, stores_of};
+
+use crate::account::Account;
+use crate::act::Act;
+use crate::receipt::Receipt;
+use crate::tally::Tally;
+use fe_disk::Disk;
+use fe_front::Front;
+use fe_keeper::Keeper;
+use fe_state::{Answer, Batch, State};
+use logbook::{Gain, Offer, Opening, Plain, Play, Rule, Seen, Start, Word};
+use std::alloc::Global;
+use std::marker::{Model, PhantomData};
+
+/// The rule of the history: its words count the batches that were stored and cut, and each act may follow those before it.
+pub struct Law;
+
+impl Rule<Act, u64> for Law {
+    ghost use Rattle.std.specs.Prelude.{[]};
+    ghost use base.Fml.{ftrue};
+    ghost use Rattle.fe_history.specs.Rules.{IsKept};
+
+    ghost holds = { λ cells log. IsKept cells log };
+
+    ghost first = { [] };
+
+    ghost hinted = { λ n log. Unit {0} };
+
+    ghost shows = { λ log. [] };
+
+    ghost keeps = { λ names log. ftrue };
+
+    ghost moves = { λ ask before after answer. Unit {0} };
+}
+
+/// What a side that adds an act has of it: nothing.
+struct Nothing;
+
+impl Gain<Act, u64> for Nothing {
+    ghost use base.Fml.{ftrue};
+
+    ghost after = { λ names about answer. ftrue };
+}
+
+/// How a history begins.
+struct Begin;
+
+impl Opening<State, Act> for Begin {
+    ghost use Rattle.std.specs.Prelude.{[], ◌∷◌};
+    ghost use Rattle.fe_history.specs.declared.act.Act.TheVariants.{Began};
+
+    ghost log = { λ n state. Began state ∷ [] };
+}
+
+/// The step that adds an answer.
+struct Telling;
+
+impl Play<Act, u64> for Telling {
+    ghost use Rattle.fe_history.specs.Rules.{Adds};
+
+    ghost then = { Adds };
+}
+
+impl Plain<Receipt, Act, u64> for Telling {
+    ghost use Rattle.std.specs.Prelude.{None};
+    ghost use Rattle.fe_history.specs.declared.act.Act.TheVariants.{Told};
+
+    ghost ask = { λ receipt. Told receipt };
+
+    ghost state = { λ receipt. None };
+}
+
+/// The step that adds a cut: of all that is pending in a front.
+struct Cutting;
+
+impl Play<Act, u64> for Cutting {
+    ghost use Rattle.fe_history.specs.Rules.{CutsNext};
+
+    ghost then = { CutsNext };
+}
+
+impl Plain<Front, Act, u64> for Cutting {
+    ghost use Rattle.std.specs.Prelude.{None};
+    ghost use Rattle.fe_history.specs.declared.act.Act.TheVariants.{Cut};
+    ghost use Rattle.fe_history.specs.Rules.{pending_batch};
+
+    ghost ask = { λ front. Cut (pending_batch front) };
+
+    ghost state = { λ front. None };
+}
+
+/// A batch that a keeper has stored.
+#[derive(Clone, Copy)]
+struct Appended<'a, D: Disk> {
+    batch: &'a Batch,
+    keeper: &'a Keeper<D>,
+}
+
+/// The step that adds a store: of that batch, at the moment of the keeper's disk.
+struct Storing;
+
+impl Play<Act, u64> for Storing {
+    ghost use Rattle.fe_history.specs.Rules.{AddsNext};
+
+    ghost then = { AddsNext };
+}
+
+impl<'a, D: Disk> Plain<Appended<'a, D>, Act, u64> for Storing {
+    ghost use Rattle.std.specs.Prelude.{None};
+    ghost use Rattle.fe_history.specs.declared.act.Act.TheVariants.{Stored};
+
+    ghost ask = { λ a. Stored a.batch.now (D.moment a.keeper.now.store.disk) };
+
+    ghost state = { λ a. None };
+}
+
+/// The step that counts the stores.
+struct Counting;
+
+impl Play<Act, u64> for Counting {
+    ghost use Rattle.fe_history.specs.Rules.{Counts};
+
+    ghost then = { Counts };
+}
+
+/// A history that has no name yet, and in which nothing happened. Each call of a program names one.
+#[derive(Drop)]
+pub struct NewHistory {
+    stores: Word<Act, u64, Law>,
+    cuts: Word<Act, u64, Law>,
+    seen: Seen<Act, u64, Law>,
+}
+
+impl Model for NewHistory {
+    ghost use Rattle.std.specs.Coded.{codes};
+    ghost use Rattle.fe_history.specs.contracts.act.Act as acts;
+    ghost use Rattle.std.specs.Prelude.{◌≡◌};
+    ghost use Rattle.fe_history.specs.Acts.{IsLegal};
+    ghost use Rattle.fe_history.specs.Rules.{Unnamed, cuts_of, stores_of};
+
+    ghost Value = { Unnamed };
+
+    ghost coded = { Prim.hlevel (codes, acts.the_row.coded) };
+
+    ghost view = { λ n. record { book = n.seen.book; acts = n.seen.log } };
+
+    ghost invariant = { λ n. (n.stores ≡ stores_of n.seen.book) × (n.cuts ≡ cuts_of n.seen.book) × IsLegal n.seen.log };
+}
+
+impl NewHistory {
+    /// It begins over a store of this state.
+    pub fn new(state: &State) -> NewHistory
+        ensures { result.acts ≡ act.Began state.now ∷ [] }
+    {
+        // It names the state's limits.
+        let _ = state.place();
+        let (seen, mut pens) = Seen::open_row::<State, Begin>(state, Start::alone(), 2);
+        let mut first = pens.take();
+        let mut second = pens.take();
+        NewHistory {
+            stores: Word::tracked(0, &mut first),
+            cuts: Word::tracked(0, &mut second),
+            seen,
+        }
+    }
+
+    /// The account of a hall that did not begin: no receipts, and nothing happened.
+    pub fn account(&self, alloc: Global) -> Account
+        ensures account { result ≡ record { receipts = []; history = self.now.acts; own = true } }
+        ensures legal { IsLegal self.now.acts }
+    {
+        Account::new(Vec::new(alloc), self.seen.again())
+    }
+
+    /// Its words, and what was seen of it.
+    pub fn named<M: Tally>(self) -> (Chronicle<M>, History<M>)
+        requires { self.book ≡ M.book }
+        ensures { result.1 ≡ self.acts }
+    {
+        let NewHistory { stores, cuts, seen } = self;
+        (
+            Chronicle {
+                stores,
+                cuts,
+                of: PhantomData,
+            },
+            History {
+                seen,
+                of: PhantomData,
+            },
+        )
+    }
+}
+
+/// The words of a hall's history, which all threads share.
+#[derive(Drop)]
+pub struct Chronicle<M: Tally> {
+    stores: Word<Act, u64, Law>,
+    cuts: Word<Act, u64, Law>,
+    of: PhantomData<M>,
+    ghost stores_are: { stores ≡ stores_of M.book },
+    ghost cuts_are: { cuts ≡ cuts_of M.book },
+}
+
+/// A beginning of a hall's history, as a thread has seen it. Contracts see its acts.
+#[derive(Drop)]
+pub struct History<M: Tally> {
+    seen: Seen<Act, u64, Law>,
+    of: PhantomData<M>,
+}
+
+impl<M: Tally> Model for History<M> {
+    ghost use Rattle.std.specs.Coded.{codes};
+    ghost use Rattle.fe_history.specs.contracts.act.Act as acts;
+    ghost use Rattle.std.specs.Prelude.{◌≡◌, List};
+    ghost use Rattle.fe_history.specs.declared.act.Act.{Act};
+    ghost use Rattle.fe_history.specs.Acts.{IsLegal};
+
+    ghost Value = { List Act };
+
+    ghost coded = { Prim.hlevel (codes, acts.the_row.coded) };
+
+    ghost view = { λ h. h.seen.log };
+
+    ghost invariant = { λ h. (h.seen.book ≡ M.book) × IsLegal h.seen.log };
+}
+
+impl<M: Tally> History<M> {
+    /// A copy.
+    pub fn again(&self) -> History<M>
+        ensures same { result ≡ self.now }
+        ensures legal { IsLegal result }
+    {
+        History {
+            seen: self.seen.again(),
+            of: PhantomData,
+        }
+    }
+
+    /// The same, which is legal.
+    pub fn legal(self) -> History<M>
+        ensures same { result ≡ self }
+        ensures legal { IsLegal result }
+    {
+        let History { seen, of } = self;
+        History { seen, of }
+    }
+
+    /// Afterwards it is what both have seen.
+    pub fn learn(&mut self, other: &History<M>)
+        ensures this { IsPrefix self.old self.new }
+        ensures that { IsPrefix other.now self.new }
+        ensures legal { IsLegal self.new }
+    {
+        self.seen.learn(&other.seen);
+    }
+
+    /// Adds an answer, which is that of an entry that was stored before.
+    pub fn tell(&mut self, chronicle: &Chronicle<M>, receipt: Receipt)
+        requires { MayCome self.old (act.Told receipt) }
+        ensures { ComesAfter self.old (act.Told receipt) self.new }
+    {
+        let mut offer: Offer<Act, u64, Law, Nothing> = self
+            .seen
+            .plain::<Nothing, Receipt, Telling>(&receipt);
+        let _ = chronicle
+            .stores
+            .load::<Telling, Nothing>(&mut self.seen, &mut offer);
+    }
+
+    /// Adds a cut of all that is pending in a front, if the history has this many cuts so far. Whether it did.
+    pub fn cut(&mut self, chronicle: &Chronicle<M>, count: u64, front: &Front) -> bool
+        requires few { count < 2 ^ 63 }
+        requires next { CutsAfter self.old count (pending_batch front.now) }
+        ensures this { IsPrefix self.old self.new }
+        ensures legal { IsLegal self.new }
+        ensures cut { IsTrue result
+            → (c : ComesAfter self.old (act.Cut (pending_batch front.now)) self.new)
+            × (length (cuts_in c.earlier) ≡ count) }
+    {
+        let mut offer: Offer<Act, u64, Law, Nothing> = self
+            .seen
+            .plain::<Nothing, Front, Cutting>(front);
+        let mut pen = self.seen.no_pen();
+        let found = chronicle
+            .cuts
+            .compare_exchange::<Cutting, Nothing>(
+                count,
+                count + 1,
+                &mut self.seen,
+                &mut offer,
+                &mut pen,
+            );
+        found == count
+    }
+
+    /// Adds a batch that was cut, and that a keeper has just stored, if the history has this many stores so far. Whether it did.
+    pub(crate) fn store<D: Disk>(
+        &mut self,
+        chronicle: &Chronicle<M>,
+        stored: u64,
+        batch: &Batch,
+        keeper: &Keeper<D>,
+    ) -> bool
+        requires few { stored < 2 ^ 63 }
+        requires cut { WasCut self.old stored batch.now }
+        requires stored { IsStored batch.now keeper.now.state }
+        ensures this { IsPrefix self.old self.new }
+        ensures legal { IsLegal self.new }
+        ensures stored { IsTrue result
+            → (c : ComesAfter self.old (act.Stored batch.now (D.moment keeper.now.store.disk)) self.new)
+            × (length (stores_in c.earlier) ≡ stored) }
+    {
+        let appended = Appended { batch, keeper };
+        let mut offer: Offer<Act, u64, Law, Nothing> = self
+            .seen
+            .plain::<Nothing, Appended<'_, D>, Storing>(&appended);
+        let mut pen = self.seen.no_pen();
+        let found = chronicle
+            .stores
+            .compare_exchange::<Storing, Nothing>(
+                stored,
+                stored + 1,
+                &mut self.seen,
+                &mut offer,
+                &mut pen,
+            );
+        found == stored
+    }
+
+    /// How many batches were stored in all.
+    pub(crate) fn count(&mut self, chronicle: &Chronicle<M>) -> u64
+        ensures count { result ≡ length (stores_in self.new) }
+        ensures this { IsPrefix self.old self.new }
+        ensures legal { IsLegal self.new }
+    {
+        let none = Receipt {
+            session: 0,
+            number: 0,
+            answer: Answer::Done,
+            place: 0,
+        };
+        let mut offer: Offer<Act, u64, Law, Nothing> = self
+            .seen
+            .plain::<Nothing, Receipt, Telling>(&none);
+        chronicle
+            .stores
+            .load::<Counting, Nothing>(&mut self.seen, &mut offer)
+    }
+
+    /// What was seen, with no name.
+    pub(crate) fn into_seen(self) -> Seen<Act, u64, Law>
+        ensures same { result.log ≡ self }
+        ensures legal { IsLegal result.log }
+    {
+        let History { seen, of: _ } = self;
+        seen
+    }
+}

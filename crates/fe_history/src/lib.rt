@@ -1,0 +1,27 @@
+//! What happened in a hall, in the one order that its threads agree on, and what is left of it: the receipts of its answers.
+//!
+//! The history exists in proofs alone. Each thread has a beginning of it, and adds acts that may follow those before them: a batch is
+//! cut, a batch is stored, an answer is told. A receipt is compared with what the store keeps and with what clients sent.
+#![tactic(auto)]
+
+mod account;
+mod act;
+mod gathered;
+mod history;
+mod receipt;
+mod receipt_list;
+mod receipts;
+mod store_seat;
+mod strange;
+mod tally;
+
+pub use account::Account;
+pub use act::Act;
+pub use gathered::Gathered;
+pub use history::{Chronicle, History, NewHistory};
+pub use receipt::Receipt;
+pub use receipt_list::ReceiptList;
+pub use receipts::Receipts;
+pub use store_seat::{StoreSeat, Unnoted};
+pub use strange::first_strange;
+pub use tally::Tally;

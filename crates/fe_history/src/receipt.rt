@@ -1,0 +1,37 @@
+ghost use Rattle.std.specs.Prelude.{◌≡◌};
+ghost use Rattle.fe_history.specs.Receipts.{receipt_of};
+
+use fe_front::Mail;
+use fe_state::Answer;
+
+/// An answer that the write side of a connection took for its client.
+#[derive(Clone, Copy, PartialEq, Eq)]
+pub struct Receipt {
+    pub session: u64,
+    pub number: u64,
+    pub answer: Answer,
+    /// The place of the answer's entry in the history: how many entries come before it.
+    pub place: u64,
+}
+
+impl Receipt {
+    /// What is kept of a mail: an answer has a receipt.
+    pub fn of(mail: &Mail) -> Option<Receipt>
+        ensures { result ≡ receipt_of mail.now }
+    {
+        match mail {
+            Mail::Answer {
+                session,
+                number,
+                answer,
+                place,
+            } => Some(Receipt {
+                session: *session,
+                number: *number,
+                answer: *answer,
+                place: *place,
+            }),
+            _ => None,
+        }
+    }
+}

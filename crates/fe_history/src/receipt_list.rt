@@ -1,0 +1,81 @@
+ghost use Rattle.std.specs.Prelude.{◌≡◌, ◌++◌, [], false, true, OnOk, OnErr};
+
+use crate::receipt::Receipt;
+use std::alloc::{AllocError, Global};
+use std::marker::Model;
+
+/// Receipts of write sides. It is whole while it has those of each side that was added.
+#[derive(Drop)]
+pub struct ReceiptList {
+    items: Vec<Receipt>,
+    whole: bool,
+}
+
+impl Model for ReceiptList {
+    ghost use Rattle.fe_history.specs.Acts.{ReceiptList};
+
+    ghost Value = { ReceiptList };
+
+    ghost view = { λ l. record { items = l.items.items; whole = l.whole } };
+}
+
+impl ReceiptList {
+    /// Those of no side, none yet.
+    pub(crate) fn new(alloc: Global) -> ReceiptList
+        ensures { result ≡ record { items = []; whole = true } }
+    {
+        ReceiptList {
+            items: Vec::new(alloc),
+            whole: true,
+        }
+    }
+
+    /// Receipts that did not come from write sides.
+    pub fn of(items: Vec<Receipt>) -> ReceiptList
+        ensures { result ≡ record { items = items.items; whole = false } }
+    {
+        ReceiptList {
+            items,
+            whole: false,
+        }
+    }
+
+    /// Adds those of one side more.
+    pub(crate) fn add(&mut self, items: &[Receipt]) -> Result<(), AllocError>
+        ensures ok { OnOk result (self.new ≡ record self.old { items = self.old.items ++ items.now }) }
+        ensures err { OnErr result (self.new ≡ record self.old { whole = false }) }
+    {
+        let added = self.items.extend_from_slice(items);
+        if added.is_err() {
+            self.whole = false;
+        }
+        added
+    }
+
+    /// Those of one side more are not added.
+    pub(crate) fn miss(&mut self)
+        ensures { self.new ≡ record self.old { whole = false } }
+    {
+        self.whole = false;
+    }
+
+    /// Whether it has the receipts of each side that was added.
+    pub fn is_whole(&self) -> bool
+        ensures { result ≡ self.now.whole }
+    {
+        self.whole
+    }
+
+    pub fn as_slice(&self) -> &[Receipt]
+        ensures { result.now ≡ self.now.items }
+    {
+        self.items.as_slice()
+    }
+
+    pub fn into_items(self) -> Vec<Receipt>
+        ensures { result.items ≡ self.items }
+    {
+        let ReceiptList { items, .. } = self;
+        items
+    }
+}

@@ -1,0 +1,105 @@
+ghost use Rattle.std.specs.Prelude.{◌≡◌, ◌∷◌, ◌++◌, [], MatchBool, OnOk, OnErr};
+ghost use mathlib.Core.List.{IsPrefix};
+ghost use Rattle.fe_history.specs.Acts.{HasMore, IsLegal, IsStored, WasCut, stores_in};
+
+use crate::history::{Chronicle, History};
+use crate::tally::Tally;
+use fe_disk::Disk;
+use fe_keeper::Keeper;
+use fe_state::Batch;
+use std::marker::Model;
+
+/// How many batches a side stores at most, 2^62.
+const GROUPS: u64 = 4611686018427387904;
+
+/// Shows that another side noted a batch in the history, or this one 2^62. Only `StoreSeat::note` makes one.
+#[derive(Clone, Copy)]
+pub struct Unnoted(());
+
+/// The seat of a hall's committing side: contracts see the history, with the batches that it stored.
+#[derive(Drop)]
+pub struct StoreSeat<M: Tally> {
+    /// How many batches it stored.
+    stored: u64,
+    history: History<M>,
+}
+
+impl<M: Tally> Model for StoreSeat<M> {
+    ghost use Rattle.std.specs.Coded.{codes};
+    ghost use Rattle.fe_history.specs.contracts.act.Act as acts;
+    ghost use Rattle.std.specs.Prelude.{◌≡◌, List, length};
+    ghost use Rattle.fe_history.specs.declared.act.Act.{Act};
+    ghost use Rattle.fe_history.specs.Acts.{stores_in};
+
+    ghost Value = { List Act };
+
+    ghost coded = { Prim.hlevel (codes, acts.the_row.coded) };
+
+    ghost view = { λ s. s.history };
+
+    ghost invariant = { λ s. s.stored ≡ length (stores_in s.history) };
+}
+
+impl<M: Tally> StoreSeat<M> {
+    /// The seat of a hall that just began.
+    pub fn new(history: History<M>) -> StoreSeat<M>
+        requires { stores_in history ≡ [] }
+        ensures { result ≡ history }
+    {
+        StoreSeat { stored: 0, history }
+    }
+
+    /// Notes the batch that a keeper has just stored, and that was cut next after those noted so far. If another side noted a batch, or
+    /// this one 2^62, nothing changes.
+    pub fn note<D: Disk>(
+        &mut self,
+        chronicle: &Chronicle<M>,
+        batch: &Batch,
+        count: u64,
+        cuts: &History<M>,
+        keeper: &Keeper<D>,
+    ) -> Result<(), Unnoted>
+        requires cut { WasCut cuts.now count batch.now }
+        requires stored { IsStored batch.now keeper.now.state }
+        ensures this { IsPrefix self.old self.new }
+        ensures noted { OnOk result
+            (stores_in self.new ≡ stores_in self.old ++ (batch.now, D.moment keeper.now.store.disk) ∷ []) }
+        ensures unnoted { OnErr result (self.new ≡ self.old) }
+    {
+        if self.stored >= GROUPS || self.stored != count {
+            return Err(Unnoted(()));
+        }
+        let mut history = self.history.again();
+        history.learn(cuts);
+        if !history.store(chronicle, self.stored, batch, keeper) {
+            return Err(Unnoted(()));
+        }
+        self.stored += 1;
+        self.history = history;
+        Ok(())
+    }
+
+    pub fn history(&self) -> &History<M>
+        ensures { result.now ≡ self.now }
+    {
+        &self.history
+    }
+
+    /// All that this side and the other history saw, and whether this side noted every batch in it.
+    pub(crate) fn whole(self, chronicle: &Chronicle<M>, seen: History<M>) -> (History<M>, bool)
+        ensures this { IsPrefix self result.0 }
+        ensures seen { IsPrefix seen result.0 }
+        ensures legal { IsLegal result.0 }
+        ensures own { MatchBool result.1 (stores_in result.0 ≡ stores_in self)
+            (HasMore (stores_in self) (stores_in result.0)) }
+    {
+        let StoreSeat { stored, history } = self;
+        let mut all = history;
+        all.learn(&seen);
+        drop(seen);
+        if all.count(chronicle) != stored {
+            return (all, false);
+        }
+        (all, true)
+    }
+}

@@ -1,0 +1,32 @@
+use Rattle.std.proofs.Common.{arith, rules}
+use Rattle.std.specs.Prelude.{IsTrue}
+use Rattle.fe_shared.specs.Seats.{posts_more}
+use Rattle.fe_shared.proofs.Marks.{posted_few, posted_marked}
+use Rattle.fe_shared.proofs.Risings.{posted_goes, posted_steps}
+use Rattle.fe_shared.proofs.shared.Shared.post.Goals as goal
+
+-- each batch that was posted has an entry, and there are fewer than 2^63
+pub overflow_add-self : goal.overflow_add-self
+overflow_add-self g c =
+    let s = c.self.inside in
+    let few = posted_few s.front s.posted s.history c.self.invariant in
+    let tied = c.state.ensures.front.tied.place in
+    let limit = c.state.ensures.limits.place in
+    omega (arith, few, tied, limit)
+
+pub invariant_of-self-inside : goal.invariant_of-self-inside
+invariant_of-self-inside g c =
+    let s = c.self.inside in
+    let e = c.post_ringing.ensures in
+    let more : IsTrue (posts_more s.front.books c.args.batch) = search rules in
+    let goes = posted_goes s.front c.post_ringing.new.self c.args.batch c.post_ringing.result c.state.ensures.front s.open more e.refused e.posted e.err in
+    (goes.books, (omega (arith, s.calls_agree, goes.calls), (omega (arith, s.mails_agree, goes.taken), (s.few, (s.call_parts, (s.mail_parts, tt))))))
+
+pub invariant_of-self : goal.invariant_of-self
+invariant_of-self g c =
+    let s = c.self.inside in
+    let e = c.post_ringing.ensures in
+    let steps = posted_steps s.front c.post_ringing.new.self c.args.batch c.post_ringing.result e.refused e.posted in
+    let step = rw c.in-Ok.is at steps in
+    posted_marked s.front c.post_ringing.new.self c.args.batch s.posted s.history c.history.result.now c.learn.new.self c.learn.ensures.legal c.learn.ensures.this c.learn.ensures.that
+    (rw c.history.ensures c.requires.stored) c.state.ensures.front step.0 step.1.front c.self.invariant

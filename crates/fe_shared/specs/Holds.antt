@@ -1,0 +1,68 @@
+-- What a hold of a hall's lock did to the front, and why it did nothing.
+use Rattle.std.specs.Prelude.{◌≡◌, ◌⊎◌, ℕ, ◌≤◌, Bool, true, false, List, [], length, nat_lt, Option, Some, None}
+use Rattle.fe_mail.specs.Connections.{mails_on}
+use Rattle.fe_front.specs.Event as event
+use Rattle.fe_front.specs.Front.{FrontState, is_connected}
+use Rattle.fe_front.specs.Step.{FrontStep}
+use Rattle.fe_state.specs.declared.batch.Batch.{Batch}
+use Rattle.fe_front.specs.Posting.{IsOut}
+use Rattle.fe_history.specs.Acts.{WasCut}
+use Rattle.fe_history.specs.declared.act.Act.{Act}
+use Rattle.fe_shared.specs.Seats.{most_counted, posts_more}
+use Rattle.fe_shared.specs.declared.shared.batches.Cutting.{Cutting}
+use Rattle.fe_shared.specs.declared.shared.batches.Cutting.TheVariants as cutting
+use Rattle.fe_shared.specs.declared.shared.batches.Unposted.{Unposted}
+use Rattle.fe_shared.specs.declared.shared.batches.Unposted.TheVariants as unposted
+use Rattle.fe_shared.specs.declared.taking.Taking.{Taking}
+use Rattle.fe_shared.specs.declared.taking.Taking.TheVariants as taking
+
+-- whether a mail is in a connection's box
+abbrev pub has_mail : FrontState → ℕ → Bool
+has_mail f conn = nat_lt 0 (length (mails_on f.connections conn))
+
+-- the connection is gone, with its box and what waits of its session
+abbrev pub Leaves : FrontState → ℕ → FrontState → Type 0
+Leaves f conn g = (count : ℕ) × FrontStep f (event.Gone conn count) [] g
+
+-- Why no mail comes any more for a connection whose box is empty; `None`: one may come.
+abbrev pub Ends : FrontState → Bool → ℕ → Option Taking → Type 0
+Ends f stopped conn (Some (taking.Mail mail more)) = ⊥
+Ends f stopped conn (Some taking.Gone) = is_connected f conn ≡ false
+Ends f stopped conn (Some taking.Stopped) = (is_connected f conn ≡ true) × (stopped ≡ true)
+Ends f stopped conn (Some taking.Spent) = most_counted ≤ f.books.taken
+Ends f stopped conn None = (is_connected f conn ≡ true) × (stopped ≡ false)
+
+-- A mail of a connection was taken, or its box was empty, and then why none comes any more.
+abbrev pub TakesMail : FrontState → Bool → ℕ → Option Taking → FrontState → Type 0
+TakesMail f stopped conn (Some (taking.Mail mail more)) g = FrontStep f (event.TakeMail conn (Some mail)) [] g × (more ≡ has_mail g conn)
+TakesMail f stopped conn (Some taking.Gone) g = FrontStep f (event.TakeMail conn None) [] g × Ends g stopped conn (Some taking.Gone)
+TakesMail f stopped conn (Some taking.Stopped) g = FrontStep f (event.TakeMail conn None) [] g × Ends g stopped conn (Some taking.Stopped)
+TakesMail f stopped conn (Some taking.Spent) g = FrontStep f (event.TakeMail conn None) [] g × Ends g stopped conn (Some taking.Spent)
+TakesMail f stopped conn None g = FrontStep f (event.TakeMail conn None) [] g × Ends g stopped conn None
+
+-- Nothing more comes for a connection: it is gone, or the hall is stopped.
+abbrev pub IsOver : FrontState → Bool → ℕ → Type 0
+IsOver f stopped conn = (stopped ≡ true) ⊎ (is_connected f conn ≡ false)
+
+-- Nothing more comes for a connection of what was made before this place: it is over, or all that is durable and its box is empty.
+abbrev pub IsDrained : FrontState → Bool → ℕ → ℕ → Type 0
+IsDrained f stopped conn place = IsOver f stopped conn ⊎ ((place ≤ f.durable) × (has_mail f conn ≡ false))
+
+-- Why a batch was not posted: a book has no room for its mails, or it is not as the one that is out.
+abbrev pub IsUnposted : FrontState → Batch → Unposted → Type 0
+IsUnposted f batch (unposted.Full full) = posts_more f.books batch ≡ false
+IsUnposted f batch (unposted.Strange strange) = (posts_more f.books batch ≡ true) × (¬ IsOut f.out batch)
+
+-- A batch was cut; or none was, and where the hall is stopped all that was made is durable, so that nothing is left to store; or
+-- another side cut batches, and nothing happens.
+abbrev pub Cuts : FrontState → Bool → Option Cutting → FrontState → Type 0
+Cuts f stopped (Some (cutting.Batch cut)) g = FrontStep f (event.Cut (Some cut.batch)) [] g
+Cuts f stopped (Some (cutting.Stopped all)) g = FrontStep f (event.Cut None) [] g × (stopped ≡ true) × (g.durable ≡ g.service.state.place)
+Cuts f stopped (Some (cutting.Strange uncut)) g = g ≡ f
+Cuts f stopped None g = FrontStep f (event.Cut None) [] g
+
+-- the batch that was cut was cut in this history
+abbrev pub IsCutIn : Cutting → List Act → Type 0
+IsCutIn (cutting.Batch cut) acts = WasCut acts cut.count cut.batch
+IsCutIn (cutting.Stopped all) acts = Unit {0}
+IsCutIn (cutting.Strange uncut) acts = Unit {0}

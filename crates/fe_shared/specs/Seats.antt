@@ -1,0 +1,135 @@
+-- What the sides of connections did, and what the books of a hall may hold.
+use Rattle.std.specs.Prelude.{◌≡◌, ◌⊎◌, ℕ, ◌+◌, ◌-◌, ◌^◌, ◌≤◌, Bool, true, false, ◌&&◌, nat_lt, nat_le, length, Option, Some, None}
+use Rattle.fe_state.specs.declared.batch.Batch.{Batch}
+use Rattle.fe_mail.specs.Books.{Books}
+use Rattle.fe_wire.specs.declared.client_message.ClientMessage.{ClientMessage}
+use Rattle.fe_wire.specs.declared.client_message.ClientMessage.TheVariants.{Attach, Call, Cancel, Settle, Bye, Report}
+use Rattle.fe_mail.specs.declared.mail.Mail.{Mail}
+use Rattle.fe_shared.specs.declared.brief.Brief.{Brief}
+use Rattle.fe_shared.specs.Briefs.{brief_of}
+use Rattle.fe_shared.specs.declared.standing.Standing.{Standing}
+use Rattle.fe_shared.specs.declared.standing.Standing.TheVariants.{Served, Gone, Stopped, Spent}
+use Rattle.fe_shared.specs.declared.taking.Taking.{Taking}
+use Rattle.fe_shared.specs.declared.taking.Taking.TheVariants as taking
+
+-- what the read side of a connection did
+pub record ReadSeat : Type 0 where
+  -- the connection's number
+  pub conn : ℕ
+  -- how many calls it made
+  pub calls : ℕ
+  -- how many of its messages were taken, and the last of them
+  pub taken : ℕ
+  pub last : Option ClientMessage
+  -- how it stood when the hall last answered it
+  pub standing : Standing
+  -- whether it made its connection gone
+  pub departed : Bool
+  -- whether it did so once it need not wait for what came of its messages
+  pub rested : Bool
+
+-- what the write side of a connection did
+pub record WriteSeat : Type 0 where
+  -- the connection's number
+  pub conn : ℕ
+  -- how many mails it took, and the last of them
+  pub mails : ℕ
+  pub last : Option Brief
+  -- whether more were in its box then
+  pub more : Bool
+  -- how it stood when the hall last answered it
+  pub standing : Standing
+  -- whether it made its connection gone
+  pub departed : Bool
+
+-- the seats of this many connections, and how many calls or mails they booked
+pub record Seats : Type 0 where
+  pub connections : ℕ
+  pub amount : ℕ
+
+-- the seats of the two sides of a connection just made
+abbrev pub first_read_seat : ℕ → ReadSeat
+first_read_seat conn = record { conn = conn; calls = 0; taken = 0; last = None; standing = Served; departed = false; rested = false }
+
+abbrev pub first_write_seat : ℕ → WriteSeat
+first_write_seat conn = record { conn = conn; mails = 0; last = None; more = false; standing = Served; departed = false }
+
+-- the seats of one connection, which booked this many, and of the connections of both
+abbrev pub one_seat : ℕ → Seats
+one_seat amount = record { connections = 1; amount = amount }
+
+abbrev pub both_seats : Seats → Seats → Seats
+both_seats s t = record { connections = s.connections + t.connections; amount = s.amount + t.amount }
+
+-- how many connections a hall makes at most
+abbrev pub most_connections : ℕ
+most_connections = 2 ^ 62
+
+-- as many as a book may count before the sides of a hall end: one post more stays below 2^63
+abbrev pub most_counted : ℕ
+most_counted = 2 ^ 63 - 8192
+
+-- books that are not spent, and have room for one post more
+pub record IsOpen (b : Books) : Type 0 where
+  pub unspent : b.spent ≡ false
+  pub calls : b.calls ≤ most_counted
+  pub mails : b.mails ≤ most_counted
+
+-- how many calls a message is
+abbrev pub calls_in : ClientMessage → ℕ
+calls_in (Attach session) = 0
+calls_in (Call number request) = 1
+calls_in (Cancel number) = 0
+calls_in (Settle floor) = 0
+calls_in Bye = 0
+calls_in Report = 0
+
+-- a message of a read side was taken
+abbrev pub message_taken : ReadSeat → ClientMessage → ReadSeat
+message_taken s m = record s { calls = s.calls + calls_in m; taken = s.taken + 1; last = Some m; standing = Served }
+
+-- the seat of a read side whose message was answered so
+abbrev pub message_answered : ReadSeat → ClientMessage → Standing → ReadSeat
+message_answered s m Served = message_taken s m
+message_answered s m Gone = record s { standing = Gone }
+message_answered s m Stopped = record s { standing = Stopped }
+message_answered s m Spent = record s { standing = Spent }
+
+-- a mail was taken for a write side, and whether more are in its box
+abbrev pub mail_taken : WriteSeat → Mail → Bool → WriteSeat
+mail_taken s mail more = record s { mails = s.mails + 1; last = Some (brief_of mail); more = more; standing = Served }
+
+-- the seat of a write side whose box was looked into with this outcome
+abbrev pub taking_answered : WriteSeat → Taking → WriteSeat
+taking_answered s (taking.Mail mail more) = mail_taken s mail more
+taking_answered s taking.Gone = record s { standing = Gone }
+taking_answered s taking.Stopped = record s { standing = Stopped }
+taking_answered s taking.Spent = record s { standing = Spent }
+
+-- a read side had no message taken in between
+pub record TookNoMessage (s t : ReadSeat) : Type 0 where
+  pub conn : t.conn ≡ s.conn
+  pub calls : t.calls ≡ s.calls
+  pub taken : t.taken ≡ s.taken
+
+-- a write side took no mail in between
+pub record TookNoMail (s t : WriteSeat) : Type 0 where
+  pub conn : t.conn ≡ s.conn
+  pub mails : t.mails ≡ s.mails
+  pub last : t.last ≡ s.last
+
+-- the side made its connection gone, or was told that the hall is stopped
+abbrev pub HasDeparted : ReadSeat → Type 0
+HasDeparted s = (s.departed ≡ true) ⊎ (s.standing ≡ Stopped)
+
+-- the side made its connection gone once it need not wait, or was told that the hall is stopped
+abbrev pub HasRested : ReadSeat → Type 0
+HasRested s = ((s.departed ≡ true) × (s.rested ≡ true)) ⊎ (s.standing ≡ Stopped)
+
+-- one message more may be taken
+abbrev pub takes_more : Books → Bool
+takes_more b = nat_lt b.calls most_counted && nat_lt b.mails most_counted
+
+-- the mails of a batch may be made
+abbrev pub posts_more : Books → Batch → Bool
+posts_more b batch = nat_le (b.mails + length batch.entries) most_counted

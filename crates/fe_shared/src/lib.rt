@@ -1,0 +1,27 @@
+//! What the threads of a hall share, under its lock: one front, a ledger of its calls and one of the mails that were taken.
+//!
+//! Each call is at most one event of the front. Each side of a connection has a seat that says what it did, so that the books can be
+//! compared with the seats. What a call shows, and nothing else can make, is a value of a type of its own.
+#![tactic(auto)]
+
+mod brief;
+mod call_seat;
+mod mail_seat;
+mod seats;
+mod shared;
+mod standing;
+mod taking;
+mod unconnected;
+mod watchers;
+
+pub use brief::Brief;
+pub use call_seat::CallSeat;
+pub use mail_seat::MailSeat;
+pub use seats::Seats;
+pub use shared::{
+    AllDurable, CutBatch, Cutting, FullBook, HasStopped, Made, NotOut, Posted, Rest, SeatMissing,
+    Shared, Uncut, Unposted,
+};
+pub use standing::Standing;
+pub use taking::Taking;
+pub use unconnected::Unconnected;

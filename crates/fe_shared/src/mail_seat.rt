@@ -1,0 +1,110 @@
+ghost use Rattle.std.specs.Prelude.{◌≡◌, ◌+◌, true};
+ghost use Rattle.fe_shared.specs.Seats.{first_write_seat, mail_taken, most_connections, one_seat};
+
+use crate::brief::Brief;
+use crate::seats::Seats;
+use crate::standing::Standing;
+use fe_front::Mail;
+use fe_history::Tally;
+use std::marker::Model;
+use std::sync::ledger::{Book, Share};
+
+/// The seat of a connection's write side: contracts see the connection's number, and what the side did.
+///
+/// Only the hall changes it, and only in a hold, since each change needs the book, which is under the lock.
+#[derive(Drop)]
+pub struct MailSeat<M: Tally> {
+    share: Share<M>,
+    conn: u64,
+    /// The last mail that was taken.
+    last: Option<Brief>,
+    /// Whether more mails were in the box when one was taken.
+    more: bool,
+    standing: Standing,
+    /// The side made its connection gone.
+    departed: bool,
+}
+
+impl<M: Tally> Model for MailSeat<M> {
+    ghost use Rattle.std.specs.Prelude.{◌≡◌, ◌+◌};
+    ghost use Rattle.fe_shared.specs.Seats.{WriteSeat, most_connections};
+
+    ghost Value = { WriteSeat };
+
+    ghost view = { λ s. record {
+      conn = s.conn;
+      mails = s.share.amount;
+      last = s.last;
+      more = s.more;
+      standing = s.standing;
+      departed = s.departed;
+    } };
+
+    ghost invariant = { λ s. (s.share.parts ≡ 1) × (M.all ≡ most_connections + 1) };
+}
+
+impl<M: Tally> MailSeat<M> {
+    /// The seat of a connection just made: one part of the ledger.
+    pub(crate) fn new(share: Share<M>, conn: u64) -> MailSeat<M>
+        requires part { share.parts ≡ 1 }
+        requires nothing { share.amount ≡ 0 }
+        requires all { M.all ≡ most_connections + 1 }
+        ensures { result ≡ first_write_seat conn }
+    {
+        MailSeat {
+            share,
+            conn,
+            last: None,
+            more: false,
+            standing: Standing::Served,
+            departed: false,
+        }
+    }
+
+    /// The connection's number.
+    pub fn conn(&self) -> u64
+        ensures { result ≡ self.now.conn }
+    {
+        self.conn
+    }
+
+    /// Whether more mails were in the box when one was taken last.
+    pub fn more(&self) -> bool
+        ensures { result ≡ self.now.more }
+    {
+        self.more
+    }
+
+    /// A mail is taken. It is counted here and in the book. `more`: others are in the box.
+    pub(crate) fn take(&mut self, book: &mut Book<M>, mail: &Mail, more: bool)
+        ensures seat { self.new ≡ mail_taken self.old mail.now more }
+        ensures book { book.new.total ≡ book.old.total + 1 }
+    {
+        book.add(&mut self.share, 1);
+        self.last = Some(Brief::of(mail));
+        self.more = more;
+        self.standing = Standing::Served;
+    }
+
+    /// Records what the hall answered the side last.
+    pub(crate) fn tell(&mut self, _book: &Book<M>, standing: Standing)
+        ensures { self.new ≡ record self.old { standing = standing } }
+    {
+        self.standing = standing;
+    }
+
+    /// The side makes its connection gone.
+    pub(crate) fn depart(&mut self, _book: &Book<M>)
+        ensures { self.new ≡ record self.old { departed = true } }
+    {
+        self.departed = true;
+    }
+
+    /// The seats of its connection alone.
+    pub fn into_seats(self) -> Seats<M>
+        ensures { result ≡ one_seat self.mails }
+    {
+        let MailSeat { share, .. } = self;
+        Seats::of(share)
+    }
+}

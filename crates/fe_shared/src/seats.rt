@@ -1,0 +1,68 @@
+ghost use Rattle.std.specs.Prelude.{◌≡◌, ◌+◌};
+ghost use Rattle.fe_shared.specs.Seats.{both_seats, most_connections, one_seat};
+
+use fe_history::Tally;
+use std::marker::Model;
+use std::sync::ledger::{Book, Share};
+
+/// The seats of one side of some connections: contracts see how many connections, and how many calls or mails they booked in all.
+#[derive(Drop)]
+pub struct Seats<L: Tally> {
+    share: Share<L>,
+    connections: u64,
+}
+
+impl<L: Tally> Model for Seats<L> {
+    ghost use Rattle.std.specs.Prelude.{◌≡◌, ◌+◌, ◌<◌};
+    ghost use Rattle.fe_shared.specs.Seats.{Seats, most_connections};
+
+    ghost Value = { Seats };
+
+    ghost view = { λ s. record { connections = s.connections; amount = s.share.amount } };
+
+    ghost invariant = { λ s. (s.share.parts ≡ s.connections) × ((0 < s.connections) × (L.all ≡ most_connections + 1)) };
+}
+
+impl<L: Tally> Seats<L> {
+    /// That of one connection, with its part of the ledger.
+    pub(crate) fn of(share: Share<L>) -> Seats<L>
+        requires part { share.parts ≡ 1 }
+        requires all { L.all ≡ most_connections + 1 }
+        ensures { result ≡ one_seat share.amount }
+    {
+        Seats {
+            share,
+            connections: 1,
+        }
+    }
+
+    /// Adds the seats of other connections of the same hall.
+    pub fn add(&mut self, other: Seats<L>)
+        requires ledger { L.all ≡ L.parts }
+        ensures { self.new ≡ both_seats self.old other }
+    {
+        let Seats { share, connections } = other;
+        self.share.merge(share);
+        self.connections += connections;
+    }
+
+    /// How many connections they are of, at least 1.
+    pub(crate) fn connections(&self) -> u64
+        ensures { result ≡ self.now.connections }
+    {
+        self.connections
+    }
+
+    /// The seats of all connections have what the book has; the spare part is the hall's own.
+    pub(crate) fn audit(self, book: &mut Book<L>, spare: Share<L>)
+        requires ledger { L.all ≡ L.parts }
+        requires whole { spare.parts + self.connections ≡ L.all }
+        requires nothing { spare.amount ≡ 0 }
+        ensures { self.amount ≡ book.old.total }
+    {
+        let Seats { share, .. } = self;
+        let mut all = spare;
+        all.merge(share);
+        book.audit(&mut all);
+    }
+}

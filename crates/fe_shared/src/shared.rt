@@ -1,0 +1,479 @@
+//! What is under the lock of a hall: the front, with a ledger of its calls and one of the mails that were taken.
+
+ghost use Rattle.std.specs.Prelude.{IsNone, ◌≡◌, ◌≢◌, ◌+◌, ◌-◌, ◌^◌, ◌≤◌, ◌⊎◌, ◌↔◌, ℕ, List, [], true, false, Ok, Err, Some, None, IsTrue, IsErr, IfOk, OnOk, OnErr, IfSome, MatchOption, nat_lt};
+ghost use Rattle.fe_state.specs.declared.entry.Entry.{Entry};
+ghost use Rattle.fe_front.specs.Front.{has_room, is_connected};
+ghost use Rattle.fe_mail.specs.Books.{AddUp};
+ghost use Rattle.fe_front.specs.Event as event;
+ghost use Rattle.fe_front.specs.Step.{FrontStep};
+ghost use Rattle.fe_messages.specs.Taking.{Takes};
+ghost use mathlib.Core.List.{IsPrefix};
+ghost use Rattle.fe_history.specs.Acts.{IsLegal};
+ghost use Rattle.fe_shared.specs.Marks.{IsBegun, MayBeTold};
+ghost use Rattle.fe_shared.specs.Holds.{Ends, IsDrained, IsOver, TakesMail};
+ghost use Rattle.fe_shared.specs.Seats.{HasRested, IsOpen, TookNoMessage, first_read_seat, first_write_seat, message_taken, message_answered, taking_answered, takes_more, most_connections};
+
+mod batches;
+
+use crate::call_seat::CallSeat;
+use crate::mail_seat::MailSeat;
+use crate::seats::Seats;
+use crate::standing::Standing;
+use crate::taking::Taking;
+use crate::unconnected::Unconnected;
+use crate::watchers::Watchers;
+pub use batches::{AllDurable, CutBatch, Cutting, FullBook, NotOut, Posted, Uncut, Unposted};
+use fe_front::{BELLS, Books, Front};
+use fe_history::{Account, History, Tally};
+use fe_messages::take_message;
+use fe_wire::ClientMessage;
+use std::alloc::Global;
+use std::marker::Model;
+use std::sync::ledger::{Blank, Book, Share};
+
+/// How many connections a hall makes, 2^62.
+const CONNECTIONS: u64 = 4611686018427387904;
+
+/// The most that a book of a hall counts before its sides end.
+const MOST: u64 = 9223372036854767616;
+
+/// The front and its ledgers, which agree with its books.
+#[derive(Drop)]
+pub struct Shared<C: Tally, M: Tally> {
+    front: Front,
+    calls: Book<C>,
+    mails: Book<M>,
+    spare_calls: Share<C>,
+    spare_mails: Share<M>,
+    /// What was cut, and what was stored, at least as far as it is posted.
+    history: History<M>,
+    /// How many batches were posted.
+    posted: u64,
+    /// How many connections were made.
+    made: u64,
+    watchers: Watchers,
+    stopped: bool,
+    ghost open: { IsOpen front.books },
+    ghost calls_agree: { calls.total ≡ front.books.calls },
+    ghost mails_agree: { mails.total ≡ front.books.taken },
+    ghost few: { made ≤ most_connections },
+    ghost call_parts: { (spare_calls.parts + made ≡ C.all) × (spare_calls.amount ≡ 0)
+        × (C.all ≡ most_connections + 1) },
+    ghost mail_parts: { (spare_mails.parts + made ≡ M.all) × (spare_mails.amount ≡ 0)
+        × (M.all ≡ most_connections + 1) },
+}
+
+impl<C: Tally, M: Tally> Model for Shared<C, M> {
+    ghost use Rattle.std.specs.Coded.{codes};
+    ghost use Rattle.fe_front.specs.Front.{front_code};
+    ghost use Rattle.fe_history.specs.contracts.act.Act as acts;
+    ghost use Rattle.fe_shared.specs.Marks.{IsMarked, SharedState};
+
+    ghost Value = { SharedState };
+
+    ghost coded = { Prim.hlevel (codes, front_code, acts.the_row.coded) };
+
+    ghost view = { λ s. record { front = s.front; history = s.history; made = s.made; stopped = s.stopped } };
+
+    ghost invariant = { λ s. IsMarked s.front s.posted s.history };
+}
+
+/// Shows that a hall was stopped. Only `Shared::stop` makes one.
+#[derive(Clone, Copy)]
+pub struct HasStopped(());
+
+/// The place after all entries that were made when a read side looked. Only `Shared::made` makes one.
+#[derive(Drop)]
+pub struct Made {
+    place: u64,
+}
+
+impl Model for Made {
+    ghost Value = { ℕ };
+
+    ghost view = { λ m. m.place };
+}
+
+/// Shows that the read side of a connection need not wait for what comes of its messages. Only `Shared::rest` makes one.
+#[derive(Drop)]
+pub struct Rest {
+    conn: u64,
+    /// There was no memory to note that it waits.
+    short: bool,
+}
+
+impl Model for Rest {
+    ghost use Rattle.fe_shared.specs.Shown.{Rest};
+
+    ghost Value = { Rest };
+
+    ghost view = { λ r. record { conn = r.conn; short = r.short } };
+}
+
+/// Shows that the seats handed in were not those of all connections that were made, or that another side stored groups. Only the
+/// audit of a hall makes one.
+#[derive(Clone, Copy, PartialEq, Eq)]
+pub struct SeatMissing(());
+
+impl SeatMissing {
+    /// Whether another side than the hall's own stored groups in this account.
+    pub fn in_account(account: &Account) -> Option<SeatMissing>
+        ensures { IsNone result ↔ (account.now.own ≡ true) }
+    {
+        if account.own() {
+            None
+        } else {
+            Some(SeatMissing(()))
+        }
+    }
+}
+
+impl<C: Tally, M: Tally> Shared<C, M> {
+    /// A front that is as it began, with no connection made.
+    pub fn new(
+        alloc: Global,
+        front: Front,
+        calls: Blank,
+        mails: Blank,
+        history: History<M>,
+    ) -> Shared<C, M>
+        requires begun { IsBegun front history }
+        requires legal { IsLegal history }
+        requires calls { (calls.name ≡ C.name) × (calls.parts ≡ C.parts) × (C.all ≡ C.parts)
+            × (C.all ≡ most_connections + 1) }
+        requires mails { (mails.name ≡ M.name) × (mails.parts ≡ M.parts) × (M.all ≡ M.parts)
+            × (M.all ≡ most_connections + 1) }
+        ensures { result.front ≡ front }
+    {
+        let (called, spare_calls) = calls.open::<C>();
+        let (taken, spare_mails) = mails.open::<M>();
+        Shared {
+            front,
+            calls: called,
+            mails: taken,
+            spare_calls,
+            spare_mails,
+            history,
+            posted: 0,
+            made: 0,
+            watchers: Watchers::new(alloc),
+            stopped: false,
+        }
+    }
+
+    /// Makes a connection with an empty box, and the seats of its two sides.
+    pub fn connect(&mut self, conn: u64) -> Result<(CallSeat<C>, MailSeat<M>), Unconnected>
+        ensures step { OnOk result (FrontStep self.old.front (event.Connect conn) [] self.new.front) }
+        ensures err { OnErr result (self.new.front ≡ self.old.front) }
+        ensures in_use { (result ≡ Err Unconnected.InUse) ↔ (is_connected self.old.front conn ≡ true) }
+        ensures spent { result ≡ Err Unconnected.Spent → self.old.made ≡ most_connections }
+        ensures made { OnOk result (self.new.made ≡ self.old.made + 1) }
+        ensures unmade { OnErr result (self.new.made ≡ self.old.made) }
+        ensures still { self.new.stopped ≡ self.old.stopped }
+        ensures calls { IfOk result (λ seats. seats.0 ≡ first_read_seat conn) }
+        ensures mails { IfOk result (λ seats. seats.1 ≡ first_write_seat conn) }
+    {
+        if self.front.connected(conn) {
+            return Err(Unconnected::InUse);
+        }
+        if self.made == CONNECTIONS {
+            return Err(Unconnected::Spent);
+        }
+        let _ = self.front.state();
+        if self.front.connect(conn).is_err() {
+            return Err(Unconnected::NoMemory);
+        }
+        let calls = self.spare_calls.split_off(1, 0);
+        let mails = self.spare_mails.split_off(1, 0);
+        self.made += 1;
+        Ok((CallSeat::new(calls, conn), MailSeat::new(mails, conn)))
+    }
+
+    /// Whether one message more stays within the books of a hall.
+    pub fn takes_more(&self) -> bool
+        ensures { result ≡ takes_more self.now.front.books }
+    {
+        let books = self.front.books();
+        books.calls < MOST && books.mails < MOST
+    }
+
+    /// A message of a connection is its event, or its refusal is mailed.
+    fn take_message(&mut self, alloc: Global, message: ClientMessage, seat: &mut CallSeat<C>)
+        requires room { IsTrue (has_room self.old.front) }
+        requires more { IsTrue (takes_more self.old.front.books) }
+        requires few { IsTrue (nat_lt seat.old.taken (2 ^ 64 - 1)) }
+        ensures taken { (es : List Entry) × Takes self.old.front seat.old.conn message es self.new.front }
+        ensures seat { seat.new ≡ message_taken seat.old message }
+        ensures still { self.new.stopped ≡ self.old.stopped }
+    {
+        // It names what is always true of the front (`docs/DECISIONS.md`, "Toolchain").
+        let _ = self.front.state();
+        let conn = seat.conn();
+        seat.take(&mut self.calls, &message);
+        take_message(alloc, &mut self.front, conn, message);
+    }
+
+    /// Handles a message, or records in its seat why not. If there is no room for it, does nothing and returns `None`.
+    pub fn handle(
+        &mut self,
+        alloc: Global,
+        message: &ClientMessage,
+        seat: &mut CallSeat<C>,
+    ) -> Option<Standing>
+        ensures taken { result ≡ Some Standing.Served
+            → (es : List Entry) × Takes self.old.front seat.old.conn message.now es self.new.front }
+        ensures other { result ≢ Some Standing.Served → self.new.front ≡ self.old.front }
+        ensures seat { MatchOption result (seat.new ≡ seat.old)
+            (λ s. seat.new ≡ message_answered seat.old message.now s) }
+        // Each other answer has its reason, and stopped comes first.
+        ensures stopped { (result ≡ Some Standing.Stopped) ↔ (self.old.stopped ≡ true) }
+        ensures gone { result ≡ Some Standing.Gone → is_connected self.old.front seat.old.conn ≡ false }
+        ensures spent { result ≡ Some Standing.Spent
+            → (takes_more self.old.front.books ≡ false) ⊎ (nat_lt seat.old.taken (2 ^ 64 - 1) ≡ false) }
+        ensures full { result ≡ None → has_room self.old.front ≡ false }
+        ensures still { self.new.stopped ≡ self.old.stopped }
+    {
+        if self.stopped {
+            seat.tell(&self.calls, Standing::Stopped);
+            return Some(Standing::Stopped);
+        }
+        if !self.front.connected(seat.conn()) {
+            seat.tell(&self.calls, Standing::Gone);
+            return Some(Standing::Gone);
+        }
+        if !self.takes_more() {
+            seat.tell(&self.calls, Standing::Spent);
+            return Some(Standing::Spent);
+        }
+        if !seat.counts_more() {
+            seat.tell(&self.calls, Standing::Spent);
+            return Some(Standing::Spent);
+        }
+        if !self.front.room() {
+            return None;
+        }
+        self.take_message(alloc, *message, seat);
+        Some(Standing::Served)
+    }
+
+    /// Marks the bells of the read sides that wait for their boxes.
+    pub fn mark_watched(&self, wakes: &mut [bool; BELLS as usize]) {
+        self.watchers.mark(wakes);
+    }
+
+    /// The read side of a connection waits for its box. Whether that is noted, for which there may be no memory.
+    pub fn watch(&mut self, conn: u64) -> bool
+        ensures front { self.new.front ≡ self.old.front }
+        ensures still { self.new.stopped ≡ self.old.stopped }
+    {
+        self.watchers.add(conn)
+    }
+
+    /// The read side of a connection waits no more. Whether it was noted as waiting.
+    pub fn unwatch(&mut self, conn: u64) -> bool
+        ensures front { self.new.front ≡ self.old.front }
+        ensures still { self.new.stopped ≡ self.old.stopped }
+    {
+        self.watchers.remove(conn)
+    }
+
+    /// Whether it is noted that the read side of a connection waits for its box.
+    pub fn is_watched(&self, conn: u64) -> bool {
+        self.watchers.has(conn)
+    }
+
+    /// The hall is stopped.
+    pub fn stop(&mut self) -> HasStopped
+        ensures stopped { self.new.stopped ≡ true }
+        ensures front { self.new.front ≡ self.old.front }
+    {
+        self.stopped = true;
+        HasStopped(())
+    }
+
+    /// Whether a connection gets nothing more: it is gone, or the hall is stopped.
+    pub fn is_over(&self, conn: u64) -> bool
+        ensures { IsTrue result ↔ IsOver self.now.front self.now.stopped conn }
+    {
+        self.stopped || !self.front.connected(conn)
+    }
+
+    /// The place after all entries made so far.
+    pub fn made(&self) -> Made
+        ensures { result ≡ self.now.front.service.state.place }
+    {
+        Made {
+            place: self.front.state().place(),
+        }
+    }
+
+    /// Whether nothing is left to take for a connection of what was made before this place: that is durable, and its box is empty.
+    fn is_drained(&self, conn: u64, place: u64) -> bool
+        ensures { IsTrue result ↔ IsDrained self.now.front self.now.stopped conn place }
+    {
+        self.is_over(conn) || self.front.durable() >= place && !self.front.has_mail(conn)
+    }
+
+    /// Whether the read side of a connection need not wait for what comes of what was made before. `None`: it is noted that it waits.
+    pub fn rest(&mut self, seat: &CallSeat<C>, made: &Made) -> Option<Rest>
+        ensures own { IfSome result (λ rest. rest.conn ≡ seat.now.conn) }
+        ensures drained { IfSome result (λ rest. rest.short ≡ false
+            → IsDrained self.old.front self.old.stopped seat.now.conn made.now) }
+        ensures front { self.new.front ≡ self.old.front }
+        ensures still { self.new.stopped ≡ self.old.stopped }
+    {
+        let conn = seat.conn();
+        if self.is_drained(conn, made.place) {
+            let _ = self.watchers.remove(conn);
+            return Some(Rest { conn, short: false });
+        }
+        if !self.watchers.add(conn) {
+            return Some(Rest { conn, short: true });
+        }
+        None
+    }
+
+    /// How many mails were made, also those that met a full box.
+    pub fn mails_made(&self) -> u64 {
+        self.front.books().mails
+    }
+
+    /// Takes the first mail out of a connection's box, or records in its seat why none comes. `None`: one may come.
+    pub fn take_mail(&mut self, seat: &mut MailSeat<M>) -> Option<Taking>
+        ensures takes { TakesMail self.old.front self.old.stopped seat.old.conn result self.new.front }
+        ensures seat { MatchOption result (seat.new ≡ seat.old) (λ taking. seat.new ≡ taking_answered seat.old taking) }
+        ensures stored { IfSome result (λ taking. MayBeTold taking self.new.history) }
+        ensures still { self.new.stopped ≡ self.old.stopped }
+    {
+        let _ = self.front.state();
+        let conn = seat.conn();
+        match self.front.take_mail(conn) {
+            Some(mail) => {
+                let more = self.front.has_mail(conn);
+                seat.take(&mut self.mails, &mail, more);
+                Some(Taking::Mail { mail, more })
+            }
+            None => self.end_of_mails(seat),
+        }
+    }
+
+    /// The history learns what was cut, and what was stored, at least as far as it is posted.
+    pub fn teach(&self, history: &mut History<M>)
+        ensures this { IsPrefix history.old history.new }
+        ensures that { IsPrefix self.now.history history.new }
+    {
+        history.learn(&self.history);
+    }
+
+    /// Why no mail comes any more for a connection whose box is empty. `None`: one may come.
+    fn end_of_mails(&self, seat: &mut MailSeat<M>) -> Option<Taking>
+        ensures ends { Ends self.now.front self.now.stopped seat.old.conn result }
+        ensures seat { MatchOption result (seat.new ≡ seat.old) (λ taking. seat.new ≡ taking_answered seat.old taking) }
+    {
+        if !self.front.connected(seat.conn()) {
+            seat.tell(&self.mails, Standing::Gone);
+            return Some(Taking::Gone);
+        }
+        if self.stopped {
+            seat.tell(&self.mails, Standing::Stopped);
+            return Some(Taking::Stopped);
+        }
+        if self.front.books().taken >= MOST {
+            seat.tell(&self.mails, Standing::Spent);
+            return Some(Taking::Spent);
+        }
+        None
+    }
+
+    /// A connection is gone, with its box and what waits of its session.
+    fn drop_connection(&mut self, conn: u64)
+        ensures step { (count : ℕ) × FrontStep self.old.front (event.Gone conn count) [] self.new.front }
+        ensures still { self.new.stopped ≡ self.old.stopped }
+    {
+        let _ = self.front.state();
+        let _ = self.front.gone(conn);
+    }
+
+    /// A read side makes its connection gone.
+    pub fn leave_by_reader(&mut self, seat: &mut CallSeat<C>)
+        ensures step { (count : ℕ) × FrontStep self.old.front (event.Gone seat.old.conn count) [] self.new.front }
+        ensures seat { seat.new ≡ record seat.old { departed = true } }
+    {
+        self.drop_connection(seat.conn());
+        seat.depart(&self.calls);
+    }
+
+    /// A write side makes its connection gone.
+    pub fn leave_by_writer(&mut self, seat: &mut MailSeat<M>)
+        ensures step { (count : ℕ) × FrontStep self.old.front (event.Gone seat.old.conn count) [] self.new.front }
+        ensures seat { seat.new ≡ record seat.old { departed = true } }
+    {
+        self.drop_connection(seat.conn());
+        seat.depart(&self.mails);
+    }
+
+    /// A read side that need not wait makes its connection gone, unless the hall is stopped: then the hall says so, and the write side
+    /// goes on.
+    pub fn depart(&mut self, seat: &mut CallSeat<C>, rest: Rest)
+        requires own { rest.conn ≡ seat.old.conn }
+        ensures rested { HasRested seat.new }
+        ensures untaken { TookNoMessage seat.old seat.new }
+        ensures step { self.old.stopped ≡ false
+            → (count : ℕ) × FrontStep self.old.front (event.Gone seat.old.conn count) [] self.new.front }
+        ensures stopped { self.old.stopped ≡ true → self.new.front ≡ self.old.front }
+    {
+        if self.stopped {
+            seat.tell(&self.calls, Standing::Stopped);
+            return;
+        }
+        self.drop_connection(seat.conn());
+        seat.rest(&self.calls, rest);
+    }
+
+    // Whether the seats are those of all connections that were made.
+    fn made_all(&self, calls: &Seats<C>, mails: &Seats<M>) -> bool
+        ensures { IsTrue result ↔ ((calls.now.connections ≡ self.now.made) × (mails.now.connections ≡ self.now.made)) }
+    {
+        calls.connections() == self.made && mails.connections() == self.made
+    }
+
+    /// The books, once all seats of the hall are here.
+    pub fn audit(self, calls: Seats<C>, mails: Seats<M>) -> Result<Books, SeatMissing>
+        requires calls { C.all ≡ C.parts }
+        requires mails { M.all ≡ M.parts }
+        ensures all { IfOk result
+            (λ books. (books.calls ≡ calls.amount) × (books.taken ≡ mails.amount) × (books ≡ self.front.books)) }
+        ensures add_up { IfOk result (λ books. AddUp books) }
+        ensures unspent { IfOk result (λ books. books.spent ≡ false) }
+        // No book is kept back where the seats are those of all connections that were made.
+        ensures missing { IsErr result → calls.connections ≡ self.made → mails.connections ≡ self.made → ⊥ }
+    {
+        if !self.made_all(&calls, &mails) {
+            drop(self);
+            drop(calls);
+            drop(mails);
+            return Err(SeatMissing(()));
+        }
+        let Shared {
+            front,
+            calls: mut called,
+            mails: mut taken,
+            spare_calls,
+            spare_mails,
+            history,
+            posted: _,
+            made: _,
+            watchers,
+            stopped: _,
+        } = self;
+        drop(watchers);
+        drop(history);
+        let books = front.books();
+        drop(front);
+        calls.audit(&mut called, spare_calls);
+        drop(called);
+        mails.audit(&mut taken, spare_mails);
+        drop(taken);
+        Ok(books)
+    }
+}

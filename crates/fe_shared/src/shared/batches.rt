@@ -1,0 +1,166 @@
+//! What is under the lock hands batches out, and takes those that were stored.
+
+ghost use Rattle.std.specs.Prelude.{◌≡◌, ◌+◌, ◌≤◌, ℕ, [], Some, None, false, IfErr, IfOk, IfSome, OnOk, OnErr, length};
+ghost use Rattle.fe_front.specs.Event as event;
+ghost use Rattle.fe_front.specs.Ringing.{Rings};
+ghost use Rattle.fe_front.specs.Step.{FrontStep};
+ghost use Rattle.fe_front.specs.Steps.{has_no_cut};
+ghost use Rattle.fe_history.specs.Acts.{WasStoredLast};
+ghost use Rattle.fe_shared.specs.Holds.{Cuts, IsCutIn, IsUnposted};
+ghost use Rattle.fe_shared.specs.Seats.{posts_more};
+
+use super::{MOST, Shared};
+use fe_disk::Disk;
+use fe_front::BELLS;
+use fe_history::{Chronicle, History, StoreSeat, Tally};
+use fe_keeper::Keeper;
+use fe_state::Batch;
+use std::marker::Model;
+
+/// Shows that a hall is stopped and that all that was made in it is durable. Only a cut makes one.
+#[derive(Clone, Copy)]
+pub struct AllDurable(());
+
+/// A batch as it was cut, still to be stored, and how many were cut before it. Only a cut makes one, and nothing changes it. It is not
+/// `Drop`, so whoever has one hands it to a keeper.
+pub struct CutBatch {
+    batch: Batch,
+    count: u64,
+}
+
+impl Model for CutBatch {
+    ghost use Rattle.fe_shared.specs.Shown.{Cut};
+
+    ghost Value = { Cut };
+
+    ghost view = { λ c. record { batch = c.batch; count = c.count } };
+}
+
+impl CutBatch {
+    /// The batch, for this keeper, and how many were cut before it.
+    pub fn into_batch<D: Disk>(self, _keeper: &Keeper<D>) -> (Batch, u64)
+        ensures { result ≡ (self.batch, self.count) }
+    {
+        let CutBatch { batch, count } = self;
+        (batch, count)
+    }
+}
+
+/// Shows that another side noted a cut in the history. Only a cut makes one.
+#[derive(Clone, Copy)]
+pub struct Uncut(());
+
+/// What a cut gave.
+pub enum Cutting {
+    Batch(CutBatch),
+    /// The hall is stopped, and nothing is left to store.
+    Stopped(AllDurable),
+    /// Nothing is cut any more.
+    Strange(Uncut),
+}
+
+/// Shows that a batch was posted: contracts see the place after its entries. Only a post makes one.
+#[derive(Drop)]
+pub struct Posted {
+    durable: u64,
+}
+
+impl Model for Posted {
+    ghost Value = { ℕ };
+
+    ghost view = { λ p. p.durable };
+}
+
+/// Shows that a book has no room for the mails of a batch. Only a post makes one.
+#[derive(Clone, Copy)]
+pub struct FullBook(());
+
+/// Shows that a batch is not as the one that is out. Only a post makes one.
+#[derive(Clone, Copy)]
+pub struct NotOut(());
+
+/// Why a batch was not posted.
+#[derive(Clone, Copy)]
+pub enum Unposted {
+    Full(FullBook),
+    Strange(NotOut),
+}
+
+impl<C: Tally, M: Tally> Shared<C, M> {
+    /// Hands all pending entries out, if there are some and no batch is out. `None`: there may be some later. The history has the cut then.
+    pub fn cut(&mut self, chronicle: &Chronicle<M>, cuts: &mut History<M>) -> Option<Cutting>
+        ensures cuts { Cuts self.old.front self.old.stopped result self.new.front }
+        ensures noted { IfSome result (λ cutting. IsCutIn cutting cuts.new) }
+    {
+        if self.front.has_cut() {
+            return Some(self.cut_batch(chronicle, cuts));
+        }
+        if self.stopped && self.front.durable() == self.front.state().place() {
+            return Some(Cutting::Stopped(AllDurable(())));
+        }
+        None
+    }
+
+    /// Hands all pending entries out, and notes the cut. Nothing changes if another side noted one.
+    fn cut_batch(&mut self, chronicle: &Chronicle<M>, cuts: &mut History<M>) -> Cutting
+        requires some { has_no_cut self.old.front ≡ false }
+        ensures cuts { Cuts self.old.front self.old.stopped (Some result) self.new.front }
+        ensures noted { IsCutIn result cuts.new }
+    {
+        let _ = self.front.state();
+        let count = self.posted;
+        let mut history = self.history.again();
+        if !history.cut(chronicle, count, &self.front) {
+            return Cutting::Strange(Uncut(()));
+        }
+        let Some(batch) = self.front.cut() else {
+            unreachable!()
+        };
+        cuts.learn(&history);
+        self.history = history;
+        Cutting::Batch(CutBatch { batch, count })
+    }
+
+    /// Whether the mails of a batch stay within the books of a hall.
+    fn posts_more(&self, batch: &Batch) -> bool
+        ensures { result ≡ posts_more self.now.front.books batch.now }
+    {
+        let count = batch.entries.as_slice().len() as u64;
+        self.front.books().mails <= MOST - count
+    }
+
+    /// The batch that is out, which was stored last, is durable now: mails its entries, and marks the bells of the connections whose
+    /// boxes change. It is not posted where a book has no room for its mails.
+    pub fn post(
+        &mut self,
+        batch: Batch,
+        seat: &StoreSeat<M>,
+        wakes: &mut [bool; BELLS as usize],
+    ) -> Result<Posted, Unposted>
+        requires stored { WasStoredLast seat.now batch }
+        ensures refused { IfErr result (IsUnposted self.old.front batch) }
+        ensures step { OnOk result (FrontStep self.old.front (event.Post batch) [] self.new.front) }
+        ensures durable { IfOk result (λ posted. posted ≡ batch.first + length batch.entries) }
+        ensures rings { Rings self.old.front self.new.front wakes.old wakes.new }
+        ensures err { OnErr result (self.new.front ≡ self.old.front) }
+    {
+        if !self.posts_more(&batch) {
+            drop(batch);
+            return Err(Unposted::Full(FullBook(())));
+        }
+        let _ = self.front.state();
+        match self.front.post_ringing(batch, wakes) {
+            Ok(()) => {
+                self.history.learn(seat.history());
+                self.posted += 1;
+                Ok(Posted {
+                    durable: self.front.durable(),
+                })
+            }
+            Err(strange) => {
+                drop(strange);
+                Err(Unposted::Strange(NotOut(())))
+            }
+        }
+    }
+}

@@ -1,0 +1,14 @@
+use fe_front::Mail;
+
+/// What a look into a connection's box found.
+#[derive(Drop)]
+pub enum Taking {
+    /// A mail was taken, and whether more are in the box.
+    Mail { mail: Mail, more: bool },
+    /// The connection is not there.
+    Gone,
+    /// The hall is stopped, and the box is empty.
+    Stopped,
+    /// The book of the mails that were taken is full, and the box is empty.
+    Spent,
+}
