@@ -23,7 +23,7 @@ run: toolchain ## try it: builds femem without proving it, and runs the schedule
 	@echo "its answers:"
 	@$$([ -x $(UNPROVED) ] && echo $(UNPROVED) || echo $(PROVED)) run < $(SCHEDULE)
 
-test: toolchain ## test it: the gate, with every proof, must-fail edit and test, and real processes (45 to 60 minutes; 4 if nothing changed)
+test: toolchain ## test it: the gate, with every proof, must-fail edit and test, and real processes (45 to 60 minutes; 4 to 6 if nothing changed)
 	@scripts/gate
 
 prove: $(PROVED) ## prove it: proves the program's crates, and builds the proved program (30 minutes)
