@@ -23,6 +23,7 @@ from .errors import FememError, NoArray, ServerUnreachable
 from .observer import Look, Observer, overview
 from .patterns import BoundedQueue, Lock
 from .requests import Array, ArrayLike, Request
+from .signals import end_on_signals
 
 HELP = """\
 create NAME LENGTH [full|empty]     a new array; its words are empty, or full with value 0
@@ -92,8 +93,7 @@ def main(arguments: Optional[Words] = None) -> int:
     command += words[at:]
     if path is None:
         parser.error("no socket is given, and there is no FEMEM_SOCKET")
-    for number in (signal.SIGTERM, signal.SIGHUP):
-        signal.signal(number, lambda number, _: sys.exit(128 + number))
+    end_on_signals()
     shell = Shell(path, given)
     try:
         return shell.run_one(command) if command else shell.run()

@@ -1,6 +1,7 @@
 """Problems that users could meet, each as one test, which uses only the parts of the library that it needs."""
 
 import asyncio
+import os
 import pathlib
 import random
 import re
@@ -21,6 +22,23 @@ from femem.aio import AsyncClient
 from femem.patterns import Counter, Lock
 
 ROOT = pathlib.Path(paths.__file__).resolve().parents[1]
+
+# `read` of standard input, half a second late.
+LATE_READ = """
+#define _GNU_SOURCE
+#include <dlfcn.h>
+#include <errno.h>
+#include <time.h>
+#include <unistd.h>
+
+ssize_t read(int file, void *to, size_t length) {
+  ssize_t (*read_now)(int, void *, size_t) = (ssize_t (*)(int, void *, size_t))dlsym(RTLD_NEXT, "read");
+  struct timespec left = {0, 500000000};
+  while (file == 0 && nanosleep(&left, &left) != 0 && errno == EINTR) {
+  }
+  return read_now(file, to, length);
+}
+"""
 
 
 def until(condition, seconds=60):
@@ -216,22 +234,37 @@ with Client(path, session_file=file, reconnect_timeout=100.0) as client:
         self.assertTrue(pathlib.Path(files[2]).read_text())
 
     def test_a_shell_that_is_ended_leaves_no_session(self):
-        server = self.server()
         for number in (signal.SIGTERM, signal.SIGHUP):
-            shell = subprocess.Popen(
-                [sys.executable, "-m", "femem", self.path],
-                cwd=ROOT,
-                stdin=subprocess.PIPE,
-                stdout=subprocess.PIPE,
-                stderr=subprocess.DEVNULL,
-            )
-            with shell:
-                shell.stdin.write(b"readfe 99 0\n")
-                shell.stdin.flush()
-                self.assertIn(b"no-array", shell.stdout.readline())
-                shell.send_signal(number)
-                shell.wait(60)
-            self.assertEqual(server.model.stored.sessions, {})
+            self.end_shell(number, os.environ)
+
+    def test_a_signal_just_before_the_shell_blocks_ends_it(self):
+        """The shell's `read` of standard input is half a second late, and the signal comes in that time."""
+        late = self.path + "-late.so"
+        compiler = ["cc", "-shared", "-fPIC", "-o", late, "-x", "c", "-"]
+        subprocess.run(compiler, input=LATE_READ.encode(), check=True)
+        for number in (signal.SIGTERM, signal.SIGHUP):
+            self.end_shell(number, {**os.environ, "LD_PRELOAD": late}, pause=0.2)
+
+    def end_shell(self, number, environment, pause=0.0):
+        """Ends a shell that has a session and waits for a line."""
+        server = self.server()
+        shell = subprocess.Popen(
+            [sys.executable, "-m", "femem", self.path],
+            cwd=ROOT,
+            env=environment,
+            stdin=subprocess.PIPE,
+            stdout=subprocess.PIPE,
+            stderr=subprocess.DEVNULL,
+        )
+        with shell:
+            shell.stdin.write(b"readfe 99 0\n")
+            shell.stdin.flush()
+            self.assertIn(b"no-array", shell.stdout.readline())
+            time.sleep(pause)
+            shell.send_signal(number)
+            self.assertEqual(shell.wait(60), 128 + number)
+        self.assertEqual(server.model.stored.sessions, {})
+        server.kill()
 
 
 class Seen(WithFolder):
