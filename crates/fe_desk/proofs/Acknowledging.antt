@@ -13,7 +13,7 @@ use Rattle.fe_state.specs.declared.batch.Batch.{Batch}
 use Rattle.fe_state.specs.declared.entry.Entry.{Entry}
 use Rattle.fe_state.specs.declared.entry.Entry.TheVariants.{Attached, Closed, Settled}
 use Rattle.fe_state.specs.declared.kept.Kept.{Kept}
-use Rattle.fe_service.proofs.Turns.{after_append}
+use Rattle.fe_state.proofs.Histories.{after-append}
 use Rattle.fe_mail.specs.Connections.{mails_on}
 use Rattle.fe_mail.specs.declared.connection.Connection.{Connection}
 use Rattle.fe_mail.specs.declared.mail.Mail.{Mail}
@@ -327,7 +327,7 @@ module _ (begun : ServerState) (asked : ℕ → List ℕ) (below : KeepsBelow be
       ∙ ap (λ (xs : List Entry). entries_of groups ++ (cut_entries handed ++ xs)) (sym m.pending) in
       let more : AreAnswered begun (before ++ es) = answered-append begun before es h.answered (subst (λ (s : ServerState). AreAnswered s es) h.state m.answered) in
       record {
-        state = m.state ∙ ap (λ (s : ServerState). after_all s es) h.state ∙ sym (after_append begun before es) ∙ ap (λ (xs : List Entry). after_all begun xs) same;
+        state = m.state ∙ ap (λ (s : ServerState). after_all s es) h.state ∙ sym (after-append begun before es) ∙ ap (λ (xs : List Entry). after_all begun xs) same;
         answered = subst (λ (xs : List Entry). AreAnswered begun xs) same more;
         way = way_remains begun groups f g handed m.out m.durable h.way;
         boxes = boxes;

@@ -7,9 +7,10 @@ use Rattle.std.proofs.lemmas.List.{length-map, map-set}
 use Rattle.std.proofs.lemmas.Option.{slice_get-map, slice_get_read}
 use Rattle.fe_keeper.specs.Keeper.{KeeperState}
 use Rattle.fe_disk.specs.Disk.{Rises}
-use Rattle.fe_state.specs.State.{ServerState, after, after_all}
+use Rattle.fe_state.specs.State.{ServerState, after_all}
 use Rattle.fe_state.specs.History.{AreLegal}
 use Rattle.fe_state.specs.declared.entry.Entry.{Entry}
+use Rattle.fe_state.proofs.Histories.{legal-append, after-append}
 use Rattle.fe_wire.specs.declared.client_message.ClientMessage.{ClientMessage}
 use Rattle.fe_keeper.specs.declared.fault.Fault.{Fault}
 use Rattle.fe_keeper.specs.declared.fault.Fault.TheVariants as keeper
@@ -31,16 +32,6 @@ use Rattle.fe_desk.proofs.Places.{numbers, numbers_changed, first_by_numbers, fo
 use Rattle.fe_desk.proofs.Reading.{on_client-twice, find-on_client, found-on_client, relieved, none_left, left_among, with_clients, roomy-clients, roomy-keeps, takes_one_of, takes_all-append, on_client-stays}
 use Rattle.fe_desk.proofs.Growing.{stores_none, stores_both, stores_then}
 use Rattle.fe_desk.proofs.Advancing.{HasStore, store_itself, advances_then, advances_both, desk_as, fine_both, fine_as, advances_itself}
-
--- ---- entries after entries
-
-legal-append : (s : ServerState) (xs ys : List Entry) → AreLegal s xs → AreLegal (after_all s xs) ys → AreLegal s (xs ++ ys)
-legal-append s [] ys h k = k
-legal-append s (x ∷ xs) ys h k = (h.0, legal-append (after s x) xs ys h.1 k)
-
-after-append : (s : ServerState) (xs ys : List Entry) → after_all s (xs ++ ys) ≡ after_all (after_all s xs) ys
-after-append s [] ys = refl
-after-append s (x ∷ xs) ys = after-append (after s x) xs ys
 
 -- ---- the store side of a desk whose front entries entered
 

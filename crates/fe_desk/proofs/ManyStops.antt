@@ -9,9 +9,9 @@ use Rattle.fe_state.specs.declared.answer.Answer.{Answer}
 use Rattle.fe_state.specs.declared.entry.Entry.{Entry}
 use Rattle.fe_state.specs.declared.entry.Entry.TheVariants.{Attached, Closed, Settled}
 use Rattle.fe_state.specs.declared.kept.Kept.{Kept}
-use Rattle.fe_state.proofs.Histories.{history-cut}
+use Rattle.fe_state.proofs.Histories.{after-append, history-cut}
 use Rattle.fe_state.proofs.Spent.{legal-flat, finishes_once}
-use Rattle.fe_service.proofs.Turns.{after_append, turns_place}
+use Rattle.fe_service.proofs.Turns.{turns_place}
 use Rattle.fe_mail.specs.declared.mail.Mail.{Mail}
 use Rattle.fe_mail.specs.declared.mail.Mail.TheVariants as mail
 use Rattle.fe_messages.specs.Answers.{IsFinishedAt, IsKeptSince, AreAnswered}
@@ -34,7 +34,7 @@ use Rattle.fe_desk.proofs.Lives.{lives_join}
 
 after_entries : (s : ServerState) (groups : List (List Entry)) → after_groups s groups ≡ after_all s (entries_of groups)
 after_entries s [] = refl
-after_entries s (group ∷ groups) = after_entries (after_all s group) groups ∙ sym (after_append s group (entries_of groups))
+after_entries s (group ∷ groups) = after_entries (after_all s group) groups ∙ sym (after-append s group (entries_of groups))
 
 place_after : (s : ServerState) (groups : List (List Entry)) → (after_groups s groups).place ≡ s.place + length (entries_of groups)
 place_after s groups = ap (λ (x : ServerState). x.place) (after_entries s groups) ∙ turns_place s (entries_of groups)
@@ -79,7 +79,7 @@ module _ (begun : ServerState) (below : KeepsBelow begun) (front : List (List En
         behind = is.behind;
         entries = entries-append front groups ∙ ap (λ (es : List Entry). entries_of front ++ es) is.entries ∙ sym (append_assoc (entries_of front) is.before _);
         at = omega (arith, start, many, at);
-        replied = ap (λ (s : ServerState). reply s is.request) (after_append begun (entries_of front) is.before ∙ ap (λ (s : ServerState). after_all s is.before) (sym (after_entries begun front)))
+        replied = ap (λ (s : ServerState). reply s is.request) (after-append begun (entries_of front) is.before ∙ ap (λ (s : ServerState). after_all s is.before) (sym (after_entries begun front)))
             ∙ is.replied;
       }
 

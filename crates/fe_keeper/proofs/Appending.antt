@@ -8,12 +8,12 @@ use Rattle.std.proofs.Math.Nat.{add-mul}
 use Rattle.std.specs.Prelude.{Result, Ok, Err, IsOk, OnOk}
 use Rattle.fe_disk.specs.Disk.{LeavesOnly}
 use Rattle.fe_disk.proofs.Moments.{weaker}
-use Rattle.fe_state.specs.State.{ServerState, after, after_all}
+use Rattle.fe_state.specs.State.{ServerState, after_all}
 use Rattle.fe_state.specs.Format.{entry_fits_format_1}
 use Rattle.fe_state.specs.History.{AreLegal, after_groups}
 use Rattle.fe_state.specs.declared.bounds.TheConstants.{BATCH_ENTRIES, GREATEST_PLACE}
 use Rattle.fe_state.specs.declared.entry.Entry.{Entry}
-use Rattle.fe_state.proofs.Histories.{history-append}
+use Rattle.fe_state.proofs.Histories.{legal-append, after-append, history-append}
 use Rattle.fe_codec.specs.Record.{entry_spelling, group_spelling, FitsGroup, IsGroupOf, CanPut}
 use Rattle.fe_codec.proofs.RecordLaws.{length-entry_spelling}
 use Rattle.fe_format.specs.Layout.{record_bytes, group_records, longest_payload, IsPayloadLength, IsImageLength}
@@ -31,15 +31,7 @@ use Rattle.std.specs.Prelude.{vec_len, vec_capacity}
 use Rattle.fe_keeper.specs.declared.checkpoint.Checkpoint.{Checkpoint}
 use Rattle.fe_keeper.specs.declared.store.Store.{Store}
 
--- ---- entries after entries, groups after groups
-
-legal-append : (s : ServerState) (xs ys : List Entry) → AreLegal s xs → AreLegal (after_all s xs) ys → AreLegal s (xs ++ ys)
-legal-append s [] ys h k = k
-legal-append s (x ∷ xs) ys h k = (h.0, legal-append (after s x) xs ys h.1 k)
-
-after-append : (s : ServerState) (xs ys : List Entry) → after_all s (xs ++ ys) ≡ after_all (after_all s xs) ys
-after-append s [] ys = refl
-after-append s (x ∷ xs) ys = after-append (after s x) xs ys
+-- ---- groups after groups
 
 fits-append : (format : Format) (xs ys : List Entry) → FitsGroup format xs → FitsGroup format ys → FitsGroup format (xs ++ ys)
 fits-append format [] ys h k = k

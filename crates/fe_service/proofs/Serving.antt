@@ -14,7 +14,8 @@ use Rattle.fe_service.specs.within.Parts.{IsQuietAt, WaitAtTag, IsAtRest, TakesT
 use Rattle.fe_service.specs.declared.parts.Parts.{Parts}
 use Rattle.fe_service.proofs.Replies.{waits_there, there_waits, other_waits, waits_by_tag, one_tag}
 use Rattle.fe_service.proofs.Lengths.{turns_lengths}
-use Rattle.fe_service.proofs.Turns.{turns_usable, turns_place, turns_then, after_then, without_then, turns_append, after_append, without_append}
+use Rattle.fe_service.proofs.Turns.{turns_usable, turns_place, turns_then, after_then, without_then, turns_append, without_append}
+use Rattle.fe_state.proofs.Histories.{after-append}
 
 -- no turn taken yet
 pub none_taken : (p : Parts) → TakesTurns p p []
@@ -103,7 +104,7 @@ taken_join old mid new es fs before t = record {
       fs
       before.turns
       (subst (λ w. AreTurns (after_all old.state es) w fs) before.waiting (subst (λ s. AreTurns s mid.seats.waiting fs) before.state t.turns));
-  state = t.state ∙ ap (λ s. after_all s fs) before.state ∙ sym (after_append old.state es fs);
+  state = t.state ∙ ap (λ s. after_all s fs) before.state ∙ sym (after-append old.state es fs);
   waiting = t.waiting ∙ ap (λ w. without_turns w fs) before.waiting ∙ sym (without_append old.seats.waiting es fs);
   seats = t.seats ∙ before.seats;
   arrays = t.arrays ∙ before.arrays;

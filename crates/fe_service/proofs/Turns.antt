@@ -93,10 +93,6 @@ pub turns_append : (s : ServerState) (waiting : Waiters) (es fs : List Entry) �
 turns_append s waiting [] fs turns more = more
 turns_append s waiting (e ∷ es) fs turns more = (turns.0, turns_append (after s e) (without_turn waiting e) es fs turns.1 more)
 
-pub after_append : (s : ServerState) (es fs : List Entry) → after_all s (es ++ fs) ≡ after_all (after_all s es) fs
-after_append s [] fs = refl
-after_append s (e ∷ es) fs = after_append (after s e) es fs
-
 pub without_append : (waiting : Waiters) (es fs : List Entry) → without_turns waiting (es ++ fs) ≡ without_turns (without_turns waiting es) fs
 without_append waiting [] fs = refl
 without_append waiting (e ∷ es) fs = without_append (without_turn waiting e) es fs

@@ -14,7 +14,7 @@ use Rattle.fe_state.specs.declared.batch.Batch.{Batch}
 use Rattle.fe_state.specs.declared.entry.Entry.{Entry}
 use Rattle.fe_state.specs.declared.entry.Entry.TheVariants.{Attached, Closed, Settled, Finished}
 use Rattle.fe_state.specs.declared.kept.Kept.{Kept}
-use Rattle.fe_service.proofs.Turns.{after_append}
+use Rattle.fe_state.proofs.Histories.{after-append}
 use Rattle.fe_mail.specs.Books.{mail_taken}
 use Rattle.fe_mail.specs.Connections.{mails_on, with_mails}
 use Rattle.fe_mail.specs.Mail.{mail_of}
@@ -183,7 +183,7 @@ takes_marked f g conn message es count acts enters takes m =
       same_out = enters.out ∙ m.same_out;
       durable = enters.durable ∙ m.durable;
       state =
-          enters.state ∙ ap (λ (s : ServerState). after_all s es) m.state ∙ sym (after_append begun (made_entries m.posted m.out f) es)
+          enters.state ∙ ap (λ (s : ServerState). after_all s es) m.state ∙ sym (after-append begun (made_entries m.posted m.out f) es)
           ∙ ap (λ (xs : List Entry). after_all begun xs) made;
       answered =
           subst (λ (xs : List Entry). AreAnswered begun xs) made

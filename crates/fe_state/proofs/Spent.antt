@@ -13,6 +13,7 @@ use Rattle.fe_state.specs.State.{ServerState, IsLegal, after, after_all}
 use Rattle.fe_state.specs.SessionEffect.{IsUsable}
 use Rattle.fe_state.specs.History.{AreLegal, IsHistory}
 use Rattle.fe_state.specs.declared.kept.Kept.{Kept}
+use Rattle.fe_state.proofs.Histories.{legal-append}
 use Rattle.fe_state.specs.declared.answer.Answer.{Answer}
 use Rattle.fe_state.specs.declared.request.Request.{Request}
 use Rattle.fe_state.specs.declared.entry.Entry.{Entry}
@@ -112,10 +113,6 @@ spent_not_finished s session n request answer h legal = by (get s.sessions sessi
 legal-split : (s : ServerState) (xs ys : List Entry) → AreLegal s (xs ++ ys) → AreLegal s xs × AreLegal (after_all s xs) ys
 legal-split s [] ys h = (tt, h)
 legal-split s (x ∷ xs) ys h = let r = legal-split (after s x) xs ys h.1 in ((h.0, r.0), r.1)
-
-legal-append : (s : ServerState) (xs ys : List Entry) → AreLegal s xs → AreLegal (after_all s xs) ys → AreLegal s (xs ++ ys)
-legal-append s [] ys h k = k
-legal-append s (x ∷ xs) ys h k = (h.0, legal-append (after s x) xs ys h.1 k)
 
 -- the entries of a history are legal one after another
 pub legal-flat : (s : ServerState) (groups : List (List Entry)) → IsHistory s groups → AreLegal s (flat_map (λ group. group) groups)
