@@ -83,7 +83,7 @@ fn commit<C: Tally, M: Tally, D: Disk, R: Wait>(
     let (batch, count) = cut.into_batch(keeper);
     match keeper.append(batch) {
         Ok(batch) => {
-            if let Err(why) = hall.note(&batch, count, cuts, keeper, seat) {
+            if let Err(why) = seat.note(hall.chronicle(), &batch, count, cuts, keeper) {
                 drop(batch);
                 return Some(Break::of_note(why));
             }

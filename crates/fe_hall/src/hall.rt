@@ -1,16 +1,14 @@
 ghost use Rattle.std.specs.Prelude.{◌≡◌, ◌≤◌, ◌∷◌, ◌++◌, [], ◌+◌, IfOk, IfErr, OnOk, OnErr, length, true};
 ghost use Rattle.fe_shared.specs.Seats.{HasRested, ReadSeat, TookNoMessage, WriteSeat, first_read_seat, first_write_seat, message_answered, taking_answered, most_connections};
 ghost use mathlib.Core.List.{IsPrefix};
-ghost use Rattle.fe_history.specs.Acts.{IsStored, WasCut, WasStoredLast, stores_in};
+ghost use Rattle.fe_history.specs.Acts.{WasStoredLast};
 ghost use Rattle.fe_shared.specs.Holds.{IsCutIn};
 ghost use Rattle.fe_shared.specs.Marks.{IsBegun, MayBeTold, TakingTold};
 
 use crate::baton::{Baton, Grip};
 use crate::hold::Lock;
-use fe_disk::Disk;
 use fe_front::{BELLS, Front};
-use fe_history::{Chronicle, Gathered, History, NewHistory, Receipt, StoreSeat, Tally, Unnoted};
-use fe_keeper::Keeper;
+use fe_history::{Chronicle, Gathered, History, NewHistory, Receipt, StoreSeat, Tally};
 use fe_shared::{
     CallSeat, Cutting, HasStopped, MailSeat, Posted, Shared, Standing, Taking, Unconnected,
     Unposted,
@@ -117,9 +115,9 @@ impl<C: Tally, M: Tally> Hall<C, M> {
     {
         let mut hold = self.lock.enter(rt);
         for _ in rt.forever() {
-            let mails = hold.mails_made();
+            let mails = hold.shared().mails_made();
             if let Some(standing) = hold.handle(alloc, message, seat) {
-                let told = hold.mails_made() != mails;
+                let told = hold.shared().mails_made() != mails;
                 hold.end();
                 self.work.notify_one();
                 if told {
@@ -144,7 +142,7 @@ impl<C: Tally, M: Tally> Hall<C, M> {
         self.ring(conn);
         let mut grip = Grip::none();
         for _ in rt.forever() {
-            if hold.is_over(conn) || !hold.is_watched(conn) {
+            if hold.shared().is_over(conn) || !hold.shared().is_watched(conn) {
                 let _ = hold.unwatch(conn);
                 return;
             }
@@ -162,7 +160,7 @@ impl<C: Tally, M: Tally> Hall<C, M> {
         let conn = seat.conn();
         let mut grip = Grip::none();
         let mut hold = self.lock.enter(rt);
-        let made = hold.made();
+        let made = hold.shared().made();
         for _ in rt.forever() {
             if let Some(rest) = hold.rest(seat, &made) {
                 hold.depart(seat, rest);
@@ -207,7 +205,7 @@ impl<C: Tally, M: Tally> Hall<C, M> {
         let mut hold = self.lock.enter(rt);
         for _ in rt.forever() {
             if let Some(taking) = hold.take_mail(seat) {
-                let is_awaited = !seat.more() && hold.is_watched(conn);
+                let is_awaited = !seat.more() && hold.shared().is_watched(conn);
                 hold.teach(history);
                 hold.end();
                 if is_awaited {
@@ -267,7 +265,7 @@ impl<C: Tally, M: Tally> Hall<C, M> {
         let mut wakes = [false; BELLS as usize];
         let mut hold = self.lock.enter(rt);
         let outcome = hold.post(batch, seat, &mut wakes);
-        hold.mark_watched(&mut wakes);
+        hold.shared().mark_watched(&mut wakes);
         hold.end();
         for at in 0..self.bells.len() {
             if wakes[at] {
@@ -277,23 +275,9 @@ impl<C: Tally, M: Tally> Hall<C, M> {
         outcome
     }
 
-    /// Adds the batch that a keeper has just stored to the history (`StoreSeat::note`).
-    pub(crate) fn note<D: Disk>(
-        &self,
-        batch: &Batch,
-        count: u64,
-        cuts: &History<M>,
-        keeper: &Keeper<D>,
-        seat: &mut StoreSeat<M>,
-    ) -> Result<(), Unnoted>
-        requires cut { WasCut cuts.now count batch.now }
-        requires stored { IsStored batch.now keeper.now.state }
-        ensures this { IsPrefix seat.old seat.new }
-        ensures noted { OnOk result
-            (stores_in seat.new ≡ stores_in seat.old ++ (batch.now, D.moment keeper.now.store.disk) ∷ []) }
-        ensures unnoted { OnErr result (seat.new ≡ seat.old) }
-    {
-        seat.note(&self.chronicle, batch, count, cuts, keeper)
+    /// The words of its history.
+    pub(crate) fn chronicle(&self) -> &Chronicle<M> {
+        &self.chronicle
     }
 
     /// Its history as it began.

@@ -240,21 +240,6 @@ impl<'a, C: Tally, M: Tally> Hold<'a, C, M> {
         self.shared.unwatch(conn)
     }
 
-    /// Whether it is noted that the read side of a connection waits for its box.
-    pub(crate) fn is_watched(&self, conn: u64) -> bool {
-        self.shared.is_watched(conn)
-    }
-
-    /// Whether a connection gets nothing more (`Shared::is_over`).
-    pub(crate) fn is_over(&self, conn: u64) -> bool {
-        self.shared.is_over(conn)
-    }
-
-    /// The place after all that was made so far.
-    pub(crate) fn made(&self) -> Made {
-        self.shared.made()
-    }
-
     /// Whether a read side need not wait for what was made before (`Shared::rest`). This is no event of the front.
     pub(crate) fn rest(&mut self, seat: &CallSeat<C>, made: &Made) -> Option<Rest>
         ensures same { self.new.used ≡ self.old.used }
@@ -274,13 +259,10 @@ impl<'a, C: Tally, M: Tally> Hold<'a, C, M> {
         self.shared.teach(history);
     }
 
-    /// How many mails were made, also those that met a full box.
-    pub(crate) fn mails_made(&self) -> u64 {
-        self.shared.mails_made()
-    }
-
-    /// Marks the bells of the read sides that wait for their boxes (`Shared::mark_watched`).
-    pub(crate) fn mark_watched(&self, wakes: &mut [bool; BELLS as usize]) {
-        self.shared.mark_watched(wakes);
+    /// What is under the lock, to look at.
+    pub(crate) fn shared(&self) -> &Shared<C, M>
+        ensures { result.now ≡ under self.now.shared }
+    {
+        &self.shared
     }
 }

@@ -22,11 +22,11 @@ returns-in-Ok-post-clause-commits g c =
     let new = c.append.new.self in
     let batch : Batch = c.into_batch-batch.result.0 in
     let moment : ℕ = g.D.Disk.moment new.store.disk in
-    let noted : stores_in c.note.new.seat ≡ stores_in c.args.seat.now ++ (c.in-Ok.batch, moment) ∷ [] = search rules in
-    group_noted g.D.Disk.honest g.D.Disk.moment g.D.Disk.left_since g.D.Disk.may_leave g.met.D.Disk.only_now old new None batch c.args.seat.now c.note.new.seat e.continues.some e.continues.legal e.state
+    let noted : stores_in c.note.new.self ≡ stores_in c.args.seat.now ++ (c.in-Ok.batch, moment) ∷ [] = search rules in
+    group_noted g.D.Disk.honest g.D.Disk.moment g.D.Disk.left_since g.D.Disk.may_leave g.met.D.Disk.only_now old new None batch c.args.seat.now c.note.new.self e.continues.some e.continues.legal e.state
     (appended_works old.store new.store batch.entries new.store.disk e.store) c.append.ensures.honesty c.append.ensures.durable c.append.ensures.any_moment
-    (one_noted g.D.Disk.moment (record { batch = batch; before = old; after = new }) _ c.args.seat.now c.note.new.seat c.note.ensures.this
-    (subst (λ (b : Batch). stores_in c.note.new.seat ≡ stores_in c.args.seat.now ++ (b, moment) ∷ []) c.in-Ok.ensures.returned noted))
+    (one_noted g.D.Disk.moment (record { batch = batch; before = old; after = new }) _ c.args.seat.now c.note.new.self c.note.ensures.this
+    (subst (λ (b : Batch). stores_in c.note.new.self ≡ stores_in c.args.seat.now ++ (b, moment) ∷ []) c.in-Ok.ensures.returned noted))
 
 pub returns-in-Ok-clause-commits : goal.returns-in-Ok-clause-commits
 returns-in-Ok-clause-commits g c =
@@ -35,11 +35,11 @@ returns-in-Ok-clause-commits g c =
     let new = c.append.new.self in
     let batch : Batch = c.into_batch-batch.result.0 in
     let moment : ℕ = g.D.Disk.moment new.store.disk in
-    let noted : stores_in c.note.new.seat ≡ stores_in c.args.seat.now ++ (c.in-Ok.batch, moment) ∷ [] = search rules in
-    group_noted g.D.Disk.honest g.D.Disk.moment g.D.Disk.left_since g.D.Disk.may_leave g.met.D.Disk.only_now old new (Some c.of_post.result) batch c.args.seat.now c.note.new.seat e.continues.some e.continues.legal e.state
+    let noted : stores_in c.note.new.self ≡ stores_in c.args.seat.now ++ (c.in-Ok.batch, moment) ∷ [] = search rules in
+    group_noted g.D.Disk.honest g.D.Disk.moment g.D.Disk.left_since g.D.Disk.may_leave g.met.D.Disk.only_now old new (Some c.of_post.result) batch c.args.seat.now c.note.new.self e.continues.some e.continues.legal e.state
     (appended_works old.store new.store batch.entries new.store.disk e.store) c.append.ensures.honesty c.append.ensures.durable c.append.ensures.any_moment
-    (one_noted g.D.Disk.moment (record { batch = batch; before = old; after = new }) _ c.args.seat.now c.note.new.seat c.note.ensures.this
-    (subst (λ (b : Batch). stores_in c.note.new.seat ≡ stores_in c.args.seat.now ++ (b, moment) ∷ []) c.in-Ok.ensures.returned noted))
+    (one_noted g.D.Disk.moment (record { batch = batch; before = old; after = new }) _ c.args.seat.now c.note.new.self c.note.ensures.this
+    (subst (λ (b : Batch). stores_in c.note.new.self ≡ stores_in c.args.seat.now ++ (b, moment) ∷ []) c.in-Ok.ensures.returned noted))
 
 pub returns-in-Err-note-clause-commits : goal.returns-in-Err-note-clause-commits
 returns-in-Err-note-clause-commits g c =
@@ -48,11 +48,11 @@ returns-in-Err-note-clause-commits g c =
     let new = c.append.new.self in
     let seat = c.args.seat.now in
     let batch : Batch = c.into_batch-batch.result.0 in
-    subst (λ (end : CommitEnd). (all : Commits g.D.Disk.honest g.D.Disk.moment g.D.Disk.left_since old new (Some end)) × AreNoted g.D.Disk.moment all.appends (Some end) seat c.note.new.seat)
+    subst (λ (end : CommitEnd). (all : Commits g.D.Disk.honest g.D.Disk.moment g.D.Disk.left_since old new (Some end)) × AreNoted g.D.Disk.moment all.appends (Some end) seat c.note.new.self)
     (sym c.of_note.ensures)
-    (group_noted g.D.Disk.honest g.D.Disk.moment g.D.Disk.left_since g.D.Disk.may_leave g.met.D.Disk.only_now old new (Some Strange) batch c.args.seat.now c.note.new.seat e.continues.some e.continues.legal e.state
+    (group_noted g.D.Disk.honest g.D.Disk.moment g.D.Disk.left_since g.D.Disk.may_leave g.met.D.Disk.only_now old new (Some Strange) batch c.args.seat.now c.note.new.self e.continues.some e.continues.legal e.state
     (appended_works old.store new.store batch.entries new.store.disk e.store) c.append.ensures.honesty c.append.ensures.durable c.append.ensures.any_moment
-    (one_unnoted g.D.Disk.moment (record { batch = batch; before = old; after = new }) c.args.seat.now c.note.new.seat c.in-Err-note.ensures.unnoted))
+    (one_unnoted g.D.Disk.moment (record { batch = batch; before = old; after = new }) c.args.seat.now c.note.new.self c.in-Err-note.ensures.unnoted))
 
 pub returns-clause-commits : goal.returns-clause-commits
 returns-clause-commits g c =
