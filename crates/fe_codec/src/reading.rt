@@ -24,6 +24,8 @@ fn state_at(alloc: Global, format: Format, bytes: &[u8]) -> Result<State, Fault>
     let mut state = State::starting(alloc, header.place, header.next_id)?;
     let (_, rest) = read_arrays(format, header.arrays, &mut state, rest)?;
     let (_, rest) = read_sessions(format, header.sessions, &mut state, rest)?;
+    // It names the state's limits.
+    let _ = state.place();
     if rest.is_empty() {
         Ok(state)
     } else {

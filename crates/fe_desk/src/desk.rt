@@ -27,11 +27,17 @@ use std::marker::Model;
 ///
 /// Mails are written at the end of a step, or if memory was short, at the beginning of the next one. So each answer that is
 /// written was synced before.
-#[derive(Drop)]
 pub struct Desk<D: Disk> {
     parts: Parts<D>,
     /// No box has a mail, and no reply waits. False where that is not known.
     quiet: bool,
+}
+
+impl<D: Disk + Drop> Drop for Desk<D> {
+    fn drop(self) {
+        let Desk { parts, quiet: _ } = self;
+        drop(parts);
+    }
 }
 
 impl<D: Disk> Model for Desk<D> {

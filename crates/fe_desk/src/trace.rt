@@ -5,7 +5,6 @@ use fe_state::Entry;
 use std::alloc::Global;
 
 /// What a desk did since it was opened.
-#[derive(Drop)]
 pub struct Trace {
     /// The groups that were handed to the store, in order.
     pub groups: Vec<Vec<Entry>>,
@@ -13,6 +12,18 @@ pub struct Trace {
     pub synced: u64,
     /// What was written to each connection number, in the order in which the numbers came first.
     pub ports: Vec<Port>,
+}
+
+impl Drop for Trace {
+    fn drop(self) {
+        let Trace {
+            groups,
+            synced: _,
+            ports,
+        } = self;
+        drop(groups);
+        drop(ports);
+    }
 }
 
 impl Trace {

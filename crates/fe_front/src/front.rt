@@ -35,9 +35,15 @@ use std::marker::Model;
 ///
 /// After each event none of the requests that wait may be served. Only `new`, `connect` and a request that makes an
 /// array take memory.
-#[derive(Drop)]
 pub struct Front {
     tables: Tables,
+}
+
+impl Drop for Front {
+    fn drop(self) {
+        let Front { tables } = self;
+        drop(tables);
+    }
 }
 
 impl Model for Front {
@@ -64,7 +70,7 @@ impl Front {
         let spare = match Entries::new(alloc) {
             Ok(spare) => Some(spare),
             Err(error) => {
-                service.discard();
+                drop(service);
                 return Err(error);
             }
         };

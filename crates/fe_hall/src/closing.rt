@@ -35,12 +35,24 @@ pub enum Unclosed {
 
 /// The result of closing a hall: its books, the lists of its read sides, the receipts, each of them compared, and its history. Only
 /// `settle` makes it, so the books are those under the lock.
-#[derive(Drop)]
 pub struct Audit {
     books: Books,
     sent: Vec<Vec<ClientMessage>>,
     account: Account,
     whole: bool,
+}
+
+impl Drop for Audit {
+    fn drop(self) {
+        let Audit {
+            books: _,
+            sent,
+            account,
+            whole: _,
+        } = self;
+        drop(sent);
+        drop(account);
+    }
 }
 
 impl Model for Audit {

@@ -10,12 +10,23 @@ use logbook::Seen;
 use std::marker::Model;
 
 /// What a hall leaves at any end: the receipts of its write sides, and its history.
-#[derive(Drop)]
 pub struct Account {
     receipts: Vec<Receipt>,
     history: Seen<Act, u64, Law>,
     /// The hall's committing side noted every group in the history.
     own: bool,
+}
+
+impl Drop for Account {
+    fn drop(self) {
+        let Account {
+            receipts,
+            history,
+            own: _,
+        } = self;
+        drop(receipts);
+        drop(history);
+    }
 }
 
 impl Model for Account {

@@ -130,11 +130,19 @@ impl Play<Act, u64> for Counting {
 }
 
 /// A history that has no name yet, and in which nothing happened. Each call of a program names one.
-#[derive(Drop)]
 pub struct NewHistory {
     stores: Word<Act, u64, Law>,
     cuts: Word<Act, u64, Law>,
     seen: Seen<Act, u64, Law>,
+}
+
+impl Drop for NewHistory {
+    fn drop(self) {
+        let NewHistory { stores, cuts, seen } = self;
+        drop(stores);
+        drop(cuts);
+        drop(seen);
+    }
 }
 
 impl Model for NewHistory {
@@ -199,7 +207,6 @@ impl NewHistory {
 }
 
 /// The words of a hall's history, which all threads share.
-#[derive(Drop)]
 pub struct Chronicle<M: Tally> {
     stores: Word<Act, u64, Law>,
     cuts: Word<Act, u64, Law>,
@@ -208,11 +215,29 @@ pub struct Chronicle<M: Tally> {
     ghost cuts_are: { cuts ≡ cuts_of M.book },
 }
 
+impl<M: Tally> Drop for Chronicle<M> {
+    fn drop(self) {
+        let Chronicle {
+            stores,
+            cuts,
+            of: _,
+        } = self;
+        drop(stores);
+        drop(cuts);
+    }
+}
+
 /// A beginning of a hall's history, as a thread has seen it. Contracts see its acts.
-#[derive(Drop)]
 pub struct History<M: Tally> {
     seen: Seen<Act, u64, Law>,
     of: PhantomData<M>,
+}
+
+impl<M: Tally> Drop for History<M> {
+    fn drop(self) {
+        let History { seen, of: _ } = self;
+        drop(seen);
+    }
 }
 
 impl<M: Tally> Model for History<M> {

@@ -22,7 +22,6 @@ use std::marker::Model;
 ///
 /// After a fault of the device every call returns `Failed` and makes no device call. Opening the store again
 /// tells what was stored. No call allocates memory.
-#[derive(Drop)]
 pub struct Journal<D: Disk> {
     disk: D,
     buffer: Vec<u8>,
@@ -32,6 +31,23 @@ pub struct Journal<D: Disk> {
     used: usize,
     begun: Option<Begun>,
     has_failed: bool,
+}
+
+impl<D: Disk + Drop> Drop for Journal<D> {
+    fn drop(self) {
+        let Journal {
+            disk,
+            buffer,
+            slot: _,
+            format: _,
+            generation: _,
+            used: _,
+            begun: _,
+            has_failed: _,
+        } = self;
+        drop(disk);
+        drop(buffer);
+    }
 }
 
 impl<D: Disk> Model for Journal<D> {
@@ -139,7 +155,17 @@ impl<D: Disk> Journal<D> {
         ensures disk { result ≡ self.disk }
         ensures size { D.size result ≡ device_bytes }
     {
-        let Journal { disk, .. } = self;
+        let Journal {
+            disk,
+            buffer,
+            slot: _,
+            format: _,
+            generation: _,
+            used: _,
+            begun: _,
+            has_failed: _,
+        } = self;
+        drop(buffer);
         disk
     }
 

@@ -25,9 +25,15 @@ use std::marker::Model;
 ///
 /// After a fault of the device every call returns `Failed` and makes no device call. Opening the store again
 /// tells what was stored.
-#[derive(Drop)]
 pub struct Keeper<D: Disk> {
     parts: Parts<D>,
+}
+
+impl<D: Disk + Drop> Drop for Keeper<D> {
+    fn drop(self) {
+        let Keeper { parts } = self;
+        drop(parts);
+    }
 }
 
 impl<D: Disk> Model for Keeper<D> {

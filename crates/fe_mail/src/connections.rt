@@ -13,10 +13,19 @@ use std::marker::Model;
 /// The connections by number: the session of each, and the box in which its mails wait.
 ///
 /// Connections are in a hash map. `connect` allocates room for `MAILS` mails; nothing else allocates.
-#[derive(Drop)]
 pub struct Connections {
     connections: IndexMap<u64, Connection>,
     alloc: Global,
+}
+
+impl Drop for Connections {
+    fn drop(self) {
+        let Connections {
+            connections,
+            alloc: _,
+        } = self;
+        drop(connections);
+    }
 }
 
 impl Model for Connections {

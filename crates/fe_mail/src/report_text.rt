@@ -7,9 +7,15 @@ use std::marker::Model;
 pub const REPORT_BYTES: usize = 262_144;
 
 /// The text of a report: 1 to `REPORT_BYTES` bytes.
-#[derive(Drop)]
 pub struct ReportText {
     text: String,
+}
+
+impl Drop for ReportText {
+    fn drop(self) {
+        let ReportText { text } = self;
+        drop(text);
+    }
 }
 
 impl Model for ReportText {

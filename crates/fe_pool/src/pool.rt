@@ -12,10 +12,19 @@ use std::marker::Model;
 /// A fixed number of nodes. A taken node holds a `T` and is on at most one list of each family.
 ///
 /// `with_nodes` allocates all memory. Every later call takes a bounded time.
-#[derive(Drop)]
 pub struct Pool<T> {
     cells: Cells<T>,
     first_free: Option<Node>,
+}
+
+impl<T: Drop> Drop for Pool<T> {
+    fn drop(self) {
+        let Pool {
+            cells,
+            first_free: _,
+        } = self;
+        drop(cells);
+    }
 }
 
 impl<T> Model for Pool<T> {

@@ -22,7 +22,6 @@ const GUESSES: usize = 256;
 /// The seats of the sessions, and the requests that wait, each on a word and in its session.
 ///
 /// Only `new` and `add_array` take memory. A node is good until the next change.
-#[derive(Drop)]
 pub struct Seats {
     waits: Waits,
     occupants: Occupants,
@@ -32,6 +31,22 @@ pub struct Seats {
     slots: Vec<u8>,
     /// The position where a session was found last, in the cell of its number's remainder. Any position is good.
     guesses: [usize; GUESSES],
+}
+
+impl Drop for Seats {
+    fn drop(self) {
+        let Seats {
+            waits,
+            occupants,
+            owners,
+            slots,
+            guesses: _,
+        } = self;
+        drop(waits);
+        drop(occupants);
+        drop(owners);
+        drop(slots);
+    }
 }
 
 impl Model for Seats {

@@ -22,9 +22,15 @@ use std::marker::Model;
 /// The state of the server with the sessions' seats, what waits, and the entries that were made and not yet taken.
 ///
 /// After each call no waiting request may be served. Only `new` and a request that makes an array allocate memory.
-#[derive(Drop)]
 pub struct Service {
     parts: Parts,
+}
+
+impl Drop for Service {
+    fn drop(self) {
+        let Service { parts } = self;
+        drop(parts);
+    }
 }
 
 impl Model for Service {
@@ -58,11 +64,6 @@ impl Service {
             pending,
         };
         Ok(Service { parts })
-    }
-
-    /// Lets the service go.
-    pub fn discard(self) {
-        drop(self)
     }
 
     /// The state. No waiting request can be served in it.

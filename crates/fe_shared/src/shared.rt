@@ -38,7 +38,6 @@ const CONNECTIONS: u64 = 4611686018427387904;
 const MOST: u64 = 9223372036854767616;
 
 /// The front and its ledgers, which agree with its books.
-#[derive(Drop)]
 pub struct Shared<C: Tally, M: Tally> {
     front: Front,
     calls: Book<C>,
@@ -61,6 +60,30 @@ pub struct Shared<C: Tally, M: Tally> {
         × (C.all ≡ most_connections + 1) },
     ghost mail_parts: { (spare_mails.parts + made ≡ M.all) × (spare_mails.amount ≡ 0)
         × (M.all ≡ most_connections + 1) },
+}
+
+impl<C: Tally, M: Tally> Drop for Shared<C, M> {
+    fn drop(self) {
+        let Shared {
+            front,
+            calls,
+            mails,
+            spare_calls,
+            spare_mails,
+            history,
+            posted: _,
+            made: _,
+            watchers,
+            stopped: _,
+        } = self;
+        drop(front);
+        drop(calls);
+        drop(mails);
+        drop(spare_calls);
+        drop(spare_mails);
+        drop(history);
+        drop(watchers);
+    }
 }
 
 impl<C: Tally, M: Tally> Model for Shared<C, M> {

@@ -4,10 +4,16 @@ use fe_table::Copied;
 use std::alloc::{AllocError, Global};
 
 /// An array: its name, and its words.
-#[derive(Drop)]
 pub struct Array {
     pub name: Name,
     pub words: Words,
+}
+
+impl Drop for Array {
+    fn drop(self) {
+        let Array { name: _, words } = self;
+        drop(words);
+    }
 }
 
 impl Copied for Array {

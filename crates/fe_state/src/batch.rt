@@ -10,9 +10,15 @@ use std::alloc::{AllocError, Global};
 use std::marker::Model;
 
 /// The entries of a batch, in order: at most `BATCH_ENTRIES`, with room for as many.
-#[derive(Drop)]
 pub struct Entries {
     items: Vec<Entry>,
+}
+
+impl Drop for Entries {
+    fn drop(self) {
+        let Entries { items } = self;
+        drop(items);
+    }
 }
 
 impl Model for Entries {

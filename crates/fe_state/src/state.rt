@@ -36,12 +36,24 @@ pub struct Illegal;
 ///
 /// It allocates the memory for all sessions and for the ids and names of all arrays when it is made. After that only
 /// the words of a new array take memory.
-#[derive(Drop)]
 pub struct State {
     directory: Directory,
     sessions: Sessions,
     place: u64,
     alloc: Global,
+}
+
+impl Drop for State {
+    fn drop(self) {
+        let State {
+            directory,
+            sessions,
+            place: _,
+            alloc: _,
+        } = self;
+        drop(directory);
+        drop(sessions);
+    }
 }
 
 impl Model for State {

@@ -7,9 +7,15 @@ use std::alloc::{AllocError, Global};
 use std::marker::Model;
 
 /// The words of an array, in order of their indexes. Their number never changes.
-#[derive(Drop)]
 pub struct Words {
     items: Vec<Word>,
+}
+
+impl Drop for Words {
+    fn drop(self) {
+        let Words { items } = self;
+        drop(items);
+    }
 }
 
 impl Model for Words {

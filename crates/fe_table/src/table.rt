@@ -12,12 +12,23 @@ use std::marker::Model;
 /// A map from numbers to values, in ascending order of the numbers, with room for `ROOM` entries.
 ///
 /// `new` allocates the memory; of the other methods only `copied` allocates. A lookup tries the hint first.
-#[derive(Drop)]
 pub struct Table<V, const ROOM: usize> {
     keys: Vec<u64>,
     values: Vec<V>,
     /// The position a search looks at first. Any number is allowed.
     hint: usize,
+}
+
+impl<V: Drop, const ROOM: usize> Drop for Table<V, ROOM> {
+    fn drop(self) {
+        let Table {
+            keys,
+            values,
+            hint: _,
+        } = self;
+        drop(keys);
+        drop(values);
+    }
 }
 
 impl<V, const ROOM: usize> Model for Table<V, ROOM> {

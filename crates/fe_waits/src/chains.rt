@@ -6,9 +6,15 @@ use std::alloc::{AllocError, Global};
 use std::marker::Model;
 
 /// A fixed number of chains of a pool, one at each position.
-#[derive(Drop)]
 pub(crate) struct Chains {
     chains: Vec<Chain>,
+}
+
+impl Drop for Chains {
+    fn drop(self) {
+        let Chains { chains } = self;
+        drop(chains);
+    }
 }
 
 impl Model for Chains {

@@ -20,13 +20,27 @@ const NODES: u32 = 2048;
 /// The waiting requests of at most 64 sessions, on the words of at most 64 arrays.
 ///
 /// Only `new`, `add_array` and `told` allocate memory. A node is valid until the next change.
-#[derive(Drop)]
 pub struct Waits {
     pool: Pool<Row>,
     sessions: Chains,
     words: Words,
     count: u32,
     alloc: Global,
+}
+
+impl Drop for Waits {
+    fn drop(self) {
+        let Waits {
+            pool,
+            sessions,
+            words,
+            count: _,
+            alloc: _,
+        } = self;
+        drop(pool);
+        drop(sessions);
+        drop(words);
+    }
 }
 
 impl Model for Waits {
