@@ -1,4 +1,4 @@
-"""The documents: their blocks run, what they name exists, their links lead somewhere, and they are not too long; a patch applies."""
+"""The documents: their blocks run, what they name exists, their links lead somewhere, none is too long; patches and edits apply."""
 
 import glob
 import os
@@ -7,7 +7,7 @@ import shutil
 import subprocess
 import sys
 
-from . import blocks, clauses, names
+from . import blocks, clauses, names, wrong_disks
 from .harness import Skipped
 from .texts import NAME, PAGES, READMES, TOP, bases, exists, headings, is_path, slug, split, text_of, told
 from .wire import OPS
@@ -153,4 +153,10 @@ def bench_patch(place):
     return told([ran.stdout] if ran.returncode else [], len(files), 3, "files")
 
 
-CHECKS = (*blocks.CHECKS, *names.CHECKS, *clauses.CHECKS, touched, crates, versions, lengths, links, bench_patch)
+def disk_edits(_place):
+    """each text that scripts/try_disks replaces in the crates stands there once"""
+    edits = wrong_disks.edits()
+    return told([f"{path}: {old}" for path, old, _ in edits if text_of(path).count(old) != 1], len(edits), 15, "edits")
+
+
+CHECKS = (*blocks.CHECKS, *names.CHECKS, *clauses.CHECKS, touched, crates, versions, lengths, links, bench_patch, disk_edits)
