@@ -1,14 +1,11 @@
-"""The documents: their blocks run, what they name exists, their links lead somewhere, none is too long; patches and edits apply."""
+"""The documents: their blocks run, what they name exists, their links lead somewhere, and they are not too long."""
 
 import glob
 import os
 import re
-import shutil
-import subprocess
 import sys
 
-from . import blocks, clauses, names, wrong_disks
-from .harness import Skipped
+from . import blocks, clauses, names
 from .texts import NAME, PAGES, READMES, TOP, bases, exists, headings, is_path, slug, split, text_of, told
 from .wire import OPS
 
@@ -138,25 +135,4 @@ def links(_place):
     return told(missing, count, 100, "links")
 
 
-def bench_patch(place):
-    """the patch with which bench/hall/threads reads the clock in the hall applies to the crates"""
-    if shutil.which("patch") is None:
-        raise Skipped("there is no patch")
-    name = "bench/hall/threads.patch"
-    files = re.findall(r"^\+\+\+ b/(.+)$", text_of(name), re.M)
-    for file in files:
-        os.makedirs(os.path.dirname(place.path(file)), exist_ok=True)
-        shutil.copy(os.path.join(TOP, file), place.path(file))
-    # (without fuzz, since a hunk has one line of context at either end)
-    words = ["patch", "--dry-run", "--force", "-F0", "-p1", "-d", place.folder, "-i", os.path.join(TOP, name)]
-    ran = subprocess.run(words, stdin=subprocess.DEVNULL, stdout=subprocess.PIPE, stderr=subprocess.STDOUT, timeout=60, text=True)
-    return told([ran.stdout] if ran.returncode else [], len(files), 3, "files")
-
-
-def disk_edits(_place):
-    """each text that scripts/try_disks replaces in the crates stands there once"""
-    edits = wrong_disks.edits()
-    return told([f"{path}: {old}" for path, old, _ in edits if text_of(path).count(old) != 1], len(edits), 15, "edits")
-
-
-CHECKS = (*blocks.CHECKS, *names.CHECKS, *clauses.CHECKS, touched, crates, versions, lengths, links, bench_patch, disk_edits)
+CHECKS = (*blocks.CHECKS, *names.CHECKS, *clauses.CHECKS, touched, crates, versions, lengths, links)
