@@ -16,8 +16,8 @@ def environment(place):
     return {"PYTHONDONTWRITEBYTECODE": "", "PYTHONPYCACHEPREFIX": place.path("compiled"), "TMPDIR": place.folder}
 
 
-def ran(place, words, seconds):
-    """Runs a client's program to its end, and returns the last line that it printed."""
+def output_of(place, words, seconds):
+    """Runs a program to its end, and returns what it printed."""
     process = place.start(words, "client", environment(place), stderr=subprocess.STDOUT, group=True)
     try:
         process.wait(seconds)
@@ -26,7 +26,12 @@ def ran(place, words, seconds):
     said = place.read("client.out").decode(errors="replace")
     if process.returncode:
         raise Wrong(f"status {process.returncode}: {said[-3000:]}")
-    return (said.strip().splitlines() or [""])[-1]
+    return said
+
+
+def ran(place, words, seconds):
+    """The last line that a client's program prints."""
+    return (output_of(place, words, seconds).strip().splitlines() or [""])[-1]
 
 
 # How many test files run at a time.

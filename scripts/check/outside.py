@@ -4,10 +4,10 @@ import json
 import os
 import re
 import shutil
-import subprocess
 
 from . import wrong_disks
-from .harness import Server, Skipped, Wrong, compiler, holds, same, within
+from .clients import output_of
+from .harness import Server, Skipped, compiler, holds, same, within
 from .texts import text_of, told
 
 TOP = os.path.normpath(os.path.join(os.path.dirname(os.path.realpath(__file__)), "..", ".."))
@@ -16,31 +16,19 @@ TOOLS = ["growth_tool", "limits", "load", "redis_load", "slow_sync.so", "stand_i
 MESSAGES = 2 * (2 + 20_000 * 33)
 
 
-def ran(place, words, seconds):
-    """Runs a tool to its end, and returns what it printed."""
-    process = place.start(words, "tool", {"TMPDIR": place.folder, "CC": compiler()}, stderr=subprocess.STDOUT, group=True)
-    try:
-        process.wait(seconds)
-    except subprocess.TimeoutExpired:
-        raise Wrong(f"{words}: no end within {seconds} seconds") from None
-    said = place.read("tool.out").decode(errors="replace")
-    same(process.returncode, 0, said[-1000:])
-    return said
-
-
 @within(300)
 def loads(place):
     """bench/serve compiles without a warning; its load, which checks each value, works with femem and with the stand-in"""
     for folder in ("bench/serve", "clients/c"):
         shutil.copytree(os.path.join(TOP, folder), place.path(folder), ignore=shutil.ignore_patterns("out"))
-    same(ran(place, ["make", "-s", "-C", place.path("bench/serve")], 120), "")
+    same(output_of(place, ["make", "-s", "-C", place.path("bench/serve"), f"CC={compiler()}"], 120), "")
     out = place.path("bench/serve/out")
     same(sorted(os.listdir(out)), TOOLS)
     checked = 0
     for name, program in (("femem", place.program), ("stand_in", os.path.join(out, "stand_in"))):
         place.program = program
         server = Server(place, name).start()
-        found = json.loads(ran(place, [os.path.join(out, "load"), server.socket, "own", "4", "8", "0.5", "0.1"], 60))
+        found = json.loads(output_of(place, [os.path.join(out, "load"), server.socket, "own", "4", "8", "0.5", "0.1"], 60))
         holds(found["valid"] and found["checked"] > 0, f"{name}: {found}")
         checked += found["checked"]
         server.stop()
@@ -52,7 +40,7 @@ def competing_threads(place):
     """bench/hall/threads builds a copy of the hall that reads the clock, and times almost every message, mail and entry"""
     if shutil.which("patch") is None:
         raise Skipped("there is no patch")
-    said = ran(place, [os.path.join(TOP, "bench", "hall", "threads"), "1"], 900)
+    said = output_of(place, ["env", f"CC={compiler()}", os.path.join(TOP, "bench", "hall", "threads"), "1"], 900)
     found = re.findall(r"; (\d+) calls,|^take \d+ ns of (\d+)$|^post \d+ ns an entry of (\d+)$", said, re.M)
     counts = [int("".join(it)) for it in found]
     same(len(counts), 3, said)
