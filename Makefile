@@ -10,6 +10,7 @@ SOURCES := crates.txt $(shell find crates -name out -prune -o \( -name '*.rt' -o
 # The proved program if it is up to date, otherwise the unproved one.
 PROGRAM := $(shell [ -x $(PROVED) ] && [ -z "$$(find $(SOURCES) -newer $(PROVED))" ] && echo $(PROVED) || echo $(UNPROVED))
 PREFIX ?= /usr/local
+DIST := out/dist
 DATA := femem-data
 
 help: ## lists the targets
@@ -35,12 +36,11 @@ install: $(PROVED) ## install it: puts the proved program and its man pages belo
 	@for page in out/man/*; do install -D -m 644 $$page $(DESTDIR)$(PREFIX)/share/man/man$${page##*.}/$${page##*/}; done
 	@echo "$(DESTDIR)$(PREFIX)/bin/femem"
 
-deb: ## packages it: out/dist/femem_VERSION_amd64.deb, with the proved program
-	@scripts/record check $(PROVED) $(RECORD)
-	@scripts/make_deb $(PROVED) out/dist $(RECORD)
+deb: ## packages it: out/dist/femem_VERSION_amd64.deb, with the proved program; refuses what is not proved
+	@scripts/make_deb $(PROVED) $(DIST) $(RECORD)
 
 dist: ## releases it: package, wheel, C library, checksums and the proof's record in out/dist; refuses what is not proved
-	@scripts/dist $(PROVED) $(RECORD) out/dist
+	@scripts/dist $(PROVED) $(RECORD) $(DIST)
 
 man: ## makes the man pages in out/man from the documents in docs/
 	@scripts/man_pages out/man
@@ -80,7 +80,7 @@ check-hosts: $(PROGRAM) ## a store on two hosts that fail in turn (docs/replicat
 	@scripts/check_programs $(PROGRAM) hosts
 
 lint-deb: deb ## checks the package with Debian's lintian
-	@lintian --fail-on error,warning out/dist/*.deb
+	@lintian --fail-on error,warning $(DIST)/*.deb
 
 client: ## builds the C client, and runs the tests of both clients; needs no toolchain (1 minute)
 	@$(MAKE) -s -C clients/c all test

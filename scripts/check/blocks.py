@@ -19,7 +19,7 @@ BLOCKS = {
     ),
     "CONTRIBUTING.md": (
         ("cd crates/fe_wire", "not run: it proves a crate, which the gate does"),
-        ("clause: Decoder::feed reads", HERE),
+        ("# clause: Decoder::feed reads", HERE),
     ),
     "ARCHITECTURE.md": (),
     "docs/commands.md": (
@@ -127,7 +127,7 @@ def page_of_operating(place):
 
 def planted_edit(_place):
     """the edit that CONTRIBUTING.md shows is one of fe_wire's"""
-    wanted = block("CONTRIBUTING.md", "clause: Decoder::feed reads").strip()
+    wanted = block("CONTRIBUTING.md", "# clause: Decoder::feed reads").strip()
     edits = [text_of(it).strip() for it in glob.glob(os.path.join(TOP, "crates", "fe_wire", "must-fail", "*.edit"))]
     holds(edits and wanted in edits, f"no edit of fe_wire is\n{wanted}")
 

@@ -11,6 +11,9 @@ from . import wire
 
 USUAL_SECONDS = 60
 
+# How the line of a check begins that this machine could not run.
+NOT_RUN = "NOT RUN"
+
 HERE = os.path.dirname(os.path.realpath(__file__))
 
 
@@ -19,7 +22,7 @@ class Wrong(Exception):
 
 
 class Skipped(Exception):
-    """This machine lacks something that a check needs."""
+    """This machine lacks something that a check needs, so the check was not run."""
 
 
 class Late(Exception):
@@ -200,7 +203,8 @@ class Held:
 
 
 class Runner:
-    """Runs checks, prints a line for each, and counts."""
+    """Runs checks, prints a line for each, and counts. A check that this machine can't run has failed, unless its part may be
+    skipped (`options.may_skip`)."""
 
     def __init__(self, program, folder, options):
         self.program = program
@@ -208,6 +212,8 @@ class Runner:
         self.options = options
         self.passed = 0
         self.failed = 0
+        self.skipped = 0
+        self.not_run = []
 
     def run(self, part, check):
         place = Place(self.program, os.path.join(self.folder, "c"), self.options)
@@ -220,7 +226,11 @@ class Runner:
         try:
             note = check(place)
         except Skipped as lack:
-            print(f"skipped {part}: {named(check)}: {lack}", flush=True)
+            may = part in self.options.may_skip
+            self.skipped += may
+            self.failed += not may
+            self.not_run += [] if may else [f"{part}: {lack}"]
+            print(f"{'skipped' if may else NOT_RUN} {part}: {lack} ({named(check)})", flush=True)
             return
         except Late:
             why = f"no end within {seconds} seconds"

@@ -7,7 +7,7 @@ import shutil
 import subprocess
 import sys
 
-from .harness import holds, same
+from .harness import Skipped, holds, same
 
 sys.path.insert(0, os.path.normpath(os.path.join(os.path.dirname(os.path.realpath(__file__)), "..")))
 
@@ -27,9 +27,7 @@ FAULTS = re.compile(r'^ *#\[error\("(femem: [^"]+)"\)\]$', re.M)
 def needs_man():
     """Needs `man`, from Debian's package man-db."""
     if not shutil.which("man"):
-        words = "apt-get -q update && apt-get -q install -y --no-install-recommends man-db"
-        subprocess.run(["sh", "-c", words], capture_output=True, timeout=300)
-    holds(shutil.which("man"), "there is no man on this machine, and Debian's package man-db can't be installed")
+        raise Skipped("there is no man, of Debian's package man-db")
 
 
 def made(place):

@@ -6,10 +6,17 @@ An entry is ("attached", SESSION, FLOOR), ("closed", SESSION), ("settled", SESSI
 
 import re
 
-MOST_ARRAYS, MOST_WORDS, MOST_SESSIONS, WINDOW = 64, 65536, 64, 32
+from . import tables
+from .wire import OPS
+
+LIMITS = tables.limits()
+MOST_ARRAYS, MOST_WORDS = LIMITS["arrays"][0], LIMITS["words in all arrays"][0]
+MOST_SESSIONS, WINDOW = LIMITS["sessions kept"][0], LIMITS["request numbers of a session in use"][0]
 TOP_FLOOR, TOP_PLACE = 2**63 - 32, 2**63 - 1
-PLAIN = re.compile(rb"[a-z0-9_]{1,32}")
+PLAIN = re.compile(b"[a-z0-9_]{%d,%d}" % tuple(LIMITS["name of an array"][:2]))
 EMPTY, FULL = 0, 1
+TAGS = {"empty": EMPTY, "full": FULL}
+TABLE = {OPS[name.encode()]: row for name, row in tables.operations().items()}
 
 
 class Illegal(Exception):
@@ -17,19 +24,12 @@ class Illegal(Exception):
 
 
 def table(op, operand, value, tag):
-    """The operation table: the value and tag after, and the answer; None where it waits."""
-    needs = {16: FULL, 17: FULL, 18: None, 19: EMPTY, 20: FULL, 21: None, 22: None, 23: FULL}[op]
-    if needs is not None and tag != needs:
+    """The README's operation table: the value and tag after, and the answer; None where it waits."""
+    needs, value_after, tag_after, answer = TABLE[op]
+    if needs != "any" and tag != TAGS[needs]:
         return None
-    if op == 16:
-        return value, EMPTY, ("value", value)
-    if op in (17, 18):
-        return value, tag, ("value", value)
-    if op in (19, 20, 21):
-        return operand, FULL, ("done",)
-    if op == 22:
-        return 0, EMPTY, ("done",)
-    return (value + operand) % 2**64, FULL, ("value", value)
+    after = {"same": value, "operand": operand, "0": 0, "(value + operand) mod 2^64": (value + operand) % 2**64}[value_after]
+    return after, TAGS.get(tag_after, tag), {"old value": ("value", value), "done": ("done",)}[answer]
 
 
 class Array:

@@ -1,27 +1,33 @@
-"""Stores as bytes, from docs/formats.md alone: a reader that reports damage as femem must, and a writer."""
+"""Stores as bytes, by the tables of docs/formats.md: a reader that reports damage as femem must, and a writer."""
 
 import struct
 
+from . import tables
 from .model import MOST_ARRAYS, MOST_SESSIONS, MOST_WORDS, PLAIN, TOP_FLOOR, TOP_PLACE, WINDOW, Array, Illegal, Session, State
-from .wire import OP_NAMES, WITH_OPERAND, WORDS, BadReply, answer_of
+from .wire import ANSWERS as ANSWER_CODES
+from .wire import OP_NAMES, WITH_OPERAND, BadReply, answer_of
 
-SIZE, SLOT = 4202496, 2101248
-GATE, IMAGE, JOURNAL, AREA = 4095, 4096, 1052672, 1048576
-ANSWER_CODES = {"value": 1, "done": 2, "array": 3, **{word: code for code, word in WORDS.items()}}
+AREAS = {name: (tables.number(at), tables.number(size)) for name, at, size in tables.rows("docs/formats.md", "| area | at | bytes |")}
+SIZE, SLOT = tables.said("docs/formats.md", "A store's device has N bytes: two slots of N bytes each", 2)
+GATE = tables.said("docs/formats.md", "The last byte of its area, at N, is its **gate**")
+IMAGE, (JOURNAL, AREA) = AREAS["image"][0], AREAS["journal area"]
+# In formats 1 and 2.
+MOST_RECORDS = tables.said("docs/formats.md", "1 to N in format 1, 1 to N in format 2.", 2)
+MOST_IMAGES = tables.said("docs/formats.md", "at most N in format 1 and N in format 2", 2)
 
 
 class Format:
-    def __init__(self, number, magic, name, most_records, most_image):
+    def __init__(self, number, magic, name):
         self.number = number
         self.magic = magic
         self.name = name  # the size of a name's field
-        self.record = 48 + name
-        self.most_records = most_records
-        self.most_image = most_image
+        self.form, self.record = tables.record_form(number - 1)
+        self.most_records = MOST_RECORDS[number - 1]
+        self.most_image = MOST_IMAGES[number - 1]
 
 
-ONE = Format(1, b"FEMEMST1", 16, 16383, 740440)
-TWO = Format(2, b"FEMEMST2", 32, 13107, 774232)
+ONE = Format(1, b"FEMEMST1", 16)
+TWO = Format(2, b"FEMEMST2", 32)
 
 
 class Damaged(Exception):
@@ -44,7 +50,7 @@ def record_of(entry, form):
     kind, session, *rest = entry
     code = {"attached": 1, "closed": 2, "settled": 3, "finished": 4}[kind]
     if code != 4:
-        return struct.pack(">B7xQQ", code, session, *(rest or (0,))).ljust(form.record, b"\0")
+        return struct.pack(form.form, code, *[0] * 6, session, *(rest or (0,)), b"", *[0] * 4)
     number, request, answer = rest
     row, request_code, name_length, tag, flag, length = b"", 0, 0, 0, 0, 0
     if request[0] in ("create", "find"):
@@ -58,19 +64,18 @@ def record_of(entry, form):
         row = struct.pack(">QQ", array, operand)
     value = answer[1] if len(answer) > 1 else 0
     array_length = answer[2] if len(answer) > 2 else 0
-    head = struct.pack(">BBBBBBxxQQ", code, request_code, ANSWER_CODES[answer[0]], name_length, tag, flag, session, number)
-    return head + row.ljust(form.name, b"\0") + struct.pack(">IIQ8x", length, array_length, value)
+    head = (code, request_code, ANSWER_CODES[answer[0]], name_length, tag, flag, 0, session, number)
+    return struct.pack(form.form, *head, row, length, array_length, value, 0)
 
 
 def entry_of(record, form):
     """The entry of a record, or None if it is not valid."""
-    kind, code, answer, name_length, tag, flag, unused, session, number = struct.unpack(">BBBBBBHQQ", record[:24])
-    row = record[24 : 24 + form.name]
-    length, array_length, value, last = struct.unpack(">IIQQ", record[24 + form.name :])
+    kind, code, answer, name_length, tag, flag, unused, session, number, row, *rest = struct.unpack(form.form, record)
+    length, array_length, value, last = rest
     if kind in (1, 2, 3):
         entry = ({1: "attached", 2: "closed", 3: "settled"}[kind], session, *([] if kind == 2 else [number]))
         return entry if number < 2**63 and record == record_of(entry, form) else None
-    if kind != 4 or number >= 2**63 or unused or last or flag > 1 or (form is ONE and (flag or answer == 11)):
+    if kind != 4 or number >= 2**63 or unused or last or flag > 1 or (form is ONE and (flag or answer == ANSWER_CODES["not-now"])):
         return None
     if code in (1, 2):
         if name_length > form.name or tag > 1:

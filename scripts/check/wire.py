@@ -1,4 +1,4 @@
-"""Frames and the lines of schedules, from docs/formats.md and docs/schedules.md alone.
+"""Frames and the lines of schedules, by the tables of docs/formats.md and by docs/schedules.md.
 
 A request is a tuple: ("create", NAME, LENGTH, FULL), ("find", NAME), ("remove", ARRAY) or
 ("access", OP, ARRAY, INDEX, OPERAND, NOWAIT). An answer is one of ("value", V), ("done",),
@@ -9,11 +9,17 @@ import socket
 import struct
 import time
 
-OPS = {b"readfe": 16, b"readff": 17, b"readxx": 18, b"writeef": 19, b"writeff": 20, b"writexf": 21, b"purge": 22, b"int_fetch_add": 23}
+from . import tables
+
+OPS = {name.encode(): code for name, code in tables.codes("docs/formats.md", "| code | request").items()}
 OP_NAMES = {code: name for name, code in OPS.items()}
-WITH_OPERAND = (19, 20, 21, 23)
-WORDS = {4: "no-array", 5: "bad-index", 6: "name-taken", 7: "array-limit", 8: "word-limit", 9: "bad-name", 10: "bad-length", 11: "not-now"}
-REFUSALS = ("not-attached", "session-limit", "below-floor", "beyond-window", "number-used", "still-waiting", "closing", "no-memory", "spent", "not-waiting")
+WITH_OPERAND = tuple(tables.said("docs/formats.md", "The operations with an operand are N, N, N and N;", 4))
+ANSWERS = tables.codes("docs/formats.md", "| code | answer")
+WORDS = {code: name for name, code in ANSWERS.items() if name not in ("value", "done", "array")}
+REFUSALS = {int(row[0]): row[1] for row in tables.rows("docs/formats.md", "| refusal | name")}
+FROM_CLIENT = tables.kinds("| kind | from the client")
+FROM_SERVER = tables.kinds("| kind | from the server")
+LEAST_TEXT, MOST_TEXT = tables.said("docs/formats.md", "UTF-8 text, N to N bytes", 2)
 
 
 class BadReply(Exception):
@@ -28,40 +34,47 @@ def framed(kind, body=b""):
     return struct.pack(">IB", 1 + len(body), kind) + body
 
 
+def kind_of(name, length=None):
+    """The client's kind of that name, whose bounds have a name of that length."""
+    fits = lambda kind: length is None or kind.bounds["name length"][0] <= length <= kind.bounds["name length"][1]
+    return next(code for code, kind in FROM_CLIENT.items() if kind.name == name and fits(kind))
+
+
+def spelled(name, *values, length=None):
+    """The client's frame of that kind with these values of its fields."""
+    code = kind_of(name, length)
+    return framed(code, struct.pack(FROM_CLIENT[code].form, *values))
+
+
 def attach(session):
-    return framed(1, struct.pack(">Q", session))
+    return spelled("attach", session)
 
 
 def cancel(number):
-    return framed(6, struct.pack(">Q", number))
+    return spelled("cancel", number)
 
 
 def settle(floor):
-    return framed(7, struct.pack(">Q", floor))
+    return spelled("settle", floor)
 
 
 def bye():
-    return framed(8)
+    return spelled("bye")
 
 
 def report():
-    return framed(9)
+    return spelled("report")
 
 
 def call(number, request):
     kind, *rest = request
-    head = struct.pack(">Q", number)
     if kind == "access":
         op, array, index, operand, nowait = rest
-        return framed(11 if nowait else 5, head + struct.pack(">BQIQ", op, array, index, operand))
+        return spelled("access, not to wait" if nowait else "access", number, op, array, index, operand)
     if kind == "remove":
-        return framed(4, head + struct.pack(">Q", rest[0]))
+        return spelled("remove", number, rest[0])
     name = rest[0]
-    is_long = len(name) > 16
-    row = head + bytes([len(name)]) + name.ljust(32 if is_long else 16, b"\0")
-    if kind == "find":
-        return framed(13 if is_long else 3, row)
-    return framed(12 if is_long else 2, row + struct.pack(">IB", rest[1], rest[2]))
+    return spelled(kind, number, len(name), name, *rest[1:], length=len(name))
 
 
 def request_of(words):
@@ -93,11 +106,11 @@ def message_of(words):
 
 def answer_of(code, value, length):
     """The answer in these fields. Raises BadReply if there is none."""
-    if code == 1 and length == 0:
+    if code == ANSWERS["value"] and length == 0:
         return ("value", value)
-    if code == 3:
+    if code == ANSWERS["array"]:
         return ("array", value, length)
-    if value == 0 and length == 0 and code == 2:
+    if value == 0 and length == 0 and code == ANSWERS["done"]:
         return ("done",)
     if value == 0 and length == 0 and code in WORDS:
         return (WORDS[code],)
@@ -106,20 +119,20 @@ def answer_of(code, value, length):
 
 def reply_of(frame):
     """The reply in a server's frame, given without its four bytes of length."""
-    kind, body = frame[0], frame[1:]
-    sizes = {65: ">QQ", 66: ">QBQI", 67: ">Q", 68: ">Q", 69: ">Q", 70: ">QB"}
-    if kind == 71 and 1 <= len(body) <= 262144:
+    code, body = frame[0], frame[1:]
+    kind = FROM_SERVER.get(code)
+    if kind and kind.name == "report" and LEAST_TEXT <= len(body) <= MOST_TEXT:
         return ("report", body.decode())
-    if kind not in sizes or len(body) != struct.calcsize(sizes[kind]):
-        raise BadReply(f"kind {kind} with {len(body)} bytes")
-    fields = struct.unpack(sizes[kind], body)
-    if kind == 66:
+    if not kind or kind.name == "report" or len(body) != struct.calcsize(kind.form):
+        raise BadReply(f"kind {code} with {len(body)} bytes")
+    fields = struct.unpack(kind.form, body)
+    if kind.name == "answer":
         return ("answer", fields[0], answer_of(*fields[1:]))
-    if kind == 70:
-        if not 1 <= fields[1] <= len(REFUSALS):
+    if kind.name == "refused":
+        if fields[1] not in REFUSALS:
             raise BadReply(f"refusal {fields[1]}")
-        return ("refused", fields[0], REFUSALS[fields[1] - 1])
-    return ({65: "welcome", 67: "withdrawn", 68: "settled", 69: "goodbye"}[kind], *fields)
+        return ("refused", fields[0], REFUSALS[fields[1]])
+    return (kind.name, *fields)
 
 
 def lines_of(reply):
@@ -193,7 +206,7 @@ class Connection:
         while True:
             if len(self.got) >= 4:
                 length = struct.unpack(">I", self.got[:4])[0]
-                if not 1 <= length <= 262145:
+                if not 1 <= length <= 1 + MOST_TEXT:
                     raise BadReply(f"a frame of {length} bytes")
                 if len(self.got) >= 4 + length:
                     frame, self.got = self.got[4 : 4 + length], self.got[4 + length :]

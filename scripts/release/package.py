@@ -1,9 +1,11 @@
 """Builds the Debian package femem_VERSION_amd64.deb of a program, and prints its path.
 
-Usage: scripts/make_deb PROGRAM FOLDER [RECORD]
+Usage: scripts/make_deb PROGRAM FOLDER RECORD
+       scripts/make_deb --unproved PROGRAM FOLDER
 
+RECORD is the proof's record: it must be of this very program and of the present sources, and is included. `--unproved` is for tests.
 The same sources and the same program give the same bytes: files have the time of SOURCE_DATE_EPOCH, or of the last commit, and
-belong to root. RECORD, the proof's record, is included. It needs dpkg-deb, but no network.
+belong to root. It needs dpkg-deb, but no network.
 """
 
 import gzip
@@ -17,7 +19,7 @@ import tempfile
 import textwrap
 import time
 
-from . import pages
+from . import pages, record as records
 
 TOP = pages.TOP
 
@@ -130,12 +132,18 @@ def build(program, folder, record=None):
 
 
 def main():
-    if len(sys.argv) not in (3, 4):
-        sys.exit("usage: scripts/make_deb PROGRAM FOLDER [RECORD]")
-    with open(sys.argv[1], "rb") as file:
-        program = file.read()
-    record = None
-    if len(sys.argv) == 4:
-        with open(sys.argv[3], "rb") as file:
-            record = file.read()
-    print(build(program, sys.argv[2], record))
+    words = sys.argv[1:]
+    unproved = words[:1] == ["--unproved"]
+    if len(words) != 3:
+        sys.exit("usage: scripts/make_deb PROGRAM FOLDER RECORD\n       scripts/make_deb --unproved PROGRAM FOLDER")
+    program, folder = words[1:] if unproved else words[:2]
+    fault = None if unproved else records.fault_of(program, words[2])
+    if fault:
+        sys.exit(f"femem: {fault}: 'make prove' proves these sources")
+    with open(program, "rb") as file:
+        content = file.read()
+    kept = None
+    if not unproved:
+        with open(words[2], "rb") as file:
+            kept = file.read()
+    print(build(content, folder, kept))

@@ -1,0 +1,158 @@
+"""Facts of the documents that no other check rests on: the example frames and record, defaults, bounds, statuses, and the unit's limits.
+
+The codes, frames, offsets, limits and the operation table are the ones by which all checks speak (tables.py)."""
+
+import os
+import re
+import struct
+
+from . import calls, store, tables, wire
+from .harness import holds, preload, same
+from .model import LIMITS
+from .tables import number, rows, said, text
+
+# Sizes of a store are written so in the documents.
+SIZED = re.compile(r"[Ss]tore[^.|\n]{0,40}?\b([34],\d\d\d,\d\d\d)")
+
+
+def exchange(_place):
+    """the frames of the exchange in docs/formats.md are those of the first path, byte by byte"""
+    frames = [[bytes.fromhex(cell.replace(" ", "")) for cell in row[1:]] for row in rows("docs/formats.md", "| | client | server |")]
+    same(frames, [list(pair) for pair in zip(calls.MESSAGES, calls.REPLIES)])
+    found = re.search(r"may ask not to wait: `([0-9a-f ]+)`, answered not-now, `([0-9a-f ]+)`", text("docs/formats.md"))
+    asked, answered = (bytes.fromhex(it.replace(" ", "")) for it in found.groups())
+    same(asked, wire.call(5, ("access", wire.OPS[b"readfe"], 1, 0, 0, True)))
+    same(wire.reply_of(answered[4:]), ("answer", 5, ("not-now",)))
+
+
+def examples(_place):
+    """the record and the image that docs/formats.md shows are those of their entry and state"""
+    shown = lambda first: bytes.fromhex("".join(re.findall(r"^    ((?:[0-9a-f]+ )*[0-9a-f]+)(?: \.\.)?(?:  |$)", part(first), re.M)).replace(" ", ""))
+    entry = ("finished", 7, 2, ("access", wire.OPS[b"writeef"], 1, 0, 42, False), ("done",))
+    record = store.record_of(entry, store.ONE)
+    same(shown("    04 13 02 00"), record, "the record")
+    state = store.State()
+    state.place, state.next_id = 3, 2
+    state.arrays[1] = store.Array(b"cells", [(42, 1), (7, 0)])
+    state.sessions[7] = store.Session(1)
+    state.sessions[7].kept[2] = (*entry[3:], 2)
+    image = shown("    0000000000000003                place")
+    same(image, store.image_of(state, store.ONE)[: len(image)], "the image")
+    holds(len(image) > 100, "the image is shown")
+    group = said("docs/formats.md", "at N and the record's 64 bytes; the gate at N is closed", 2)
+    same(group, [store.JOURNAL, store.JOURNAL + 5 + store.ONE.record], "the first group")
+    magics = re.search(r"the text `(\w+)` for format 1, `(\w+)` for format 2", text("docs/formats.md"))
+    same([it.encode() for it in magics.groups()], [store.ONE.magic, store.TWO.magic])
+    bounds = {form: said("docs/formats.md", f"N bytes each and at most N{ending}", 2) for form, ending in ((store.ONE, " of them in format 1"), (store.TWO, " in format 2."))}
+    for form, found in bounds.items():
+        same(found, [form.record, form.most_records], "the payload of a group")
+
+
+def part(first):
+    """The block of docs/formats.md that begins with these words."""
+    page = text("docs/formats.md")
+    begin = page.index(first)
+    return page[begin : page.index("\n\n", begin)]
+
+
+def lengths(_place):
+    """the greatest lengths of frames, and the operations that never wait, are those of the tables"""
+    longest = [max(1 + struct.calcsize(kind.form) for code, kind in wire.FROM_CLIENT.items() if code in codes) for codes in (range(10), range(14))]
+    same(said("docs/formats.md", "above the greatest, which is N in version 1 and N in version 2", 2), longest)
+    never = re.search(r"((?:`\w+`(?:, | and )?)+) never wait, nor do", text("docs/formats.md"))[1]
+    wanted = [name for name, row in tables.operations().items() if row[0] == "any"]
+    same(sorted(re.findall(r"`(\w+)`", never)), sorted(wanted))
+
+
+def offsets(_place):
+    """each size of a store that a document gives is its size, and slot 1 is a slot behind slot 0 in the tables of docs/store.md"""
+    count = 0
+    for name in ("README.md", "docs/formats.md", "docs/store.md", "docs/operating.md", "docs/commands.md", "docs/model.md"):
+        for it in SIZED.findall(text(name)):
+            count += 1
+            same(number(it), store.SIZE, name)
+    holds(count >= 5, f"only {count} sizes")
+    found = [(number(a), number(b)) for a, b in re.findall(r"^    ([\d,]+) {2,}([\d,]+) {2,}[\d,]+ {2,}", text("docs/store.md"), re.M)]
+    same([(a, b) for a, b in found if b != a + store.SLOT], [])
+    holds(len(found) >= 3, f"only {len(found)} offsets")
+    return f"{count} sizes, {len(found)} offsets"
+
+
+def limits(_place):
+    """the limits of the README, of docs/operating.md and of the formats are the same ones"""
+    same(LIMITS["requests that wait"], [LIMITS["sessions kept"][0] * LIMITS["request numbers of a session in use"][0]])
+    same(LIMITS["size of a store"], [store.SIZE])
+    operating = " ".join(row[0] for row in rows("docs/operating.md", "| limit | what happens there |"))
+    for form, name in (
+        (r"([\d,]+) sessions", "sessions kept"), (r"([\d,]+) numbers from", "request numbers of a session in use"),
+        (r"([\d,]+) arrays", "arrays"), (r"([\d,]+) words", "words in all arrays"), (r"([\d,]+) requests that wait", "requests that wait"),
+        (r"([\d,]+) replies unread", "replies queued for one connection"), (r"the store, ([\d,]+) bytes", "size of a store"),
+        (r"connections, (?:\d+) by default and up to (\d+)", "connections"),
+    ):
+        same([number(it) for it in re.findall(form, operating)], LIMITS[name][:1], f"docs/operating.md: {name}")
+    fields = dict(re.findall(r"^\| (\d+) \| how many (\w+), 0 to \d+ \|$", text("docs/formats.md"), re.M))
+    same(len(fields), 1, "two counts of four bytes")
+    for what, name in (("arrays", "arrays"), ("sessions", "sessions kept")):
+        same(said("docs/formats.md", f"how many {what}, 0 to N |"), LIMITS[name][0], what)
+    return f"{len(LIMITS)} limits"
+
+
+def settings(place):
+    """the defaults and bounds of docs/settings.md are those of `serve`: just inside they are taken, just outside refused"""
+    table = tables.settings()
+    source = text("crates/fe_options/src/reading.rt")
+    usual = re.search(r"^const USUAL_TURNS: u64 = ([\d_]+);", source, re.M)[1]
+    same(number(table["turns"][1]), int(usual.replace("_", "")), "the default of turns")
+    same([number(table["connections"][1])], LIMITS["connections"][1:], "the default of connections")
+    same((table["accepts"][1], table["format"][1]), ("0", "false"))
+    for key in ("connections", "accepts", "turns"):
+        least, most = (number(it) for it in re.match(r"([\d,^]+) to ([\d,^]+):", table[key][0]).groups())
+        for value, line in ((least, "store device"), (most, "store device"), (least - 1, f"settings: {key}"), (most + 1, f"settings: {key}")):
+            place.write("s.toml", f'socket = "{place.path("x")}"\nstore = "{place.path("none")}"\n{key} = {value}\n'.encode())
+            ended = place.run("serve", "--settings", place.path("s.toml"))
+            same(ended[2], f"femem: {line}\n".encode(), f"{key} = {value}")
+    for key in ("socket", "store"):
+        same(table[key][1], "refused", key)
+
+
+def statuses(place):
+    """each status of docs/commands.md is the one with which a fault of its kind ends the program"""
+    meant = tables.statuses()
+    said_of = lambda word: [status for status, meaning in meant.items() if word in meaning]
+    with open("/dev/full", "wb") as full:
+        ends = {
+            "no fault": place.run("run"),
+            "the command line": place.run("jump"),
+            "the settings": place.run("serve", "--settings", place.path("none")),
+            "a line of the input": place.run("run", given=b"c1 jump\n"),
+            "standard input or output": place.run("run", given=b"c1 attach 7\n", stdout=full),
+            "the store": place.run("look", "--store", place.path("none")),
+            "the socket": place.run("call", "--socket", place.path("none")),
+        }
+    env = {"LD_PRELOAD": preload(place, "../refuse.c"), "REFUSE": "1", "REFUSED": place.path("refused")}
+    ends["memory"] = place.run("run", given=b"c1 attach 7\n", env=env)
+    for word, (status, _, errors) in ends.items():
+        same(said_of(word), [status], f"{word}: {errors.decode()}")
+    same(sorted(meant), sorted({status for status, _, _ in ends.values()}), "statuses of docs/commands.md")
+    spoken = re.search(r"The status gives the kind: 0 no fault, (\d) settings, command line, lines and standard streams, (\d) store, memory and `strange`, (\d) socket", text("docs/operating.md"))
+    same([int(it) for it in spoken.groups()], [ends[it][0] for it in ("the settings", "the store", "the socket")], "docs/operating.md")
+    return f"{len(ends)} ends"
+
+
+def unit(_place):
+    """the unit's limits are those of docs/operating.md, and enough for as many connections as a server may have"""
+    lines = dict(re.findall(r"^([A-Za-z]+)=(.*)$", text("examples/femem.service"), re.M))
+    megabytes = lambda it: int(it.removesuffix("M"))
+    page = text("docs/operating.md")
+    most = LIMITS["connections"][0]
+    same(said("docs/operating.md", "The unit's `MemoryMax` is N MB"), megabytes(lines["MemoryMax"]))
+    worst = said("docs/operating.md", f"So {most} connections at their worst take some N MB")
+    holds(megabytes(lines["MemoryMax"]) >= 1.5 * worst, "MemoryMax is more than the worst")
+    # (two threads and one file a connection, and a few of the server's own)
+    holds(2 * most + 50 <= int(lines["TasksMax"]) and most + 50 <= int(lines["LimitNOFILE"]), "threads and files")
+    holds(megabytes(lines["LimitFSIZE"]) * 2**20 > store.SIZE, "LimitFSIZE is above a store")
+    same(lines["RequiresMountsFor"], "/var/lib/femem")
+    holds("`RequiresMountsFor=`" in page and "`MALLOC_ARENA_MAX=1`" in page and lines["Environment"] == "MALLOC_ARENA_MAX=1", "the page names them")
+
+
+CHECKS = (exchange, examples, lengths, offsets, limits, settings, statuses, unit)

@@ -1,0 +1,136 @@
+"""The Makefile's targets that no other part runs: `make prove`, `make deb`, `make serve`, and scripts/refuse_each."""
+
+import os
+import re
+import shutil
+import signal
+import subprocess
+
+from . import wire
+from .clients import output_of
+from .harness import Skipped, compiler, holds, same, until, within
+from .install import done, recorded
+from .manuals import pages
+from .texts import TOP
+
+from release import record  # noqa: E402  (the path is set by manuals)
+
+# In place of the toolchain: it says that all is proved, and makes a program. With FAULT its last line is another.
+TOOLCHAIN = """#!/bin/sh
+case $1 in
+  version) echo stand-in ;;
+  ci)
+    find . -type f | sort > "$SEEN"
+    cat crates.txt >> "$SEEN"
+    mkdir -p crates/femem/out
+    echo "the program" > crates/femem/out/femem
+    echo "rt: femem proved"
+    echo "${FAULT:-5 passed, 0 failed}" ;;
+esac
+"""
+
+
+def copy_of(place):
+    """A repository of its own with all files of this one."""
+    top = place.path("copy")
+    listed = subprocess.run(["git", "-C", TOP, "ls-files", "-z", "-co", "--exclude-standard"], capture_output=True, check=True, text=True)
+    for name in filter(None, listed.stdout.split("\0")):
+        if os.path.exists(os.path.join(TOP, name)):
+            os.makedirs(os.path.dirname(os.path.join(top, name)), exist_ok=True)
+            shutil.copy2(os.path.join(TOP, name), os.path.join(top, name))
+    how = {"cwd": top, "check": True, "capture_output": True}
+    subprocess.run(["git", "init", "-q"], **how)
+    subprocess.run(["git", "add", "-A"], **how)
+    author = ["-c", "user.name=check", "-c", "user.email=check@localhost"]
+    subprocess.run(["git", *author, "commit", "-q", "-m", "all"], **how)
+    return top
+
+
+@within(120)
+def prove(place):
+    """`make prove` hands the program's crates alone to the toolchain, and records what it made; it keeps nothing that is not proved"""
+    top = copy_of(place)
+    os.makedirs(place.path("bin"))
+    os.chmod(place.write("bin/rt", TOOLCHAIN.encode()), 0o755)
+    env = {"PATH": f"{place.path('bin')}:{os.environ['PATH']}", "SEEN": place.path("seen")}
+    words = ["make", "-s", "-C", top, "prove"]
+    made, kept = os.path.join(top, "out/proved/femem"), os.path.join(top, "out/proved/record")
+    done(place, words, env={**env, "FAULT": "4 passed, 1 failed"}, status=2)
+    holds(not os.path.exists(made) and not os.path.exists(kept), "something was kept of a proof that failed")
+    done(place, words, env=env)
+    seen = place.read("seen").decode()
+    for part in ("crates/fe_words/src/op.rt", "crates/femem/src/main.rt", "HANDLES", "fe_state: fe_words"):
+        holds(part in seen, f"the toolchain does not see {part}")
+    same(re.findall(r"^(?:\./crates/)?test_\w+|must-fail", seen, re.M), [], "tests and edits that the toolchain sees")
+    same(record.fault_of(made, kept, top), None)
+    with open(made, encoding="ascii") as file:
+        same(file.read(), "the program\n")
+    # (it is up to date, so nothing is proved again)
+    os.unlink(place.path("seen"))
+    done(place, words, env=env)
+    holds(not os.path.exists(place.path("seen")), "what is up to date was proved again")
+
+
+@within(120)
+def deb(place):
+    """`make deb` packs the program that its record names, byte for byte, and no other"""
+    if not shutil.which("dpkg-deb"):
+        raise Skipped("there is no dpkg-deb, of Debian's package dpkg")
+    words = ["make", "-s", "-C", TOP, "deb", f"PROVED={place.program}", f"DIST={place.path('dist')}"]
+    said = done(place, [*words, f"RECORD={recorded(place, program='0' * 64)}"], status=2)
+    holds("is of another program" in said and not os.path.exists(place.path("dist")), said)
+    said = done(place, [*words, f"RECORD={recorded(place)}"])
+    made = said.strip().splitlines()[-1]
+    same(os.path.basename(made), f"femem_{pages.version()}_amd64.deb")
+    done(place, ["dpkg-deb", "--extract", made, place.path("tree")])
+    same(record.sum_of(place.path("tree/usr/bin/femem")), record.sum_of(place.program), "the packed program")
+    # without --unproved there is no package without a record
+    done(place, [os.path.join(TOP, "scripts", "make_deb"), place.program, place.path("dist")], status=1)
+
+
+def targets(_place):
+    """`make deb` and `make dist` take the proved program and its record"""
+    for target in ("deb", "dist"):
+        said = subprocess.run(["make", "-s", "-n", "-C", TOP, target], capture_output=True, text=True, check=True).stdout
+        words = said.split()
+        same(sorted(it for it in words if it.startswith("out/")), ["out/dist", "out/proved/femem", "out/proved/record"], f"make {target}")
+
+
+@within(120)
+def serve(place):
+    """`make serve` makes a store and serves it, again after a kill, and keeps what was answered"""
+    data = place.path("data")
+    words = ["make", "-s", "-C", TOP, "serve", f"DATA={data}", f"PROGRAM={place.program}"]
+    socket = os.path.join(data, "femem.socket")
+
+    def served():
+        try:
+            return wire.Connection(socket)
+        except (OSError, wire.Ended):
+            return None
+
+    for turn in range(2):
+        process = place.start(words, f"serve{turn}", group=True)
+        with until(served, 30, "the server that `make serve` starts serves") as conn:
+            same(conn.ask(wire.attach(7)), ("welcome", 7, 1))
+            same(conn.ask(wire.call(1, ("create", b"cells", 2, 0))), ("answer", 1, ("array", 1, 2)))
+        os.killpg(process.pid, signal.SIGKILL)
+        process.wait()
+    holds(f"{place.program} serves at {socket}" in place.read("serve1.out").decode(), "it says where it serves")
+
+
+@within(600)
+def refuse_each(place):
+    """scripts/refuse_each finds no wrong end of three schedules, with each allocation refused in turn: of all by turns of commits"""
+    compiler()
+    schedules = sorted(it for it in os.listdir(os.path.join(TOP, "examples")) if it.endswith(".txt"))
+    count = subprocess.run(["git", "-C", TOP, "rev-list", "--count", "HEAD"], capture_output=True, text=True, check=False).stdout
+    first = int(count or 0) * 3
+    chosen = [schedules[(first + it) % len(schedules)] for it in range(3)]
+    said = output_of(place, [os.path.join(TOP, "scripts", "refuse_each"), place.program, *chosen], 600)
+    found = re.search(r"^3 schedules, (\d+) allocations refused, .* 0 wrong$", said, re.M)
+    holds(found and int(found[1]) > 100, said[-1000:])
+    return f"{found[1]} allocations of {', '.join(chosen)}"
+
+
+CHECKS = (prove, deb, targets, serve, refuse_each)
