@@ -1,5 +1,5 @@
 # `make help` lists the targets, with what each takes on four processors.
-.PHONY: help run test prove install deb dist check-deb check-hosts lint-deb man serve examples faults check-programs client bench \
+.PHONY: help run test figures prove install deb dist check-deb check-hosts lint-deb man serve examples faults check-programs client bench \
   bench-serve toolchain
 
 SCHEDULE := examples/first_path.txt
@@ -26,6 +26,9 @@ run: toolchain ## try it: builds femem without proving it, and runs the schedule
 
 test: toolchain ## test it: the gate, with every proof, must-fail edit and test, and real processes (45 to 60 minutes; 4 to 6 if nothing changed)
 	@scripts/gate
+
+figures: ## writes docs/figures.md: sizes, and what the last `make test` took
+	@scripts/figures
 
 prove: $(PROVED) ## prove it: proves the program's crates, and builds the proved program (30 minutes)
 	@echo "$(PROVED) is proved"

@@ -1,0 +1,140 @@
+"""Writes docs/figures.md: how large the repository is, and what the last run of the gate on this machine took.
+
+Usage: scripts/figures
+
+The gate leaves its last line, its log and its costs in out/gate. No figure of this page is written by hand, and no other page has
+one of them.
+"""
+
+import glob
+import os
+import re
+import subprocess
+import sys
+
+from . import pages, record
+
+TOP = pages.TOP
+PAGE = os.path.join(TOP, "docs", "figures.md")
+GATE = os.path.join(TOP, "out", "gate")
+
+
+def lines_of(crate, folder):
+    """The lines of a crate's `src`, `specs` or `proofs` that are not empty."""
+    found = glob.glob(os.path.join(TOP, "crates", crate, folder, "**", "*.[ra]*t*"), recursive=True)
+    count = 0
+    for path in found:
+        with open(path, encoding="utf-8") as file:
+            count += sum(1 for line in file if line.strip())
+    return count
+
+
+def text_of(crate):
+    """The sources of a crate."""
+    text = ""
+    for path in sorted(glob.glob(os.path.join(TOP, "crates", crate, "src", "**", "*.rt"), recursive=True)):
+        with open(path, encoding="utf-8") as file:
+            text += file.read()
+    return text
+
+
+def crates():
+    """The crates, in the order of crates.txt."""
+    with open(os.path.join(TOP, "crates.txt"), encoding="utf-8") as file:
+        return re.findall(r"^(\w+)", file.read(), re.M)
+
+
+def counts(crate):
+    """Lines of `src`, `specs` and `proofs`, functions, clauses, tests, and must-fail edits."""
+    text = text_of(crate)
+    functions = len(re.findall(r"^\s*(?:pub(?:\([a-z]+\))? )?(?:const )?(?:unsafe )?fn \w+", text, re.M))
+    clauses = len(re.findall(r"^\s*(?:ensures|requires)\b", text, re.M))
+    tests = len(re.findall(r"#\[test\]", text))
+    edits = len(glob.glob(os.path.join(TOP, "crates", crate, "must-fail", "*.edit")))
+    return [*(lines_of(crate, it) for it in ("src", "specs", "proofs")), functions, clauses, tests, edits]
+
+
+def row(cells):
+    return "| " + " | ".join(str(it) for it in cells) + " |"
+
+
+def size():
+    """The table of sizes."""
+    rows = [(crate, counts(crate)) for crate in crates()]
+    total = [sum(column) for column in zip(*(it for _, it in rows))]
+    yield row(("crate", "`src`", "`specs`", "`proofs`", "functions", "clauses", "tests", "edits"))
+    yield "|---|" + "---|" * 7
+    for crate, found in [*((f"`{crate}`", it) for crate, it in rows), ("together", total)]:
+        yield row((crate, *(f"{it:,}" if it else "" for it in found)))
+
+
+def costs():
+    """The costs of the last gate: its seconds of the clock, and from crate and kind to seconds of a processor."""
+    with open(os.path.join(GATE, "costs"), encoding="ascii") as file:
+        (_, seconds), *rest = (line.rstrip("\n").split(" ", 1) for line in file)
+    found = {}
+    for crate, said in rest:
+        kind, spent = said.split()
+        found[crate, kind] = float(spent)
+    return int(seconds), found
+
+
+def minutes(seconds):
+    return f"{seconds / 60:.1f}" if seconds else ""
+
+
+def gate():
+    """What the last gate took."""
+    with open(os.path.join(GATE, "last"), encoding="utf-8") as file:
+        last = file.read().strip().splitlines()
+    seconds, found = costs()
+    of_kind = lambda kind: sum(spent for (_, it), spent in found.items() if it == kind)
+    with open(os.path.join(GATE, "commit"), encoding="ascii") as file:
+        commit, processors = file.read().split()
+    yield f"Commit {commit[:12]}, {record.said('rt', 'version')}, {processors} processors:"
+    yield ""
+    yield from (f"- {it}" for it in last)
+    yield (
+        f"- {seconds / 60:.0f} minutes of the clock; the prover took {sum(found.values()) / 60:.0f} processor minutes: {of_kind('proofs') / 60:.0f} for"
+        f" crates, {of_kind('tests') / 60:.0f} for tests, {of_kind('edits') / 60:.0f} for must-fail edits"
+    )
+    yield ""
+    yield row(("crate", "proofs, in processor minutes", "tests", "edits"))
+    yield "|---|---|---|---|"
+    for crate in crates():
+        yield row((f"`{crate}`", *(minutes(found.get((crate, kind), 0)) for kind in ("proofs", "tests", "edits"))))
+
+
+def words():
+    """The words of each document."""
+    listed = subprocess.run(["git", "-C", TOP, "ls-files", "*.md"], capture_output=True, text=True, check=True).stdout.split()
+    found = {}
+    for name in listed:
+        if name != "docs/figures.md":
+            with open(os.path.join(TOP, name), encoding="utf-8") as file:
+                found[name] = len(file.read().split())
+    yield row(("document", "words"))
+    yield "|---|---|"
+    yield from (row((f"`{name}`", f"{count:,}")) for name, count in sorted(found.items(), key=lambda it: -it[1]))
+    yield row(("together", f"{sum(found.values()):,}"))
+
+
+def page():
+    """The page, from the sources and from what the last gate left."""
+    parts = [
+        "# Figures", "",
+        "Written by `make figures` after a run of the gate. Times are of one machine and one hour: hosts vary by 1.7 times, so compare"
+        " two texts in one hour.", "",
+        "## Size", "", "Lines that are not empty.", "", *size(), "",
+        "## The last gate", "", *gate(), "",
+        "## Documents", "", *words(),
+    ]
+    return "\n".join(parts) + "\n"
+
+
+def main():
+    if not all(os.path.exists(os.path.join(GATE, it)) for it in ("last", "costs", "commit")):
+        sys.exit("femem: 'make test' has to run first: out/gate lacks what it leaves")
+    with open(PAGE, "w", encoding="utf-8") as file:
+        file.write(page())
+    print(os.path.relpath(PAGE, TOP))
