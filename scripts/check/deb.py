@@ -17,6 +17,7 @@ from .harness import Skipped, Wrong, holds, same, until, within
 from .history import History
 from .kills import Adder, Load, Storm, counted, finish, make_arrays
 from .manuals import pages
+from .model import LIMITS
 
 TOP = os.path.normpath(os.path.join(os.path.dirname(os.path.realpath(__file__)), "..", ".."))
 EPOCH = pages.epoch()
@@ -230,6 +231,11 @@ def package(place):
         holds(found["/usr/bin/femem"] == program.read(), "the package has another program")
     for name in ("man1/femem.1", "man5/femem.toml.5", "man5/femem-format.5"):
         holds(f"/usr/share/man/{name}.gz" in found, f"there is no {name}")
+    for name in ("operating.md", "settings.md", "formats.md", "patterns.md", "replication.md", "proved.md", "changelog"):
+        holds(found.get(f"/usr/share/doc/femem/{name}.gz"), f"there is no {name}")
+    # (what the maintainer's scripts call)
+    depends = {it.split()[0] for it in re.split(r", | \| ", field("Depends"))}
+    holds({"adduser", "debconf", "libc6"} <= depends, f"it depends on {sorted(depends)}")
     holds("/var/lib/femem" in found, "there is no folder for the store")
     settings = found["/etc/femem.toml"].decode()
     same(re.findall(r"^(?:socket|store) = .*$", settings, re.M), [f'socket = "{SOCKET}"', f'store = "{STORE}"'])
@@ -300,7 +306,26 @@ def serves(place):
         for index in range(3):
             counted(history.state, index, [it for it in adders if it.index == index])
         same(clean.do("femem", "look", "--store", STORE), history.state.looks())
-    return f"{KILLS} kills, {history.state.place} entries, exposed {level}"
+        most = all_at_once(unit)
+    return f"{KILLS} kills, {history.state.place} entries, {most} connections at once, exposed {level}"
+
+
+def all_at_once(unit):
+    """As many connections as a server may have are served through the unit, with its limits. Returns how many."""
+    most = LIMITS["connections"][0]
+    with open(unit.clean.path("/etc/femem.toml"), encoding="ascii") as file:
+        settings = file.read()
+    unit.settings(re.sub(r"^connections = .*$", "", settings, flags=re.M) + f"connections = {most}\n")
+    unit.clean.do("systemctl", "restart", "femem")
+    unit.waits()
+    conns = [unit.connect() for _ in range(most)]
+    for conn in conns:
+        same(conn.ask(wire.report())[0], "report")
+    with unit.connect() as late:
+        holds(late.has_ended(), "one connection too many was served")
+    for conn in conns:
+        conn.close()
+    return most
 
 
 def compare(unit, history, load):

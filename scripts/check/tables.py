@@ -65,13 +65,22 @@ def packing(sizes):
 
 
 class Kind:
-    """A kind of frame: its name, its body's form, and the least and greatest value of each field that has such bounds."""
+    """A kind of frame: its name, its body's fields and form, and the least and greatest value of each field that has such bounds."""
 
     def __init__(self, name, body, other):
         fields = FIELD.findall(body)
         self.name = name
+        self.fields = other.fields if other else [it[0] for it in fields]
         self.form = other.form if other else packing([int(it[1]) for it in fields])
         self.bounds = {it[0]: (int(it[2]), int(it[3])) for it in fields if it[2]}
+
+    def packed(self, values):
+        """A body with these values of its fields, which are named."""
+        return struct.pack(self.form, *(values[it] for it in self.fields))
+
+    def unpacked(self, body):
+        """The values of a body's fields, by name."""
+        return dict(zip(self.fields, struct.unpack(self.form, body)))
 
 
 def kinds(first):

@@ -40,22 +40,23 @@ def kind_of(name, length=None):
     return next(code for code, kind in FROM_CLIENT.items() if kind.name == name and fits(kind))
 
 
-def spelled(name, *values, length=None):
+def spelled(kind, **values):
     """The client's frame of that kind with these values of its fields."""
-    code = kind_of(name, length)
-    return framed(code, struct.pack(FROM_CLIENT[code].form, *values))
+    fields = {name.replace("_", " "): value for name, value in values.items()}
+    code = kind_of(kind, fields.get("name length"))
+    return framed(code, FROM_CLIENT[code].packed(fields))
 
 
 def attach(session):
-    return spelled("attach", session)
+    return spelled("attach", session=session)
 
 
 def cancel(number):
-    return spelled("cancel", number)
+    return spelled("cancel", number=number)
 
 
 def settle(floor):
-    return spelled("settle", floor)
+    return spelled("settle", floor=floor)
 
 
 def bye():
@@ -70,11 +71,12 @@ def call(number, request):
     kind, *rest = request
     if kind == "access":
         op, array, index, operand, nowait = rest
-        return spelled("access, not to wait" if nowait else "access", number, op, array, index, operand)
+        kind = "access, not to wait" if nowait else "access"
+        return spelled(kind, number=number, operation_code=op, array=array, index=index, operand=operand)
     if kind == "remove":
-        return spelled("remove", number, rest[0])
-    name = rest[0]
-    return spelled(kind, number, len(name), name, *rest[1:], length=len(name))
+        return spelled(kind, number=number, array=rest[0])
+    row = {"number": number, "name_length": len(rest[0]), "name": rest[0]}
+    return spelled(kind, **row, **dict(zip(("length", "tag"), rest[1:])))
 
 
 def request_of(words):
@@ -125,14 +127,14 @@ def reply_of(frame):
         return ("report", body.decode())
     if not kind or kind.name == "report" or len(body) != struct.calcsize(kind.form):
         raise BadReply(f"kind {code} with {len(body)} bytes")
-    fields = struct.unpack(kind.form, body)
+    fields = kind.unpacked(body)
     if kind.name == "answer":
-        return ("answer", fields[0], answer_of(*fields[1:]))
+        return ("answer", fields["number"], answer_of(fields["answer code"], fields["value or id"], fields["length"]))
     if kind.name == "refused":
-        if fields[1] not in REFUSALS:
-            raise BadReply(f"refusal {fields[1]}")
-        return ("refused", fields[0], REFUSALS[fields[1]])
-    return (kind.name, *fields)
+        if fields["refusal number"] not in REFUSALS:
+            raise BadReply(f"refusal {fields['refusal number']}")
+        return ("refused", fields["number"], REFUSALS[fields["refusal number"]])
+    return (kind.name, *(fields[it] for it in ("session", "floor", "number") if it in fields))
 
 
 def lines_of(reply):
