@@ -16,12 +16,21 @@ MOST_RECORDS = tables.said("docs/formats.md", "1 to N in format 1, 1 to N in for
 MOST_IMAGES = tables.said("docs/formats.md", "at most N in format 1 and N in format 2", 2)
 
 
+# The fields of a record, in order, and the codes of its kind and of its request.
+FIELDS = (
+    "kind", "request code", "answer code", "length of the name", "tag", "flag", "unused", "session", "number", "row",
+    "length (create)", "length of the array", "value", "unused",
+)
+KINDS, REQUESTS = tables.codes_in_record("kind"), tables.codes_in_record("request code")
+KIND_NAMES = {code: name for name, code in KINDS.items()}
+
+
 class Format:
     def __init__(self, number, magic, name):
         self.number = number
         self.magic = magic
         self.name = name  # the size of a name's field
-        self.form, self.record = tables.record_form(number - 1)
+        self.form, self.record = tables.record_form(number - 1, FIELDS)
         self.most_records = MOST_RECORDS[number - 1]
         self.most_image = MOST_IMAGES[number - 1]
 
@@ -48,17 +57,17 @@ class Unformatted(Exception):
 def record_of(entry, form):
     """The record of an entry."""
     kind, session, *rest = entry
-    code = {"attached": 1, "closed": 2, "settled": 3, "finished": 4}[kind]
-    if code != 4:
+    code = KINDS[kind]
+    if kind != "finished":
         return struct.pack(form.form, code, *[0] * 6, session, *(rest or (0,)), b"", *[0] * 4)
     number, request, answer = rest
     row, request_code, name_length, tag, flag, length = b"", 0, 0, 0, 0, 0
     if request[0] in ("create", "find"):
-        request_code = 1 if request[0] == "create" else 2
+        request_code = REQUESTS[request[0]]
         row, name_length = request[1], len(request[1])
         length, tag = request[2:] if request[0] == "create" else (0, 0)
     elif request[0] == "remove":
-        request_code, row = 3, struct.pack(">Q", request[1])
+        request_code, row = REQUESTS["remove"], struct.pack(">Q", request[1])
     else:
         request_code, array, length, operand, flag = request[1:]
         row = struct.pack(">QQ", array, operand)
@@ -72,16 +81,17 @@ def entry_of(record, form):
     """The entry of a record, or None if it is not valid."""
     kind, code, answer, name_length, tag, flag, unused, session, number, row, *rest = struct.unpack(form.form, record)
     length, array_length, value, last = rest
-    if kind in (1, 2, 3):
-        entry = ({1: "attached", 2: "closed", 3: "settled"}[kind], session, *([] if kind == 2 else [number]))
+    kind = KIND_NAMES.get(kind)
+    if kind in ("attached", "closed", "settled"):
+        entry = (kind, session, *([] if kind == "closed" else [number]))
         return entry if number < 2**63 and record == record_of(entry, form) else None
-    if kind != 4 or number >= 2**63 or unused or last or flag > 1 or (form is ONE and (flag or answer == ANSWER_CODES["not-now"])):
+    if kind != "finished" or number >= 2**63 or unused or last or flag > 1 or (form is ONE and (flag or answer == ANSWER_CODES["not-now"])):
         return None
-    if code in (1, 2):
+    if code in (REQUESTS["create"], REQUESTS["find"]):
         if name_length > form.name or tag > 1:
             return None
-        request = ("create", row[:name_length], length, tag) if code == 1 else ("find", row[:name_length])
-    elif code == 3:
+        request = ("create", row[:name_length], length, tag) if code == REQUESTS["create"] else ("find", row[:name_length])
+    elif code == REQUESTS["remove"]:
         request = ("remove", struct.unpack(">Q", row[:8])[0])
     elif code in OP_NAMES:
         array, operand = struct.unpack(">QQ", row[:16])

@@ -95,16 +95,26 @@ def kinds(first):
     return found
 
 
-def record_form(column):
-    """The form of an entry record by docs/formats.md: the struct's format, from a column of offsets, 0 for format 1 and 1 for format 2."""
+RECORD = "| at, format 1 | at, format 2 |"
+
+
+def record_form(column, names):
+    """The form of an entry record by docs/formats.md, and its size: from a column of offsets, 0 for format 1 and 1 for format 2. Its
+    fields begin with these names."""
     sizes, at = [], 0
-    for row in rows("docs/formats.md", "| at, format 1 | at, format 2 |"):
+    for row, name in zip(rows("docs/formats.md", RECORD), names):
         size = row[2].split(" or ")
         sizes.append(int(size[min(column, len(size) - 1)]))
-        if int(row[column]) != at:
-            raise Lacks(f"docs/formats.md: the field {row[3]} is at {at}, not at {row[column]}")
+        if int(row[column]) != at or not row[3].startswith(name):
+            raise Lacks(f"docs/formats.md: the field {name} is at {at}, not {row[3]} at {row[column]}")
         at += sizes[-1]
     return packing(sizes), at
+
+
+def codes_in_record(name):
+    """The codes that a field's row lists, such as `1 attached, 2 closed`, from a word to its code."""
+    row = next(it[3] for it in rows("docs/formats.md", RECORD) if it[3].startswith(f"{name}: "))
+    return {word: int(code) for code, word in re.findall(r"(\d+) ([a-z]+)", row)}
 
 
 def limits():
