@@ -10,7 +10,6 @@ import glob
 import os
 import re
 import subprocess
-import sys
 
 from . import pages, record
 
@@ -85,6 +84,9 @@ def minutes(seconds):
 
 def gate():
     """What the last gate took."""
+    if not all(os.path.exists(os.path.join(GATE, it)) for it in ("last", "costs", "commit")):
+        yield "`make test` has not run to its end since this page was written."
+        return
     with open(os.path.join(GATE, "last"), encoding="utf-8") as file:
         last = file.read().strip().splitlines()
     seconds, found = costs()
@@ -133,8 +135,6 @@ def page():
 
 
 def main():
-    if not all(os.path.exists(os.path.join(GATE, it)) for it in ("last", "costs", "commit")):
-        sys.exit("femem: 'make test' has to run first: out/gate lacks what it leaves")
     with open(PAGE, "w", encoding="utf-8") as file:
         file.write(page())
     print(os.path.relpath(PAGE, TOP))
