@@ -8,7 +8,7 @@ import struct
 
 from . import calls, store, tables, wire
 from .harness import holds, preload, same
-from .model import LIMITS
+from .model import LIMITS, TOP_FLOOR, TOP_PLACE
 from .tables import number, rows, said, text
 
 # Sizes of a store are written so in the documents.
@@ -97,6 +97,36 @@ def limits(_place):
     return f"{len(LIMITS)} limits"
 
 
+def defined(crate, file):
+    """The numbers that a file of definitions gives names to."""
+    found = dict(re.findall(r"^(\w+) = (\d+)$", text(f"crates/{crate}/specs/{file}.antt"), re.M))
+    holds(found, f"{crate}/{file} defines numbers")
+    return {name: int(value) for name, value in found.items()}
+
+
+def definitions(_place):
+    """the definitions that the proofs rest on have the limits and the layout of the documents"""
+    states = defined("fe_state", "Limits")
+    wanted = {
+        "most_sessions": LIMITS["sessions kept"][0], "window_length": LIMITS["request numbers of a session in use"][0],
+        "greatest_floor": TOP_FLOOR, "most_arrays": LIMITS["arrays"][0], "most_words": LIMITS["words in all arrays"][0],
+        "longest_name": LIMITS["name of an array"][1], "greatest_place": TOP_PLACE, "most_waiting": LIMITS["requests that wait"][0],
+        "most_event_entries": said("docs/formats.md", "fewer than N places left"), "most_batch_entries": 2 * LIMITS["requests that wait"][0] + 1,
+    }
+    same(states, wanted, "fe_state/Limits")
+    boxes = {"most_mails_in_box": LIMITS["replies queued for one connection"][0], "longest_report": wire.MOST_TEXT, "most_booked": 2**63 - 1}
+    same(defined("fe_mail", "Limits"), boxes, "fe_mail/Limits")
+    layout = defined("fe_journal", "Layout")
+    areas = {
+        "header_bytes": store.AREAS["header"][1], "area_begin": store.JOURNAL, "area_bytes": store.AREA, "slot_bytes": store.SLOT,
+        "device_bytes": store.SIZE, "empty_area_room": store.AREA - 6, "slice_bytes": said("docs/store.md", "slices of at most N bytes"),
+    }
+    same(layout, areas, "fe_journal/Layout")
+    same(layout["header_bytes"], store.GATE + 1, "the header's last byte is its gate")
+    same(defined("fe_text", "Limits"), {"longest_line": said("docs/schedules.md", "The longest line of the syntax has N bytes")}, "fe_text/Limits")
+    return f"{len(states) + len(boxes) + len(areas) + 1} numbers"
+
+
 def settings(place):
     """the defaults and bounds of docs/settings.md are those of `serve`: just inside they are taken, just outside refused"""
     table = tables.settings()
@@ -155,4 +185,4 @@ def unit(_place):
     holds("`RequiresMountsFor=`" in page and "`MALLOC_ARENA_MAX=1`" in page and lines["Environment"] == "MALLOC_ARENA_MAX=1", "the page names them")
 
 
-CHECKS = (exchange, examples, lengths, offsets, limits, settings, statuses, unit)
+CHECKS = (exchange, examples, lengths, offsets, limits, definitions, settings, statuses, unit)
