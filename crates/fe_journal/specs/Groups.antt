@@ -3,8 +3,7 @@
 use Rattle.std.specs.Prelude.{◌≡◌, ℕ, ◌+◌, ◌-◌, ◌≤◌, List, [], ◌∷◌, ◌++◌, length}
 use Rattle.byteorder.specs.Endian.{big_bytes}
 use Rattle.fe_disk.specs.Disk.{bytes_at}
-use Rattle.fe_journal.specs.Layout.{number_at, IsGateOpen, IsGateShut, area_bytes}
-use Rattle.fe_journal.specs.declared.layout.TheConstants.{LONGEST_PAYLOAD}
+use Rattle.fe_journal.specs.Layout.{number_at, IsGateOpen, IsGateShut, area_bytes, empty_area_room}
 use Rattle.fe_format.specs.Layout.{IsPayloadLength}
 use Rattle.fe_format.specs.declared.format.Format.{Format}
 
@@ -41,4 +40,4 @@ after_gate payload = big_bytes 4 (length payload) ++ (payload ++ 0 ∷ [])
 
 -- the longest payload that fits with its gate at `at`, 0 where there is none
 abbrev pub room_at : ℕ → ℕ
-room_at at = LONGEST_PAYLOAD - at
+room_at at = empty_area_room - at

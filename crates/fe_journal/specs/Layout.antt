@@ -2,47 +2,50 @@
 use Rattle.std.specs.Prelude.{◌≡◌, ◌≢◌, ℕ, ◌+◌, ◌-◌, ◌*◌, List, slice_index}
 use Rattle.byteorder.specs.Endian.{big_number}
 use Rattle.fe_disk.specs.Disk.{bytes_at}
-use Rattle.fe_journal.specs.declared.layout.TheConstants.{HEADER_BYTES, AREA_BEGIN, AREA_BYTES, SLOT_BYTES, DEVICE_BYTES, SLICE_BYTES}
 
 -- a slot's header, whose last byte is its gate
 abbrev pub header_bytes : ℕ
-header_bytes = HEADER_BYTES
+header_bytes = 4096
 
 -- where a slot's journal area begins, after its header and the room for its image
 abbrev pub area_begin : ℕ
-area_begin = AREA_BEGIN
+area_begin = 1052672
 
 -- a slot's journal area
 abbrev pub area_bytes : ℕ
-area_bytes = AREA_BYTES
+area_bytes = 1048576
 
--- a slot
+-- a slot: its header, the room for its image, and its journal area
 abbrev pub slot_bytes : ℕ
-slot_bytes = SLOT_BYTES
+slot_bytes = 2101248
 
 -- a device has two slots, one after the other
 abbrev pub device_bytes : ℕ
-device_bytes = DEVICE_BYTES
+device_bytes = 4202496
+
+-- the longest payload that an empty journal area has room for, with its gate, its length and one more gate
+abbrev pub empty_area_room : ℕ
+empty_area_room = 1048570
 
 -- the most bytes of an image that are written at a time
 abbrev pub slice_bytes : ℕ
-slice_bytes = SLICE_BYTES
+slice_bytes = 65536
 
 -- where a slot's header begins, with it the slot
 abbrev pub header_of : ℕ → ℕ
-header_of slot = SLOT_BYTES * slot
+header_of slot = slot_bytes * slot
 
 -- a slot's header gate, the last byte of its header
 abbrev pub gate_of : ℕ → ℕ
-gate_of slot = SLOT_BYTES * slot + (HEADER_BYTES - 1)
+gate_of slot = slot_bytes * slot + (header_bytes - 1)
 
 -- where a slot's image begins
 abbrev pub image_of : ℕ → ℕ
-image_of slot = SLOT_BYTES * slot + HEADER_BYTES
+image_of slot = slot_bytes * slot + header_bytes
 
 -- where a slot's journal area begins, with the gate of its first group
 abbrev pub area_of : ℕ → ℕ
-area_of slot = SLOT_BYTES * slot + AREA_BEGIN
+area_of slot = slot_bytes * slot + area_begin
 
 -- the other slot
 abbrev pub other_than : ℕ → ℕ

@@ -25,7 +25,7 @@ pub use fault::{JournalFault, StoreFault};
 pub use fe_format::Format;
 pub use groups::Groups;
 pub use journal::Journal;
-pub use laws::{held_or_refused, one_contents};
+pub use laws::{held_or_refused, layout_is, one_contents};
 pub use layout::{
     AREA_BYTES, DEVICE_BYTES, HEADER_BYTES, LONGEST_PAYLOAD, SLICE_BYTES, header_of, image_of,
 };

@@ -1,7 +1,7 @@
 -- The books: how many calls and mails there were, and how each ended.
 use Rattle.std.specs.Prelude.{◌≡◌, ℕ, ◌+◌, ◌-◌, ◌≤◌, Bool, true, false, refl, min, nat_lt, if◌then◌else◌}
 use Rattle.std.specs.Coded.{Coded, code_by, coded×, coded_ℕ, coded_bool}
-use Rattle.fe_mail.specs.declared.books.TheConstants.{MOST_BOOKED}
+use Rattle.fe_mail.specs.Limits.{most_booked}
 
 -- The calls and how many completed, wait, were withdrawn, repeated and refused; the mails and how many were taken,
 -- dropped and are left. Spent books never change.
@@ -27,8 +27,8 @@ books_code =
 pub record AddUp (b : Books) : Type 0 where
   pub calls : b.calls ≡ b.completed + b.waiting + b.withdrawn + b.repeated + b.refused
   pub mails : b.mails ≡ b.taken + b.dropped + b.left
-  pub few_calls : b.calls ≤ MOST_BOOKED
-  pub few_mails : b.mails ≤ MOST_BOOKED
+  pub few_calls : b.calls ≤ most_booked
+  pub few_mails : b.mails ≤ most_booked
 
 -- the books balance: this many calls wait, and this many mails are in boxes
 pub record Balances (b : Books) (waiting left : ℕ) : Type 0 where
@@ -41,11 +41,11 @@ abbrev pub first_books : Books
 first_books =
     record { calls = 0; completed = 0; waiting = 0; withdrawn = 0; repeated = 0; refused = 0; mails = 0; taken = 0; dropped = 0; left = 0; spent = false }
 
--- the books after a call or a mail: `counted` if `count`, the number of its kind so far, is below `MOST_BOOKED`, and
+-- the books after a call or a mail: `counted` if `count`, the number of its kind so far, is below `most_booked`, and
 -- spent otherwise; spent books never change
 abbrev pub counting : Books → ℕ → Books → Books
 counting b count counted =
-    if b.spent then b else if nat_lt count MOST_BOOKED then counted else record b { spent = true }
+    if b.spent then b else if nat_lt count most_booked then counted else record b { spent = true }
 
 -- the books after calls or mails moved from one column to another; spent books never change
 abbrev pub moving : Books → Books → Books

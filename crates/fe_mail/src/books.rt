@@ -1,6 +1,6 @@
 ghost use Rattle.std.specs.Prelude.{◌≡◌, ◌+◌, ◌&&◌, ◌||◌, ℕ, not, nat_lt, min};
 ghost use Rattle.fe_mail.specs.Books.{first_books, Balances, call_completed, call_waits, call_repeated, call_refused, waiter_completed, waiters_withdrawn, mail_boxed, mail_refused_by_box, mail_taken, box_dropped};
-ghost use Rattle.fe_mail.specs.declared.books.TheConstants.{MOST_BOOKED};
+ghost use Rattle.fe_mail.specs.Limits.{most_booked};
 
 use std::marker::Model;
 
@@ -190,8 +190,8 @@ impl Books {
 
 // Whether one more can be counted. If the count is at its maximum, the books become spent.
 fn can_count(count: u64, spent: &mut bool) -> bool
-    ensures counts { result ≡ (not spent.old && nat_lt count MOST_BOOKED) }
-    ensures spent { spent.new ≡ (spent.old || not (nat_lt count MOST_BOOKED)) }
+    ensures counts { result ≡ (not spent.old && nat_lt count most_booked) }
+    ensures spent { spent.new ≡ (spent.old || not (nat_lt count most_booked)) }
 {
     if count >= MOST_BOOKED {
         *spent = true;

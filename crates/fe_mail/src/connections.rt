@@ -1,7 +1,7 @@
 ghost use Rattle.std.specs.Prelude.{◌≡◌, ◌↔◌, ◌<◌, ◌≤◌, [], ◌∷◌, ◌++◌, length, nat_lt, drop, slice_get, is_some, None, IfOk, IfErr, IfNone, OnOk, OnErr, IsOk, IsSome};
 ghost use Rattle.std.specs.FinMap as map;
 ghost use Rattle.fe_mail.specs.Connections.{first_connection, session_on, mails_on, with_session, with_mails};
-ghost use Rattle.fe_mail.specs.declared.mailbox.TheConstants.{MAILS};
+ghost use Rattle.fe_mail.specs.Limits.{most_mails_in_box};
 
 use crate::connection::Connection;
 use crate::mail::Mail;
@@ -107,9 +107,9 @@ impl Connections {
     /// Appends a mail to a connection's box. If the box has `MAILS` mails, returns the mail as the error.
     pub fn put(&mut self, conn: u64, mail: Mail) -> Result<(), Mail>
         requires connected { IsSome (map.get self.old conn) }
-        ensures room { IsOk result ↔ (length (mails_on self.old conn) < MAILS) }
+        ensures room { IsOk result ↔ (length (mails_on self.old conn) < most_mails_in_box) }
         ensures put { OnOk result (self.new ≡ with_mails self.old conn (mails_on self.old conn ++ mail ∷ [])) }
-        ensures full { OnErr result (length (mails_on self.old conn) ≡ MAILS) }
+        ensures full { OnErr result (length (mails_on self.old conn) ≡ most_mails_in_box) }
         ensures returned { IfErr result (λ back. back ≡ mail) }
         ensures err { OnErr result (self.new ≡ self.old) }
     {
@@ -133,7 +133,7 @@ impl Connections {
     /// not connected.
     pub fn remove(&mut self, conn: u64) -> u32
         ensures mails { result ≡ length (mails_on self.old conn) }
-        ensures few { result ≤ MAILS }
+        ensures few { result ≤ most_mails_in_box }
         ensures removed { self.new ≡ map.remove self.old conn }
     {
         match self.connections.swap_remove(&conn) {

@@ -4,6 +4,7 @@
 mod books;
 mod connection;
 mod connections;
+mod laws;
 mod mail;
 mod mailbox;
 mod refusal;
@@ -11,6 +12,7 @@ mod report_text;
 
 pub use books::{Books, MOST_BOOKED};
 pub use connections::Connections;
+pub use laws::limits_are;
 pub use mail::{Mail, session_of};
 pub use mailbox::MAILS;
 pub use refusal::Refusal;

@@ -1,5 +1,5 @@
 ghost use Rattle.std.specs.Prelude.{◌≡◌, ◌↔◌, ◌<◌, ◌≤◌, [], ◌∷◌, ◌++◌, length, nat_lt, drop, slice_get, IfOk, IfErr, OnOk, OnErr, IsOk};
-ghost use Rattle.fe_mail.specs.declared.mailbox.TheConstants.{MAILS};
+ghost use Rattle.fe_mail.specs.Limits.{most_mails_in_box};
 
 use crate::mail::Mail;
 use std::alloc::{AllocError, Global};
@@ -19,13 +19,13 @@ impl Model for Mailbox {
     ghost use Rattle.std.specs.Prelude.{◌≤◌, List};
     ghost use Rattle.std.specs.VecDeque.{deque_len, deque_capacity};
     ghost use Rattle.fe_mail.specs.declared.mail.Mail.{Mail};
-    ghost use Rattle.fe_mail.specs.declared.mailbox.TheConstants.{MAILS};
+    ghost use Rattle.fe_mail.specs.Limits.{most_mails_in_box};
 
     ghost Value = { List Mail };
 
     ghost view = { λ a. a.mails.items };
 
-    ghost invariant = { λ a. (deque_len a.mails ≤ MAILS) × (MAILS ≤ deque_capacity a.mails) };
+    ghost invariant = { λ a. (deque_len a.mails ≤ most_mails_in_box) × (most_mails_in_box ≤ deque_capacity a.mails) };
 }
 
 impl Mailbox {
@@ -41,16 +41,16 @@ impl Mailbox {
     /// The number of mails in the box, 0 to `MAILS`.
     pub fn len(&self) -> u32
         ensures len { result ≡ length self.now }
-        ensures few { result ≤ MAILS }
+        ensures few { result ≤ most_mails_in_box }
     {
         self.mails.len() as u32
     }
 
     /// Appends a mail. If the box is full, returns the mail as the error.
     pub fn put(&mut self, mail: Mail) -> Result<(), Mail>
-        ensures room { IsOk result ↔ (length self.old < MAILS) }
+        ensures room { IsOk result ↔ (length self.old < most_mails_in_box) }
         ensures put { OnOk result (self.new ≡ self.old ++ mail ∷ []) }
-        ensures full { OnErr result (length self.old ≡ MAILS) }
+        ensures full { OnErr result (length self.old ≡ most_mails_in_box) }
         ensures returned { IfErr result (λ back. back ≡ mail) }
         ensures err { OnErr result (self.new ≡ self.old) }
     {

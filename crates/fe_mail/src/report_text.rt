@@ -1,5 +1,5 @@
 ghost use Rattle.std.specs.Prelude.{◌≡◌, ◌≤◌, string_bytes, string_len, length};
-ghost use Rattle.fe_mail.specs.declared.report_text.TheConstants.{REPORT_BYTES};
+ghost use Rattle.fe_mail.specs.Limits.{longest_report};
 
 use std::marker::Model;
 
@@ -20,20 +20,20 @@ impl Drop for ReportText {
 
 impl Model for ReportText {
     ghost use Rattle.std.specs.Prelude.{List, ℕ, ◌≤◌, string_bytes, string_len};
-    ghost use Rattle.fe_mail.specs.declared.report_text.TheConstants.{REPORT_BYTES};
+    ghost use Rattle.fe_mail.specs.Limits.{longest_report};
 
     ghost Value = { List ℕ };
 
     ghost view = { λ a. string_bytes a.text };
 
-    ghost invariant = { λ a. (1 ≤ string_len a.text) × (string_len a.text ≤ REPORT_BYTES) };
+    ghost invariant = { λ a. (1 ≤ string_len a.text) × (string_len a.text ≤ longest_report) };
 }
 
 impl ReportText {
     /// A report with this text.
     pub fn new(text: String) -> ReportText
         requires some { 1 ≤ string_len text }
-        requires few { string_len text ≤ REPORT_BYTES }
+        requires few { string_len text ≤ longest_report }
         ensures { result ≡ string_bytes text }
     {
         ReportText { text }
@@ -43,7 +43,7 @@ impl ReportText {
     pub fn as_str(&self) -> &str
         ensures text { result.now ≡ self.now }
         ensures some { 1 ≤ length result.now }
-        ensures few { length result.now ≤ REPORT_BYTES }
+        ensures few { length result.now ≤ longest_report }
     {
         self.text.as_str()
     }
@@ -52,7 +52,7 @@ impl ReportText {
     pub fn into_string(self) -> String
         ensures text { string_bytes result ≡ self }
         ensures some { 1 ≤ string_len result }
-        ensures few { string_len result ≤ REPORT_BYTES }
+        ensures few { string_len result ≤ longest_report }
     {
         let ReportText { text } = self;
         text

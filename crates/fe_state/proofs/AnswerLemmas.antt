@@ -12,7 +12,7 @@ use Rattle.std.proofs.lemmas.Bool.Decides.{nat_tests}
 use Rattle.fe_state.specs.declared.kept.Kept.{Kept}
 use Rattle.fe_state.specs.KeptAnswers.{answers_from}
 use Rattle.fe_state.specs.Sessions.{Session, IsInWindow}
-use Rattle.fe_state.specs.declared.bounds.TheConstants.{WINDOW}
+use Rattle.fe_state.specs.Limits.{window_length}
 use Rattle.fe_state.proofs.Maps.{get_inserted, get_beside, same_or_other}
 use Rattle.fe_state.proofs.SessionLemmas.{same_numbers, raised_above, raised_below, raised_next, removed_absent, kept_above, none_or_some}
 
@@ -65,7 +65,7 @@ no_entries [] e = refl
 no_entries (x ∷ es) e = absurd (omega arith)
 
 -- from the end of the window on nothing is kept
-pub from_beyond : (s : Session) (end : ℕ) → s.floor + WINDOW ≤ end → ((n : ℕ) (k : Kept) → get s.kept n ≡ Some k → IsInWindow s.floor n) → entries (answers_from s end) ≡ []
+pub from_beyond : (s : Session) (end : ℕ) → s.floor + window_length ≤ end → ((n : ℕ) (k : Kept) → get s.kept n ≡ Some k → IsInWindow s.floor n) → entries (answers_from s end) ≡ []
 from_beyond s end beyond within =
     no_entries (entries (retain_keys s.kept (nat_le end))) (sym (len-entries (retain_keys s.kept (nat_le end))) ∙ ap len none ∙ len-empty nat_cmp Kept)
   where

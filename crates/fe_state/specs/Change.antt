@@ -6,7 +6,7 @@ use Rattle.fe_state.specs.Effect.{put_word}
 use Rattle.fe_state.specs.declared.array.Array.{Array}
 use Rattle.fe_state.specs.declared.change.Change.{Change}
 use Rattle.fe_state.specs.declared.change.Change.TheVariants.{Nothing, Created, Removed, Wrote}
-use Rattle.fe_state.specs.declared.bounds.TheConstants.{ARRAYS, WORDS}
+use Rattle.fe_state.specs.Limits.{most_arrays, most_words}
 
 -- the directory before a change, given the one after it
 abbrev pub restored : Change → Directory → Directory
@@ -20,8 +20,8 @@ pub record MayCome (d : Directory) (id : ℕ) (a : Array) : Type 0 where
   pub array : IsArray d id a
   pub id_free : get d.arrays id ≡ None
   pub name_free : named d.arrays a.name ≡ None
-  pub few_arrays : len d.arrays < ARRAYS
-  pub few_words : word_count d.arrays + length a.words ≤ WORDS
+  pub few_arrays : len d.arrays < most_arrays
+  pub few_words : word_count d.arrays + length a.words ≤ most_words
 
 -- a directory that a change may have left: what it changed is there to be changed back
 abbrev pub CanRestore : Change → Directory → Type 0

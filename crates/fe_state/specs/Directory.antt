@@ -18,7 +18,7 @@ use Rattle.fe_state.specs.declared.answer.Answer.{Answer}
 use Rattle.fe_state.specs.declared.answer.Answer.TheVariants as answer
 use Rattle.fe_state.specs.declared.request.Request.{Request}
 use Rattle.fe_state.specs.declared.request.Request.TheVariants.{Create, Find, Remove, Access}
-use Rattle.fe_state.specs.declared.bounds.TheConstants.{ARRAYS, WORDS}
+use Rattle.fe_state.specs.Limits.{most_arrays, most_words}
 
 -- the arrays by id, and the id that the next one gets
 pub record Directory : Type 0 where
@@ -55,10 +55,10 @@ words_in here = option_map (λ a. length a.words) here
 abbrev pub creation : Directory → List ℕ → ℕ → Answer
 creation d name size =
     if not (is_plain name) then answer.BadName
-    else if not (nat_le 1 size && nat_le size WORDS) then answer.BadLength
+    else if not (nat_le 1 size && nat_le size most_words) then answer.BadLength
     else if is_some (named d.arrays name) then answer.NameTaken
-    else if nat_le ARRAYS (len d.arrays) then answer.ArrayLimit
-    else if nat_lt WORDS (word_count d.arrays + size) then answer.WordLimit
+    else if nat_le most_arrays (len d.arrays) then answer.ArrayLimit
+    else if nat_lt most_words (word_count d.arrays + size) then answer.WordLimit
     else answer.Array d.next_id size
 
 -- an array that is looked up by its name is answered so
@@ -99,12 +99,12 @@ pub record IsArray (d : Directory) (id : ℕ) (a : Array) : Type 0 where
   pub older : id < d.next_id
   pub name : IsTrue (is_plain a.name)
   pub some_words : 1 ≤ length a.words
-  pub few_words : length a.words ≤ WORDS
+  pub few_words : length a.words ≤ most_words
 
 -- a directory whose arrays, names and words are within the limits
 pub record IsDirectory (d : Directory) : Type 0 where
   pub next_id : 1 ≤ d.next_id
-  pub few_arrays : len d.arrays ≤ ARRAYS
+  pub few_arrays : len d.arrays ≤ most_arrays
   pub each : (id : ℕ) (a : Array) → get d.arrays id ≡ Some a → IsArray d id a
   pub names : (i j : ℕ) (a b : Array) → get d.arrays i ≡ Some a → get d.arrays j ≡ Some b → a.name ≡ b.name → i ≡ j
-  pub words : word_count d.arrays ≤ WORDS
+  pub words : word_count d.arrays ≤ most_words

@@ -5,7 +5,7 @@ use Rattle.std.specs.FinMap.{FinMap, get, insert, len}
 use Rattle.fe_state.specs.Sessions.{Session, IsInWindow}
 use Rattle.fe_state.specs.declared.dropped.Dropped.{Dropped}
 use Rattle.fe_state.specs.declared.kept.Kept.{Kept}
-use Rattle.fe_state.specs.declared.bounds.TheConstants.{SESSIONS, WINDOW, GREATEST_FLOOR}
+use Rattle.fe_state.specs.Limits.{most_sessions, window_length, greatest_floor}
 
 -- what is dropped for a number, given what is kept for it
 abbrev pub answer_at : ℕ → Option Kept → List Dropped
@@ -30,16 +30,16 @@ pub record AreDropped (floor answers : ℕ) (dropped : List Dropped) : Type 0 wh
 pub record MayLower (s : Session) (floor : ℕ) : Type 0 where
   pub least : 1 ≤ floor
   pub no_higher : floor ≤ s.floor
-  pub within_window : s.floor ≤ floor + WINDOW
-  pub in_window : (number : ℕ) (k : Kept) → get s.kept number ≡ Some k → number < floor + WINDOW
+  pub within_window : s.floor ≤ floor + window_length
+  pub in_window : (number : ℕ) (k : Kept) → get s.kept number ≡ Some k → number < floor + window_length
 
 -- a session may be opened again where it is not, with a floor and answers that it may have
 pub record MayReopen (floor answers : ℕ) (dropped : List Dropped) (sessions : FinMap nat_cmp Session) (session : ℕ) : Type 0 where
   pub least : 1 ≤ floor
-  pub most : floor ≤ GREATEST_FLOOR
+  pub most : floor ≤ greatest_floor
   pub answers_there : AreDropped floor answers dropped
   pub free : get sessions session ≡ None
-  pub few : len sessions < SESSIONS
+  pub few : len sessions < most_sessions
 
 -- what was dropped for the numbers from a floor on and below an end came after what had been dropped, and
 -- brings back what was kept before

@@ -14,7 +14,7 @@ use Rattle.fe_state.specs.declared.kept.Kept.{Kept}
 use Rattle.fe_state.specs.declared.answer.Answer.TheVariants as answer
 use Rattle.fe_state.specs.declared.request.Request.TheVariants.{Create, Find, Remove, Access}
 use Rattle.fe_state.specs.declared.entry.Entry.TheVariants.{Attached, Closed, Settled, Finished}
-use Rattle.fe_state.specs.declared.bounds.TheConstants.{ARRAYS}
+use Rattle.fe_state.specs.Limits.{most_arrays}
 
 -- two words: the first is empty, the second is full and has value 5
 abbrev pub two_words : List Word
@@ -44,7 +44,7 @@ pub record ExampleAnswers : Type 0 where
   pub bad_length : answer_in one_array (Create (codes "w") 65537 Full) ≡ Some answer.BadLength
   pub name_taken : answer_in one_array (Create (codes "cells") 1 Full) ≡ Some answer.NameTaken
   pub word_limit : answer_in one_array (Create (codes "w") 65535 Full) ≡ Some answer.WordLimit
-  pub array_limit : (d : Directory) → len d.arrays ≡ ARRAYS → named d.arrays (codes "w") ≡ None → answer_in d (Create (codes "w") 1 Full) ≡ Some answer.ArrayLimit
+  pub array_limit : (d : Directory) → len d.arrays ≡ most_arrays → named d.arrays (codes "w") ≡ None → answer_in d (Create (codes "w") 1 Full) ≡ Some answer.ArrayLimit
 
 -- what requests leave of the directory
 pub record ExampleEffects : Type 0 where

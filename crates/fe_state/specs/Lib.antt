@@ -8,6 +8,7 @@ pub mod Format
 pub mod History
 pub mod Ids
 pub mod KeptAnswers
+pub mod Limits
 pub mod Name
 pub mod OtherWords
 pub mod Padding

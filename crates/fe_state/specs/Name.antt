@@ -1,6 +1,6 @@
 use Rattle.std.specs.Prelude.{ℕ, Bool, ◌&&◌, ◌||◌, ◌==◌, nat_le, List, length}
 use Rattle.std.specs.List.{list_all}
-use Rattle.fe_state.specs.declared.bounds.TheConstants.{NAME_BYTES}
+use Rattle.fe_state.specs.Limits.{longest_name}
 
 -- a lowercase letter of ASCII, a digit or an underscore
 abbrev pub is_plain_byte : ℕ → Bool
@@ -8,4 +8,4 @@ is_plain_byte b = (nat_le 97 b && nat_le b 122) || (nat_le 48 b && nat_le b 57) 
 
 -- what an array may be named: 1 to 32 plain bytes
 abbrev pub is_plain : List ℕ → Bool
-is_plain name = nat_le 1 (length name) && nat_le (length name) NAME_BYTES && list_all is_plain_byte name
+is_plain name = nat_le 1 (length name) && nat_le (length name) longest_name && list_all is_plain_byte name

@@ -6,11 +6,11 @@ use Rattle.std.specs.FinMap.{FinMap, get, remove, len}
 use Rattle.fe_state.specs.Sessions.{Session, IsInWindow, MayRise, raised, keeping, put_session, opened}
 use Rattle.fe_state.specs.declared.entry.Entry.{Entry}
 use Rattle.fe_state.specs.declared.entry.Entry.TheVariants.{Attached, Closed, Settled, Finished}
-use Rattle.fe_state.specs.declared.bounds.TheConstants.{SESSIONS}
+use Rattle.fe_state.specs.Limits.{most_sessions}
 
 -- a session may be attached with its own floor, or, while there are fewer than the most, begin with floor 1
 abbrev pub MayAttach : FinMap nat_cmp Session → ℕ → Option Session → Type 0
-MayAttach sessions floor here = MatchOption here ((floor ≡ 1) × (len sessions < SESSIONS)) (λ s. floor ≡ s.floor)
+MayAttach sessions floor here = MatchOption here ((floor ≡ 1) × (len sessions < most_sessions)) (λ s. floor ≡ s.floor)
 
 -- a number is usable if it is in the window and nothing is kept for it
 pub record IsUsable (s : Session) (number : ℕ) : Type 0 where

@@ -5,7 +5,7 @@ use Rattle.std.specs.Coded.{Coded, code_by, coded×, coded_ℕ}
 use Rattle.std.specs.FinMap.{FinMap, code, empty, get, insert, retain_keys, contains_key}
 use Rattle.fe_state.specs.declared.kept.Kept.{Kept}
 use Rattle.fe_state.specs.contracts.kept.Kept.{the_row}
-use Rattle.fe_state.specs.declared.bounds.TheConstants.{WINDOW, GREATEST_FLOOR}
+use Rattle.fe_state.specs.Limits.{window_length, greatest_floor}
 
 -- a session: its floor, and what is kept for a number
 pub record Session : Type 0 where
@@ -24,13 +24,13 @@ first_session = record { floor = 1; kept = empty }
 -- the numbers that a session may use are those of its window, from its floor on
 pub record IsInWindow (floor number : ℕ) : Type 0 where
   pub not_below : floor ≤ number
-  pub not_beyond : number < floor + WINDOW
+  pub not_beyond : number < floor + window_length
 
 -- a floor may rise by a window at the most, and no higher than the greatest floor
 pub record MayRise (old new : ℕ) : Type 0 where
   pub no_lower : old ≤ new
-  pub within_window : new ≤ old + WINDOW
-  pub within_limit : new ≤ GREATEST_FLOOR
+  pub within_window : new ≤ old + window_length
+  pub within_limit : new ≤ greatest_floor
 
 -- a session with its floor raised: what was kept below the floor is dropped
 abbrev pub raised : Session → ℕ → Session

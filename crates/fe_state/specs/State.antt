@@ -16,7 +16,7 @@ use Rattle.fe_state.specs.declared.request.Request.{Request}
 use Rattle.fe_state.specs.declared.request.Request.TheVariants.{Create}
 use Rattle.fe_state.specs.declared.entry.Entry.{Entry}
 use Rattle.fe_state.specs.declared.entry.Entry.TheVariants.{Attached, Closed, Settled, Finished}
-use Rattle.fe_state.specs.declared.bounds.TheConstants.{SESSIONS, GREATEST_FLOOR, GREATEST_PLACE}
+use Rattle.fe_state.specs.Limits.{most_sessions, greatest_floor, greatest_place}
 
 -- the arrays by id, the sessions by number, the id that the next array gets, and the number of entries so far
 pub record ServerState : Type 0 where
@@ -59,7 +59,7 @@ IsAnswered d (Finished session number request answer) = answer_in d request ≡ 
 
 -- an entry that may come next; there is no place after the greatest
 pub record IsLegal (s : ServerState) (e : Entry) : Type 0 where
-  pub has_place : s.place < GREATEST_PLACE
+  pub has_place : s.place < greatest_place
   pub allowed : SessionsAllow s.sessions e
   pub answered : IsAnswered (directory_of s) e
 
@@ -84,7 +84,7 @@ after_all s (e ∷ es) = after_all (after s e) es
 -- a session whose floor and kept numbers are within the limits, at this place of the history
 pub record IsSession (place : ℕ) (s : Session) : Type 0 where
   pub floor : 1 ≤ s.floor
-  pub most : s.floor ≤ GREATEST_FLOOR
+  pub most : s.floor ≤ greatest_floor
   pub kept : (number : ℕ) (k : Kept) → get s.kept number ≡ Some k → IsInWindow s.floor number × (k.place < place)
 
 -- a state within the limits, which all states of the server are: it has exactly one image
@@ -92,7 +92,7 @@ pub record IsWithinLimits (s : ServerState) : Type 0 where
   pub place : s.place < 2 ^ 63
   pub directory : IsDirectory (directory_of s)
   pub next_id : s.next_id ≤ s.place + 1
-  pub few_sessions : len s.sessions ≤ SESSIONS
+  pub few_sessions : len s.sessions ≤ most_sessions
   pub each : (session : ℕ) (x : Session) → get s.sessions session ≡ Some x → IsSession s.place x
 
 -- an entry that makes an array: a request for one that was answered with its id

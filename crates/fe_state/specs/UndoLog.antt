@@ -15,7 +15,7 @@ use Rattle.fe_state.specs.declared.undo.Undo.{Undo}
 use Rattle.fe_state.specs.contracts.undo.Undo.{the_row}
 use Rattle.fe_state.specs.declared.undo.SessionChange.{SessionChange}
 use Rattle.fe_state.specs.declared.undo.SessionChange.TheVariants.{Same, Opened, Closed, Settled, Kept}
-use Rattle.fe_state.specs.declared.bounds.TheConstants.{WINDOW}
+use Rattle.fe_state.specs.Limits.{window_length}
 
 -- a log: how many entries it has room for, what each of its entries changed, and the answers that they
 -- dropped, both with the latest first
@@ -45,7 +45,7 @@ answers_of _ = 0
 
 -- how many of an entry's answers have room; no entry drops more than those of a window
 abbrev pub with_room : Undo → ℕ
-with_room u = min WINDOW (answers_of u.session_change)
+with_room u = min window_length (answers_of u.session_change)
 
 -- what is always true of a log whose memory has room for this many entries and this many dropped answers
 pub record HasMemory (l : UndoLog) (undos dropped : ℕ) : Type 0 where
@@ -55,7 +55,7 @@ pub record HasMemory (l : UndoLog) (undos dropped : ℕ) : Type 0 where
   pub paired : length l.dropped ≤ sum_by with_room l.undos
   -- and the memory of the whole room is there
   pub undos_room : l.room ≤ undos
-  pub dropped_room : l.room * WINDOW ≤ dropped
+  pub dropped_room : l.room * window_length ≤ dropped
 
 -- the dropped answers that are left once a change is undone
 abbrev pub left : SessionChange → List Dropped → List Dropped

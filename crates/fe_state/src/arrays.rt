@@ -6,6 +6,7 @@ ghost use Rattle.indexmap.specs.IndexSet.{index_set_len, spare};
 ghost use Rattle.fe_state.specs.within.Arrays.{IsIndex};
 ghost use Rattle.fe_state.specs.ArraysLends.{lends_array};
 ghost use Rattle.fe_table.specs.Table.{shown_entry, IsAt};
+ghost use Rattle.fe_state.specs.Limits.{most_arrays};
 
 use crate::array::Array;
 use crate::bounds::ARRAYS;
@@ -62,7 +63,7 @@ impl Arrays {
     /// How many arrays there are.
     pub fn len(&self) -> usize
         ensures len { result ≡ map.len self.now }
-        ensures fits { result ≤ ARRAYS }
+        ensures fits { result ≤ most_arrays }
     {
         self.table.len()
     }
@@ -126,7 +127,7 @@ impl Arrays {
     /// Puts an array at a new id, which comes to its position in the order.
     pub fn insert(&mut self, id: u64, array: Array)
         requires absent { map.get self.old id ≡ None }
-        requires room { map.len self.old < ARRAYS }
+        requires room { map.len self.old < most_arrays }
         ensures inserted { self.new ≡ map.insert self.old id array }
     {
         self.table.insert(id, array);
@@ -136,7 +137,7 @@ impl Arrays {
 
 // Clears the set and fills it with the table's ids. Allocates nothing.
 fn index(table: &Table<Array, ARRAYS>, ids: &mut IndexSet<u64>)
-    requires room { ARRAYS ≤ index_set_len ids.old + spare ids.old }
+    requires room { most_arrays ≤ index_set_len ids.old + spare ids.old }
     ensures index { IsIndex ids.new table.now }
 {
     ids.clear();

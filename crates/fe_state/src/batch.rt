@@ -1,6 +1,7 @@
 ghost use Rattle.std.specs.Prelude.{◌≡◌, ◌+◌, ◌<◌, ◌≤◌, ◌↔◌, [], ◌∷◌, ◌++◌, length, IfOk, IsTrue};
 ghost use Rattle.std.specs.List.{list_all};
 ghost use Rattle.fe_state.specs.Format.{entry_fits_format_1};
+ghost use Rattle.fe_state.specs.Limits.{most_batch_entries};
 
 use crate::bounds::BATCH_ENTRIES;
 use crate::entry::Entry;
@@ -24,13 +25,13 @@ impl Drop for Entries {
 impl Model for Entries {
     ghost use Rattle.std.specs.Prelude.{◌≤◌, List, vec_len, vec_capacity};
     ghost use Rattle.fe_state.specs.declared.entry.Entry.{Entry};
-    ghost use Rattle.fe_state.specs.declared.bounds.TheConstants.{BATCH_ENTRIES};
+    ghost use Rattle.fe_state.specs.Limits.{most_batch_entries};
 
     ghost Value = { List Entry };
 
     ghost view = { λ a. a.items.items };
 
-    ghost invariant = { λ a. (vec_len a.items ≤ BATCH_ENTRIES) × (BATCH_ENTRIES ≤ vec_capacity a.items) };
+    ghost invariant = { λ a. (vec_len a.items ≤ most_batch_entries) × (most_batch_entries ≤ vec_capacity a.items) };
 }
 
 impl Entries {
@@ -45,21 +46,21 @@ impl Entries {
 
     pub fn as_slice(&self) -> &[Entry]
         ensures entries { result.now ≡ self.now }
-        ensures most { length result.now ≤ BATCH_ENTRIES }
+        ensures most { length result.now ≤ most_batch_entries }
     {
         self.items.as_slice()
     }
 
     /// Whether no further entry has room.
     pub fn is_full(&self) -> bool
-        ensures { IsTrue result ↔ (length self.now ≡ BATCH_ENTRIES) }
+        ensures { IsTrue result ↔ (length self.now ≡ most_batch_entries) }
     {
         self.items.len() == BATCH_ENTRIES
     }
 
     /// Adds an entry at the end. Allocates nothing.
     pub fn push(&mut self, entry: Entry)
-        requires { length self.old < BATCH_ENTRIES }
+        requires { length self.old < most_batch_entries }
         ensures { self.new ≡ self.old ++ entry ∷ [] }
     {
         named::<Request>();
@@ -106,7 +107,7 @@ impl Batch {
 
     /// Adds an entry at the end. Allocates nothing.
     pub fn push(&mut self, entry: Entry)
-        requires { length self.old.entries < BATCH_ENTRIES }
+        requires { length self.old.entries < most_batch_entries }
         ensures first { self.new.first ≡ self.old.first }
         ensures entries { self.new.entries ≡ self.old.entries ++ entry ∷ [] }
     {

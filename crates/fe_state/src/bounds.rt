@@ -1,4 +1,5 @@
-//! The limits of the server. Code, clauses and specs name them.
+//! The limits of the server, for the code. Definitions and clauses have those of `specs/Limits.antt`; laws say that
+//! they are the same.
 
 /// How many sessions there are at most.
 pub const SESSIONS: usize = 64;

@@ -3,8 +3,8 @@ ghost use Rattle.std.specs.FinMap.{entries, len};
 ghost use Rattle.std.specs.Iterator.{YieldsFirstBy, item_count};
 ghost use Rattle.fe_state.specs.KeptAnswers.{answers_from};
 ghost use Rattle.fe_table.specs.Table.{shown_entry};
+ghost use Rattle.fe_state.specs.Limits.{window_length};
 
-use crate::bounds::WINDOW;
 use crate::kept::Kept;
 use crate::session::Session;
 use std::marker::Model;
@@ -24,7 +24,7 @@ impl<'a> Model for KeptAnswers<'a> {
     ghost use Rattle.std.specs.FinMap.{FinMap, code, len};
     ghost use Rattle.fe_state.specs.declared.kept.Kept.{Kept};
     ghost use Rattle.fe_state.specs.contracts.kept.Kept.{the_row};
-    ghost use Rattle.fe_state.specs.declared.bounds.TheConstants.{WINDOW};
+    ghost use Rattle.fe_state.specs.Limits.{window_length};
     ghost use Rattle.fe_state.specs.KeptAnswers.{answers_from};
 
     ghost Value = { FinMap nat_cmp Kept };
@@ -34,14 +34,14 @@ impl<'a> Model for KeptAnswers<'a> {
     ghost view = { λ it. answers_from it.session.now it.next };
 
     ghost invariant = { λ it. (it.session.now.floor ≤ it.next)
-        × (len (answers_from it.session.now it.next) ≤ WINDOW) };
+        × (len (answers_from it.session.now it.next) ≤ window_length) };
 }
 
 impl<'a> KeptAnswers<'a> {
     /// What a session keeps for the numbers from one of its window on.
     pub(crate) fn starting(session: &'a Session, next: u64) -> KeptAnswers<'a>
         requires next { session.now.floor ≤ next }
-        requires few { len (answers_from session.now next) ≤ WINDOW }
+        requires few { len (answers_from session.now next) ≤ window_length }
         ensures { result ≡ answers_from session.now next }
     {
         KeptAnswers { session, next }
@@ -50,7 +50,7 @@ impl<'a> KeptAnswers<'a> {
     /// How many are left, 0 to `WINDOW`.
     pub fn len(&self) -> usize
         ensures count { result ≡ len self.now }
-        ensures few { result ≤ WINDOW }
+        ensures few { result ≤ window_length }
     {
         let mut count = 0;
         for _answer in KeptAnswers::starting(self.session, self.next) {

@@ -1,7 +1,10 @@
+ghost use Rattle.std.specs.Prelude.{◌≡◌, ◌+◌, ◌-◌, ◌*◌, ◌^◌};
 ghost use Rattle.fe_state.specs.History.{KeepsLimits, FinishesOnce, JoinsAndCuts};
 ghost use Rattle.fe_state.specs.Ids.{IdsNeverReturn};
 ghost use Rattle.fe_state.specs.OtherWords.{KeepsOtherWords};
 ghost use Rattle.fe_state.specs.Examples.{ExampleAnswers, ExampleEffects, ExampleEntries};
+ghost use Rattle.fe_state.specs.Limits.{most_sessions, window_length, greatest_floor, most_arrays, most_words, longest_name, greatest_place, most_waiting, most_event_entries, most_batch_entries};
+ghost use Rattle.fe_state.specs.declared.bounds.TheConstants.{SESSIONS, WINDOW, GREATEST_FLOOR, ARRAYS, WORDS, NAME_BYTES, GREATEST_PLACE, WAITING, EVENT_ENTRIES, BATCH_ENTRIES};
 
 /// A legal entry keeps the state within the limits.
 pub fn limits_are_kept()
@@ -34,4 +37,31 @@ pub fn other_words_stay()
 /// tests, and the state after an entry is what `apply` and `advance` leave.
 pub fn ids_never_return()
     ensures { IdsNeverReturn }
+{}
+
+/// The code's constants are the limits of a state.
+pub fn limits_are()
+    ensures sessions { SESSIONS ≡ most_sessions }
+    ensures window { WINDOW ≡ window_length }
+    ensures floor { GREATEST_FLOOR ≡ greatest_floor }
+    ensures arrays { ARRAYS ≡ most_arrays }
+    ensures words { WORDS ≡ most_words }
+    ensures name { NAME_BYTES ≡ longest_name }
+    ensures place { GREATEST_PLACE ≡ greatest_place }
+{}
+
+/// The code's constants are the limits of what waits, of an event and of a batch.
+pub fn entry_limits_are()
+    ensures waiting { WAITING ≡ most_waiting }
+    ensures event { EVENT_ENTRIES ≡ most_event_entries }
+    ensures batch { BATCH_ENTRIES ≡ most_batch_entries }
+{}
+
+/// How the limits that follow from others do so.
+pub fn limits_follow()
+    ensures floor { greatest_floor ≡ 2 ^ 63 - window_length }
+    ensures place { greatest_place ≡ 2 ^ 63 - 1 }
+    ensures waiting { most_waiting ≡ most_sessions * window_length }
+    ensures event { most_event_entries ≡ most_waiting + 1 }
+    ensures batch { most_batch_entries ≡ most_waiting + most_event_entries }
 {}

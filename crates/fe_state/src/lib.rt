@@ -33,8 +33,8 @@ pub use entry::Entry;
 pub use kept::Kept;
 pub use kept_answers::KeptAnswers;
 pub use laws::{
-    examples_hold, histories_join_and_cut, ids_never_return, limits_are_kept, numbers_finish_once,
-    other_words_stay,
+    entry_limits_are, examples_hold, histories_join_and_cut, ids_never_return, limits_are,
+    limits_are_kept, limits_follow, numbers_finish_once, other_words_stay,
 };
 pub use name::Name;
 pub use naming::named;

@@ -2,6 +2,7 @@ ghost use Rattle.std.specs.Prelude.{◌≡◌, ◌≤◌, ◌↔◌, length, IsS
 ghost use Rattle.std.specs.List.{list_all};
 ghost use Rattle.fe_state.specs.Format.{name_fits_format_1};
 ghost use Rattle.fe_state.specs.Name.{is_plain, is_plain_byte};
+ghost use Rattle.fe_state.specs.Limits.{longest_name};
 
 use crate::bounds::NAME_BYTES;
 use std::marker::Model;
@@ -16,16 +17,16 @@ pub struct Name {
 impl Model for Name {
     ghost use Rattle.std.specs.Prelude.{◌≡◌, ℕ, ◌≤◌, ◌-◌, List, length, take, drop, replicate};
     ghost use Rattle.fe_state.specs.Padding.{padded, padded-take};
-    ghost use Rattle.fe_state.specs.declared.bounds.TheConstants.{NAME_BYTES};
+    ghost use Rattle.fe_state.specs.Limits.{longest_name};
 
     ghost Value = { List ℕ };
 
     ghost view = { λ a. take a.len a.cells };
 
-    ghost invariant = { λ a. (a.len ≤ NAME_BYTES) × (length a.cells ≡ NAME_BYTES)
-        × (drop a.len a.cells ≡ replicate (NAME_BYTES - a.len) 0) };
+    ghost invariant = { λ a. (a.len ≤ longest_name) × (length a.cells ≡ longest_name)
+        × (drop a.len a.cells ≡ replicate (longest_name - a.len) 0) };
 
-    ghost inverse = { λ bytes. record { len = length bytes; cells = padded NAME_BYTES bytes } };
+    ghost inverse = { λ bytes. record { len = length bytes; cells = padded longest_name bytes } };
 
     ghost inverse_ok = { λ a h i. record {
       len = (padded-take a.len a.cells h).0 i;
@@ -36,7 +37,7 @@ impl Model for Name {
 impl Name {
     /// The name of these bytes, or `None` where they are more than 32.
     pub fn new(bytes: &[u8]) -> Option<Name>
-        ensures fits { IsSome result ↔ (length bytes.now ≤ NAME_BYTES) }
+        ensures fits { IsSome result ↔ (length bytes.now ≤ longest_name) }
         ensures value { IfSome result (λ name. name ≡ bytes.now) }
     {
         if bytes.len() > NAME_BYTES {
@@ -53,7 +54,7 @@ impl Name {
     /// The bytes as they were sent.
     pub fn bytes(&self) -> &[u8]
         ensures bytes { result.now ≡ self.now }
-        ensures length { length result.now ≤ NAME_BYTES }
+        ensures length { length result.now ≤ longest_name }
     {
         &self.cells[..usize::from(self.len)]
     }

@@ -6,8 +6,9 @@ ghost use Rattle.fe_state.specs.SessionEffect.{IsUsable};
 ghost use Rattle.fe_state.specs.DroppedAnswers.{answer_at, WereDropped, MayLower};
 ghost use Rattle.fe_state.specs.KeptAnswers.{answers_from};
 ghost use Rattle.fe_table.specs.Table.{shown_entry};
+ghost use Rattle.fe_state.specs.Limits.{greatest_floor, window_length};
 
-use crate::bounds::{GREATEST_FLOOR, WINDOW};
+use crate::bounds::WINDOW;
 use crate::dropped::Dropped;
 use crate::kept::Kept;
 use crate::kept_answers::KeptAnswers;
@@ -48,7 +49,7 @@ impl Session {
     /// A session with this floor, 1 to `GREATEST_FLOOR`, that keeps nothing.
     pub fn starting(floor: u64) -> Session
         requires least { 1 ≤ floor }
-        requires most { floor ≤ GREATEST_FLOOR }
+        requires most { floor ≤ greatest_floor }
         ensures floor { result.floor ≡ floor }
         ensures kept { result.kept ≡ map.empty }
     {
@@ -62,7 +63,7 @@ impl Session {
     pub fn floor(&self) -> u64
         ensures floor { result ≡ self.now.floor }
         ensures least { 1 ≤ self.now.floor }
-        ensures most { self.now.floor ≤ GREATEST_FLOOR }
+        ensures most { self.now.floor ≤ greatest_floor }
     {
         self.floor
     }
@@ -78,7 +79,7 @@ impl Session {
     pub fn kept(&self, number: u64) -> Option<&Kept>
         ensures kept { option_copied result ≡ map.get self.now.kept number }
         ensures in_window { (n : ℕ) (k : Kept) → map.get self.now.kept n ≡ Some k → IsInWindow self.now.floor n }
-        ensures few { map.len self.now.kept ≤ WINDOW }
+        ensures few { map.len self.now.kept ≤ window_length }
     {
         if self.is_in_window(number) {
             self.cells[cell_of(number)].as_ref()
@@ -151,7 +152,7 @@ impl Session {
     /// Raises the floor as `raise`, and appends what is dropped to `dropped`, which has room for `WINDOW` more.
     pub(crate) fn settle(&mut self, floor: u64, dropped: &mut Vec<Dropped>)
         requires rise { MayRise self.old.floor floor }
-        requires room { vec_len dropped.old + WINDOW ≤ vec_capacity dropped.old }
+        requires room { vec_len dropped.old + window_length ≤ vec_capacity dropped.old }
         ensures raised { self.new ≡ raised self.old floor }
         ensures lowered { MayLower self.new self.old.floor }
         ensures dropped { WereDropped self.old.floor floor self.old.kept self.new.kept
@@ -176,8 +177,8 @@ impl Session {
     /// stays.
     pub(crate) fn drop_below(&mut self, end: u64, dropped: &mut Vec<Dropped>)
         requires least { self.old.floor ≤ end }
-        requires most { end ≤ self.old.floor + WINDOW }
-        requires room { vec_len dropped.old + WINDOW ≤ vec_capacity dropped.old }
+        requires most { end ≤ self.old.floor + window_length }
+        requires room { vec_len dropped.old + window_length ≤ vec_capacity dropped.old }
         ensures floor { self.new.floor ≡ self.old.floor }
         ensures kept { self.new.kept ≡ map.retain_keys self.old.kept (nat_le end) }
         ensures in_window { (n : ℕ) (k : Kept) → map.get self.old.kept n ≡ Some k → IsInWindow self.old.floor n }
@@ -220,7 +221,7 @@ impl Session {
 }
 
 fn cell_of(number: u64) -> usize
-    ensures { result ≡ number % WINDOW }
+    ensures { result ≡ number % window_length }
 {
     (number % WINDOW) as usize
 }

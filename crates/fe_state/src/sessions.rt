@@ -6,6 +6,7 @@ ghost use Rattle.fe_state.specs.Sessions.{MayRise, first_session, raised, keepin
 ghost use Rattle.fe_state.specs.SessionEffect.{MayAttach, IsUsable, SessionsAllow, sessions_after};
 ghost use Rattle.fe_state.specs.DroppedAnswers.{keeping_all, kept_again, AreDropped, MayLower, MayReopen};
 ghost use Rattle.fe_state.specs.UndoLog.{put_back, CanPutBack, Remembers};
+ghost use Rattle.fe_state.specs.Limits.{most_sessions};
 
 use crate::bounds::{GREATEST_FLOOR, SESSIONS, WINDOW};
 use crate::change::Change;
@@ -75,7 +76,7 @@ pub fn allow(sessions: &Sessions, entry: &Entry) -> bool
 /// Opens a session that is not there, and says whether it did.
 #[inline(never)]
 fn open(sessions: &mut Sessions, session: u64) -> bool
-    requires { get sessions.old session ≡ None → len sessions.old < SESSIONS }
+    requires { get sessions.old session ≡ None → len sessions.old < most_sessions }
     ensures after { sessions.new ≡ opened sessions.old session }
     ensures free { OnTrue result (get sessions.old session ≡ None) }
     ensures added { OnTrue result (sessions.new ≡ insert sessions.old session first_session) }
@@ -90,7 +91,7 @@ fn open(sessions: &mut Sessions, session: u64) -> bool
 
 fn attach(sessions: &mut Sessions, session: u64, change: Change, log: &mut UndoLog)
     requires room { length log.old.undos < log.old.room }
-    requires few { get sessions.old session ≡ None → len sessions.old < SESSIONS }
+    requires few { get sessions.old session ≡ None → len sessions.old < most_sessions }
     ensures after { sessions.new ≡ opened sessions.old session }
     ensures remembered { Remembers change log.old log.new sessions.old sessions.new }
 {
@@ -110,7 +111,7 @@ fn attach(sessions: &mut Sessions, session: u64, change: Change, log: &mut UndoL
 fn close(sessions: &mut Sessions, session: u64, change: Change, log: &mut UndoLog)
     requires room { length log.old.undos < log.old.room }
     requires present { IsSome (get sessions.old session) }
-    requires few { len sessions.old ≤ SESSIONS }
+    requires few { len sessions.old ≤ most_sessions }
     ensures after { sessions.new ≡ remove sessions.old session }
     ensures remembered { Remembers change log.old log.new sessions.old sessions.new }
 {
@@ -161,7 +162,7 @@ pub fn record_entry(
 )
     requires room { length log.old.undos < log.old.room }
     requires allowed { SessionsAllow sessions.old entry.now }
-    requires few { len sessions.old ≤ SESSIONS }
+    requires few { len sessions.old ≤ most_sessions }
     ensures after { sessions.new ≡ sessions_after sessions.old place entry.now }
     ensures remembered { Remembers change log.old log.new sessions.old sessions.new }
 {

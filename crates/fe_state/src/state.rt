@@ -9,9 +9,10 @@ ghost use Rattle.fe_state.specs.Shown.{shown_array, shown_session};
 ghost use Rattle.fe_state.specs.State.{first_state, reply, IsLegal, IsAnswered, after, directory_of, directory_after, with_arrays, with_sessions, IsWithinLimits, MakesArray, OnFinished};
 ghost use Rattle.fe_words.specs.declared.word.Tag.TheVariants.{Empty};
 ghost use Rattle.fe_state.specs.UndoLog.{empty_log, shortened, undone, rewound, IsLogOf};
+ghost use Rattle.fe_state.specs.Limits.{most_sessions, greatest_floor};
 
 use crate::answer::Answer;
-use crate::bounds::{GREATEST_FLOOR, GREATEST_PLACE, SESSIONS};
+use crate::bounds::GREATEST_PLACE;
 use crate::change::Change;
 use crate::directory::Directory;
 use crate::entry::Entry;
@@ -322,9 +323,9 @@ impl State {
     /// Adds a session of an image, with a floor of 1 to `GREATEST_FLOOR` and nothing kept. Allocates nothing.
     pub fn load_session(&mut self, session: u64, floor: u64)
         requires new { get self.old.sessions session ≡ None }
-        requires few { len self.old.sessions < SESSIONS }
+        requires few { len self.old.sessions < most_sessions }
         requires least { 1 ≤ floor }
-        requires most { floor ≤ GREATEST_FLOOR }
+        requires most { floor ≤ greatest_floor }
         ensures { self.new ≡ with_sessions self.old
             (insert self.old.sessions session (record { floor = floor; kept = empty })) }
     {

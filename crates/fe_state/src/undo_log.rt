@@ -4,8 +4,9 @@ ghost use Rattle.std.specs.FinMap.{empty};
 ghost use Rattle.fe_state.specs.DroppedAnswers.{MayLower};
 ghost use Rattle.fe_state.specs.Sessions.{MayRise, raised};
 ghost use Rattle.fe_state.specs.UndoLog.{empty_log, shortened, answers_of, HasDropped};
+ghost use Rattle.fe_state.specs.Limits.{greatest_floor};
 
-use crate::bounds::{GREATEST_FLOOR, WINDOW};
+use crate::bounds::WINDOW;
 use crate::change::Change;
 use crate::dropped::Dropped;
 use crate::naming::named;
@@ -132,7 +133,7 @@ impl UndoLog {
         requires room { length self.old.undos < self.old.room }
         ensures floor { here.new.floor ≡ here.old.floor }
         ensures least { 1 ≤ here.old.floor }
-        ensures most { here.old.floor ≤ GREATEST_FLOOR }
+        ensures most { here.old.floor ≤ greatest_floor }
         ensures emptied { here.new.kept ≡ empty }
         ensures remembered { HasDropped session
             (SessionChange.Closed here.old.floor) change self.old self.new here.old here.new }

@@ -2,9 +2,11 @@
 #![tactic(auto)]
 
 mod chains;
+mod laws;
 mod row;
 mod waits;
 mod words;
 
+pub use laws::limits_are;
 pub use row::Row;
 pub use waits::Waits;

@@ -3,11 +3,11 @@ use Rattle.std.specs.Prelude.{◌≡◌, ℕ, ◌+◌, ◌≤◌}
 use Rattle.std.specs.FinMap.{FinMap, keys}
 use Rattle.std.specs.Ordering.{nat_cmp}
 use Rattle.indexmap.specs.IndexSet.{IndexSet, index_set_len, spare}
-use Rattle.fe_state.specs.declared.bounds.TheConstants.{ARRAYS}
+use Rattle.fe_state.specs.Limits.{most_arrays}
 
 -- a set that says at which position each id stands, with room for all
 pub record IsIndex {S X : Type 0} (ids : IndexSet ℕ S) (arrays : FinMap nat_cmp X) : Type 0 where
   -- the ids rise, as they were given out
   pub order : ids.keys ≡ keys arrays
   -- and the memory of the whole room is there
-  pub room : ARRAYS ≤ index_set_len ids + spare ids
+  pub room : most_arrays ≤ index_set_len ids + spare ids

@@ -2,11 +2,11 @@
 use Rattle.std.specs.Prelude.{◌≡◌, ℕ, zero, suc, ◌+◌, ◌%◌, ◌≤◌, List, length, Option, Some, None, slice_index_or}
 use Rattle.std.specs.Ordering.{nat_cmp}
 use Rattle.std.specs.FinMap.{FinMap, empty, insert}
-use Rattle.fe_state.specs.declared.bounds.TheConstants.{WINDOW, GREATEST_FLOOR}
+use Rattle.fe_state.specs.Limits.{window_length, greatest_floor}
 
 -- the cell of a number is that of its remainder by the window
 abbrev pub cell_of : {X : Type 0} → List (Option X) → ℕ → Option X
-cell_of cells number = slice_index_or cells (number % WINDOW) None
+cell_of cells number = slice_index_or cells (number % window_length) None
 
 -- a map with what a cell holds put at a number
 abbrev pub with_cell : {X : Type 0} → FinMap nat_cmp X → ℕ → Option X → FinMap nat_cmp X
@@ -20,10 +20,10 @@ held cells floor (suc n) = with_cell (held cells floor n) (floor + n) (cell_of c
 
 -- what the cells of a session hold for the numbers of its window
 abbrev pub window_of : {X : Type 0} → List (Option X) → ℕ → FinMap nat_cmp X
-window_of cells floor = held cells floor WINDOW
+window_of cells floor = held cells floor window_length
 
 -- a floor within its limits, and a cell for each number of the window
 pub record IsRing {X : Type 0} (floor : ℕ) (cells : List (Option X)) : Type 0 where
   pub least : 1 ≤ floor
-  pub most : floor ≤ GREATEST_FLOOR
-  pub whole : length cells ≡ WINDOW
+  pub most : floor ≤ greatest_floor
+  pub whole : length cells ≡ window_length

@@ -1,0 +1,10 @@
+ghost use Rattle.std.specs.Prelude.{◌≡◌};
+ghost use Rattle.fe_waits.specs.declared.waits.TheConstants.{SLOTS, NODES};
+ghost use Rattle.fe_waits.specs.declared.words.TheConstants.{ARRAYS};
+
+/// The code's constants are the limits of what waits.
+pub fn limits_are()
+    ensures slots { SLOTS ≡ 64 }
+    ensures members { NODES ≡ 2048 }
+    ensures arrays { ARRAYS ≡ 64 }
+{}
