@@ -57,7 +57,8 @@ class Edit:
             yield f"{self.clauses[0]}: no such clause of {' '.join(map(str, changed))}, nor of what it calls"
 
     def has_clause(self, changed):
-        """Whether the clause exists, of a function that is changed or that a changed one calls, or of a type's invariant."""
+        """Whether the clause exists, of a function that is changed or that a changed one calls, of a type's invariant, or of a law about
+        a constant that is changed."""
         if found := INVARIANT.fullmatch(self.clauses[0]):
             return any(has_invariant(text, *found.groups()) for text in self.sources())
         named = NAMED.fullmatch(self.clauses[0])
@@ -66,6 +67,10 @@ class Edit:
         function, name, part = named.groups()
         calls = lambda text, caller: re.search(rf"\b{function}\b", body_of(text, caller)) is not None
         text = text_of(f"crates/{self.crate}/{self.files[0]}")
+        constants = [it[1] for old in self.old if (it := re.match(r"(?:pub )?const (\w+):", old))]
+        if changed == {None}:
+            laws = [it for it in self.sources() if has_clause(it, function, name, part)]
+            return any(re.search(rf"ensures {name} \{{[^}}]*\b{it}\b", law) for it in constants for law in laws)
         reached = function in changed or any(calls(text, it) for it in changed)
         return reached and any(has_clause(text, function, name, part) for text in self.sources())
 
