@@ -12,7 +12,7 @@ use Rattle.fe_words.specs.declared.word.Tag.{Tag}
 use Rattle.fe_words.specs.declared.word.Tag.TheVariants.{Empty}
 use Rattle.fe_words.specs.declared.word.Word.{Word}
 use Rattle.fe_state.specs.Name.{is_plain}
-use Rattle.fe_state.specs.declared.bounds.TheConstants.{ARRAYS, GREATEST_FLOOR, GREATEST_PLACE, SESSIONS, WINDOW, WORDS}
+use Rattle.fe_state.specs.Limits.{most_arrays, greatest_floor, greatest_place, most_sessions, window_length, most_words}
 use Rattle.fe_state.specs.Directory.{named, word_count}
 use Rattle.fe_state.specs.Effect.{new_array, put_word}
 use Rattle.fe_state.specs.Sessions.{keeping, put_session}
@@ -68,10 +68,10 @@ is_after (Some previous) n = nat_lt previous n
 
 unfoldable pub header_at : List ℕ → Result (Header × List ℕ) ℕ
 header_at bytes =
-    number_in w64 0 (GREATEST_PLACE + 1) bytes followed_by λ place.
+    number_in w64 0 (greatest_place + 1) bytes followed_by λ place.
     number_in w64 1 (place.0 + 2) place.1 followed_by λ next.
-    number_in w32 0 (ARRAYS + 1) next.1 followed_by λ arrays.
-    number_in w32 0 (SESSIONS + 1) arrays.1 followed_by λ sessions.
+    number_in w32 0 (most_arrays + 1) next.1 followed_by λ arrays.
+    number_in w32 0 (most_sessions + 1) arrays.1 followed_by λ sessions.
     Ok (record { place = place.0; next_id = next.0; arrays = arrays.0; sessions = sessions.0 }, sessions.1)
 
 -- a state with nothing in it yet
@@ -136,7 +136,7 @@ unfoldable pub next_array : Format → Option ℕ × ServerState × List ℕ →
 next_array format x =
     id_at x.0 x.1.next_id x.2 followed_by λ id.
     new_name_at format x.1.arrays id.1 followed_by λ name.
-    number_in w32 1 (WORDS + 1 - word_count x.1.arrays) name.1 followed_by λ size.
+    number_in w32 1 (most_words + 1 - word_count x.1.arrays) name.1 followed_by λ size.
     repeated (next_word id.0) size.0 (0, with_new_array x.1 id.0 name.0 size.0, size.1) followed_by λ words.
     Ok (Some id.0, words.1, words.2)
 
@@ -144,7 +144,7 @@ next_array format x =
 
 -- what an entry keeps at a place: it is of this session, its number in the window and above the one before
 abbrev pub is_next_number : ℕ → Option ℕ → ℕ → Bool
-is_next_number floor previous n = nat_le floor n && nat_lt n (floor + WINDOW) && is_after previous n
+is_next_number floor previous n = nat_le floor n && nat_lt n (floor + window_length) && is_after previous n
 
 abbrev pub kept_of : ℕ → ℕ → Option ℕ → ℕ → Option Entry → Option (ℕ × Kept)
 kept_of session floor previous place (Some (Finished owner n request answer)) =
@@ -183,8 +183,8 @@ session_at previous bytes =
 unfoldable pub next_session : Format → Option ℕ × ServerState × List ℕ → Result (Option ℕ × ServerState × List ℕ) ℕ
 next_session format x =
     session_at x.0 x.2 followed_by λ session.
-    number_in w64 1 (GREATEST_FLOOR + 1) session.1 followed_by λ floor.
-    number_in w32 0 (WINDOW + 1) floor.1 followed_by λ count.
+    number_in w64 1 (greatest_floor + 1) session.1 followed_by λ floor.
+    number_in w32 0 (window_length + 1) floor.1 followed_by λ count.
     repeated (next_kept format session.0 floor.0) count.0 (None, with_new_session x.1 session.0 floor.0, count.1) followed_by λ kept.
     Ok (Some session.0, kept.1, kept.2)
 

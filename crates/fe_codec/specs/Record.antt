@@ -4,7 +4,7 @@ use Rattle.std.specs.List.{AllByRecursion}
 use Rattle.std.specs.Int.{w32, w64, to_be_bytes}
 use Rattle.fe_state.specs.Format.{entry_fits_format_1}
 use Rattle.fe_state.specs.Padding.{padded}
-use Rattle.fe_state.specs.declared.bounds.TheConstants.{NAME_BYTES}
+use Rattle.fe_state.specs.Limits.{longest_name}
 use Rattle.fe_state.specs.declared.request.Request.{Request}
 use Rattle.fe_state.specs.declared.request.Request.TheVariants.{Create, Find, Remove, Access}
 use Rattle.fe_state.specs.declared.entry.Entry.{Entry}
@@ -112,8 +112,8 @@ pub record CanPut (format : Format) (entry : Entry) : Type 0 where
 
 -- each field of a request fits the bytes that it has
 abbrev pub RequestFits : Request → Type 0
-RequestFits (Create name size tag) = (length name ≤ NAME_BYTES) × (size < 2 ^ 32)
-RequestFits (Find name) = length name ≤ NAME_BYTES
+RequestFits (Create name size tag) = (length name ≤ longest_name) × (size < 2 ^ 32)
+RequestFits (Find name) = length name ≤ longest_name
 RequestFits (Remove array) = array < 2 ^ 64
 RequestFits (Access array index op no_wait) = (array < 2 ^ 64) × (index < 2 ^ 32) × (operand_of op < 2 ^ 64)
 

@@ -10,12 +10,13 @@ ghost use Rattle.fe_format.specs.Layout.{name_bytes};
 ghost use Rattle.fe_codec.specs.FirstFault.{number_in, is_after, id_at, name_length_at, is_name_row, name_at, new_name_at, tag_at, word_at, next_word, next_array, repeated, with_new_array};
 ghost use Rattle.fe_codec.specs.Given.{Gives};
 ghost use Rattle.fe_codec.specs.Loading.{KeepsIds, HasNoneAfter};
+ghost use Rattle.fe_state.specs.Limits.{most_arrays, most_words};
 
 use crate::Format;
 use crate::fault::Fault;
 use crate::header::{is_after, row, u32_next, u64_in, u64_next};
 use fe_codes::tag_of;
-use fe_state::{ARRAYS, Answer, Name, Request, State, WORDS};
+use fe_state::{Answer, Name, Request, State};
 use fe_words::{Tag, Word};
 
 #[tactic(auto, unfolding(crate::specs::FirstFault::id_at))]
@@ -113,8 +114,8 @@ fn new_name_at<'a>(
 fn has_room(state: &State, name: &Name, length: u32) -> bool
     requires plain { is_plain name.now ≡ true }
     requires free { is_some (named state.now.arrays name.now) ≡ false }
-    requires few { len state.now.arrays < ARRAYS }
-    ensures { result ≡ (nat_le 1 length && nat_lt length (WORDS + 1 - word_count state.now.arrays)) }
+    requires few { len state.now.arrays < most_arrays }
+    ensures { result ≡ (nat_le 1 length && nat_lt length (most_words + 1 - word_count state.now.arrays)) }
 {
     let request = Request::Create {
         name: *name,
@@ -128,11 +129,11 @@ fn has_room(state: &State, name: &Name, length: u32) -> bool
 fn length_at<'a>(state: &State, name: &Name, bytes: &'a [u8]) -> Result<(u32, &'a [u8]), Fault>
     requires plain { is_plain name.now ≡ true }
     requires free { is_some (named state.now.arrays name.now) ≡ false }
-    requires few { len state.now.arrays < ARRAYS }
+    requires few { len state.now.arrays < most_arrays }
     ensures given { Gives
-        (λ x. (x.0, x.1.now)) result (number_in w32 1 (WORDS + 1 - word_count state.now.arrays) bytes.now) }
+        (λ x. (x.0, x.1.now)) result (number_in w32 1 (most_words + 1 - word_count state.now.arrays) bytes.now) }
     ensures least { IfOk result (λ x. 1 ≤ x.0) }
-    ensures room { IfOk result (λ x. word_count state.now.arrays + x.0 ≤ WORDS) }
+    ensures room { IfOk result (λ x. word_count state.now.arrays + x.0 ≤ most_words) }
 {
     let (length, rest) = u32_next(bytes)?;
     if has_room(state, name, length) {
@@ -212,7 +213,7 @@ fn next_array<'a>(
     bytes: &'a [u8],
 ) -> Result<(u64, &'a [u8]), Fault>
     requires fresh { HasNoneAfter previous state.old.arrays }
-    requires few { len state.old.arrays < ARRAYS }
+    requires few { len state.old.arrays < most_arrays }
     ensures given { Gives
         (λ x. (Some x.0, state.new, x.1.now)) result (next_array format (previous, state.old, bytes.now)) }
     ensures fresh { IfOk result (λ x. HasNoneAfter (Some x.0) state.new.arrays) }
@@ -239,7 +240,7 @@ pub fn read_arrays<'a>(
 ) -> Result<(Option<u64>, &'a [u8]), Fault>
     requires fresh { HasNoneAfter None state.old.arrays }
     requires none { len state.old.arrays ≡ 0 }
-    requires few { count ≤ ARRAYS }
+    requires few { count ≤ most_arrays }
     ensures given { Gives
         (λ x. (x.0, state.new, x.1.now)) result (repeated (next_array format) count (None, state.old, bytes.now)) }
     ensures sessions { OnOk result (state.new.sessions ≡ state.old.sessions) }

@@ -4,6 +4,7 @@ ghost use Rattle.std.specs.Prelude.{◌≡◌, ◌+◌, ◌^◌, ◌≤◌, ◌<
 ghost use Rattle.std.specs.Int.{w32, w64};
 ghost use Rattle.fe_codec.specs.FirstFault.{row, number, number_in, is_after, session_at, header_at};
 ghost use Rattle.fe_codec.specs.Given.{Gives};
+ghost use Rattle.fe_state.specs.Limits.{most_arrays, most_sessions};
 
 use crate::fault::Fault;
 use fe_fields::{next_bytes, next_u32, next_u64};
@@ -101,8 +102,8 @@ pub fn header_at(bytes: &[u8]) -> Result<(Header, &[u8]), Fault>
     ensures place { IfOk result (λ x. x.0.place < 2 ^ 63) }
     ensures least { IfOk result (λ x. 1 ≤ x.0.next_id) }
     ensures most { IfOk result (λ x. x.0.next_id ≤ x.0.place + 1) }
-    ensures arrays { IfOk result (λ x. x.0.arrays ≤ ARRAYS) }
-    ensures sessions { IfOk result (λ x. x.0.sessions ≤ SESSIONS) }
+    ensures arrays { IfOk result (λ x. x.0.arrays ≤ most_arrays) }
+    ensures sessions { IfOk result (λ x. x.0.sessions ≤ most_sessions) }
     // Nothing is allocated here.
     ensures memory { IfErr result (λ fault. fault ≢ Fault.NoMemory) }
 {

@@ -20,7 +20,7 @@ pub use fault::ImageFault;
 pub use fe_format::Format;
 pub use groups::{put_group, read_group};
 pub use laws::{
-    images_are_spelled, one_entry_spelling, one_group_spelling, one_image_spelling,
+    images_are_spelled, limits_are, one_entry_spelling, one_group_spelling, one_image_spelling,
     spelled_images_are_read,
 };
 pub use reading::read_image;

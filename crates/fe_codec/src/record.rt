@@ -2,7 +2,9 @@ ghost use Rattle.std.specs.Prelude.{◌≡◌, ℕ, ◌+◌, ◌≤◌, [], ◌�
 ghost use Rattle.std.specs.Int.{w32, w64, to_be_bytes};
 ghost use Rattle.fe_codes.specs.Codes.{answer_code, answer_length, answer_number};
 ghost use Rattle.fe_format.specs.Layout.{name_bytes, record_bytes};
+ghost use Rattle.fe_format.specs.declared.format.Format.TheVariants.{Two};
 ghost use Rattle.fe_codec.specs.Record.{flag_code, codes_field, name_field, name_row, array_row, request_row, request_codes, request_size, record_spelling, short_spelling, entry_spelling, IsShort, HasRoomForEntry, HasRow, RequestFits, FieldsFit};
+ghost use Rattle.fe_state.specs.Limits.{longest_name};
 
 use crate::Format;
 use fe_codes::{answer_code, answer_length, answer_number, op_code, operand_of, tag_code};
@@ -16,11 +18,11 @@ pub const RECORD_BYTES: usize = 80;
 pub type Record = Fields<RECORD_BYTES>;
 
 fn put_name(fields: &mut Record, format: Format, name: &Name)
-    requires room { length fields.old + NAME_BYTES ≤ RECORD_BYTES }
+    requires room { length fields.old + longest_name ≤ record_bytes Two }
     requires short { IsShort format name.now }
     ensures bytes { fields.new ≡ fields.old ++ name_row format name.now }
     ensures length { length fields.new ≡ length fields.old + name_bytes format }
-    ensures fits { length name.now ≤ NAME_BYTES }
+    ensures fits { length name.now ≤ longest_name }
 {
     let bytes = name.bytes();
     fields.put(bytes);
@@ -39,7 +41,7 @@ pub fn name_record(format: Format, name: &Name) -> Record
 }
 
 fn put_array(fields: &mut Record, format: Format, array: u64, operand: u64)
-    requires { length fields.old + NAME_BYTES ≤ RECORD_BYTES }
+    requires { length fields.old + longest_name ≤ record_bytes Two }
     ensures bytes { fields.new ≡ fields.old ++ array_row format array operand }
     ensures length { length fields.new ≡ length fields.old + name_bytes format }
 {
@@ -50,7 +52,7 @@ fn put_array(fields: &mut Record, format: Format, array: u64, operand: u64)
 
 /// What a request names, and its length or index.
 fn put_request(fields: &mut Record, format: Format, request: &Request)
-    requires room { length fields.old + 36 ≤ RECORD_BYTES }
+    requires room { length fields.old + 36 ≤ record_bytes Two }
     requires row { HasRow format request.now }
     ensures bytes { fields.new
         ≡ fields.old ++ (request_row format request.now ++ to_be_bytes w32 (request_size request.now)) }

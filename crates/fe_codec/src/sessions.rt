@@ -7,12 +7,13 @@ ghost use Rattle.fe_state.specs.Sessions.{IsInWindow};
 ghost use Rattle.fe_codec.specs.FirstFault.{is_after, is_next_number, kept_of, kept_at, next_kept, session_at, next_session, repeated};
 ghost use Rattle.fe_codec.specs.Given.{Gives};
 ghost use Rattle.fe_codec.specs.Loading.{KeepsKeys, HasNoneAfter};
+ghost use Rattle.fe_state.specs.Limits.{most_sessions};
 
 use crate::Format;
 use crate::entries::read_entry;
 use crate::fault::Fault;
 use crate::header::{is_after, row, u32_in, u64_in, u64_next};
-use fe_state::{Entry, GREATEST_FLOOR, Kept, SESSIONS, State, WINDOW};
+use fe_state::{Entry, GREATEST_FLOOR, Kept, State, WINDOW};
 
 /// Floors are below this.
 const FLOOR_LIMIT: u64 = GREATEST_FLOOR + 1;
@@ -163,7 +164,7 @@ fn next_session<'a>(
     bytes: &'a [u8],
 ) -> Result<(u64, &'a [u8]), Fault>
     requires fresh { HasNoneAfter previous state.old.sessions }
-    requires few { len state.old.sessions < SESSIONS }
+    requires few { len state.old.sessions < most_sessions }
     ensures given { Gives
         (λ x. (Some x.0, state.new, x.1.now)) result (next_session format (previous, state.old, bytes.now)) }
     ensures fresh { IfOk result (λ x. HasNoneAfter (Some x.0) state.new.sessions) }
@@ -186,7 +187,7 @@ pub fn read_sessions<'a>(
 ) -> Result<(Option<u64>, &'a [u8]), Fault>
     requires fresh { HasNoneAfter None state.old.sessions }
     requires none { len state.old.sessions ≡ 0 }
-    requires few { count ≤ SESSIONS }
+    requires few { count ≤ most_sessions }
     ensures { Gives (λ x. (x.0, state.new, x.1.now)) result
         (repeated (next_session format) count (None, state.old, bytes.now)) }
 {

@@ -10,7 +10,7 @@ use Rattle.fe_seats.specs.declared.seat.Seat.{Seat}
 use Rattle.fe_seats.specs.contracts.seat.Seat.{the_row as seat_row}
 use Rattle.fe_seats.specs.declared.turn.Turn.{Turn}
 use Rattle.fe_seats.specs.contracts.turn.Turn.{the_row as turn_row}
-use Rattle.fe_state.specs.declared.bounds.TheConstants.{SESSIONS, ARRAYS, WINDOW, WAITING}
+use Rattle.fe_state.specs.Limits.{most_sessions, most_arrays, window_length, most_waiting}
 
 -- the length of each added array; the seats, by session; the requests that wait, by session and number; and for each
 -- node the request that it represents
@@ -99,10 +99,10 @@ without_session waiting session = retain_keys waiting (λ key. not (key.0 == ses
 -- on a word of an added array; a session has at most as many requests as its window has numbers; and a node represents
 -- a waiting request
 pub record IsWithinLimits (w : Seating) : Type 0 where
-  pub seats : len w.seats ≤ SESSIONS
+  pub seats : len w.seats ≤ most_sessions
   pub seated : (key : ℕ × ℕ) (waiter : Waiter) → get w.waiting key ≡ Some waiter → IsSome (get w.seats key.0)
   pub words : (key : ℕ × ℕ) (waiter : Waiter) → get w.waiting key ≡ Some waiter → IsWord w.arrays waiter.array waiter.index
-  pub few : (session : ℕ) → count_of w.waiting session ≤ WINDOW
-  pub all : len w.waiting ≤ WAITING
-  pub arrays : len w.arrays ≤ ARRAYS
+  pub few : (session : ℕ) → count_of w.waiting session ≤ window_length
+  pub all : len w.waiting ≤ most_waiting
+  pub arrays : len w.arrays ≤ most_arrays
   pub turns : (node : ℕ) (turn : Turn) → turn_of w node ≡ Some turn → get w.waiting (key_of turn) ≡ Some (waiter_of turn)

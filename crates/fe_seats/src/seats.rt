@@ -2,7 +2,7 @@ ghost use Rattle.std.specs.Prelude.{◌≡◌, ◌↔◌, ◌<◌, ◌≤◌, So
 ghost use Rattle.std.specs.FinMap as map;
 ghost use Rattle.fe_waits.specs.Waiting.{IsWord, NoneOnWord, NoneOnArray, AreWaitersOf, AreListedOnce};
 ghost use Rattle.fe_seats.specs.Seating.{free_seat, with_holder, with_closing, key_of, waiter_of, turn_of, turn_at, count_of, without_session, IsNodeOn, NoneOfSession, IsWithinLimits};
-ghost use Rattle.fe_state.specs.declared.bounds.TheConstants.{SESSIONS, ARRAYS, WINDOW};
+ghost use Rattle.fe_state.specs.Limits.{most_sessions, most_arrays, window_length};
 
 use crate::occupant::{Occupant, Occupants, occupant_near, slot_of};
 use crate::seat::Seat;
@@ -95,7 +95,7 @@ impl Seats {
     /// How many sessions have a seat, 0 to `SESSIONS`.
     pub fn seat_count(&self) -> usize
         ensures count { result ≡ map.len self.now.seats }
-        ensures fits { result ≤ SESSIONS }
+        ensures fits { result ≤ most_sessions }
     {
         self.occupants.len()
     }
@@ -124,7 +124,7 @@ impl Seats {
     /// Gives a new session a seat, which no connection holds yet.
     pub fn sit(&mut self, session: u64)
         requires new { map.get self.old.seats session ≡ None }
-        requires room { map.len self.old.seats < SESSIONS }
+        requires room { map.len self.old.seats < most_sessions }
         ensures seats { self.new.seats ≡ map.insert self.old.seats session free_seat }
         ensures waiting { self.new.waiting ≡ self.old.waiting }
         ensures arrays { self.new.arrays ≡ self.old.arrays }
@@ -170,7 +170,7 @@ impl Seats {
     /// Adds an array with `length` words, on which nothing waits. Fails only if memory runs out.
     pub fn add_array(&mut self, array: u64, length: u32) -> Result<(), AllocError>
         requires new { map.get self.old.arrays array ≡ None }
-        requires room { map.len self.old.arrays < ARRAYS }
+        requires room { map.len self.old.arrays < most_arrays }
         ensures ok { IfOk result (λ _. self.new.arrays ≡ map.insert self.old.arrays array length) }
         ensures seats { self.new.seats ≡ self.old.seats }
         ensures waiting { self.new.waiting ≡ self.old.waiting }
@@ -193,7 +193,7 @@ impl Seats {
     pub fn add(&mut self, session: u64, number: u64, array: u64, index: u32, op: Op)
         requires seated { IsSome (map.get self.old.seats session) }
         requires new { map.get self.old.waiting (session, number) ≡ None }
-        requires room { count_of self.old.waiting session < WINDOW }
+        requires room { count_of self.old.waiting session < window_length }
         requires word { IsWord self.old.arrays array index }
         ensures added { self.new.waiting
             ≡ map.insert self.old.waiting (session, number) (record { array = array; index = index; op = op }) }

@@ -13,7 +13,7 @@ use Rattle.fe_state.specs.declared.entry.Entry.{Entry}
 use Rattle.fe_state.specs.declared.entry.Entry.TheVariants.{Attached, Closed, Settled}
 use Rattle.fe_service.specs.Service.{Serves}
 use Rattle.fe_service.specs.ServiceState.{ServiceState}
-use Rattle.fe_state.specs.declared.bounds.TheConstants.{EVENT_ENTRIES, GREATEST_PLACE, WAITING, SESSIONS}
+use Rattle.fe_state.specs.Limits.{most_event_entries, greatest_place, most_waiting, most_sessions}
 
 -- a session may finish this number: it is in the window, nothing is kept for it, and it does not wait
 pub record IsFree (s : ServiceState) (session number : ℕ) : Type 0 where
@@ -22,8 +22,8 @@ pub record IsFree (s : ServiceState) (session number : ℕ) : Type 0 where
 
 -- there is a place for all that one event may add, and room for it among the entries
 pub record HasRoom (s : ServiceState) : Type 0 where
-  pub places : s.state.place + EVENT_ENTRIES ≤ GREATEST_PLACE
-  pub few : length s.pending ≤ WAITING
+  pub places : s.state.place + most_event_entries ≤ greatest_place
+  pub few : length s.pending ≤ most_waiting
 
 -- an entry of its own, and then those that it lets be served
 pub record Completes (old new : ServiceState) (own : Entry) (served : List Entry) : Type 0 where
@@ -79,7 +79,7 @@ pub record MaySettle (s : ServiceState) (session floor : ℕ) : Type 0 where
 -- a session has a seat, or there is one for it, and it is not closing
 pub record MaySit (s : ServiceState) (session : ℕ) : Type 0 where
   pub not_closing : is_closing s.seats session ≡ false
-  pub seat : get s.seats session ≡ None → len s.seats < SESSIONS
+  pub seat : get s.seats session ≡ None → len s.seats < most_sessions
 
 -- one seat for each session of a state, which nobody has
 abbrev pub IsSeated : FinMap nat_cmp Session → FinMap nat_cmp Seat → Type 0

@@ -8,7 +8,7 @@ ghost use Rattle.fe_state.specs.declared.entry.Entry.{Entry};
 ghost use Rattle.fe_seats.specs.Seating.{waiter_of, IsWithinLimits};
 ghost use Rattle.fe_service.specs.Service.{AreUsable, request_of};
 ghost use Rattle.fe_service.specs.within.Parts.{IsQuietAt, WaitAtTag, IsAtRest, TakesTurn, TakesTurns};
-ghost use Rattle.fe_state.specs.declared.bounds.TheConstants.{BATCH_ENTRIES, GREATEST_PLACE};
+ghost use Rattle.fe_state.specs.Limits.{most_batch_entries, greatest_place};
 
 use fe_seats::{Seats, Turn};
 use fe_state::{Entries, Entry, Request, State};
@@ -57,7 +57,7 @@ impl Parts {
     pub(crate) fn enter(&mut self, entry: Entry)
         requires legal { IsLegal self.old.state entry }
         requires memory { MakesArray entry → ⊥ }
-        requires room { length_of self.old.pending < BATCH_ENTRIES }
+        requires room { length_of self.old.pending < most_batch_entries }
         ensures state { self.new.state ≡ after self.old.state entry }
         ensures seats { self.new.seats ≡ self.old.seats }
         ensures pending { self.new.pending ≡ self.old.pending ++ entry ∷ [] }
@@ -73,8 +73,8 @@ impl Parts {
     pub(crate) fn serve_first(&mut self, array: u64, index: u32) -> bool
         requires word { IsWord self.old.seats.arrays array index }
         requires usable { AreUsable self.old.state self.old.seats.waiting }
-        requires places { self.old.state.place + len self.old.seats.waiting ≤ GREATEST_PLACE }
-        requires room { length_of self.old.pending + len self.old.seats.waiting ≤ BATCH_ENTRIES }
+        requires places { self.old.state.place + len self.old.seats.waiting ≤ greatest_place }
+        requires room { length_of self.old.pending + len self.old.seats.waiting ≤ most_batch_entries }
         ensures served { result ≡ true → (e : Entry) × TakesTurn self.old self.new array index e }
         ensures still { result ≡ false → self.new ≡ self.old }
         ensures rest { result ≡ false → IsAtRest self.old.state self.old.seats.waiting array index }
@@ -101,8 +101,8 @@ impl Parts {
     pub(crate) fn serve_word(&mut self, array: u64, index: u32) -> u32
         requires word { IsWord self.old.seats.arrays array index }
         requires usable { AreUsable self.old.state self.old.seats.waiting }
-        requires places { self.old.state.place + len self.old.seats.waiting ≤ GREATEST_PLACE }
-        requires room { length_of self.old.pending + len self.old.seats.waiting ≤ BATCH_ENTRIES }
+        requires places { self.old.state.place + len self.old.seats.waiting ≤ greatest_place }
+        requires room { length_of self.old.pending + len self.old.seats.waiting ≤ most_batch_entries }
         ensures served { (es : List Entry) × TakesTurns self.old self.new es × (result ≡ length_of es) }
         ensures here { (tag : Tag) → WaitAtTag self.old.seats.waiting array index tag
             → IsQuietAt self.new.state self.new.seats.waiting array index }
@@ -121,8 +121,8 @@ impl Parts {
     pub(crate) fn serve_array(&mut self, array: u64, length: u32) -> u32
         requires there { get self.old.seats.arrays array ≡ Some length }
         requires usable { AreUsable self.old.state self.old.seats.waiting }
-        requires places { self.old.state.place + len self.old.seats.waiting ≤ GREATEST_PLACE }
-        requires room { length_of self.old.pending + len self.old.seats.waiting ≤ BATCH_ENTRIES }
+        requires places { self.old.state.place + len self.old.seats.waiting ≤ greatest_place }
+        requires room { length_of self.old.pending + len self.old.seats.waiting ≤ most_batch_entries }
         ensures served { (es : List Entry) × TakesTurns self.old self.new es × (result ≡ length_of es) }
         ensures here { (tag : ℕ → Tag) (j : ℕ) → j < length → WaitAtTag self.old.seats.waiting array j (tag j)
             → IsQuietAt self.new.state self.new.seats.waiting array j }

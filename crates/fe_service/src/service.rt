@@ -9,7 +9,7 @@ ghost use Rattle.fe_state.specs.declared.request.Request.TheVariants as requests
 ghost use Rattle.fe_seats.specs.Seating.{turn_at, count_of, is_closing};
 ghost use Rattle.fe_service.specs.ServiceState.{IsService, is_open};
 ghost use Rattle.fe_service.specs.Events.{IsFree, HasRoom, MaySettle, MaySit, Completes, IsSeated, attached, settled, closed, withdrawn, cancelled, held, left, waited};
-ghost use Rattle.fe_state.specs.declared.bounds.TheConstants.{SESSIONS, WAITING, BATCH_ENTRIES};
+ghost use Rattle.fe_state.specs.Limits.{most_sessions, most_waiting, most_batch_entries};
 
 use crate::beginning::{add_arrays, seat_sessions};
 use crate::parts::Parts;
@@ -94,7 +94,7 @@ impl Service {
     /// How many sessions have a seat, 0 to `SESSIONS`.
     pub fn seat_count(&self) -> usize
         ensures count { result ≡ len self.now.seats }
-        ensures fits { result ≤ SESSIONS }
+        ensures fits { result ≤ most_sessions }
     {
         self.parts.seats.seat_count()
     }
@@ -102,7 +102,7 @@ impl Service {
     /// How many requests wait, 0 to `WAITING`.
     pub fn waiting_count(&self) -> u32
         ensures count { result ≡ len self.now.waiting }
-        ensures few { result ≤ WAITING }
+        ensures few { result ≤ most_waiting }
     {
         self.parts.seats.len()
     }
@@ -137,7 +137,7 @@ impl Service {
     /// How many entries were made and not yet taken, 0 to `BATCH_ENTRIES`.
     pub fn pending_count(&self) -> usize
         ensures count { result ≡ length self.now.pending }
-        ensures few { result ≤ BATCH_ENTRIES }
+        ensures few { result ≤ most_batch_entries }
     {
         self.parts.pending.as_slice().len()
     }

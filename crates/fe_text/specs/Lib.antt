@@ -1,5 +1,6 @@
 pub mod Words
 pub mod Requests
+pub mod Limits
 pub mod Line
 pub mod Lines
 pub mod Printed

@@ -8,7 +8,7 @@ use Rattle.fe_wire.specs.declared.client_message.ClientMessage.TheVariants as me
 use Rattle.fe_codes.specs.Binding.{◌>>=◌}
 use Rattle.fe_text.specs.Words.{words_at, number_of}
 use Rattle.fe_text.specs.Requests.{request_in}
-use Rattle.fe_text.specs.declared.line.TheConstants.{LONGEST}
+use Rattle.fe_text.specs.Limits.{longest_line}
 use Rattle.fe_text.specs.declared.line.Line.{Line}
 use Rattle.fe_text.specs.declared.line.Line.TheVariants.{Message, Gone, Hold, Flush, Stop, Check}
 
@@ -77,10 +77,10 @@ named_in name words = do
   conn ← conn_of name
   told_in conn words
 
--- The line that the bytes spell. No line has more than `LONGEST` bytes.
+-- The line that the bytes spell. No line has more than `longest_line` bytes.
 unfoldable pub parsed : List ℕ → Option Line
 parsed bytes =
-    if nat_lt LONGEST (length bytes) then None
+    if nat_lt longest_line (length bytes) then None
     else option_map_or (λ parts. named_in parts.0 parts.1) (words_at bytes) (control_in bytes)
 
 -- the line's message has a frame

@@ -1,6 +1,14 @@
+ghost use Rattle.std.specs.Prelude.{◌≡◌};
+ghost use Rattle.fe_text.specs.Limits.{longest_line};
 ghost use Rattle.fe_text.specs.RefusalNames.{PrintsTheirNames};
+ghost use Rattle.fe_text.specs.declared.line.TheConstants.{LONGEST};
 
 /// The name printed for a refusal's code is the refusal's name.
 pub fn refusals_print_their_names()
     ensures { PrintsTheirNames }
+{}
+
+/// The code's constant is the limit of a line.
+pub fn limits_are()
+    ensures line { LONGEST ≡ longest_line }
 {}

@@ -12,7 +12,7 @@ mod word;
 
 pub use fault::StreamFault;
 pub use input::first_line;
-pub use laws::refusals_print_their_names;
+pub use laws::{limits_are, refusals_print_their_names};
 pub use line::{LONGEST, Line, message_in, parse};
 pub use printing::print_reply;
 pub use stream::{PIECE, READS, buffer, read_once, stream_fault, write_out, write_text};

@@ -6,7 +6,7 @@ use Rattle.std.specs.Int.{Width, w32, w64, byte_len, from_be_bytes}
 use Rattle.fe_codes.specs.Binding.{◌>>=◌}
 use Rattle.fe_codes.specs.Reading.{tag_of, op_of, answer_of}
 use Rattle.fe_state.specs.declared.request.Request.TheVariants.{Create, Find, Remove, Access}
-use Rattle.fe_mail.specs.declared.report_text.TheConstants.{REPORT_BYTES}
+use Rattle.fe_mail.specs.Limits.{longest_report}
 use Rattle.fe_wire.specs.declared.client_message.ClientMessage.{ClientMessage}
 use Rattle.fe_wire.specs.declared.client_message.ClientMessage.TheVariants.{Attach, Call, Cancel, Settle, Bye, Report}
 use Rattle.fe_wire.specs.declared.server_message.ServerMessage.{ServerMessage}
@@ -136,7 +136,7 @@ reply_of_kind kind body =
 
 -- the report with this text, if it is 1 to 262,144 bytes of UTF-8
 abbrev pub report_of : List ℕ → Option ServerMessage
-report_of text = if nat_lt 0 (length text) && nat_le (length text) REPORT_BYTES && is_utf8 text then Some (server.Report text) else None
+report_of text = if nat_lt 0 (length text) && nat_le (length text) longest_report && is_utf8 text then Some (server.Report text) else None
 
 -- the kind and the body, if the bytes are exactly one frame
 unfoldable pub parts_of : List ℕ → Option (ℕ × List ℕ)

@@ -2,9 +2,9 @@
 use Rattle.std.specs.Prelude.{◌≡◌, ℕ, ◌+◌, ◌-◌, ◌<◌, ◌≤◌, ◌^◌, Bool, false, List, [], ◌∷◌, ◌++◌, length, replicate, nat_lt, if◌then◌else◌}
 use Rattle.std.specs.Int.{w32, w64, to_be_bytes}
 use Rattle.std.specs.Str.{IsUtf8}
-use Rattle.fe_state.specs.declared.bounds.TheConstants.{NAME_BYTES}
+use Rattle.fe_state.specs.Limits.{longest_name}
 use Rattle.fe_state.specs.declared.request.Request.TheVariants.{Create, Find, Remove, Access}
-use Rattle.fe_mail.specs.declared.report_text.TheConstants.{REPORT_BYTES}
+use Rattle.fe_mail.specs.Limits.{longest_report}
 use Rattle.fe_wire.specs.declared.version.Version.{Version}
 use Rattle.fe_wire.specs.declared.version.Version.TheVariants.{One, Two}
 use Rattle.fe_wire.specs.declared.client_message.ClientMessage.{ClientMessage}
@@ -55,8 +55,8 @@ spelling Report = frame 9 []
 -- Each field of the message fits into its bytes.
 abbrev pub Fits : ClientMessage → Type 0
 Fits (Attach session) = session < 2 ^ 64
-Fits (Call number (Create name length_of tag)) = (number < 2 ^ 64) × (length name ≤ NAME_BYTES) × (length_of < 2 ^ 32)
-Fits (Call number (Find name)) = (number < 2 ^ 64) × (length name ≤ NAME_BYTES)
+Fits (Call number (Create name length_of tag)) = (number < 2 ^ 64) × (length name ≤ longest_name) × (length_of < 2 ^ 32)
+Fits (Call number (Find name)) = (number < 2 ^ 64) × (length name ≤ longest_name)
 Fits (Call number (Remove array)) = (number < 2 ^ 64) × (array < 2 ^ 64)
 Fits (Call number (Access array index op no_wait)) = (number < 2 ^ 64) × (array < 2 ^ 64) × (index < 2 ^ 32) × (operand_of op < 2 ^ 64)
 Fits (Cancel number) = number < 2 ^ 64
@@ -100,7 +100,7 @@ ReplyFits (server.Withdrawn number) = number < 2 ^ 64
 ReplyFits (server.Settled floor) = floor < 2 ^ 64
 ReplyFits (server.Goodbye session) = session < 2 ^ 64
 ReplyFits (server.Refused number code) = (number < 2 ^ 64) × (1 ≤ code) × (code ≤ 10)
-ReplyFits (server.Report text) = (1 ≤ length text) × (length text ≤ REPORT_BYTES) × IsUtf8 text
+ReplyFits (server.Report text) = (1 ≤ length text) × (length text ≤ longest_report) × IsUtf8 text
 
 -- A refusal has a code from 1 to 10.
 abbrev pub HasRefusalCode : ServerMessage → Type 0

@@ -1,6 +1,7 @@
 ghost use Rattle.std.specs.Prelude.{◌≡◌, ◌+◌, ◌≤◌, [], ◌∷◌, ◌++◌, length};
 ghost use Rattle.std.specs.Int.{w32, to_be_bytes};
 ghost use Rattle.fe_wire.specs.Spelling.{is_long, name_field};
+ghost use Rattle.fe_state.specs.Limits.{longest_name};
 
 use crate::decoder_state::FRAME_BYTES;
 use crate::fields::name_room;
@@ -29,9 +30,9 @@ pub fn frame_of(length: u32, kind: u8) -> Frame
 
 /// Appends the length of the name, its bytes and the zeros after them. There must be room for them.
 pub fn put_name(frame: &mut Frame, name: &Name)
-    requires { length frame.old + 33 ≤ FRAME_BYTES }
+    requires { length frame.old + 33 ≤ 51 }
     ensures field { frame.new ≡ frame.old ++ name_field name.now }
-    ensures short { length name.now ≤ NAME_BYTES }
+    ensures short { length name.now ≤ longest_name }
 {
     let bytes = name.bytes();
     let room = usize::from(name_room(is_long(name)));

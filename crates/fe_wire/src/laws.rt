@@ -1,5 +1,10 @@
-//! Laws of the grammar. They hold of streams and messages, independently of any decoder.
+//! Laws of the grammar. They hold of streams and messages, independently of any decoder; and the lengths that the code has.
 
+ghost use Rattle.std.specs.Prelude.{◌≡◌, ◌+◌};
+ghost use Rattle.fe_wire.specs.Stream.{longest};
+ghost use Rattle.fe_wire.specs.declared.version.Version.TheVariants.{Two};
+ghost use Rattle.fe_wire.specs.declared.decoder_state.TheConstants.{FRAME_BYTES};
+ghost use Rattle.fe_wire.specs.declared.head.TheConstants.{LENGTH_BYTES};
 ghost use Rattle.fe_wire.specs.Laws.{EachHasReading, HasOneReading, HasOneOutcome, HasOneSpelling, HasOneReplySpelling, HasOneReplyReading};
 
 /// A stream has at most one reading in a version: its messages, and the rest after them.
@@ -31,4 +36,11 @@ pub fn one_reply_spelling()
 /// Bytes are the frames of at most one list of replies, so a client can read in only one way what was written to it.
 pub fn one_reply_reading()
     ensures { HasOneReplyReading }
+{}
+
+/// The code's constants are the bytes of a length field, and of a client's longest frame: its length field and what
+/// that may say.
+pub fn limits_are()
+    ensures length { LENGTH_BYTES ≡ 4 }
+    ensures frame { FRAME_BYTES ≡ 4 + longest Two }
 {}

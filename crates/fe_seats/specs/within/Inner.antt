@@ -11,7 +11,7 @@ use Rattle.fe_seats.specs.declared.occupant.Occupant.{Occupant}
 use Rattle.fe_seats.specs.declared.seat.Seat.{Seat}
 use Rattle.fe_seats.specs.declared.turn.Turn.{Turn}
 use Rattle.fe_seats.specs.Seating.{Seating}
-use Rattle.fe_state.specs.declared.bounds.TheConstants.{SESSIONS}
+use Rattle.fe_state.specs.Limits.{most_sessions}
 
 -- the session that has a slot, if one has it
 abbrev pub owner_at : List (Option ℕ) → ℕ → Option ℕ
@@ -54,7 +54,7 @@ slots_below (suc n) = slots_below n ++ n ∷ []
 
 -- the free slots: each is a slot, has no owner, and is on the list once
 pub record AreFree (owners : List (Option ℕ)) (slots : List ℕ) : Type 0 where
-  pub below : (i slot : ℕ) → slice_get slots i ≡ Some slot → slot < SESSIONS
+  pub below : (i slot : ℕ) → slice_get slots i ≡ Some slot → slot < most_sessions
   pub vacant : (i slot : ℕ) → slice_get slots i ≡ Some slot → owner_at owners slot ≡ None
   pub once : (i j slot : ℕ) → slice_get slots i ≡ Some slot → slice_get slots j ≡ Some slot → i ≡ j
 
@@ -62,11 +62,11 @@ pub record AreFree (owners : List (Option ℕ)) (slots : List ℕ) : Type 0 wher
 -- capacity: occupants and owners agree, each slot is free or has an owner, and requests wait only in slots that
 -- have an owner
 pub record AreSeats (waits : Waiting) (occupants : FinMap nat_cmp Occupant) (owners : List (Option ℕ)) (slots : List ℕ) (capacity : ℕ) : Type 0 where
-  pub sized : length owners ≡ SESSIONS
+  pub sized : length owners ≡ most_sessions
   pub agree : (session slot : ℕ) → (slot_in occupants session ≡ Some slot) ↔ (owner_at owners slot ≡ Some session)
   pub free : AreFree owners slots
-  pub counted : length slots + len occupants ≡ SESSIONS
-  pub reserved : SESSIONS ≤ capacity
+  pub counted : length slots + len occupants ≡ most_sessions
+  pub reserved : most_sessions ≤ capacity
   pub owned : (key : ℕ × ℕ) (waiter : Waiter) → get waits.members key ≡ Some waiter → IsSome (owner_at owners key.0)
 
 -- what a contract sees of them
