@@ -118,7 +118,7 @@ odd_none format image area at (group ∷ groups) (payload ∷ payloads) stand is
     })
 
 -- one slot counts, in one format
-counts_one : (image : List ℕ) (slot other : ℕ) (f g : Format) → SlotCounts image slot f → SlotCounts image other g → slot ≡ other
+pub counts_one : (image : List ℕ) (slot other : ℕ) (f g : Format) → SlotCounts image slot f → SlotCounts image other g → slot ≡ other
 counts_one image slot other f g one two =
     let low : slot < 2 = one.is_slot in
     let low_too : other < 2 = two.is_slot in

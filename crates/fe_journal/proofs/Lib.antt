@@ -1,6 +1,6 @@
 mod Steps
-mod Bytes
-mod Frames
+pub mod Bytes
+pub mod Frames
 mod Spelled
 mod FirstStore
 mod Appends
@@ -8,7 +8,7 @@ mod Buffers
 mod Journals
 mod Slots
 mod Begins
-mod Openings
-mod Readings
+pub mod Openings
+pub mod Readings
 pub mod Founds
 pub mod Contents

@@ -3,3 +3,4 @@ pub mod Stream
 pub mod Reading
 pub mod DecoderState
 pub mod Laws
+pub mod Examples

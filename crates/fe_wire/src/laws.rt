@@ -5,6 +5,7 @@ ghost use Rattle.fe_wire.specs.Stream.{longest};
 ghost use Rattle.fe_wire.specs.declared.version.Version.TheVariants.{Two};
 ghost use Rattle.fe_wire.specs.declared.decoder_state.TheConstants.{FRAME_BYTES};
 ghost use Rattle.fe_wire.specs.declared.head.TheConstants.{LENGTH_BYTES};
+ghost use Rattle.fe_wire.specs.Examples.{ExampleMessages, ExampleReplies};
 ghost use Rattle.fe_wire.specs.Laws.{EachHasReading, HasOneReading, HasOneOutcome, HasOneSpelling, HasOneReplySpelling, HasOneReplyReading};
 
 /// A stream has at most one reading in a version: its messages, and the rest after them.
@@ -36,6 +37,12 @@ pub fn one_reply_spelling()
 /// Bytes are the frames of at most one list of replies, so a client can read in only one way what was written to it.
 pub fn one_reply_reading()
     ensures { HasOneReplyReading }
+{}
+
+/// The frames of the worked examples have the bytes that `docs/formats.md` gives them.
+pub fn frames_are_spelled()
+    ensures messages { ExampleMessages }
+    ensures replies { ExampleReplies }
 {}
 
 /// The code's constants are the bytes of a length field, and of a client's longest frame: its length field and what

@@ -21,8 +21,8 @@ pub use client_message::ClientMessage;
 pub use decoder::Decoder;
 pub use fed::{BadFrame, Fed};
 pub use laws::{
-    has_reading, limits_are, one_outcome, one_reading, one_reply_reading, one_reply_spelling,
-    one_spelling,
+    frames_are_spelled, has_reading, limits_are, one_outcome, one_reading, one_reply_reading,
+    one_reply_spelling, one_spelling,
 };
 pub use putting::{put_message, put_reply};
 pub use replies::read_reply;
