@@ -1,12 +1,12 @@
--- What is always true of the boxes of a front: each has at most `MAILS` mails, and an answer is in one only once its
--- entry is durable.
+-- What is always true of the boxes of a front: each has at most `most_mails_in_box` mails, and an answer is in one only
+-- once its entry is durable.
 use Rattle.std.specs.Prelude.{ℕ, ◌≤◌, ◌<◌, List, length, All}
 use Rattle.fe_state.specs.State.{ServerState}
 use Rattle.fe_state.specs.declared.entry.Entry.{Entry}
 use Rattle.fe_mail.specs.Connections.{mails_on}
 use Rattle.fe_mail.specs.declared.mail.Mail.{Mail}
 use Rattle.fe_mail.specs.declared.mail.Mail.TheVariants.{Answer}
-use Rattle.fe_mail.specs.declared.mailbox.TheConstants.{MAILS}
+use Rattle.fe_mail.specs.Limits.{most_mails_in_box}
 use Rattle.fe_front.specs.Event.{Event}
 use Rattle.fe_front.specs.Front.{FrontState, IsFront, IsFirst}
 use Rattle.fe_front.specs.Call.{call_refused_by}
@@ -21,9 +21,9 @@ IsBelow mark _ = Unit {0}
 abbrev pub HoldsDurable : FrontState → Type 0
 HoldsDurable f = (conn : ℕ) → All (IsBelow f.durable) (mails_on f.connections conn)
 
--- each box has at most `MAILS` mails
+-- each box has at most `most_mails_in_box` mails
 abbrev pub HasShortBoxes : FrontState → Type 0
-HasShortBoxes f = (conn : ℕ) → length (mails_on f.connections conn) ≤ MAILS
+HasShortBoxes f = (conn : ℕ) → length (mails_on f.connections conn) ≤ most_mails_in_box
 
 -- what is true of each front that begins, and stays true through each event and each refused call
 pub record IsAlwaysTrue (P : FrontState → Type 0) : Type 0 where

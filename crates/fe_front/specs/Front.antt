@@ -13,7 +13,7 @@ use Rattle.fe_mail.specs.declared.connection.Connection.{Connection}
 use Rattle.fe_mail.specs.contracts.connection.Connection.{the_row as connection_row}
 use Rattle.fe_front.specs.declared.out.Out.{Out}
 use Rattle.fe_front.specs.contracts.out.Out.{the_row as out_row}
-use Rattle.fe_state.specs.declared.bounds.TheConstants.{BATCH_ENTRIES, EVENT_ENTRIES, GREATEST_PLACE, WAITING}
+use Rattle.fe_state.specs.Limits.{most_batch_entries, most_event_entries, greatest_place, most_waiting}
 
 -- The state with its seats, what waits and the entries not yet cut; the connections with their sessions and boxes; how
 -- many entries are durable; where the batch that is out begins, and how long it is; and the books.
@@ -44,7 +44,7 @@ out_length (Some o) = o.length
 pub record IsTied (f : FrontState) : Type 0 where
   pub agree : (session conn : ℕ) → (holder_of f.service.seats session ≡ Some conn) ↔ (session_on f.connections conn ≡ Some session)
   pub place : f.service.state.place ≡ f.durable + out_length f.out + length f.service.pending
-  pub few_out : out_length f.out ≤ BATCH_ENTRIES
+  pub few_out : out_length f.out ≤ most_batch_entries
   pub out_first : IfSome f.out (λ o. o.first ≡ f.durable)
   pub balance : Balances f.books (len f.service.waiting) (mails_in f.connections)
 
@@ -52,8 +52,8 @@ pub record IsTied (f : FrontState) : Type 0 where
 pub record IsFront (f : FrontState) : Type 0 where
   pub service : IsService f.service
   pub tied : IsTied f
-  pub few_waiting : len f.service.waiting ≤ WAITING
-  pub few_pending : length f.service.pending ≤ BATCH_ENTRIES
+  pub few_waiting : len f.service.waiting ≤ most_waiting
+  pub few_pending : length f.service.pending ≤ most_batch_entries
 
 -- a front as it begins, over a state: one seat for each session, which nobody has, and all entries durable
 pub record IsFirst (begun : ServerState) (f : FrontState) : Type 0 where
@@ -68,11 +68,11 @@ pub record IsFirst (begun : ServerState) (f : FrontState) : Type 0 where
 
 -- whether so few entries are pending that one more event has room
 abbrev pub has_room : FrontState → Bool
-has_room f = nat_le (length f.service.pending) WAITING
+has_room f = nat_le (length f.service.pending) most_waiting
 
 -- whether the history may have no place left for what one event adds
 abbrev pub is_spent : FrontState → Bool
-is_spent f = nat_lt GREATEST_PLACE (f.service.state.place + EVENT_ENTRIES)
+is_spent f = nat_lt greatest_place (f.service.state.place + most_event_entries)
 
 -- whether a connection has the session, and it is not closing
 abbrev pub is_attached : FrontState → ℕ → Bool

@@ -2,6 +2,7 @@ pub mod Boxes
 pub mod Call
 pub mod Event
 pub mod Front
+pub mod Limits
 pub mod Mails
 pub mod Posting
 pub mod Refusals

@@ -9,7 +9,7 @@ use Rattle.fe_mail.specs.Connections.{session_on}
 use Rattle.fe_mail.specs.declared.refusal.Refusal.{Refusal}
 use Rattle.fe_mail.specs.declared.refusal.Refusal.TheVariants.{NotAttached, Closing, SessionLimit, BelowFloor, BeyondWindow, StillWaiting, NotWaiting, Spent}
 use Rattle.fe_front.specs.Front.{FrontState, is_connected, is_spent}
-use Rattle.fe_state.specs.declared.bounds.TheConstants.{GREATEST_FLOOR, SESSIONS, WINDOW}
+use Rattle.fe_state.specs.Limits.{greatest_floor, most_sessions, window_length}
 
 -- a session, unless it is refused already, or for what is tested next
 abbrev pub and_then : Result ℕ Refusal → (ℕ → Result ℕ Refusal) → Result ℕ Refusal
@@ -29,7 +29,7 @@ unspent f session = if is_spent f then Err Spent else Ok session
 
 -- whether a session needs a seat and there is none for it
 abbrev pub has_no_seat : FrontState → ℕ → Bool
-has_no_seat f session = is_none (get f.service.seats session) && not (nat_lt (len f.service.seats) SESSIONS)
+has_no_seat f session = is_none (get f.service.seats session) && not (nat_lt (len f.service.seats) most_sessions)
 
 abbrev pub attaching : FrontState → ℕ → ℕ → Result ℕ Refusal
 attaching f conn session =
@@ -42,7 +42,7 @@ attaching f conn session =
 abbrev pub in_window : FrontState → ℕ → ℕ → Result ℕ Refusal
 in_window f number session =
     if nat_lt number (floor_of f.service session) then Err BelowFloor
-    else if nat_lt number (floor_of f.service session + WINDOW) then Ok session
+    else if nat_lt number (floor_of f.service session + window_length) then Ok session
     else Err BeyondWindow
 
 -- the session of a call
@@ -58,7 +58,7 @@ waits_below waiting session (suc number) = waits_below waiting session number ||
 abbrev pub may_settle : FrontState → ℕ → ℕ → Result ℕ Refusal
 may_settle f floor session =
     if nat_lt floor (floor_of f.service session) then Err BelowFloor
-    else if nat_lt (floor_of f.service session + WINDOW) floor || nat_lt GREATEST_FLOOR floor then Err BeyondWindow
+    else if nat_lt (floor_of f.service session + window_length) floor || nat_lt greatest_floor floor then Err BeyondWindow
     else if waits_below f.service.waiting session floor then Err StillWaiting
     else unspent f session
 

@@ -2,11 +2,11 @@
 use Rattle.std.specs.Prelude.{◌≡◌, ◌⊎◌, ◌%◌, ℕ, Bool, true, false, List, slice_index_or}
 use Rattle.fe_mail.specs.Connections.{mails_on}
 use Rattle.fe_front.specs.Front.{FrontState, is_connected}
-use Rattle.fe_front.specs.declared.posting.TheConstants.{BELLS}
+use Rattle.fe_front.specs.Limits.{bell_count}
 
 -- the bell of a connection is rung
 abbrev pub IsRung : List Bool → ℕ → Type 0
-IsRung bells conn = slice_index_or bells (conn % BELLS) false ≡ true
+IsRung bells conn = slice_index_or bells (conn % bell_count) false ≡ true
 
 -- a connection is there or not, and has its mails, as before
 pub record HasItsBox (old new : FrontState) (conn : ℕ) : Type 0 where

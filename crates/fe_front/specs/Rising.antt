@@ -2,7 +2,7 @@
 use Rattle.std.specs.Prelude.{◌≡◌, ℕ, ◌+◌, ◌≤◌, false, List, length, Some}
 use Rattle.fe_state.specs.declared.entry.Entry.{Entry}
 use Rattle.fe_mail.specs.Books.{Books}
-use Rattle.fe_mail.specs.declared.books.TheConstants.{MOST_BOOKED}
+use Rattle.fe_mail.specs.Limits.{most_booked}
 use Rattle.fe_mail.specs.declared.refusal.Refusal.{Refusal}
 use Rattle.fe_mail.specs.declared.mail.Mail.TheVariants as mail
 use Rattle.fe_front.specs.Event.{Event, Call, Cancel, Post, TakeMail, Tell}
@@ -10,13 +10,13 @@ use Rattle.fe_front.specs.Front.{FrontState, IsFront}
 use Rattle.fe_front.specs.Call.{call_refused_by}
 use Rattle.fe_front.specs.Step.{FrontStep}
 use Rattle.fe_front.specs.Steps.{mailed}
-use Rattle.fe_state.specs.declared.bounds.TheConstants.{BATCH_ENTRIES}
+use Rattle.fe_state.specs.Limits.{most_batch_entries}
 
 -- books that are not spent, with room for this many more calls and mails
 pub record HaveRoom (b : Books) (calls mails : ℕ) : Type 0 where
   pub unspent : b.spent ≡ false
-  pub few_calls : b.calls + calls ≤ MOST_BOOKED
-  pub few_mails : b.mails + mails ≤ MOST_BOOKED
+  pub few_calls : b.calls + calls ≤ most_booked
+  pub few_mails : b.mails + mails ≤ most_booked
 
 -- Books become others that are not spent, with this many more calls, this many more mails that were taken, and at most
 -- this many more mails in all.
@@ -54,6 +54,6 @@ refused_to f conn number refusal = mailed (call_refused_by f) conn (mail.Refused
 pub record BooksRise : Type 0 where
   pub rises : (f f' : FrontState) (event : Event) (es : List Entry) → IsFront f → HaveRoom f.books (calls_of event) (most_mails_of event) → FrontStep f event es f'
       → Rise f.books (calls_of event) (taken_of event) (most_mails_of event) f'.books
-  pub few_mails : (f f' : FrontState) (event : Event) (es : List Entry) → IsFront f → FrontStep f event es f' → most_mails_of event ≤ BATCH_ENTRIES
+  pub few_mails : (f f' : FrontState) (event : Event) (es : List Entry) → IsFront f → FrontStep f event es f' → most_mails_of event ≤ most_batch_entries
   pub refused : (f : FrontState) → HaveRoom f.books 1 0 → Rise f.books 1 0 0 (call_refused_by f).books
   pub refused_to : (f : FrontState) (conn number : ℕ) (refusal : Refusal) → HaveRoom f.books 1 1 → Rise f.books 1 0 1 (refused_to f conn number refusal).books

@@ -13,7 +13,7 @@ use Rattle.fe_front.specs.Call.{Called}
 use Rattle.fe_front.specs.Posting.{IsOut, posted}
 use Rattle.fe_front.specs.Refusals.{attaching, addressed, settling, leaving, cancelling}
 use Rattle.fe_front.specs.Steps.{connected, attached_to, settled_to, closed_by, cancelled_by, dropped, departing, next_batch, cut, taken, mailed}
-use Rattle.fe_state.specs.declared.bounds.TheConstants.{EVENT_ENTRIES}
+use Rattle.fe_state.specs.Limits.{most_event_entries}
 
 -- an event of the session that the connection has, with one entry
 pub record OneEntry (f' : FrontState) (es : List Entry) (e : Entry) (f : FrontState) : Type 0 where
@@ -53,4 +53,4 @@ StepsLead = (f f' : FrontState) (event : Event) (es : List Entry) → IsFront f 
 
 -- an event makes at most 2,049 entries: its own, and one for each request that waits
 abbrev pub StepsAreFew : Type 0
-StepsAreFew = (f f' : FrontState) (event : Event) (es : List Entry) → IsFront f → FrontStep f event es f' → length es ≤ EVENT_ENTRIES
+StepsAreFew = (f f' : FrontState) (event : Event) (es : List Entry) → IsFront f → FrontStep f event es f' → length es ≤ most_event_entries

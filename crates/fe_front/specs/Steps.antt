@@ -9,7 +9,7 @@ use Rattle.fe_mail.specs.Books.{waiters_withdrawn, mail_boxed, mail_refused_by_b
 use Rattle.fe_mail.specs.Connections.{first_connection, session_on, mails_on, with_session, with_mails}
 use Rattle.fe_mail.specs.declared.mail.Mail.{Mail}
 use Rattle.fe_mail.specs.declared.mail.Mail.TheVariants.{Withdrawn}
-use Rattle.fe_mail.specs.declared.mailbox.TheConstants.{MAILS}
+use Rattle.fe_mail.specs.Limits.{most_mails_in_box}
 use Rattle.fe_front.specs.Front.{FrontState, is_connected}
 
 -- ---- building blocks
@@ -63,7 +63,7 @@ overflowed f conn = dropped (record f { books = mail_refused_by_box f.books }) c
 abbrev pub mailed : FrontState → ℕ → Mail → FrontState
 mailed f conn mail =
     if is_connected f conn then
-    (if nat_lt (length (mails_on f.connections conn)) MAILS then boxed f conn mail else overflowed f conn)
+    (if nat_lt (length (mails_on f.connections conn)) most_mails_in_box then boxed f conn mail else overflowed f conn)
     else f
 
 -- ---- events

@@ -17,7 +17,7 @@ ghost use Rattle.fe_front.specs.Refusals.{attaching, settling, leaving, cancelli
 ghost use Rattle.fe_front.specs.Call.{IsCallRefused, WantsMemory, call_refused_by};
 ghost use Rattle.fe_front.specs.Posting.{IsOut, posted};
 ghost use Rattle.fe_front.specs.Ringing.{Rings};
-ghost use Rattle.fe_state.specs.declared.bounds.TheConstants.{WAITING};
+ghost use Rattle.fe_state.specs.Limits.{most_waiting};
 
 use crate::out::Out;
 use crate::outcome::{Outcome, StrangeBatch};
@@ -310,7 +310,7 @@ impl Front {
     /// How many requests wait, 0 to `WAITING`.
     pub fn waiting_count(&self) -> u32
         ensures count { result ≡ len self.now.service.waiting }
-        ensures few { result ≤ WAITING }
+        ensures few { result ≤ most_waiting }
     {
         self.tables.service.waiting_count()
     }

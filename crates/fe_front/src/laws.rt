@@ -1,21 +1,24 @@
-//! Laws of the front, which hold apart from any code.
+//! Laws of the front, which hold apart from any code; and the limit that the code has.
 
+ghost use Rattle.std.specs.Prelude.{◌≡◌};
 ghost use Rattle.fe_front.specs.Boxes.{MailsStayDurable, BoxesStayShort};
 ghost use Rattle.fe_front.specs.Rising.{BooksRise};
 ghost use Rattle.fe_front.specs.Step.{StepsLead, StepsAreFew};
+ghost use Rattle.fe_front.specs.Limits.{bell_count};
+ghost use Rattle.fe_front.specs.declared.posting.TheConstants.{BELLS};
 
 /// The entries of a step are legal one after the other, and lead to the state after it.
 pub fn steps_are_legal()
     ensures { StepsLead }
 {}
 
-/// An event makes at most `EVENT_ENTRIES` entries: its own, and one for each request that waits.
+/// An event makes at most 2,049 entries: its own, and one for each request that waits.
 pub fn steps_are_few()
     ensures { StepsAreFew }
 {}
 
 /// Books with room for an event stay unspent through it. A call books one call, refused or not; taking a mail books one
-/// taken mail; and no event books more mails than it may make, `BATCH_ENTRIES` at most.
+/// taken mail; and no event books more mails than it may make, 4,097 at most.
 pub fn books_rise()
     ensures { BooksRise }
 {}
@@ -26,7 +29,12 @@ pub fn mails_stay_durable()
     ensures { MailsStayDurable }
 {}
 
-/// No box ever has more than `MAILS` mails. Steps are those of the clauses of `Front`, as above.
+/// No box ever has more than 128 mails. Steps are those of the clauses of `Front`, as above.
 pub fn boxes_stay_short()
     ensures { BoxesStayShort }
+{}
+
+/// The code's constant is the number of bells.
+pub fn limits_are()
+    ensures bells { BELLS ≡ bell_count }
 {}

@@ -16,6 +16,8 @@ mod tables;
 pub use asked::is_same;
 pub use fe_mail::{Books, Mail, Refusal, ReportText};
 pub use front::Front;
-pub use laws::{books_rise, boxes_stay_short, mails_stay_durable, steps_are_few, steps_are_legal};
+pub use laws::{
+    books_rise, boxes_stay_short, limits_are, mails_stay_durable, steps_are_few, steps_are_legal,
+};
 pub use outcome::{Outcome, StrangeBatch};
 pub use posting::BELLS;

@@ -11,7 +11,7 @@ use Rattle.fe_disk.proofs.Moments.{weaker}
 use Rattle.fe_state.specs.State.{ServerState, after_all}
 use Rattle.fe_state.specs.Format.{entry_fits_format_1}
 use Rattle.fe_state.specs.History.{AreLegal, after_groups}
-use Rattle.fe_state.specs.declared.bounds.TheConstants.{BATCH_ENTRIES, GREATEST_PLACE}
+use Rattle.fe_state.specs.Limits.{most_batch_entries, greatest_place}
 use Rattle.fe_state.specs.declared.entry.Entry.{Entry}
 use Rattle.fe_state.proofs.Histories.{legal-append, after-append, history-append}
 use Rattle.fe_codec.specs.Record.{entry_spelling, group_spelling, FitsGroup, IsGroupOf, CanPut}
@@ -140,7 +140,7 @@ record_whole One n = omega arith
 record_whole Two n = omega arith
 
 -- a batch is a payload
-pub batch_is_payload : (format : Format) (n : ℕ) → 1 ≤ n → n ≤ BATCH_ENTRIES → IsPayloadLength format (n * record_bytes format)
+pub batch_is_payload : (format : Format) (n : ℕ) → 1 ≤ n → n ≤ most_batch_entries → IsPayloadLength format (n * record_bytes format)
 batch_is_payload One n some few = record { some = omega arith; within = omega arith; whole = omega arith }
 batch_is_payload Two n some few = record { some = omega arith; within = omega arith; whole = omega arith }
 
@@ -215,11 +215,11 @@ under_way_then place n j k entries (Some old) (Some new) h fit begun generation 
     }
 
 -- a batch that is spelled is a group
-few_records : (format : Format) (n : ℕ) → n ≤ BATCH_ENTRIES → n ≤ group_records format
+few_records : (format : Format) (n : ℕ) → n ≤ most_batch_entries → n ≤ group_records format
 few_records One n few = omega arith
 few_records Two n few = omega arith
 
-pub batch_group : (f format : Format) (entries : List Entry) (payload group : List ℕ) → payload ≡ group → group ≡ group_spelling f entries → FitsGroup f entries → f ≡ format → 1 ≤ length entries → length entries ≤ BATCH_ENTRIES
+pub batch_group : (f format : Format) (entries : List Entry) (payload group : List ℕ) → payload ≡ group → group ≡ group_spelling f entries → FitsGroup f entries → f ≡ format → 1 ≤ length entries → length entries ≤ most_batch_entries
     → IsGroupOf format entries payload
 batch_group f format entries payload group same spelled fits is some few =
     subst (λ (k : Format). IsGroupOf k entries payload) is (record { least = some; most = few_records f (length entries) few; fits = fits; spelled = same ∙ spelled })
@@ -229,7 +229,7 @@ group_size format entries payload is = ap length is.spelled ∙ length-group for
 
 -- what is always true of a store is true of it after a batch
 pub sound_then : {D : Type 0} (old new : Store D) (entries : List Entry) (disk : D) (used : ℕ) → IsStore old → fits (store_of old) entries ≡ true → new.journal ≡ record old.journal { disk = disk; used = used }
-    → 1 ≤ length entries → new.place ≡ old.place + length entries → new.place ≤ GREATEST_PLACE → batch_bytes ≤ vec_capacity new.group → CatchesUp entries old.checkpoint new.checkpoint → IsStore new
+    → 1 ≤ length entries → new.place ≡ old.place + length entries → new.place ≤ greatest_place → batch_bytes ≤ vec_capacity new.group → CatchesUp entries old.checkpoint new.checkpoint → IsStore new
 sound_then {D} old new entries disk used h fit journal some place low group more =
     let parts = fits_parts (store_of old) entries fit in
     let generation : new.journal.generation ≡ old.journal.generation = ap (λ (j : JournalState D). j.generation) journal in

@@ -1,7 +1,7 @@
 ghost use Rattle.std.specs.Prelude.{◌≡◌, ◌↔◌, ◌≤◌, length, IsTrue, IfOk, IfErr, OnOk, OnErr};
 ghost use Rattle.fe_state.specs.State.{IsWithinLimits, after_all};
 ghost use Rattle.fe_state.specs.UndoLog.{empty_log};
-ghost use Rattle.fe_state.specs.declared.bounds.TheConstants.{BATCH_ENTRIES};
+ghost use Rattle.fe_state.specs.Limits.{most_batch_entries};
 ghost use Rattle.fe_replica.specs.Taking.{Continues};
 ghost use Rattle.fe_codec.specs.Image.{image_spelling};
 ghost use Rattle.fe_format.specs.declared.format.Format.TheVariants.{Two};
@@ -94,7 +94,7 @@ impl<D: Disk> Parts<D> {
     /// Takes a batch and stores it.
     pub(crate) fn append(&mut self, first: u64, entries: &[Entry]) -> Result<(), Fault>
         requires kept { IsKept D.honest D.seen D.may_leave self.old }
-        requires few { length entries.now ≤ BATCH_ENTRIES }
+        requires few { length entries.now ≤ most_batch_entries }
         ensures kept { IsKept D.honest D.seen D.may_leave self.new }
         ensures any_moment { StopsLeave D.honest D.moment D.left_since (kept_of self.old) (kept_of self.new)
             (StandsForEither self.old.state (after_all self.old.state entries.now)) }

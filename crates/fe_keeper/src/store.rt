@@ -4,7 +4,7 @@ ghost use Rattle.fe_disk.specs.Disk.{MakesAtMost};
 ghost use Rattle.fe_state.specs.Format.{entry_fits_format_1};
 ghost use Rattle.fe_state.specs.History.{AreLegal};
 ghost use Rattle.fe_state.specs.State.{ServerState, after_all};
-ghost use Rattle.fe_state.specs.declared.bounds.TheConstants.{BATCH_ENTRIES};
+ghost use Rattle.fe_state.specs.Limits.{most_batch_entries};
 ghost use Rattle.fe_codec.specs.Record.{CanPut, FitsGroup, group_spelling};
 ghost use Rattle.fe_format.specs.Layout.{record_bytes, group_records};
 ghost use Rattle.fe_format.specs.declared.format.Format.TheVariants.{Two};
@@ -44,7 +44,7 @@ fn is_spellable(format: Format, entries: &[Entry]) -> bool
 /// Spells a batch that fits as the payload of a group.
 fn spell(format: Format, entries: &[Entry], group: &mut Vec<u8>)
     requires each { AllByRecursion (CanPut format) entries.now }
-    requires few { length entries.now ≤ BATCH_ENTRIES }
+    requires few { length entries.now ≤ most_batch_entries }
     requires room { batch_bytes ≤ vec_capacity group.old }
     ensures spelled { group.new.items ≡ group_spelling format entries.now }
     ensures fits { FitsGroup format entries.now }
@@ -106,7 +106,7 @@ impl<D: Disk> Store<D> {
     /// Whether a batch can be appended as the store is.
     pub(crate) fn fits(&self, entries: &[Entry]) -> bool
         requires sound { IsStore self.now }
-        requires few { length entries.now ≤ BATCH_ENTRIES }
+        requires few { length entries.now ≤ most_batch_entries }
         ensures { result ≡ fits (store_of self.now) entries.now }
     {
         let format = self.journal.store_format();
@@ -129,7 +129,7 @@ impl<D: Disk> Store<D> {
 
     fn catches_up(&self, entries: usize) -> bool
         requires sound { IsStore self.now }
-        requires few { entries ≤ BATCH_ENTRIES }
+        requires few { entries ≤ most_batch_entries }
         ensures { result ≡ catches_up self.now.place entries (store_of self.now).checkpoint }
     {
         match &self.checkpoint {
@@ -143,7 +143,7 @@ impl<D: Disk> Store<D> {
     /// checkpoint under way is finished.
     pub(crate) fn must_begin(&self, entries: &[Entry]) -> bool
         requires sound { IsStore self.now }
-        requires few { length entries.now ≤ BATCH_ENTRIES }
+        requires few { length entries.now ≤ most_batch_entries }
         ensures { result ≡ must_begin (store_of self.now) entries.now }
     {
         if self.fits(entries) {

@@ -2,9 +2,11 @@
 #![tactic(auto)]
 
 mod fault;
+mod laws;
 mod looking;
 mod reading;
 mod state_text;
 
 pub use fault::LookFault;
+pub use laws::layout_is;
 pub use looking::{look, look_at};

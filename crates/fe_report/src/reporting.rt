@@ -1,5 +1,5 @@
 ghost use Rattle.std.specs.Prelude.{◌≡◌, ◌≤◌, IfOk, string_bytes, string_len};
-ghost use Rattle.fe_mail.specs.declared.report_text.TheConstants.{REPORT_BYTES};
+ghost use Rattle.fe_mail.specs.Limits.{longest_report};
 ghost use Rattle.fe_report.specs.Report.{report_text, attached_seats};
 
 use crate::rows::{do_all_wait, rows_by_session, rows_by_word};
@@ -21,7 +21,7 @@ pub fn report(alloc: Global, front: &Front) -> Result<String, AllocError>
     ensures text { IfOk result
         (λ text. string_bytes text ≡ report_text front.now.service.waiting (attached_seats front.now)) }
     ensures some { IfOk result (λ text. 1 ≤ string_len text) }
-    ensures few { IfOk result (λ text. string_len text ≤ REPORT_BYTES) }
+    ensures few { IfOk result (λ text. string_len text ≤ longest_report) }
 {
     let _ = front.state();
     let count = front.waiting_count();

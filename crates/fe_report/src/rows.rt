@@ -1,7 +1,7 @@
 ghost use Rattle.std.specs.Prelude.{◌≡◌, ◌≤◌, IfOk, OnOk, vec_len};
 ghost use Rattle.std.specs.BTreeMap.{btree_map_len};
 ghost use Rattle.std.specs.FinMap.{entries};
-ghost use Rattle.fe_state.specs.declared.bounds.TheConstants.{SESSIONS, WAITING};
+ghost use Rattle.fe_state.specs.Limits.{most_sessions, most_waiting};
 ghost use Rattle.fe_report.specs.Report.{by_word, by_session, do_all_wait, attached_seats};
 ghost use Rattle.fe_report.specs.within.Rows.{IsAdded};
 
@@ -33,7 +33,7 @@ fn add_session(
 /// A row for each waiting request, where it waits and its operation, in the order of the lines.
 pub(crate) fn rows_by_word(alloc: Global, front: &Front) -> Result<Vec<(Spot, Op)>, AllocError>
     ensures rows { IfOk result (λ rows. rows.items ≡ entries (by_word front.now.service.waiting)) }
-    ensures few { IfOk result (λ rows. vec_len rows ≤ WAITING) }
+    ensures few { IfOk result (λ rows. vec_len rows ≤ most_waiting) }
 {
     let state = front.state();
     let mut rows = Vec::with_capacity(alloc, front.waiting_count() as usize)?;
@@ -51,7 +51,7 @@ pub(crate) fn rows_by_session(
     front: &Front,
 ) -> Result<BTreeMap<u64, u32>, AllocError>
     ensures rows { IfOk result (λ rows. rows.entries ≡ entries (by_session front.now.service.waiting)) }
-    ensures few { IfOk result (λ rows. btree_map_len rows ≤ SESSIONS) }
+    ensures few { IfOk result (λ rows. btree_map_len rows ≤ most_sessions) }
 {
     let state = front.state();
     let mut rows = BTreeMap::new(alloc);

@@ -16,7 +16,7 @@ use Rattle.fe_schedules.specs.Told.{PrintsSince, IsTold, told_to}
 use Rattle.fe_text.specs.declared.fault.StreamFault.{StreamFault}
 use Rattle.fe_schedules.specs.declared.fault.ScheduleFault.{ScheduleFault}
 use Rattle.fe_schedules.specs.declared.fault.ScheduleFault.TheVariants as fault
-use Rattle.fe_text.specs.declared.line.TheConstants.{LONGEST}
+use Rattle.fe_text.specs.Limits.{longest_line}
 use Rattle.fe_text.specs.declared.line.Line.{Line}
 use Rattle.fe_text.specs.declared.line.Line.TheVariants as line
 use Rattle.fe_schedules.specs.declared.machine.Machine.{Machine}
@@ -92,8 +92,8 @@ pub record ActsOn (m : Machine) (l : Line) (n : Machine) : Type 0 where
 pub record IsRun (r : Run) : Type 0 where
   pub machine : IsMachine r.machine
   pub printed : r.machine.printed.items ≡ lengths r.machine.desk.standing
-  pub few : length r.begun.items ≤ LONGEST
-  pub room : LONGEST ≤ vec_capacity r.begun
+  pub few : length r.begun.items ≤ longest_line
+  pub room : longest_line ≤ vec_capacity r.begun
   pub count : r.lines < 2 ^ 64 - 1
 
 -- a line does what it says, and then what is pending is stored and posted; what is told is printed
@@ -133,7 +133,7 @@ IsStray number bytes end = (end ≡ fault.Line number) × (bytes ≢ []) × (par
 
 -- the same of a line that is longer than any of the syntax
 abbrev pub IsTooLong : ℕ → List ℕ → ScheduleFault → Type 0
-IsTooLong number bytes end = (end ≡ fault.Line number) × (LONGEST < length bytes)
+IsTooLong number bytes end = (end ≡ fault.Line number) × (longest_line < length bytes)
 
 -- What a fault says of the line of these bytes with this number: it is outside the syntax; or it says something, which found no
 -- memory or a disk that failed; or no line after it can be counted.

@@ -2,7 +2,7 @@
 use Rattle.std.specs.Prelude.{◌≡◌, ℕ, ◌+◌, ◌*◌, ◌≤◌, List, ◌++◌, length, Option, Some, None, vec_len, vec_capacity}
 use Rattle.fe_state.specs.declared.entry.Entry.{Entry}
 use Rattle.std.specs.List.{AllByRecursion}
-use Rattle.fe_state.specs.declared.bounds.TheConstants.{BATCH_ENTRIES}
+use Rattle.fe_state.specs.Limits.{most_batch_entries}
 use Rattle.fe_codec.specs.Record.{CanPut, group_spelling, FitsGroup}
 use Rattle.fe_format.specs.Layout.{record_bytes}
 use Rattle.fe_format.specs.declared.format.Format.{Format}
@@ -11,14 +11,14 @@ use Rattle.fe_keeper.specs.declared.checkpoint.Checkpoint.{Checkpoint}
 
 -- how many bytes the longest batch has as a group of format 2
 abbrev pub batch_bytes : ℕ
-batch_bytes = BATCH_ENTRIES * record_bytes Two
+batch_bytes = most_batch_entries * record_bytes Two
 
 -- The bytes spell the entries of a batch, which can be spelled in format 2 too.
 pub record IsSpelledBatch (format : Format) (group : List ℕ) (entries : List Entry) : Type 0 where
   pub spelled : group ≡ group_spelling format entries
   pub fits : FitsGroup format entries
   pub each : AllByRecursion (CanPut Two) entries
-  pub few : length entries ≤ BATCH_ENTRIES
+  pub few : length entries ≤ most_batch_entries
 
 -- room for the records of this many entries more, if a checkpoint is under way
 abbrev pub HasRoomFor : Option Checkpoint → ℕ → Type 0

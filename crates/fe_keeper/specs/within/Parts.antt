@@ -1,7 +1,7 @@
 -- The parts of a keeper, at rest and with a batch that is taken and not yet stored.
 use Rattle.std.specs.Prelude.{◌≡◌, ◌≤◌, ℕ, List, length, false, IfSome, Option, Result, MatchResult}
 use Rattle.fe_state.specs.State.{ServerState, after_all, IsWithinLimits}
-use Rattle.fe_state.specs.declared.bounds.TheConstants.{BATCH_ENTRIES}
+use Rattle.fe_state.specs.Limits.{most_batch_entries}
 use Rattle.fe_state.specs.History.{AreLegal}
 use Rattle.fe_state.specs.UndoLog.{UndoLog, empty_log, rewound, IsLogOf}
 use Rattle.fe_state.specs.declared.entry.Entry.{Entry}
@@ -22,7 +22,7 @@ pub record IsKept {D : Type 0} (honest : D → Type 0) (seen : D → List ℕ) (
   pub store : IsStore parts.store
   pub place : parts.store.place ≡ parts.state.place
   pub log : parts.log ≡ empty_log parts.log.room
-  pub room : BATCH_ENTRIES ≤ parts.log.room
+  pub room : most_batch_entries ≤ parts.log.room
   pub upheld : honest parts.store.journal.disk → parts.store.journal.has_failed ≡ false → Upholds seen may_leave parts.store parts.state
 
 -- Entries were taken from a state: they lead to the state now, and the log leads back.
@@ -42,7 +42,7 @@ state_before parts = rewound parts.log parts.state
 pub record HasBatch {D : Type 0} (parts : Parts D) (entries : List Entry) : Type 0 where
   pub store : IsStore parts.store
   pub works : parts.store.journal.has_failed ≡ false
-  pub few : length entries ≤ BATCH_ENTRIES
+  pub few : length entries ≤ most_batch_entries
   pub taken : HasTaken (state_before parts) entries parts.state parts.log
   pub place : parts.store.place ≡ (state_before parts).place
   pub limits : IsWithinLimits (state_before parts)

@@ -1,7 +1,7 @@
 -- What the calls of a store begin with.
 use Rattle.std.specs.Prelude.{◌≡◌, ◌+◌, ◌≤◌, false, IsTrue, IsSome, IfSome, is_some, List, length, Option, vec_len}
 use Rattle.std.specs.List.{AllByRecursion}
-use Rattle.fe_state.specs.declared.bounds.TheConstants.{BATCH_ENTRIES, GREATEST_PLACE}
+use Rattle.fe_state.specs.Limits.{most_batch_entries, greatest_place}
 use Rattle.fe_state.specs.declared.entry.Entry.{Entry}
 use Rattle.fe_codec.specs.Record.{CanPut}
 use Rattle.fe_format.specs.declared.format.Format.TheVariants.{Two}
@@ -37,9 +37,9 @@ pub record CanStore {D : Type 0} (store : Store D) (entries : List Entry) : Type
   pub sound : IsStore store
   pub works : store.journal.has_failed ≡ false
   pub some : 1 ≤ length entries
-  pub few : length entries ≤ BATCH_ENTRIES
+  pub few : length entries ≤ most_batch_entries
   pub each : AllByRecursion (CanPut Two) entries
-  pub place : store.place + length entries ≤ GREATEST_PLACE
+  pub place : store.place + length entries ≤ greatest_place
 
 -- A whole checkpoint is made for the batch exactly where it needs one.
 pub record IsWholeFor {D : Type 0} (store : Store D) (entries : List Entry) (whole : Option Checkpoint) : Type 0 where

@@ -2,7 +2,7 @@
 use Rattle.std.specs.Prelude.{◌≡◌, ◌⊎◌, ℕ, ◌+◌, ◌-◌, ◌*◌, ◌≤◌, List, take, Option, Some, None, vec_len, vec_capacity}
 use Rattle.fe_state.specs.State.{ServerState, after_all}
 use Rattle.fe_state.specs.History.{AreLegal}
-use Rattle.fe_state.specs.declared.bounds.TheConstants.{GREATEST_PLACE}
+use Rattle.fe_state.specs.Limits.{greatest_place}
 use Rattle.fe_state.specs.declared.entry.Entry.{Entry}
 use Rattle.fe_codec.specs.Record.{group_spelling, FitsGroup}
 use Rattle.fe_codec.specs.Image.{image_spelling, FitsImage}
@@ -41,7 +41,7 @@ IsCheckpoint place j (Some c) = IsUnderWay place j c
 
 -- what is always true of the bytes side
 pub record IsStore {D : Type 0} (store : Store D) : Type 0 where
-  pub place : store.place ≤ GREATEST_PLACE
+  pub place : store.place ≤ greatest_place
   pub numbered : IsNumbered store.place store.journal
   pub group : batch_bytes ≤ vec_capacity store.group
   pub checkpoint : IsCheckpoint store.place store.journal store.checkpoint

@@ -7,7 +7,7 @@ use Rattle.fe_words.specs.declared.op.Op.{Op}
 use Rattle.fe_words.specs.contracts.word.TagPartialEq.TheImpl as tags
 use Rattle.fe_words.specs.contracts.op.OpPartialEq.TheImpl as ops
 use Rattle.fe_state.specs.Padding.{padded}
-use Rattle.fe_state.specs.declared.bounds.TheConstants.{NAME_BYTES}
+use Rattle.fe_state.specs.Limits.{longest_name}
 use Rattle.fe_state.specs.declared.request.Request.{Request}
 use Rattle.fe_state.specs.declared.request.Request.TheVariants.{Create, Find, Remove, Access}
 use Rattle.fe_state.specs.contracts.request.RequestPartialEq.TheImpl as requests
@@ -30,14 +30,14 @@ tag_same s t h = search rules
 op_same : (o p : Op) → ops.ghosts.eq o p ≡ true → o ≡ p
 op_same o p h = search rules
 
-front : (x : List ℕ) → take (length x) (padded NAME_BYTES x) ≡ x
-front x = take-append-le (length x) x (replicate (NAME_BYTES - length x) 0) (omega arith) ∙ take_all (length x) x (omega arith)
+front : (x : List ℕ) → take (length x) (padded longest_name x) ≡ x
+front x = take-append-le (length x) x (replicate (longest_name - length x) 0) (omega arith) ∙ take_all (length x) x (omega arith)
 
 -- names of one length, with the same cells, zeros after their bytes among them, are the same
-name_same : (x y : List ℕ) → (eqb (length x) (length y) && pointwise eqb (padded NAME_BYTES x) (padded NAME_BYTES y)) ≡ true → x ≡ y
+name_same : (x y : List ℕ) → (eqb (length x) (length y) && pointwise eqb (padded longest_name x) (padded longest_name y)) ≡ true → x ≡ y
 name_same x y h =
-    let cells = (bytes_decides (padded NAME_BYTES x) (padded NAME_BYTES y)).0 (second _ _ h) in
-    sym (front x) ∙ ap (take (length x)) cells ∙ ap (λ n. take n (padded NAME_BYTES y)) (number_same (length x) (length y) (first _ _ h)) ∙ front y
+    let cells = (bytes_decides (padded longest_name x) (padded longest_name y)).0 (second _ _ h) in
+    sym (front x) ∙ ap (take (length x)) cells ∙ ap (λ n. take n (padded longest_name y)) (number_same (length x) (length y) (first _ _ h)) ∙ front y
 
 create_same : (x y : List ℕ) (m n : ℕ) (s t : Tag) → requests.ghosts.eq (Create x m s) (Create y n t) ≡ true → Create x m s ≡ Create y n t
 create_same x y m n s t h =
