@@ -1,4 +1,4 @@
-"""The documents: their blocks run, what they name exists, their links lead somewhere, and they are not too long."""
+"""The documents: their blocks run, what they name exists, and their links lead somewhere."""
 
 import glob
 import os
@@ -13,10 +13,6 @@ sys.path.insert(0, os.path.normpath(os.path.join(os.path.dirname(os.path.realpat
 
 from release import pages  # noqa: E402
 
-MOST_WORDS = {
-    "README.md": 1500, "ARCHITECTURE.md": 1200, "docs/proved.md": 5000, "docs/DECISIONS.md": 4000, "docs/model.md": 4900,
-    "docs/performance.md": 1700,
-}
 
 
 def listed(heading):
@@ -91,13 +87,6 @@ def versions(_place):
     return told(missing, count, 5, "versions")
 
 
-def lengths(_place):
-    """each document with a limit of words keeps to it"""
-    found = {name: len(text_of(name).split()) for name in MOST_WORDS}
-    missing = [f"{name} has {found[name]} words, and may have {most}" for name, most in MOST_WORDS.items() if found[name] > most]
-    return told(missing, len(found), 6, "documents")
-
-
 LINK = re.compile(r"\[([^\]]*)\]\(([^)\s]+)\)")
 # A document, followed by one or more titles of sections in quotes.
 QUOTED = re.compile(r"([\w/]+\.md)`?(?:\]\([^)]*\))?, (\"[^\"]+\"(?: and \"[^\"]+\")*)")
@@ -135,4 +124,4 @@ def links(_place):
     return told(missing, count, 100, "links")
 
 
-CHECKS = (*blocks.CHECKS, *names.CHECKS, *clauses.CHECKS, touched, crates, versions, lengths, links)
+CHECKS = (*blocks.CHECKS, *names.CHECKS, *clauses.CHECKS, touched, crates, versions, links)
