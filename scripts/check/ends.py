@@ -275,7 +275,7 @@ def fault_among_silent(place, library, turn):
                 conn.ask(wire.attach(50))
             except wire.Ended:
                 break
-        same(server.ended(10 * place.options.patience), (3, "", "femem: store device\n"))
+        same(server.ended(10), (3, "", "femem: store device\n"))
         took = time.monotonic() - asked
     for it in silent:
         holds(it.has_ended(), "a connection stayed open")

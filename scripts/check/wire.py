@@ -16,6 +16,9 @@ WORDS = {4: "no-array", 5: "bad-index", 6: "name-taken", 7: "array-limit", 8: "w
 REFUSALS = ("not-attached", "session-limit", "below-floor", "beyond-window", "number-used", "still-waiting", "closing", "no-memory", "spent", "not-waiting")
 
 
+patience = 1  # how many times as long each wait may take, on a slow machine
+
+
 class BadReply(Exception):
     """The server sent something that is not a server's frame."""
 
@@ -137,8 +140,9 @@ def lines_of(reply):
 class Connection:
     """A connection to a server. Every wait on it ends after its deadline, as Ended."""
 
-    def __init__(self, path, seconds=20.0):
-        """Connects; tries again while nothing listens at the path."""
+    def __init__(self, path, seconds=None):
+        """Connects; tries again while nothing listens at the path. Without `seconds` a wait may take 20 seconds, times the patience."""
+        seconds = seconds or 20.0 * patience
         until = time.monotonic() + seconds
         self.got = b""
         while True:
