@@ -115,13 +115,65 @@ def held_call_holds_one(place):
     same(server.ended(), (0, told, ""))
 
 
+CROWD, EACH = 60, 60
+MOST_PENDING = 2048  # entries; one message more waits
+
+
+@within(90)
+def waits_for_room(place):
+    """messages that wait for room, since 2,048 entries are pending while a sync is held, are handled once it ends"""
+    held = Held(place, "fdatasync")
+    server = Server(place).start(held.env)
+    conns = [server.attached(session) for session in range(CROWD)]
+    held.next()
+    conns[0].send(wire.attach(0))
+    held.wait()
+    for session, conn in enumerate(conns):
+        conn.send(wire.attach(session) * EACH)
+    comes_to_rest(server)
+    held.let_go()
+    for session, conn in enumerate(conns):
+        count = EACH + (session == 0)
+        same([conn.reply() for _ in range(count)], [("welcome", session, 1)] * count, f"connection {session}")
+        conn.close()
+    server.stop()
+    _, groups = store.slots_of(place.read("s.store"))[0].read()
+    largest = max(len(payload) for _, payload in groups) // 80
+    holds(largest >= MOST_PENDING, f"the largest group has {largest} entries, so nothing waited for room")
+    return f"a group of {largest} entries"
+
+
+def comes_to_rest(server):
+    """Waits until for a while no thread of the server has run, except the one that is held."""
+    last = [runs_of(server), time.monotonic()]
+
+    def rests():
+        now = runs_of(server)
+        if sum(now[thread] != last[0].get(thread) for thread in now) > 1:
+            last[:] = now, time.monotonic()
+        return time.monotonic() - last[1] > 0.3
+
+    until(rests, 30, "the server comes to rest")
+
+
+def runs_of(server):
+    """How often each thread of the server has run."""
+    found = {}
+    for thread in os.listdir(f"/proc/{server.process.pid}/task"):
+        with open(f"/proc/{server.process.pid}/task/{thread}/status", encoding="ascii") as file:
+            found[thread] = [line for line in file if "ctxt_switches" in line]
+    return found
+
+
 @within(90)
 def one_after_another(place):
-    """a thousand connections, one after another, each with a session that continues where it was"""
+    """a thousand connections, one after another, each with a session that continues where it was; they leave no memory behind"""
     server = Server(place, connections=256).start()
     made(server, (b"counter", 1, 1))
     for turn in range(1000):
         session, number = turn % 60, turn // 60 + 1
+        if turn == 200:
+            before = memory_of(server)
         with server.connect() as conn:
             conn.send(wire.attach(session) + wire.call(number, adding(1, 0, 1)))
             same([conn.reply(), conn.reply()], [("welcome", session, 1), ("answer", number, ("value", turn))])
@@ -129,11 +181,20 @@ def one_after_another(place):
     with server.attached(0) as conn:
         same(conn.ask(wire.report()), ("report", "waiting 0\n"))
     until(lambda: threads_of(server) < 20, 10, "the threads of connections that ended are gone")
+    grown = memory_of(server) - before
+    holds(grown < 2 * 1024, f"the last 800 connections left {grown} KiB of memory behind")
     server.stop()
+    return f"{grown} KiB more at the end"
 
 
 def threads_of(server):
     return len(os.listdir(f"/proc/{server.process.pid}/task"))
+
+
+def memory_of(server):
+    """The server's memory, in KiB."""
+    with open(f"/proc/{server.process.pid}/status") as file:
+        return next(int(line.split()[1]) for line in file if line.startswith("VmRSS"))
 
 
 @within(90)
@@ -318,7 +379,7 @@ BAD_FRAMES = (
 
 
 def bad_frames(place):
-    """a bad frame of each kind ends its connection without a reply; what came before it is done"""
+    """a bad frame of each kind ends its connection without a reply, and its threads; what came before it is done"""
     server = Server(place).start()
     for session, (name, frame) in enumerate(BAD_FRAMES):
         with server.connect() as conn:
@@ -333,6 +394,7 @@ def bad_frames(place):
             holds(got == wanted[: len(got)], f"a frame {name}: {got}")
     # (a welcome is sent once everything before it is stored)
     server.attached(1000).close()
+    until(lambda: threads_of(server) <= 2, 20, "the threads of connections that ended are gone")
     server.stop()
     left = store.read_store(place.read("s.store"))[2]
     for session, (name, _) in enumerate(BAD_FRAMES):
@@ -399,6 +461,7 @@ CHECKS = (
     in_parallel,
     hand_overs,
     held_call_holds_one,
+    waits_for_room,
     one_after_another,
     the_257th,
     few_connections,

@@ -45,7 +45,8 @@ def short(value):
 
 
 def until(condition, seconds, what):
-    """Waits until the condition holds, and returns its value."""
+    """Waits until the condition holds, and returns its value. The deadline is multiplied by the patience."""
+    seconds *= wire.patience
     end = time.monotonic() + seconds
     while True:
         found = condition()
@@ -92,9 +93,9 @@ class Place:
         shell = ["sh", "-c", f'exec "$0" "$@" {closed}'] if closed else []
         process = self.start([*shell, self.program, *words], "run", env, subprocess.PIPE, stdout)
         try:
-            process.communicate(given, seconds)
+            process.communicate(given, seconds * wire.patience)
         except subprocess.TimeoutExpired:
-            raise Wrong(f"{words}: no end within {seconds} seconds") from None
+            raise Wrong(f"{words}: no end within {seconds * wire.patience} seconds") from None
         return process.returncode, self.read("run.out"), self.read("run.err")
 
     def read(self, name):
@@ -159,6 +160,7 @@ class Server:
 
     def ended(self, seconds=30):
         """Waits for the server to end: its status, output and errors."""
+        seconds *= wire.patience
         try:
             self.process.wait(seconds)
         except subprocess.TimeoutExpired:
@@ -210,6 +212,7 @@ class Runner:
         self.program = program
         self.folder = folder
         self.options = options
+        wire.patience = options.patience
         self.passed = 0
         self.failed = 0
         self.skipped = 0

@@ -30,8 +30,8 @@ class Call:
         return " ".join(str(it) for it in (self.kind, self.file, *self.numbers)) + (f" = {self.error}" if self.error else "")
 
 
-def calls_of(path):
-    """The calls of a record, in order."""
+def calls_of(path, is_cut=False):
+    """The calls of a record, in order. If the process was killed, the record may be cut: it may have the bytes of a call without its line."""
     with open(path, encoding="utf-8") as file, open(f"{path}.bytes", "rb") as data:
         found = []
         for line in file:
@@ -39,7 +39,7 @@ def calls_of(path):
             kind, name, *numbers = said.split()
             size = int(numbers[-1]) if kind in ("write", "pwrite", "send", "recv") else 0
             found.append(Call(kind, name, numbers, int(error or 0), data.read(size)))
-        holds(not data.read(1), "the record has bytes of no call")
+        holds(is_cut or not data.read(1), "the record has bytes of no call")
         return found
 
 
@@ -172,6 +172,7 @@ class Durable:
         self.device = bytearray(device)
         self.written = []
         self.entries = {}  # how often each entry is there
+        self.spelled = {}  # the entries of records, of the format in use
         self.slot = None
         self.find()
         self.entries.clear()
@@ -182,6 +183,7 @@ class Durable:
         if slot.at == self.slot:
             return self.more()
         self.slot, self.form, self.end = slot.at, slot.format, slot.at + JOURNAL
+        self.spelled.clear()
         known = dict(self.entries)
         self.more()
         self.entries = known
@@ -190,9 +192,16 @@ class Durable:
         while self.device[self.end] == 1:
             size = int.from_bytes(self.device[self.end + 1 : self.end + 5], "big")
             for at in range(self.end + 5, self.end + 5 + size, self.form.record):
-                entry = store.entry_of(bytes(self.device[at : at + self.form.record]), self.form)
+                entry = self.entry_of(bytes(self.device[at : at + self.form.record]))
                 self.entries[entry] = self.entries.get(entry, 0) + 1
             self.end += 5 + size
+
+    def entry_of(self, record):
+        """The entry of a record. Many records are the same."""
+        entry = self.spelled.get(record)
+        if entry is None:
+            entry = self.spelled[record] = store.entry_of(record, self.form)
+        return entry
 
     def write(self, at, data):
         self.written.append((at, data))
@@ -208,9 +217,12 @@ class Durable:
         return self.entries.get(entry, 0) >= count
 
 
-def left_in_time(calls, name, device, asked):
+WITHOUT_ENTRY = ("report", "withdrawn", "refused")
+
+
+def left_in_time(calls, name, device, asked, kept=()):
     """Checks that each reply about something stored is sent after its entry is synced. Returns how many there are.
-    `asked` has the request of each session and number."""
+    `asked` has the request of each session and number, `kept` the entries of the answers that were in the store before."""
     durable, sent, welcomes, count = Durable(device), Sent(), {}, 0
     for call in calls:
         if call.file == name and call.kind == "pwrite":
@@ -219,6 +231,8 @@ def left_in_time(calls, name, device, asked):
             durable.sync()
         for session, reply in sent.replies(call) if call.kind == "send" else ():
             kind, *rest = reply
+            if kind in WITHOUT_ENTRY:
+                continue
             entry, times = (kind, session, *rest), 1
             if kind == "welcome":
                 entry = ("attached", *rest)
@@ -227,7 +241,7 @@ def left_in_time(calls, name, device, asked):
                 entry = ("closed", *rest)
             elif kind == "answer":
                 entry = ("finished", session, rest[0], asked[session, rest[0]], rest[1])
-            holds(durable.has(entry, times), f"{reply} of session {session} leaves before it is stored")
+            holds(entry in kept or durable.has(entry, times), f"{reply} of session {session} leaves before it is stored")
             count += 1
     same(not any(sent.rest.values()), True, "the last reply is whole")
     return count
@@ -402,9 +416,9 @@ def too_early(calls, at, record):
     return [*calls[:second], calls[at], *calls[second:at], *calls[at + 1 :]]
 
 
-def is_in_time(calls, device, asked):
+def is_in_time(calls, device, asked, kept=()):
     try:
-        left_in_time(calls, "s.store", device, asked)
+        left_in_time(calls, "s.store", device, asked, kept)
     except Wrong:
         return False
     return True

@@ -1,9 +1,11 @@
 """A server that is killed at each of its calls in turn, while a store is made, formatted, checkpointed or moved to format 2.
 
-`--stops N` says how often each check kills it: at each call in turn if N is large enough, then at random moments."""
+A run kills it at one point of every `108 // N`, with N from `--stops N`, and at random moments until there are N kills. Which
+points these are is decided by the number of commits, so that with N = 12 nine commits, one after another, cover all."""
 
 import os
 import random
+import subprocess
 import threading
 import time
 
@@ -13,6 +15,25 @@ from .faults import Client, answered, fills_and_others, is_change, near_a_checkp
 from .harness import Server, holds, preload, same, until, within
 from .model import State
 from .records import calls_of
+
+
+COVERED = 108  # every point is taken once in COVERED / N commits
+
+
+def commits():
+    """The number of the repository's commits up to this one; 0 where there is no git."""
+    here = os.path.dirname(os.path.realpath(__file__))
+    try:
+        words = ["git", "-C", here, "rev-list", "--count", "HEAD"]
+        return int(subprocess.run(words, stdin=subprocess.DEVNULL, capture_output=True, check=True, timeout=60).stdout)
+    except (OSError, subprocess.SubprocessError, ValueError):
+        return 0
+
+
+def share_of(points, stops, number):
+    """The points of a run with `--stops STOPS` at that number of commits."""
+    strides = max(1, COVERED // stops)
+    return points[number % strides :: strides]
 
 
 class Trial:
@@ -105,16 +126,30 @@ class Trial:
         holds(left == self.others, f"{name}: files beside the store: {sorted(left)}")
 
     def kills(self):
-        """Kills the server as often as --stops says. Returns how often at a call, of how many, and how often at random moments."""
+        """Kills the server at this commit's points, and at random moments. Returns how often at each, and at which of how many points."""
         calls, seconds = self.calls()
-        points, share = self.points(calls), self.place.options.stops
-        chosen = points if len(points) <= share else sorted(random.sample(points, share))
+        points, stops = self.points(calls), self.place.options.stops
+        chosen = share_of(points, stops, commits())
+        holds(chosen and chosen[0] in points[: max(1, COVERED // stops)], f"no point was chosen of {len(points)}")
         for number, how in chosen:
             self.killed_at(number, how)
-        for _ in range(share - len(chosen)):
+        left = max(0, stops - len(chosen))
+        for _ in range(left):
             self.killed_behind(random.uniform(0, seconds))
         kinds = sorted({call.kind for call in calls if is_change(call)})
-        return f"{len(chosen)} kills at {len(points)} points of {', '.join(kinds)}, {share - len(chosen)} at random moments"
+        which = f"from point {points.index(chosen[0]) + 1} of {len(points)} on"
+        return f"{len(chosen)} kills {which}, in calls of {', '.join(kinds)}, {left} at random moments"
+
+
+def covered(_place):
+    """nine commits, one after another, cover every point of a check"""
+    for count in (9, 70, 109, 130):
+        points = list(range(count))
+        for first in (0, 1, 1000):
+            found = [share_of(points, 12, number) for number in range(first, first + 9)]
+            same(sorted(sum(found, [])), points, f"{count} points from commit {first} on")
+            holds(all(found), f"{count} points: a commit has none")
+        same(share_of(points, 170, 5), points)
 
 
 WORK = [("create", b"counter", 2, 1)] + [adding(1, 0, 1)] * 3
@@ -166,4 +201,4 @@ def migrating_by_a_name(place):
     return Trial(place, of_format_1(10), [adding(1, 0, 1), ("find", b"seventeen_letters"), adding(1, 0, 1)], False).kills()
 
 
-CHECKS = (making, formatting, keeping, checkpointing, migrating, migrating_by_a_name)
+CHECKS = (covered, making, formatting, keeping, checkpointing, migrating, migrating_by_a_name)

@@ -22,6 +22,9 @@ FROM_SERVER = tables.kinds("| kind | from the server")
 LEAST_TEXT, MOST_TEXT = tables.said("docs/formats.md", "UTF-8 text, N to N bytes", 2)
 
 
+patience = 1  # how many times as long each wait may take, on a slow machine
+
+
 class BadReply(Exception):
     """The server sent something that is not a server's frame."""
 
@@ -152,8 +155,9 @@ def lines_of(reply):
 class Connection:
     """A connection to a server. Every wait on it ends after its deadline, as Ended."""
 
-    def __init__(self, path, seconds=20.0):
-        """Connects; tries again while nothing listens at the path."""
+    def __init__(self, path, seconds=None):
+        """Connects; tries again while nothing listens at the path. Without `seconds` a wait may take 20 seconds, times the patience."""
+        seconds = seconds or 20.0 * patience
         until = time.monotonic() + seconds
         self.got = b""
         while True:

@@ -1,0 +1,273 @@
+"""What a server costs, counted: its system calls, which `count.c` sees one by one, and its processor time. A bound here is the
+same on a slow machine, and whatever the patience."""
+
+import os
+import platform
+import re
+import resource
+import shutil
+import struct
+import subprocess
+import time
+
+from . import wire
+from .clients import output_of
+from .crowds import adding, made
+from .harness import HERE, Held, Server, Skipped, compiler, holds, preload, same, until, within
+from .texts import TOP, text_of
+
+# The numbers of the calls on x86-64, the program's only target.
+CALLS = {"pwrite": 18, "send": 44, "receive": 45, "sync": 75, "size": 8, "name": 89, "futex": 202, "accept": 288}
+OTHERS = ()  # those that are not counted
+
+
+class Counted:
+    """Counts the calls of each server that a check starts from now on."""
+
+    def __init__(self, place):
+        if platform.machine() != "x86_64":
+            raise Skipped("the numbers of system calls are those of x86-64")
+        self.program = place.program
+        counter, self.file = place.path("count"), place.path("counts")
+        words = [compiler(), "-O2", "-o", counter, os.path.join(HERE, "count.c")]
+        ran = subprocess.run(words, stdin=subprocess.DEVNULL, capture_output=True, text=True, timeout=60, check=False)
+        same(ran.returncode, 0, ran.stderr)
+        script = f'#!/bin/sh\nexec "{counter}" "{self.file}" "{self.program}" "$@"\n'
+        place.program = place.write("counted", script.encode())
+        os.chmod(place.program, 0o755)
+
+    def all(self):
+        with open(self.file, "rb") as file:
+            return struct.unpack("512Q", file.read())
+
+    def since(self, before):
+        """How often each call was made since then, by name; `all` has the sum of all calls, named or not."""
+        found = [now - then for now, then in zip(self.all(), before)]
+        every = sum(count for number, count in enumerate(found) if number not in OTHERS)
+        return {**{name: found[number] for name, number in CALLS.items()}, "all": every}
+
+
+def a_window(place):
+    """32 calls that come together take one receive, and their replies, which are of one group, one send, two writes and two syncs"""
+    held, counted = Held(place, "fdatasync"), Counted(place)
+    server = Server(place).start(held.env)
+    made(server, (b"counter", 1, 1))
+    with server.attached(7) as conn, server.connect() as other:
+        held.next()
+        other.send(wire.attach(8))
+        held.wait()
+        before = counted.all()
+        conn.send(b"".join(wire.call(number, adding(1, 0, 1)) for number in range(1, 33)) + wire.report())
+        # (the report comes once all calls are handled)
+        same(conn.reply(), ("report", "waiting 0\n"))
+        # (one receive had begun before; now one may wait for what comes next)
+        received, before = counted.since(before)["receive"], counted.all()
+        holds(received <= 1, f"{received} receives more")
+        held.let_go()
+        same([conn.reply() for _ in range(32)], [("answer", number, ("value", number - 1)) for number in range(1, 33)])
+        same(other.reply(), ("welcome", 8, 1))
+        found = counted.since(before)
+    server.stop()
+    # (the sync that was held and one more, after one more write, are of the other session's group)
+    same({name: found[name] for name in ("send", "pwrite", "sync")}, {"send": 1 + 1, "pwrite": 1 + 2, "sync": 2 + 2})
+
+
+LONE = 1000
+MOST_FUTEX, MOST_CALLS = 9, 20  # of a lone call
+
+
+def lone(conn, first, count):
+    """Calls one after another, each once the one before is answered."""
+    for number in range(first, first + count):
+        same(conn.ask(wire.call(number, adding(1, 0, 1)))[:2], ("answer", number))
+        if number % 16 == 0:
+            same(conn.ask(wire.settle(number + 1)), ("settled", number + 1))
+
+
+def lone_calls(place):
+    """each of a thousand lone calls takes a receive, a send, two writes, two syncs and two looks at the file after each; and at most 20 calls in all, 9 of them futex"""
+    counted = Counted(place)
+    server = Server(place).start()
+    made(server, (b"counter", 1, 1))
+    with server.attached(7) as conn:
+        before = counted.all()
+        # (in steps, so that a server that makes very many calls is noticed soon)
+        for first in range(1, LONE + 1, 50):
+            lone(conn, first, 50)
+            found, entries = counted.since(before), first + 49 + (first + 49) // 16
+            name = f"{entries} entries took {found}"
+            same([found[kind] for kind in ("send", "pwrite", "sync", "size", "name")], [entries, *[2 * entries] * 4], name)
+            # (the next receive may have begun)
+            holds(found["receive"] in (entries - 1, entries), name)
+            holds(found["futex"] <= MOST_FUTEX * entries and found["all"] <= MOST_CALLS * entries, name)
+    server.stop()
+    return f"{found['futex'] / entries:.1f} futex calls, {found['all'] / entries:.1f} in all"
+
+
+CLIENTS, WINDOWS = 48, 6
+
+
+def windows(place):
+    """48 clients with windows of 32 calls: fewer than 2 sends a window, and one futex call for two calls"""
+    counted = Counted(place)
+    server = Server(place, connections=100).start()
+    made(server, (b"counters", CLIENTS, 1))
+    conns = [server.attached(session) for session in range(CLIENTS)]
+    before = counted.all()
+    for first in range(1, 32 * WINDOWS, 32):
+        for index, conn in enumerate(conns):
+            calls = b"".join(wire.call(first + k, adding(1, index, 1)) for k in range(32))
+            conn.send(calls + wire.settle(first + 32))
+        for conn in conns:
+            for k in range(32):
+                same(conn.reply(), ("answer", first + k, ("value", first + k - 1)))
+            same(conn.reply(), ("settled", first + 32))
+    found = counted.since(before)
+    for conn in conns:
+        conn.close()
+    server.stop()
+    count = CLIENTS * WINDOWS
+    holds(count <= found["send"] < 2 * count, f"{count} windows took {found}")
+    holds(found["futex"] < 32 * count / 2, f"{count} windows took {found}")
+    return f"{found['send'] / count:.2f} sends a window, {found['futex'] / (32 * count):.2f} futex calls a call"
+
+
+def processor_time(server):
+    """The processor time of a server so far, in seconds."""
+    with open(f"/proc/{server.process.pid}/stat", encoding="utf-8") as file:
+        fields = file.read().rsplit(")", 1)[1].split()
+    return (int(fields[11]) + int(fields[12])) / os.sysconf("SC_CLK_TCK")
+
+
+MOST_SECONDS = 1.5
+
+
+def lone_time(place):
+    """a thousand lone calls take at most 1.5 seconds of processor time"""
+    server = Server(place).start()
+    made(server, (b"counter", 1, 1))
+    with server.attached(7) as conn:
+        before = processor_time(server)
+        for first in range(1, LONE + 1, 50):
+            lone(conn, first, 50)
+            took = processor_time(server) - before
+            holds(took <= MOST_SECONDS, f"{first + 49} calls took {took:.2f} s")
+    server.stop()
+    return f"{took:.2f} s"
+
+
+def idle(place):
+    """a server with fifty idle connections, one of which waits, makes no system call, and takes no processor time"""
+    counted = Counted(place)
+    server = Server(place).start()
+    made(server, (b"empty", 1, 0))
+    conns = [server.attached(session) for session in range(50)]
+    conns[0].send(wire.call(1, ("access", 16, 1, 0, 0, False)))
+    until(lambda: conns[1].ask(wire.report())[1].startswith("waiting 1\n"), 20, "one waits")
+    # (the threads that the last reply woke go to sleep)
+    before = quiet(counted)
+    time.sleep(1)
+    same(counted.since(before)["all"], 0, "calls in a second")
+    same(conns[1].ask(wire.call(1, ("access", 19, 1, 0, 5, False))), ("answer", 1, ("done",)))
+    same(conns[0].reply(), ("answer", 1, ("value", 5)))
+    holds(counted.since(before)["all"] > 10, "the calls of what came next were not counted")
+    for conn in conns:
+        conn.close()
+    server.stop()
+    # (the processor time is that of the server itself)
+    place.program = counted.program
+    server = Server(place, "plain").start()
+    with server.attached(7):
+        used = [processor_time(server)]
+        for _ in range(3):
+            time.sleep(0.5)
+            used.append(processor_time(server))
+    server.stop()
+    # (the least of three, since the server may still be busy with its beginning)
+    same(min(later - earlier for earlier, later in zip(used, used[1:])), 0.0, "processor time in half a second")
+
+
+ACCEPTS = 100  # a second: each that fails is followed by a pause of ten milliseconds
+
+
+def no_files_left(place):
+    """a server that has no descriptor left tries to accept some hundred times a second at most, and serves who waits once there are some again"""
+    counted = Counted(place)
+    server = Server(place, connections=256).start(limit=(resource.RLIMIT_NOFILE, 16))
+    before = counted.all()
+    conns = [server.connect() for _ in range(30)]
+    # (more tries than connections: some fail)
+    until(lambda: counted.since(before)["accept"] > 30, 20, "the server tries again")
+    before, began = counted.all(), time.monotonic()
+    time.sleep(1)
+    count, seconds = counted.since(before)["accept"], time.monotonic() - began
+    holds(1 <= count <= ACCEPTS * seconds + 1, f"{count} tries in {seconds:.2f} s")
+    for conn in conns:
+        same(conn.ask(wire.report())[0], "report")
+        conn.close()
+    server.stop()
+    return f"{count / seconds:.0f} tries a second"
+
+
+def quiet(counted):
+    """The calls, once there were no more for a tenth of a second."""
+    for _ in range(200):
+        before = counted.all()
+        time.sleep(0.1)
+        if counted.since(before)["all"] == 0:
+            return before
+    holds(False, "the server does not come to rest")
+
+
+def baton(place):
+    """while a side makes several events in a row, another with several waits, and one with a single event does not"""
+    held = Held(place, "fdatasync")
+    growth, mark = place.path("growth"), place.path("grows")
+    env = {**held.env, "GROWTH_HOLD": growth, "GROWTH_MARK": mark}
+    env["LD_PRELOAD"] += f":{preload(place, 'growth.c')}"
+    server = Server(place).start(env)
+    made(server, (b"counter", 1, 1))
+    with server.attached(7) as first, server.attached(8) as second, server.attached(9) as third, server.connect() as other:
+        # (now the tables of the first one's write side have room for one mail more)
+        lone(first, 1, 5)
+        held.next()
+        other.send(wire.attach(10))
+        held.wait()
+        first.send(b"".join(wire.call(number, adding(1, 0, 1)) for number in range(6, 33)) + wire.report())
+        same(first.reply(), ("report", "waiting 0\n"))
+        place.write("growth", b"")
+        held.let_go()
+        # the write side that takes 27 mails in a row is held among them
+        until(lambda: os.path.exists(mark), 20, "a table grows")
+        second.send(wire.call(1, adding(1, 0, 1)) + wire.call(2, adding(1, 0, 1)))
+        for number in range(1, 21):
+            same(third.ask(wire.call(number, adding(1, 0, 1))), ("answer", number, ("value", 31 + number)))
+        holds(second.is_quiet(), "another side made several events meanwhile")
+        os.unlink(mark)
+        same([second.reply(), second.reply()], [("answer", number, ("value", 51 + number)) for number in (1, 2)])
+        same([first.reply() for _ in range(6, 33)], [("answer", number, ("value", number - 1)) for number in range(6, 33)])
+    server.stop()
+
+
+# The figures of bench/hall/README.md, by the function that bench/hall/quick names.
+FIGURES = r"a call (\d+) instructions, an entry posted (\d+), a mail taken (\d+), an entry appended (\d+)\."
+FUNCTIONS = ("hall_bench::call", "fe_front::front::Front::post", "hall_bench::take_all", "hall_bench::append")
+
+
+@within(300)
+def instructions(place):
+    """the events under the hall's lock take as many instructions as bench/hall/README.md says, within 3 %"""
+    for tool in ("rt", "valgrind"):
+        if shutil.which(tool) is None:
+            raise Skipped(f"there is no {tool}")
+    written = re.findall(FIGURES, text_of("bench/hall/README.md"))
+    same(len(written), 1, "the figures stand there once")
+    said = output_of(place, [os.path.join(TOP, "bench", "hall", "quick"), "1"], 280 * place.options.patience)
+    found = dict(reversed(row) for row in re.findall(r"^(\d+) instructions a unit of (\S+)$", said, re.M))
+    same(sorted(found), sorted(FUNCTIONS), said)
+    for name, figure in zip(FUNCTIONS, map(int, written[0])):
+        holds(figure > 0 and abs(int(found[name]) - figure) <= 0.03 * figure, f"{name}: {found[name]} instructions, not {figure}")
+    return ", ".join(f"{name.split('::')[-1]} {found[name]}" for name in FUNCTIONS)
+
+
+CHECKS = (a_window, lone_calls, within(120)(windows), lone_time, idle, no_files_left, baton, instructions)
