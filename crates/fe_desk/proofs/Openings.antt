@@ -1,6 +1,6 @@
 -- A desk as it is opened.
 use Rattle.std.proofs.Common.{◌≡◌, ℕ, ◌≤◌, true, false, true≢false, List, [], ◌∷◌, ◌++◌, length, take, refl, sym, ap, subst, ◌∙◌, arith}
-use Rattle.std.specs.Prelude.{◌↔◌, Option, Result, Ok, Err, IfOk, IfErr, is_some, map}
+use Rattle.std.specs.Prelude.{◌≢◌, ◌↔◌, Option, Result, Ok, Err, IfOk, IfErr, is_some, map}
 use Rattle.std.specs.Ordering.{nat_cmp}
 use Rattle.std.specs.FinMap.{FinMap, get, get-empty}
 use Rattle.fe_mail.specs.declared.connection.Connection.{Connection}
@@ -9,6 +9,8 @@ use Rattle.fe_state.specs.History.{IsHistory, AreLegal, after_groups}
 use Rattle.fe_state.specs.declared.entry.Entry.{Entry}
 use Rattle.fe_front.specs.Front.{FrontState, IsFirst, is_connected}
 use Rattle.fe_disk.specs.Disk.{Rises}
+use Rattle.fe_disk.specs.Outcome.{told}
+use Rattle.fe_journal.specs.Found.{AsksToOpen}
 use Rattle.fe_disk.specs.declared.calls.Calls.{Calls}
 use Rattle.fe_keeper.specs.Keeper.{KeeperState}
 use Rattle.fe_keeper.specs.Stands.{StandsFor, EachStandsFor}
@@ -87,16 +89,6 @@ module _ {D : Type 0} (r : Result (DeskState D) (DeskFault × D)) (k : KeeperSta
       by (Ok d) same none = ap (λ (x : KeeperState D). x.store.disk) same
       by (Err e) none same = same
 
-  -- what is told is lack of memory, and no call of the device failed
-  pub device_told : (failures : D → ℕ) (before : ℕ) → (Rises before (failures k.store.disk) → ⊥) → IfErr r (λ e. e.0 ≡ NoMemory false) → IfErr r (λ e. e.1 ≡ k.store.disk)
-      → IfErr r (λ e. (e.0 ≡ Store keeper.Device) ↔ Rises before (failures e.1))
-  device_told failures before calm = by r
-    where
-      by : (x : Result (DeskState D) (DeskFault × D)) → IfErr x (λ e. e.0 ≡ NoMemory false) → IfErr x (λ e. e.1 ≡ k.store.disk) → IfErr x (λ e. (e.0 ≡ Store keeper.Device) ↔ Rises before (failures e.1))
-      by (Ok d) fault disk = tt
-      by (Err e) fault disk =
-          (λ is. absurd (none_both e.0 fault is), λ rises. absurd (calm (subst (λ (d : D). Rises before (failures d)) disk rises)))
-
   -- and the device has the size of a store
   pub size_told : (A : Type 0) → A → IfErr r (λ e. e.0 ≡ NoMemory false) → IfErr r (λ e. (e.0 ≡ Store keeper.Unformatted) ↔ (A → ⊥))
   size_told A size = by r
@@ -104,6 +96,53 @@ module _ {D : Type 0} (r : Result (DeskState D) (DeskFault × D)) (k : KeeperSta
       by : (x : Result (DeskState D) (DeskFault × D)) → IfErr x (λ e. e.0 ≡ NoMemory false) → IfErr x (λ e. (e.0 ≡ Store keeper.Unformatted) ↔ (A → ⊥))
       by (Ok d) fault = tt
       by (Err e) fault = (λ is. absurd (none_both e.0 fault is), λ none. absurd (none size))
+
+-- ---- what opening asked of the device
+
+-- The fault of the one is the device's where that of the other is.
+asks_as : {D T U E F : Type 0} {size failures : D → ℕ} {calls : D → Calls} {honest : D → Type 0} {device : E} {other : F} {r : Result T E} {old new : D} (s : Result U F) (again : D) → again ≡ new → (s ≡ Err other) ↔ (r ≡ Err device)
+    → AsksToOpen size failures calls honest device r old new → AsksToOpen size failures calls honest other s old again
+asks_as {size = size} {failures = failures} {calls = calls} {honest = honest} {other = other} {old = old} s again is same asks =
+    subst (λ d. AsksToOpen size failures calls honest other s old d) (sym is)
+    (record {
+      fault = (λ e. asks.fault.0 (same.0 e), λ rises. same.1 (asks.fault.1 rises));
+      still = λ none. asks.still (λ e. none (same.1 e));
+      most = asks.most;
+      honesty = asks.honesty;
+      same_size = asks.same_size;
+    })
+
+-- the desk's fault is the device's where the keeper's is
+device_told : (f : Fault) → (told_as f false ≡ Store keeper.Device) ↔ (f ≡ keeper.Device)
+device_told keeper.Device = (λ e. refl, λ e. refl)
+device_told keeper.Failed = (λ e. cc, λ e. cc)
+device_told keeper.NoMemory = (λ e. cc, λ e. cc)
+device_told (keeper.Mismatch place) = (λ e. cc, λ e. cc)
+device_told (keeper.Damaged offset) = (λ e. cc, λ e. cc)
+device_told keeper.Unformatted = (λ e. cc, λ e. cc)
+
+module _ {D : Type 0} {size failures : D → ℕ} {calls : D → Calls} {honest : D → Type 0} {old : D} where
+  -- over a keeper that was opened, whether there was memory for the desk or not
+  pub asks_over : (r : Result (DeskState D) (DeskFault × D)) (k : KeeperState D) → IfOk r (λ d. d.keeper ≡ k) → IfErr r (λ e. e.0 ≡ NoMemory false) → IfErr r (λ e. e.1 ≡ k.store.disk)
+      → AsksToOpen size failures calls honest keeper.Device (Ok k) old k.store.disk → AsksToOpen size failures calls honest (Store keeper.Device) (told r) old (disk_after r)
+  asks_over r k = by r
+    where
+      by : (x : Result (DeskState D) (DeskFault × D)) → IfOk x (λ d. d.keeper ≡ k) → IfErr x (λ e. e.0 ≡ NoMemory false) → IfErr x (λ e. e.1 ≡ k.store.disk)
+          → AsksToOpen size failures calls honest keeper.Device (Ok k) old k.store.disk → AsksToOpen size failures calls honest (Store keeper.Device) (told x) old (disk_after x)
+      by (Ok d) same short disk asks = asks_as (Ok d) (disk_of d) (ap (λ (x : KeeperState D). x.store.disk) same) (λ e. cc, λ e. cc) asks
+      by (Err e) same short disk asks = asks_as (Err e.0) e.1 disk (λ is. let fault : e.0 ≡ Store keeper.Device = cc in absurd (none_both e.0 short fault), λ is. cc) asks
+
+  -- over a store that the keeper refused
+  pub asks_refused : {T U : Type 0} {new : D} (f : Fault) (fault : DeskFault) → fault ≡ told_as f false → AsksToOpen {T = T} size failures calls honest keeper.Device (Err f) old new
+      → AsksToOpen {T = U} size failures calls honest (Store keeper.Device) (Err fault) old new
+  asks_refused {new = new} f fault is asks =
+      asks_as (Err fault) new refl (λ e. let told_is : told_as f false ≡ Store keeper.Device = cc in ap (λ x. Err x) ((device_told f).0 told_is), λ e. let same : f ≡ keeper.Device = cc in ap (λ x. Err x) (is ∙ (device_told f).1 same)) asks
+
+  -- which fault the device's is, and that no call failed at another
+  pub device_alone : {T : Type 0} {new : D} (fault : DeskFault) → AsksToOpen {T = T} size failures calls honest (Store keeper.Device) (Err fault) old new
+      → ((fault ≡ Store keeper.Device) ↔ Rises (failures old) (failures new)) × (fault ≢ Store keeper.Device → failures new ≡ failures old)
+  device_alone fault asks =
+      ((λ is. asks.fault.0 (ap (λ x. Err x) is), λ rises. let e = asks.fault.1 rises in cc), λ other. asks.still (λ e. other cc))
 
 -- ---- the trace of a desk
 

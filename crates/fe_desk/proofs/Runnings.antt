@@ -79,11 +79,11 @@ module _ {D : Type 0} (honest : D → Type 0) (may_leave : D → List ℕ → Ty
 -- ---- whole runs
 
 -- a run from its parts
-module _ {D : Type 0} (honest : D → Type 0) (seen : D → List ℕ) (failures : D → ℕ) (calls : D → Calls) (disk : D) (steps : List Step) (t : Trace) (after : D) where
+module _ {D : Type 0} (honest : D → Type 0) (seen : D → List ℕ) (failures : D → ℕ) (calls : D → Calls) (may_leave : D → List ℕ → Type 0) (moment : D → ℕ) (left_since : D → ℕ → List ℕ → Type 0) (disk : D) (steps : List Step) (t : Trace) (after : D) where
   abbrev ran : Option (ℕ × DeskFault) → Ran D
   ran fault = record { trace = t; disk = after; fault = fault }
 
-  pub run_of : (fault : Option (ℕ × DeskFault)) → IsOpened honest seen failures disk steps (ran fault) → IsRunTo honest seen failures calls disk steps (ran fault) fault
+  pub run_of : (fault : Option (ℕ × DeskFault)) → IsOpened honest seen failures disk steps (ran fault) → IsRunTo honest seen failures calls may_leave moment left_since disk steps (ran fault) fault
   run_of None opened = opened
   run_of (Some (zero, fault)) opened = absurd opened.goes
   run_of (Some (suc k, fault)) opened = opened

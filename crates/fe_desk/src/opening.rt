@@ -1,7 +1,9 @@
 ghost use Rattle.std.specs.Prelude.{◌≡◌, ◌≢◌, ◌⊎◌, ◌↔◌, ℕ, List, false, None, IfOk, IfErr, IsErrAnd};
 ghost use Rattle.fe_disk.specs.Disk.{Rises};
+ghost use Rattle.fe_disk.specs.Outcome.{told as outcome};
 ghost use Rattle.fe_state.specs.State.{ServerState, first_state};
 ghost use Rattle.fe_journal.specs.Damage.{IsUnformatted};
+ghost use Rattle.fe_journal.specs.Found.{AsksToOpen};
 ghost use Rattle.fe_journal.specs.Steps.{OnlyReads};
 ghost use Rattle.fe_journal.specs.Layout.{device_bytes};
 ghost use Rattle.fe_keeper.specs.Keeper.{first_store};
@@ -41,11 +43,9 @@ impl<D: Disk> Desk<D> {
         ensures reads { D.honest disk → OnlyReads D.seen D.may_leave D.moment D.left_since disk (disk_after result) }
         ensures works { IfOk result (λ desk. desk.keeper.store.has_failed ≡ false) }
         ensures none_under_way { IfOk result (λ desk. desk.keeper.store.checkpoint ≡ None) }
-        ensures device { IfErr result (λ e. (e.0 ≡ Store keeper.Device) ↔ Rises (D.failures disk) (D.failures e.1)) }
-        ensures still { IfOk result (λ desk. D.failures (disk_of desk) ≡ D.failures disk) }
         ensures faults { IfErr result (λ e. IsOpenFault e.0) }
-        ensures honesty { D.honest (disk_after result) ↔ D.honest disk }
-        ensures size { D.size (disk_after result) ≡ D.size disk }
+        ensures device { AsksToOpen D.size D.failures D.calls D.honest (Store keeper.Device) (outcome result) disk
+            (disk_after result) }
         ensures sized { IfOk result (λ desk. D.size disk ≡ device_bytes) }
     {
         match Keeper::open(alloc, disk) {

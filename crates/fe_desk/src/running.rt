@@ -2,10 +2,10 @@ ghost use Rattle.std.specs.Prelude.{◌≡◌, ◌↔◌, None, List, ℕ, false
 ghost use Rattle.fe_disk.specs.Disk.{LeavesOnly};
 ghost use Rattle.fe_state.specs.State.{ServerState};
 ghost use Rattle.fe_state.specs.History.{IsHistory};
-ghost use Rattle.fe_keeper.specs.Stands.{EachStandsFor};
+ghost use Rattle.fe_keeper.specs.Stands.{StandsFor, EachStandsFor};
 ghost use Rattle.fe_keeper.specs.Prefix.{LeavesPrefix};
 ghost use Rattle.fe_desk.specs.Crash.{Advances, IsFrom, disk_of};
-ghost use Rattle.fe_desk.specs.Runs.{IsRunOf, GoesTo};
+ghost use Rattle.fe_desk.specs.Runs.{IsRunOf, IsPastOpening, GoesTo};
 ghost use Rattle.fe_desk.specs.Traces.{groups_of};
 
 use crate::desk::Desk;
@@ -27,15 +27,17 @@ pub struct Ran<D: Disk> {
 
 /// Opens a store and takes the steps in order, up to the first fault.
 pub fn run<D: Disk>(alloc: Global, disk: D, steps: &[Step]) -> Ran<D>
-    // The run ends at the opening, at a step, or whole: what it did, what it reports, and whether the device failed.
-    ensures ran { IsRunOf D.honest D.seen D.failures D.calls disk steps.now result }
-    // A stop at any moment leaves a prefix of the history, which begins with the state that was there.
-    ensures history { D.honest disk → (s : ServerState) → EachStandsFor D.may_leave disk s
+    // The run ends at the opening, at a step, or whole: what it did, what it reports, and whether the device failed. A store that
+    // is not opened is not written.
+    ensures ran { IsRunOf D.honest D.seen D.failures D.calls D.may_leave D.moment D.left_since disk steps.now result }
+    // The groups are a history from the state that was there.
+    ensures history { D.honest disk → (s : ServerState) → StandsFor (D.seen disk) s
         → IsHistory s (groups_of result.trace) }
+    // Where every image at the start stands for that state, a stop at any moment leaves a prefix of the history.
     ensures any_moment { D.honest disk → (s : ServerState) → EachStandsFor D.may_leave disk s
         → LeavesOnly D.moment D.left_since disk result.disk (LeavesPrefix s (groups_of result.trace) 0) }
-    // And at the end one that holds all groups that were stored.
-    ensures stands { D.honest disk → (s : ServerState) → EachStandsFor D.may_leave disk s
+    // Wherever the store was opened, a stop at the end leaves a prefix that holds all groups that were stored.
+    ensures stands { D.honest disk → (s : ServerState) → StandsFor (D.seen disk) s → IsPastOpening result.fault
         → (image : List ℕ) → D.may_leave result.disk image
         → LeavesPrefix s (groups_of result.trace) result.trace.synced image }
     // The disk is one to open again.

@@ -9,7 +9,7 @@ use Rattle.fe_keeper.specs.Stands.{StandsFor, EachStandsFor}
 use Rattle.fe_keeper.specs.Prefix.{LeavesPrefix}
 use Rattle.fe_keeper.specs.declared.fault.Fault.TheVariants as store
 use Rattle.fe_desk.specs.Crash.{DeskState, Advances, IsFrom, IsFine, disk_of}
-use Rattle.fe_desk.specs.Standing.{IsFirstStanding}
+use Rattle.fe_desk.specs.Standing.{Standing, IsFirstStanding}
 use Rattle.fe_desk.specs.Steps.{DeskStep}
 use Rattle.fe_desk.specs.declared.step.Step.{Step}
 use Rattle.fe_desk.proofs.Openings.{first_from}
@@ -23,6 +23,9 @@ use Rattle.fe_schedules.specs.declared.fault.MachineFault.{MachineFault}
 use Rattle.fe_schedules.specs.declared.fault.MachineFault.TheVariants as machine
 use Rattle.fe_desk.specs.Quiet.{AreWritten}
 use Rattle.fe_schedules.specs.Ready.{IsReady}
+use Rattle.fe_schedules.specs.Schedule.{Stage, LeavesStored, stored}
+use Rattle.fe_schedules.specs.Runs.{IsRun, IsAt, last_of, last_disk}
+use Rattle.fe_schedules.specs.declared.run.Run.{Run}
 use Rattle.fe_schedules.proofs.Growth.{extended, stepped}
 
 -- what a step of the desk promises of the store
@@ -72,6 +75,17 @@ ready_first d s honest works calm first is synced stands = record {
   owes = first.owes;
   written = subst AreWritten (sym first.clients) tt;
 }
+
+-- a stop leaves what a run has stored
+pub leaves_at : (r : Run) (here : Stage) → IsRun r → IsAt r here → LeavesStored (last_disk r.machine) here
+leaves_at r here run at =
+    let d = r.machine.desk in
+    let ready = run.machine.ready in
+    let groups : List (List Entry) = d.standing.groups in
+    let disk : last_disk r.machine ≡ disk_of d = ap (λ (o : Option MemoryState). last_of o (disk_of d)) run.machine.lost in
+    let whole : take d.synced groups ≡ groups = take_all d.synced groups (omega (arith, ready.synced)) in
+    let state : d.keeper.state ≡ stored here = at.from.replica ∙ ap (λ (gs : List (List Entry)). after_groups here.begun gs) (whole ∙ ap (λ (s : Standing). s.groups) (sym at.standing)) in
+    λ image may. subst (λ (s : ServerState). StandsFor image s) state (ready.stands image (subst (λ (m : MemoryState). LeavesNow m image) disk may))
 
 -- ---- a stop
 

@@ -6,6 +6,7 @@ use Rattle.std.specs.Option.{option_map}
 use Rattle.std.specs.Ordering.{nat_cmp}
 use Rattle.std.proofs.KnownBytes.{Appends-nil}
 use Rattle.std.specs.Io.KnownBytes.{Consumes, IsAtEnd}
+use Rattle.fe_disk.specs.Memory.{MemoryState}
 use Rattle.fe_state.specs.State.{first_state}
 use Rattle.fe_mail.specs.Books.{first_books}
 use Rattle.fe_front.specs.Front.{FrontState}
@@ -82,8 +83,8 @@ halted reader writer unread f fails o i read before now r c so none = let k = kn
 pub ended : (reader writer : StreamFault → Type 0) (unread : Type 0) (end : ScheduleFault) (o i : Option (List ℕ)) (read : List ℕ) (before after : Option (List ℕ)) → Consumes o i read → IsAtEnd i → Ended writer end read before after [] → RunsUntil reader writer unread end o before after
 ended reader writer unread end o i read before after c e at = until reader writer unread end o read before after (known_all o i read c e) at
 
-pub finished : (o i : Option (List ℕ)) (read : List ℕ) (before after : Option (List ℕ)) → Consumes o i read → IsAtEnd i → Whole read before after [] → RunsAll o before after
-finished o i read before after c e w = all_ran o read before after (known_all o i read c e) w
+pub finished : (o i : Option (List ℕ)) (read : List ℕ) (before after : Option (List ℕ)) (disk : MemoryState) → Consumes o i read → IsAtEnd i → Whole read before after [] disk → RunsAll o before after disk
+finished o i read before after disk c e w = all_ran o read before after disk (known_all o i read c e) w
 
 -- a run at its start has read nothing
 pub begins : (now : Option (List ℕ)) (r : Run) (at : Stage) → IsStart at → IsAt r at → r.lines ≡ 0 → r.begun.items ≡ [] → string_bytes r.text ≡ [] → SoFar [] now now r

@@ -4,6 +4,7 @@ use Rattle.std.proofs.lemmas.Bool.{lt-ltb}
 use Rattle.std.proofs.lemmas.List.{length-append, take-append-drop}
 use Rattle.std.proofs.KnownBytes.{Appends-trans}
 use Rattle.std.specs.Io.KnownBytes.{Keeps, Appends, Consumes, IsAtEnd}
+use Rattle.fe_disk.specs.Memory.{MemoryState}
 use Rattle.fe_text.specs.Line.{parsed}
 use Rattle.fe_text.specs.Lines.{lines_of, HasNoFeed}
 use Rattle.fe_text.specs.declared.fault.StreamFault.{StreamFault}
@@ -13,10 +14,11 @@ use Rattle.fe_schedules.specs.Fault.{of_stream, of_machine}
 use Rattle.fe_schedules.specs.declared.fault.MachineFault.{MachineFault}
 use Rattle.fe_schedules.specs.declared.fault.MachineFault.TheVariants as machine
 use Rattle.fe_schedules.specs.Schedule.{Stage, RunsBytes, RunsLines, Prints, EndsWithin, RunsAll, RunsUntil}
-use Rattle.fe_schedules.specs.Runs.{IsAt, RanBytes, SaysLine, IsStray, IsFaultOf, IsTooLong, SoFar, Whole, Ended}
+use Rattle.fe_schedules.specs.Runs.{IsRun, IsAt, RanBytes, last_disk, SaysLine, IsStray, IsFaultOf, IsTooLong, SoFar, Whole, Ended}
 use Rattle.fe_schedules.specs.declared.fault.ScheduleFault.{ScheduleFault}
 use Rattle.fe_schedules.specs.declared.fault.ScheduleFault.TheVariants as fault
 use Rattle.fe_schedules.specs.declared.run.Run.{Run}
+use Rattle.fe_schedules.proofs.Readiness.{leaves_at}
 use Rattle.fe_text.proofs.LineLemmas.{fed, unfed, begins, both_no_feed}
 
 -- ---- lines
@@ -83,8 +85,8 @@ said_fault number bytes l machine.Device said = (said.0, l, said.1)
 alone : (text kept : List ℕ) → text ++ kept ≡ (text ++ kept) ++ []
 alone text kept = sym (append-nil (text ++ kept))
 
-prints_as : (lines : List (List ℕ)) (a b : List ℕ) → a ≡ b → Prints lines a → Prints lines b
-prints_as lines a b e p = subst (λ (x : List ℕ). Prints lines x) e p
+abbrev prints_as : (lines : List (List ℕ)) (a b : List ℕ) → a ≡ b → Prints lines a → Prints lines b
+prints_as lines a b e p = record { start = p.start; starts = p.starts; end = p.end; runs = subst (λ (x : List ℕ). RunsLines p.start lines p.end x) e p.runs }
 
 at_line : (writer : StreamFault → Type 0) (end : ScheduleFault) (number : ℕ) (line : List ℕ) (lines left : List (List ℕ)) → number ≡ length lines → IsFaultOf (number + 1) line end → EndsWithin writer end lines (line ∷ left) []
 at_line writer (fault.Line told) number line lines left counts is = inl (refl, (is.0 ∙ ap (λ (n : ℕ). n + 1) counts, (is.1, is.2)))
@@ -233,24 +235,25 @@ pub write_end_fails : (earlier writer : StreamFault → Type 0) (end : ScheduleF
 write_end_fails earlier writer end next fails input before now after kept count e appends =
     writing_fails writer next fails input e.lines e.left before now after e.text kept e.more count e.all e.prints e.written appends
 
-pub wrote_whole : (input : List ℕ) (before now after : Option (List ℕ)) (kept : List ℕ) → Whole input before now kept → Appends now after kept → Whole input before after []
-wrote_whole input before now after kept w appends =
-    record { lines = w.lines; all = w.all; text = w.text ++ kept; prints = prints_as w.lines (w.text ++ kept) ((w.text ++ kept) ++ []) (alone w.text kept) w.prints; written = Appends-trans before now after w.text kept w.written appends }
+pub wrote_whole : (input : List ℕ) (before now after : Option (List ℕ)) (kept : List ℕ) (disk : MemoryState) → Whole input before now kept disk → Appends now after kept → Whole input before after [] disk
+wrote_whole input before now after kept disk w appends =
+    record { lines = w.lines; all = w.all; text = w.text ++ kept; prints = prints_as w.lines (w.text ++ kept) ((w.text ++ kept) ++ []) (alone w.text kept) w.prints; written = Appends-trans before now after w.text kept w.written appends; leaves = w.leaves }
 
-pub write_whole_fails : (writer : StreamFault → Type 0) (f : StreamFault) → writer f → (input : List ℕ) (before now after : Option (List ℕ)) (kept : List ℕ) (count : ℕ) → Whole input before now kept → Appends now after (take count kept) → Ended writer (of_stream f) input before after []
-write_whole_fails writer f fails input before now after kept count w appends =
+pub write_whole_fails : (writer : StreamFault → Type 0) (f : StreamFault) → writer f → (input : List ℕ) (before now after : Option (List ℕ)) (kept : List ℕ) (disk : MemoryState) (count : ℕ) → Whole input before now kept disk → Appends now after (take count kept) → Ended writer (of_stream f) input before after []
+write_whole_fails writer f fails input before now after kept disk count w appends =
     writing_fails writer f fails input w.lines [] before now after w.text kept [] count (w.all ∙ sym (append-nil w.lines)) (prints_as w.lines (w.text ++ kept) ((w.text ++ kept) ++ []) (alone w.text kept) w.prints) w.written appends
 
 -- ---- the end of the input
 
 -- no line has begun
-pub ends_between : (read : List ℕ) (before now : Option (List ℕ)) (r : Run) → SoFar read before now r → r.begun.items ≡ [] → Whole read before now (string_bytes r.text)
-ends_between read before now r so none = record {
+pub ends_between : (read : List ℕ) (before now : Option (List ℕ)) (r : Run) → IsRun r → SoFar read before now r → r.begun.items ≡ [] → Whole read before now (string_bytes r.text) (last_disk r.machine)
+ends_between read before now r run so none = record {
   lines = so.lines;
   all = ap lines_of (sym (append-nil read)) ∙ so.splits [] ∙ ap (λ (b : List ℕ). so.lines ++ lines_of (b ++ [])) none ∙ append-nil so.lines;
   text = so.text;
   prints = record { start = so.start; starts = so.starts; end = so.here; runs = so.runs };
   written = so.written;
+  leaves = leaves_at r so.here run so.is;
 }
 
 -- the lines with the last one
@@ -259,8 +262,9 @@ last_line read [] lines splits none some = absurd (some refl)
 last_line read (x ∷ xs) lines splits none some =
     ap lines_of (sym (append-nil read)) ∙ splits [] ∙ ap (λ (b : List ℕ). lines ++ lines_of b) (append-nil (x ∷ xs)) ∙ ap (λ (ls : List (List ℕ)). lines ++ ls) (unfed x xs none) ∙ ap (λ (b : List ℕ). lines ++ b ∷ []) (sym (append-nil (x ∷ xs)))
 
-pub ends_within : (read : List ℕ) (before now : Option (List ℕ)) (r s : Run) → SoFar read before now r → r.begun.items ≢ [] → RanBytes r (r.begun.items ++ []) s → Whole read before now (string_bytes s.text)
-ends_within read before now r s so some ran =
+pub ends_within : (read : List ℕ) (before now : Option (List ℕ)) (r s : Run) → SoFar read before now r → r.begun.items ≢ [] → IsRun s × RanBytes r (r.begun.items ++ []) s → Whole read before now (string_bytes s.text) (last_disk s.machine)
+ends_within read before now r s so some ended =
+    let ran = ended.1 in
     let line : List ℕ = r.begun.items ++ [] in
     let step = ran.runs so.here so.is in
     record {
@@ -269,6 +273,7 @@ ends_within read before now r s so some ran =
       text = so.text;
       prints = record { start = so.start; starts = so.starts; end = step.0; runs = with_line so.lines line so.start so.here step.0 so.text (string_bytes r.text) ran.more (string_bytes s.text) so.runs step.2 ran.text };
       written = so.written;
+      leaves = leaves_at s step.0 ended.0 step.1;
     }
 
 pub last_fails : (writer : StreamFault → Type 0) (end : ScheduleFault) (read : List ℕ) (before now : Option (List ℕ)) (r : Run) (kept : List ℕ) → SoFar read before now r → r.begun.items ≢ [] → IsFaultOf (r.lines + 1) (r.begun.items ++ []) end → kept ≡ string_bytes r.text → Ended writer end read before now kept
@@ -327,9 +332,9 @@ unread_left reader writer unread f fails o read others before now r k so none = 
   ends = inr (refl, inl (f, fails, refl));
 }
 
-pub all_ran : (o : Option (List ℕ)) (input : List ℕ) (before after : Option (List ℕ)) → IfSome o (λ bytes. bytes ≡ input) → Whole input before after [] → RunsAll o before after
-all_ran o input before after k w =
-    record { lines = w.lines; all = lines_known o input w.lines k w.all; text = w.text; prints = prints_as w.lines (w.text ++ []) w.text (append-nil w.text) w.prints; written = w.written }
+pub all_ran : (o : Option (List ℕ)) (input : List ℕ) (before after : Option (List ℕ)) (disk : MemoryState) → IfSome o (λ bytes. bytes ≡ input) → Whole input before after [] disk → RunsAll o before after disk
+all_ran o input before after disk k w =
+    record { lines = w.lines; all = lines_known o input w.lines k w.all; text = w.text; prints = prints_as w.lines (w.text ++ []) w.text (append-nil w.text) w.prints; written = w.written; leaves = w.leaves }
 
 -- what was read, and next more
 pub read_more : (a b c : Option (List ℕ)) (read more : List ℕ) → Consumes a b read → Consumes b c more → Consumes a c (read ++ more)

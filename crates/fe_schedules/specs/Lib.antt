@@ -3,4 +3,5 @@ pub mod Told
 pub mod Ready
 pub mod Schedule
 pub mod Runs
+pub mod Counted
 pub mod within

@@ -1,8 +1,8 @@
 -- A desk over a store in memory between two steps.
 use Rattle.std.specs.Prelude.{◌≡◌, false, List, [], ◌∷◌, length}
-use Rattle.fe_disk.specs.Memory.{MemoryState, IsHonest, LeavesNow, synced_image}
+use Rattle.fe_disk.specs.Memory.{MemoryState, IsHonest, LeavesNow}
 use Rattle.fe_state.specs.State.{ServerState}
-use Rattle.fe_keeper.specs.Stands.{StandsFor, EachStandsFor}
+use Rattle.fe_keeper.specs.Stands.{EachStandsFor}
 use Rattle.fe_desk.specs.Crash.{DeskState, IsFrom, disk_of}
 use Rattle.fe_desk.specs.Checks.{Checks}
 use Rattle.fe_desk.specs.Quiet.{AreWritten}
@@ -21,10 +21,6 @@ pub record IsReady (d : DeskState MemoryState) : Type 0 where
   pub synced : d.synced ≡ length d.standing.groups
   pub owes : d.standing.owes ≡ false
   pub written : AreWritten d.standing.clients
-
--- the image of the disk at its last sync stands for this state
-abbrev pub StandsSynced : MemoryState → ServerState → Type 0
-StandsSynced disk s = StandsFor (synced_image disk.image disk.events) s
 
 -- the steps did to the store what each of them says, one after the other
 abbrev pub ChecksEach : DeskState MemoryState → List Step → DeskState MemoryState → Type 0

@@ -11,7 +11,7 @@ use Rattle.fe_wire.specs.declared.server_message.ServerMessage.{ServerMessage}
 use Rattle.fe_schedules.specs.Ready.{IsReady, Moves}
 use Rattle.fe_text.specs.Line.{parsed}
 use Rattle.fe_text.specs.Lines.{lines_of, HasNoFeed}
-use Rattle.fe_schedules.specs.Schedule.{Stage, AreStepsOf, holds_after, endings, writings, RunsBytes, Prints, RunsLines, IsStart, EndsWithin}
+use Rattle.fe_schedules.specs.Schedule.{Stage, AreStepsOf, holds_after, endings, writings, RunsBytes, Prints, RunsLines, IsStart, EndsWithin, LeavesStored}
 use Rattle.fe_schedules.specs.Told.{PrintsSince, IsTold, told_to}
 use Rattle.fe_text.specs.declared.fault.StreamFault.{StreamFault}
 use Rattle.fe_schedules.specs.declared.fault.ScheduleFault.{ScheduleFault}
@@ -159,13 +159,15 @@ pub record SoFar (read : List ℕ) (before now : Option (List ℕ)) (r : Run) : 
   pub runs : RunsLines start lines here (text ++ string_bytes r.text)
   pub written : Appends before now text
 
--- All of these bytes ran as lines; this text of what they print is not written.
-pub record Whole (input : List ℕ) (before now : Option (List ℕ)) (kept : List ℕ) : Type 0 where
+-- All of these bytes ran as lines; this text of what they print is not written. A stop leaves all that they
+-- stored on the disk.
+pub record Whole (input : List ℕ) (before now : Option (List ℕ)) (kept : List ℕ) (disk : MemoryState) : Type 0 where
   pub lines : List (List ℕ)
   pub all : lines_of input ≡ lines
   pub text : List ℕ
   pub prints : Prints lines (text ++ kept)
   pub written : Appends before now text
+  pub leaves : LeavesStored disk prints.end
 
 -- A run over these bytes ended at a fault. Of what its lines print this text is kept, and where the writer failed, more is lost.
 pub record Ended (writer : StreamFault → Type 0) (end : ScheduleFault) (input : List ℕ) (before now : Option (List ℕ)) (kept : List ℕ) : Type 0 where

@@ -1,10 +1,12 @@
 -- What a schedule does, line for line, and what it prints.
 use Rattle.std.specs.Prelude.{◌≡◌, ◌≢◌, ◌⊎◌, ℕ, ◌+◌, ◌-◌, ◌^◌, Bool, true, false, List, [], ◌∷◌, ◌++◌, length, map, Option, Some, None, IfSome}
 use Rattle.std.specs.Io.KnownBytes.{Appends}
+use Rattle.fe_disk.specs.Memory.{MemoryState, LeavesNow}
 use Rattle.fe_state.specs.State.{ServerState, first_state}
 use Rattle.fe_state.specs.History.{after_groups}
 use Rattle.fe_wire.specs.Spelling.{spelling}
 use Rattle.fe_wire.specs.declared.client_message.ClientMessage.{ClientMessage}
+use Rattle.fe_keeper.specs.Stands.{EachStandsFor}
 use Rattle.fe_desk.specs.Messages.{outputs}
 use Rattle.fe_desk.specs.Standing.{Standing, IsFirstStanding}
 use Rattle.fe_desk.specs.Steps.{DeskRun}
@@ -26,6 +28,14 @@ pub record Stage : Type 0 where
   pub begun : ServerState
   pub standing : Standing
   pub is_holding : Bool
+
+-- the state that its groups lead to: all that is stored
+abbrev pub stored : Stage → ServerState
+stored s = after_groups s.begun s.standing.groups
+
+-- each image that a stop may leave of the disk stands for that state
+abbrev pub LeavesStored : MemoryState → Stage → Type 0
+LeavesStored disk s = EachStandsFor LeavesNow disk (stored s)
 
 -- a desk over a new store, and no hold
 pub record IsStart (s : Stage) : Type 0 where
@@ -52,7 +62,7 @@ AreStepsOf line.Check steps = steps ≡ step.CheckBegin ∷ step.CheckFinish ∷
 
 -- where its steps begin: at a stop with a desk over all that was stored, else where the schedule stands
 abbrev pub Begins : Line → Stage → Stage → Type 0
-Begins line.Stop s t = (t.begun ≡ after_groups s.begun s.standing.groups) × IsFirstStanding t.begun t.standing
+Begins line.Stop s t = (t.begun ≡ stored s) × IsFirstStanding t.begun t.standing
 Begins other s t = (t.begun ≡ s.begun) × (t.standing ≡ s.standing)
 
 -- whether it is on hold after a line
@@ -145,13 +155,15 @@ ReaderFails has_failed was_read old new f = has_failed new f ⊎ ((f ≡ stream.
 
 -- ---- a whole run
 
--- All lines of the input, where it is known, ran, and what they print is written.
-pub record RunsAll (input before after : Option (List ℕ)) : Type 0 where
+-- All lines of the input, where it is known, ran, and what they print is written. A stop leaves all that they
+-- stored on the disk.
+pub record RunsAll (input before after : Option (List ℕ)) (disk : MemoryState) : Type 0 where
   pub lines : List (List ℕ)
   pub all : IfSome input (λ bytes. lines_of bytes ≡ lines)
   pub text : List ℕ
   pub prints : Prints lines text
   pub written : Appends before after text
+  pub leaves : LeavesStored disk prints.end
 
 -- Lines at the front of the input ran, and what they print is written, but for what a writer that failed did not take.
 pub record RunsUntil (reader writer : StreamFault → Type 0) (unread : Type 0) (end : ScheduleFault) (input before after : Option (List ℕ)) : Type 0 where

@@ -1,7 +1,10 @@
 //! Schedules: lines that are run one after the other over a store in memory, and what they print.
 #![tactic(auto)]
 
+mod counted_reader;
+mod counted_writer;
 mod fault;
+mod faults;
 mod line;
 mod machine;
 mod reading;
@@ -11,6 +14,8 @@ mod serving;
 mod streams;
 mod told;
 
+pub use counted_reader::CountedReader;
+pub use counted_writer::CountedWriter;
 pub use fault::ScheduleFault;
 pub use fe_journal::DEVICE_BYTES;
 pub use schedule::run_schedule;

@@ -9,7 +9,7 @@ ghost use Rattle.fe_desk.specs.Crash.{IsFrom, disk_of};
 ghost use Rattle.fe_state.specs.State.{first_state};
 ghost use Rattle.fe_text.specs.Line.{LineFits};
 ghost use Rattle.fe_schedules.specs.Fault.{TellsDisk};
-ghost use Rattle.fe_schedules.specs.Ready.{Moves, StandsSynced};
+ghost use Rattle.fe_schedules.specs.Ready.{Moves};
 ghost use Rattle.fe_schedules.specs.Schedule.{endings};
 ghost use Rattle.fe_schedules.specs.Runs.{IsMachine, ActsOn, PrintsMore, last_disk, lengths};
 
@@ -153,7 +153,6 @@ impl Machine {
         requires { IsMachine self.old }
         ensures machine { OnOk result (IsMachine self.new) }
         // All that was stored is there, and nothing else.
-        ensures synced { OnOk result (StandsSynced (disk_of self.old.desk) self.new.desk.keeper.state) }
         ensures kept { OnOk result (self.new.desk.keeper.state ≡ self.old.desk.keeper.state) }
         ensures acts { OnOk result (ActsOn self.old Line.Stop self.new) }
         ensures fault { IfErr result (TellsDisk (last_disk self.new)) }

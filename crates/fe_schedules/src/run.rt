@@ -96,7 +96,7 @@ impl Run {
         requires { IsRun self.old }
         ensures disk { IfErr result (TellsDiskOrWriter (last_disk self.new.machine) (W.has_failed writer.new)) }
         ensures ended { (read : List ℕ) (before : Option (List ℕ)) → SoFar read before (W.contents writer.old) self.old
-            → MatchResult result (λ _. Whole read before (W.contents writer.new) [])
+            → MatchResult result (λ _. Whole read before (W.contents writer.new) [] (last_disk self.new.machine))
             (λ end. Ended (W.has_failed writer.new) end read before (W.contents writer.new) []) }
         ensures handed { OnOk result (W.is_handed_on writer.new) }
     {
@@ -163,7 +163,7 @@ impl Run {
         requires { IsRun self.old }
         ensures disk { IfErr result (TellsOfDisk (last_disk self.new.machine)) }
         ensures ended { (read : List ℕ) (before now : Option (List ℕ)) → SoFar read before now self.old
-            → MatchResult result (λ _. Whole read before now (string_bytes self.new.text))
+            → MatchResult result (λ _. Whole read before now (string_bytes self.new.text) (last_disk self.new.machine))
             (λ end. Ended (λ _. ⊥) end read before now (string_bytes self.new.text)) }
     {
         let begun = self.begun.as_slice();

@@ -19,7 +19,7 @@ use std::alloc::Global;
 ///
 /// `Line` is the number of the first line outside the syntax, counted from 1; empty lines count, and do nothing. `Input` means
 /// that the reader or the writer failed, or was called 2^40 times. At a fault, what earlier lines print is written, unless the
-/// writer failed. The disk comes back as the run left it. If a `stop` could not open the store again, it is that store's disk.
+/// writer failed. The disk comes back: after `Ok` with all that was stored, after a fault to tell whether the device failed.
 pub fn run_schedule<R: Source, W: Sink>(
     alloc: Global,
     disk: MemoryDisk,
@@ -30,7 +30,9 @@ pub fn run_schedule<R: Source, W: Sink>(
     requires honest { IsHonest disk }
     requires calm { disk.failures ≡ 0 }
     // Every line of the input ran, what is written is what they print, and it is handed on.
-    ensures ok { OnOk result.0 (RunsAll (R.remaining reader.old) (W.contents writer.old) (W.contents writer.new)) }
+    // A stop leaves all that they stored on the disk.
+    ensures ok { OnOk result.0
+        (RunsAll (R.remaining reader.old) (W.contents writer.old) (W.contents writer.new) result.1) }
     ensures handed { OnOk result.0 (W.is_handed_on writer.new) }
     // At a fault lines at the front of the input ran. The fault is what ended them, and what they print is written, unless the
     // writer failed.
@@ -64,7 +66,8 @@ fn run_all<R: Source, W: Sink>(
     requires begins { SoFar [] (W.contents writer.old) (W.contents writer.old) run.old }
     requires none_kept { string_bytes run.old.text ≡ [] }
     requires room { 0 < length piece.old }
-    ensures ok { OnOk result (RunsAll (R.remaining reader.old) (W.contents writer.old) (W.contents writer.new)) }
+    ensures ok { OnOk result
+        (RunsAll (R.remaining reader.old) (W.contents writer.old) (W.contents writer.new) (last_disk run.new.machine)) }
     ensures handed { OnOk result (W.is_handed_on writer.new) }
     ensures disk { IfErr result (TellsDiskOrWriter (last_disk run.new.machine) (W.has_failed writer.new)) }
     ensures fault { IfErr result

@@ -7,7 +7,7 @@ ghost use Rattle.fe_state.specs.State.{first_state};
 ghost use Rattle.fe_desk.specs.Crash.{IsFrom, disk_of};
 ghost use Rattle.fe_desk.specs.Standing.{IsFirstStanding};
 ghost use Rattle.fe_schedules.specs.Fault.{TellsDisk};
-ghost use Rattle.fe_schedules.specs.Ready.{IsReady, Moves, StandsSynced};
+ghost use Rattle.fe_schedules.specs.Ready.{IsReady, Moves};
 
 use crate::fault::MachineFault;
 use fe_desk::{Desk, Step};
@@ -54,8 +54,7 @@ pub(crate) fn stopped(
 ) -> Result<Desk<MemoryDisk>, (MachineFault, MemoryDisk)>
     requires { IsReady desk }
     ensures ready { IfOk result IsReady }
-    // It has what the store held at its last sync, which is all that was stored.
-    ensures synced { IfOk result (λ again. StandsSynced (disk_of desk) again.keeper.state) }
+    // It has all that was stored, and nothing else.
     ensures kept { IfOk result (λ again. again.keeper.state ≡ desk.keeper.state) }
     ensures first { IfOk result (λ again. IsFirstStanding desk.keeper.state again.standing) }
     ensures from { IfOk result (IsFrom desk.keeper.state) }

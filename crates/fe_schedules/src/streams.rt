@@ -1,12 +1,11 @@
-//! The streams of a schedule: any reader and any writer of `std`.
+//! The streams of a schedule.
 
 ghost use Rattle.std.specs.Prelude.{ℕ, ◌≡◌, ◌+◌, List, Option, [], length, string_bytes, take, IfOk, IfErr, OnOk};
 ghost use Rattle.std.specs.Io.KnownBytes.{Appends, Keeps};
 ghost use Rattle.fe_text.specs.Lines.{ReadsSome};
 ghost use Rattle.fe_text.specs.declared.fault.StreamFault.{StreamFault as Fault};
 
-use fe_text::{StreamFault, read_once, stream_fault, write_out};
-use std::io::{Read, Write};
+use fe_text::StreamFault;
 
 /// What a schedule is read from.
 pub trait Source {
@@ -26,20 +25,6 @@ pub trait Source {
         ensures stays { IfErr result (λ _. Keeps (remaining self.old) (remaining self.new)) }
         ensures counts { (count : ℕ) → was_read self.old count → was_read self.new (count + 1) }
         ensures fails { IfErr result (has_failed self.new) };
-}
-
-impl<R: Read> Source for R {
-    ghost use Rattle.std.specs.Prelude.{⊤};
-
-    ghost remaining = { R.remaining };
-
-    ghost was_read = { λ _ _. ⊤ };
-
-    ghost has_failed = { λ _ _. ⊤ };
-
-    fn read_piece(&mut self, piece: &mut [u8]) -> Result<Option<usize>, StreamFault> {
-        read_once(self, piece)
-    }
 }
 
 /// What the output of a schedule is written to.
@@ -67,25 +52,4 @@ pub trait Sink {
         ensures keeps { Keeps (contents self.old) (contents self.new) }
         ensures handed { OnOk result (is_handed_on self.new) }
         ensures fails { IfErr result (has_failed self.new) };
-}
-
-impl<W: Write> Sink for W {
-    ghost use Rattle.std.specs.Prelude.{⊤};
-
-    ghost contents = { W.contents };
-
-    ghost has_failed = { λ _ _. ⊤ };
-
-    ghost is_handed_on = { λ _. ⊤ };
-
-    fn write_whole(&mut self, text: &mut String) -> Result<(), StreamFault> {
-        write_out(text, self)
-    }
-
-    fn hand_on(&mut self) -> Result<(), StreamFault> {
-        match self.flush() {
-            Ok(()) => Ok(()),
-            Err(error) => Err(stream_fault(error)),
-        }
-    }
 }

@@ -2,9 +2,11 @@
 //! from standard input to a server, and `look` shows what is in a store.
 #![tactic(auto)]
 
-ghost use Rattle.std.specs.Prelude.{◌≡◌, ℕ, take, is_ok, IfOk, IfErr, OnOk};
+ghost use Rattle.std.specs.Prelude.{◌≡◌, ℕ, true, take, is_ok, IfOk, IfErr, OnOk};
 ghost use Rattle.std.specs.Io.KnownBytes.{Appends};
 ghost use Rattle.clap.specs.Words.{kind_of};
+ghost use Rattle.fe_disk.specs.Memory.{MemoryState};
+ghost use Rattle.fe_schedules.specs.Schedule.{RunsAll};
 ghost use Rattle.fe_server.specs.BooksText.{books_text};
 ghost use Rattle.femem.specs.within.Faults.{status_of};
 ghost use Rattle.femem.specs.within.Served.{AreSettings, RefusesFile, WritesBooks};
@@ -21,7 +23,7 @@ use fe_front::Books;
 use fe_hall::Open;
 use fe_look::look;
 use fe_options::{Invocation, Settings, arguments, not_text, read_settings};
-use fe_schedules::{DEVICE_BYTES, run_schedule};
+use fe_schedules::{CountedReader, CountedWriter, DEVICE_BYTES, run_schedule};
 use fe_server::{books_text, serve};
 use fe_text::{StreamFault, write_out};
 use libc::net as c;
@@ -71,24 +73,32 @@ fn start<R: Runtime + Files<File = File> + Net + Threads + Wait + Sync + AllocGl
     rt: &R,
     asked: Invocation<'_>,
 ) -> Result<(), Fault> {
-    let mut writer = io::writer(rt);
     match asked {
         Invocation::Run => {
-            let mut reader = rt.reader();
+            let mut reader = CountedReader::new(rt.reader());
+            let mut writer = CountedWriter::new(io::writer(rt));
             run_by(rt.alloc(), &mut reader, &mut writer)?;
         }
-        Invocation::Look { store } => look(rt, rt.alloc(), store, &mut writer)?,
-        Invocation::Serve { settings } => serve_by(rt, settings, &mut writer)?,
+        Invocation::Look { store } => look(rt, rt.alloc(), store, &mut io::writer(rt))?,
+        Invocation::Serve { settings } => serve_by(rt, settings, &mut io::writer(rt))?,
         Invocation::Call { socket } => {
             let mut reader = rt.reader();
-            call(rt, rt.alloc(), socket, &mut reader, &mut writer)?;
+            call(rt, rt.alloc(), socket, &mut reader, &mut io::writer(rt))?;
         }
     }
     Ok(())
 }
 
 /// Runs the schedule from the reader, on a disk in memory.
-fn run_by<R: Read, W: Write>(alloc: Global, reader: &mut R, writer: &mut W) -> Result<(), Fault> {
+fn run_by<R: Read, W: Write>(
+    alloc: Global,
+    reader: &mut CountedReader<R>,
+    writer: &mut CountedWriter<W>,
+) -> Result<(), Fault>
+    ensures ok { OnOk result ((disk : MemoryState)
+        × RunsAll (R.remaining reader.old.stream) (W.contents writer.old.stream) (W.contents writer.new.stream) disk) }
+    ensures flushed { OnOk result (writer.new.is_flushed ≡ true) }
+{
     let Ok(disk) = MemoryDisk::new(alloc, DEVICE_BYTES) else {
         return Err(Fault::Memory);
     };

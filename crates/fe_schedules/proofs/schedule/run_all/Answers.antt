@@ -2,7 +2,7 @@ use Rattle.std.proofs.Common.{◌≡◌, ℕ, ◌<◌, List, [], ◌++◌, Optio
 use Rattle.std.specs.Io.KnownBytes.{Consumes}
 use Rattle.fe_text.specs.Lines.{ReadsSome}
 use Rattle.fe_schedules.specs.Schedule.{ReaderFails, IsReadMore}
-use Rattle.fe_schedules.specs.Runs.{IsRun, SoFar, Whole, Ended}
+use Rattle.fe_schedules.specs.Runs.{IsRun, SoFar, Whole, Ended, last_disk}
 use Rattle.fe_text.specs.declared.fault.StreamFault.TheVariants as stream
 use Rattle.fe_schedules.specs.Fault.{of_stream}
 use Rattle.fe_schedules.specs.declared.run.Run.{Run}
@@ -31,7 +31,7 @@ returns-in-Some-eq0-clause-ok g c =
     let reads = subst (λ (n : Option ℕ). ReadsSome mid new c.read_piece.new.piece n) is c.in_ok-read_piece.ensures.reads in
     let room = subst (λ (n : ℕ). 0 < n) (sym c.read_piece.ensures.len) c.loop-turn.invariant.room in
     let all = subst (λ (r : List ℕ). Consumes o new r) (append-nil so.0) (read_more o mid new so.0 [] so.1 reads.1) in
-    ok_of c.finish.result (λ end. Ended (g.W.Sink.has_failed c.finish.new.writer) end so.0 before after []) (λ whole. finished o new so.0 before after all (reads.2 refl room) whole) (c.finish.ensures.ended so.0 before so.2)
+    ok_of c.finish.result (λ end. Ended (g.W.Sink.has_failed c.finish.new.writer) end so.0 before after []) (λ whole. finished o new so.0 before after (last_disk c.finish.new.self.machine) all (reads.2 refl room) whole) (c.finish.ensures.ended so.0 before so.2)
 
 pub returns-in-Some-eq0-clause-fault : goal.returns-in-Some-eq0-clause-fault
 returns-in-Some-eq0-clause-fault g c =
@@ -46,7 +46,7 @@ returns-in-Some-eq0-clause-fault g c =
     let room = subst (λ (n : ℕ). 0 < n) (sym c.read_piece.ensures.len) c.loop-turn.invariant.room in
     let all = subst (λ (r : List ℕ). Consumes o new r) (append-nil so.0) (read_more o mid new so.0 [] so.1 reads.1) in
     err_then c.finish.result (λ end e. ended (ReaderFails g.R.Source.has_failed g.R.Source.was_read c.args.reader.now c.read_piece.new.self) (g.W.Sink.has_failed c.finish.new.writer) (c.read_piece.new.self ≡ c.args.reader.now) end o new so.0 before after all (reads.2 refl room) e)
-    (err_of c.finish.result (Whole so.0 before after []) (λ end. Ended (g.W.Sink.has_failed c.finish.new.writer) end so.0 before after []) (c.finish.ensures.ended so.0 before so.2))
+    (err_of c.finish.result (Whole so.0 before after [] (last_disk c.finish.new.self.machine)) (λ end. Ended (g.W.Sink.has_failed c.finish.new.writer) end so.0 before after []) (c.finish.ensures.ended so.0 before so.2))
 
 pub returns-in_err-take_piece-in-Some-clause-fault : goal.returns-in_err-take_piece-in-Some-clause-fault
 returns-in_err-take_piece-in-Some-clause-fault g c =

@@ -1,10 +1,9 @@
 use Rattle.std.proofs.Common.{◌≡◌, List, ℕ, refl, ap, ◌∙◌, subst}
-use Rattle.fe_disk.specs.Memory.{MemoryState, LeavesNow, synced_image}
+use Rattle.fe_disk.specs.Memory.{MemoryState, LeavesNow}
 use Rattle.fe_state.specs.State.{ServerState}
-use Rattle.fe_keeper.specs.Stands.{StandsFor}
 use Rattle.fe_desk.specs.Crash.{IsFrom, disk_of}
 use Rattle.fe_desk.specs.Standing.{IsFirstStanding}
-use Rattle.fe_desk.proofs.Openings.{first_from}
+use Rattle.fe_desk.proofs.Openings.{device_alone, first_from}
 use Rattle.fe_schedules.proofs.Readiness.{ready_first, kept_over, store_fault, open_tells}
 use Rattle.fe_schedules.proofs.serving.stopped.Goals as goal
 
@@ -12,13 +11,7 @@ pub returns-in-Ok-open-clause-ready : goal.returns-in-Ok-open-clause-ready
 returns-in-Ok-open-clause-ready c =
     let d = c.in-Ok-open.ensures in
     let honest = c.in-Ok.ensures.honest in
-    ready_first c.in-Ok-open.again c.in-Ok-open.again.keeper.state (d.honesty.1 honest) d.works (d.still ∙ c.in-Ok.ensures.fresh.failures) d.first.0 refl d.first.1 (d.stands honest)
-
-pub returns-in-Ok-open-clause-synced : goal.returns-in-Ok-open-clause-synced
-returns-in-Ok-open-clause-synced c =
-    let lost : c.in-Ok.left.image ≡ synced_image (disk_of c.args.desk).image (disk_of c.args.desk).events =
-    c.in-Ok.ensures.left ∙ ap (λ (m : MemoryState). synced_image m.image m.events) c.into_disk-disk.ensures.disk in
-    subst (λ (image : List ℕ). StandsFor image c.in-Ok-open.again.keeper.state) lost (c.in-Ok-open.ensures.opened c.in-Ok.ensures.honest)
+    ready_first c.in-Ok-open.again c.in-Ok-open.again.keeper.state (d.device.honesty.1 honest) d.works (d.device.still (λ is. cc) ∙ c.in-Ok.ensures.fresh.failures) d.first.0 refl d.first.1 (d.stands honest)
 
 pub returns-in-Ok-open-clause-kept : goal.returns-in-Ok-open-clause-kept
 returns-in-Ok-open-clause-kept c =
@@ -50,4 +43,4 @@ returns-in-Err-clause-fault c =
     let may : LeavesNow (disk_of c.args.desk) c.in-Ok.left.image = subst (λ (m : MemoryState). LeavesNow m c.in-Ok.left.image) c.into_disk-disk.ensures.disk c.in-Ok.ensures.allowed in
     let stands = c.requires.stands c.in-Ok.left.image may in
     let e = c.in-Err.ensures in
-    open_tells c.in-Ok.left c.in-Err.left c.in-Err.fault c.of_desk.result c.in-Ok.ensures.fresh.failures c.of_desk.ensures (e.refused c.in-Ok.ensures.honest c.args.desk.keeper.state stands) e.device
+    open_tells c.in-Ok.left c.in-Err.left c.in-Err.fault c.of_desk.result c.in-Ok.ensures.fresh.failures c.of_desk.ensures (e.refused c.in-Ok.ensures.honest c.args.desk.keeper.state stands) (device_alone c.in-Err.fault e.device).0

@@ -9,7 +9,7 @@ use Rattle.fe_keeper.specs.declared.fault.Fault.TheVariants as keeper
 use Rattle.fe_desk.specs.declared.fault.DeskFault.{DeskFault}
 use Rattle.fe_desk.specs.declared.fault.DeskFault.TheVariants.{Store, NoMemory}
 use Rattle.fe_desk.specs.Opened.{TellsOpening}
-use Rattle.fe_desk.proofs.Openings.{disk_is, device_told, tells_opening, short_opening}
+use Rattle.fe_desk.proofs.Openings.{disk_is, asks_over, asks_refused, tells_opening, short_opening}
 use Rattle.fe_desk.proofs.desk.Desk.open.Goals as goal
 
 pub returns-in-Ok-clause-opened : goal.returns-in-Ok-clause-opened
@@ -33,7 +33,10 @@ returns-in-Ok-clause-reads g c = λ honest.
 
 pub returns-in-Ok-clause-device : goal.returns-in-Ok-clause-device
 returns-in-Ok-clause-device g c =
-    device_told c.desk_over.result c.in-Ok.keeper g.D.Disk.failures (g.D.Disk.failures c.args.disk) (λ rises. let e = c.in-Ok.ensures.device.fault.1 rises in cc) c.desk_over.ensures.fault c.desk_over.ensures.disk
+    asks_over c.desk_over.result c.in-Ok.keeper c.desk_over.ensures.keeper c.desk_over.ensures.fault c.desk_over.ensures.disk c.in-Ok.ensures.device
+
+pub returns-in-Err-clause-device : goal.returns-in-Err-clause-device
+returns-in-Err-clause-device g c = asks_refused c.in-Err.fault c.told.result c.told.ensures c.in-Err.ensures.device
 
 pub returns-in-Ok-clause-refused : goal.returns-in-Ok-clause-refused
 returns-in-Ok-clause-refused g c = λ honest s stands.

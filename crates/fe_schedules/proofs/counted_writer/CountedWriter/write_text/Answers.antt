@@ -1,0 +1,15 @@
+use Rattle.std.proofs.Common.{take, refl, arith, rules}
+use Rattle.fe_text.proofs.Written.{written_more}
+use Rattle.fe_schedules.proofs.counted_writer.CountedWriter.write_text.Goals as goal
+
+pub loop-turn-preserved : goal.loop-turn-preserved
+loop-turn-preserved g c =
+    let before = g.W.Write.contents c.args.self.now.stream in
+    let here = g.W.Write.contents c.loop-turn.self.stream in
+    let after = g.W.Write.contents c.write_some.new.self.stream in
+    record {
+      within = search rules;
+      written = written_more before here after c.args.text.now _ c.loop-turn.done c.in_ok-done.field-0 refl (search rules) c.loop-turn.invariant.written c.in_ok-done.ensures.ok;
+      counts = omega (arith, c.write_some.ensures.counts);
+      stays = λ fault broken. c.write_some.ensures.stays fault (c.loop-turn.invariant.stays fault broken);
+    }

@@ -1,0 +1,20 @@
+-- What was counted of a reader and of a writer.
+use Rattle.std.specs.Prelude.{◌≡◌, ◌⊎◌, ℕ, ◌-◌, ◌^◌, ◌≤◌, min, true}
+use Rattle.fe_schedules.specs.declared.counted_reader.CountedReader.{CountedReader}
+use Rattle.fe_schedules.specs.declared.counted_writer.CountedWriter.{CountedWriter}
+use Rattle.fe_text.specs.declared.fault.StreamFault.{StreamFault}
+use Rattle.fe_text.specs.declared.fault.StreamFault.TheVariants as stream
+use Rattle.fe_schedules.specs.declared.faults.Faults.{Faults}
+
+-- an error of a call came to this fault
+abbrev pub HasFailed : Faults → StreamFault → Type 0
+HasFailed faults stream.Input = faults.input ≡ true
+HasFailed faults stream.Memory = faults.memory ≡ true
+
+-- this many reads were made; the count stays at the top of a u64
+abbrev pub WasRead : {R : Type 0} → CountedReader R → ℕ → Type 0
+WasRead reader count = reader.reads ≡ min count (2 ^ 64 - 1)
+
+-- a write or a flush failed; or a write took no byte, or there were 2^40 of them
+abbrev pub HasBroken : {W : Type 0} → CountedWriter W → StreamFault → Type 0
+HasBroken writer fault = HasFailed writer.faults fault ⊎ ((fault ≡ stream.Input) × ((writer.took_none ≡ true) ⊎ (2 ^ 40 ≤ writer.writes)))

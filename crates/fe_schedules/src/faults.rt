@@ -1,0 +1,40 @@
+ghost use Rattle.std.specs.Prelude.{◌≡◌, ◌↔◌, false};
+ghost use Rattle.std.specs.IoError.{error_kind};
+ghost use Rattle.fe_schedules.specs.Counted.{HasFailed};
+ghost use Rattle.fe_text.specs.declared.fault.StreamFault.{StreamFault as Fault};
+
+use fe_text::{StreamFault, stream_fault};
+use std::io::{Error, ErrorKind};
+
+/// The faults that the calls of a stream came to.
+#[derive(Clone, Copy)]
+pub(crate) struct Faults {
+    input: bool,
+    memory: bool,
+}
+
+impl Faults {
+    /// No call failed yet.
+    pub fn none() -> Faults
+        ensures { result ≡ record { input = false; memory = false } }
+    {
+        Faults {
+            input: false,
+            memory: false,
+        }
+    }
+
+    /// A call failed with this error. Returns the fault for it.
+    pub fn fail(&mut self, error: Error) -> StreamFault
+        ensures memory { (result ≡ StreamFault.Memory) ↔ (error_kind error ≡ ErrorKind.OutOfMemory) }
+        ensures failed { HasFailed self.new result }
+        ensures stays { (fault : Fault) → HasFailed self.old fault → HasFailed self.new fault }
+    {
+        let fault = stream_fault(error);
+        match fault {
+            StreamFault::Input => self.input = true,
+            StreamFault::Memory => self.memory = true,
+        }
+        fault
+    }
+}
