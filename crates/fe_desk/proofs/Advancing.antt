@@ -15,6 +15,7 @@ use Rattle.fe_desk.specs.Standing.{Standing}
 use Rattle.fe_desk.specs.Steps.{find}
 use Rattle.fe_desk.specs.Crash.{DeskState, IsFrom, Advances, IsFine, disk_of}
 use Rattle.fe_desk.specs.Acknowledged.{cut_entries}
+use Rattle.fe_desk.specs.within.Keeping.{HasStore}
 use Rattle.fe_desk.specs.within.Desk.{IsAhead, IsDesk, IsHanded, unstored}
 
 -- an image that stands for a prefix of a history stands for one of the history that goes on from it, which holds as many
@@ -37,17 +38,8 @@ prefix_more begun groups more k j image le p =
 pub prefix_as : (begun : ServerState) (groups others : List (List Entry)) (k : ℕ) (image : List ℕ) → others ≡ groups → LeavesPrefix begun groups k image → LeavesPrefix begun others k image
 prefix_as begun groups others k image same p = subst (λ (gs : List (List Entry)). LeavesPrefix begun gs k image) (sym same) p
 
--- the groups, those that are stored and the keeper are the same
-pub record HasStore {D : Type 0} (old new : DeskState D) : Type 0 where
-  pub keeper : new.keeper ≡ old.keeper
-  pub groups : new.standing.groups ≡ old.standing.groups
-  pub synced : new.synced ≡ old.synced
-
 pub store_itself : {D : Type 0} (d : DeskState D) → HasStore d d
 store_itself d = record { keeper = refl; groups = refl; synced = refl }
-
-pub store_both : {D : Type 0} (a b c : DeskState D) → HasStore a b → HasStore b c → HasStore a c
-store_both a b c ab bc = record { keeper = bc.keeper ∙ ab.keeper; groups = bc.groups ∙ ab.groups; synced = bc.synced ∙ ab.synced }
 
 from_as : {D : Type 0} (begun : ServerState) (old new : DeskState D) → HasStore old new → IsFrom begun old → IsFrom begun new
 from_as {D} begun old new same f =

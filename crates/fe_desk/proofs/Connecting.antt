@@ -64,14 +64,6 @@ keeps_desk {D} honest may_leave s t k k' n n' f clients making owes standing kee
     (subst (λ (x : ℕ). IsDesk honest may_leave (desk_at (moved s f clients making owes) k x)) (sym synced)
     (moved_desk honest may_leave s k n f clients making owes desk keeps known)))
 
--- a desk that stands as one is one
-pub same_desk : {D : Type 0} (honest : D → Type 0) (may_leave : D → List ℕ → Type 0) (s t : Standing) (k k' : KeeperState D) (n n' : ℕ) → t ≡ s → k' ≡ k → n' ≡ n
-    → IsDesk honest may_leave (desk_at s k n) → IsDesk honest may_leave (desk_at t k' n')
-same_desk {D} honest may_leave s t k k' n n' standing keeper synced desk =
-    subst (λ (x : Standing). IsDesk honest may_leave (desk_at x k' n')) (sym standing)
-    (subst (λ (x : KeeperState D). IsDesk honest may_leave (desk_at s x n')) (sym keeper)
-    (subst (λ (x : ℕ). IsDesk honest may_leave (desk_at s k x)) (sym synced) desk))
-
 -- ---- room is made for nobody
 
 unmade_moved : (s : Standing) (conn : ℕ) (f : FrontState) (clients : List Client)

@@ -66,9 +66,6 @@ no_box f conn is = by (get f.connections conn) is
     by None e = refl
     by (Some c) e = absurd (true≢false e)
 
-pub none_in_no_box : (f : FrontState) (conn : ℕ) → get f.connections conn ≡ None → mails_on f.connections conn ≡ []
-none_in_no_box f conn is = ap (λ (o : Option Connection). option_map_or (λ (c : Connection). c.mails) o []) is
-
 some_lt : (n : ℕ) → nat_lt 0 (suc n) ≡ true
 some_lt n = search (rules, nat_tests)
 

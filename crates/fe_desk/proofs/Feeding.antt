@@ -84,17 +84,6 @@ same_reads s t same k = ap (λ (u : Standing). read_by u k) same
 pub settling_reads : (s u : Standing) → discharged u ≡ discharged s → ReadsNone s u
 settling_reads s u same k = sym (discharged_reads u k) ∙ same_reads (discharged s) (discharged u) same k ∙ discharged_reads s k
 
--- a step that took no bytes
-pub unfed : (fed : Bool) (s : Standing) (step : Step) (t : Standing) → false ≡ fed → ReadsNone s t → TellsFed fed s step t
-unfed fed s step t is none = subst (λ (b : Bool). TellsFed b s step t) is none
-
--- one that reads its bytes
-pub bytes_fed : (fed : Bool) (s : Standing) (conn : ℕ) (piece : Vec ℕ Global) (slice : List ℕ) (before : Step) (t : Standing) → before ≡ step.Bytes conn piece → slice ≡ piece.items
-    → MatchBool fed (ReadsPiece s conn slice t) (ReadsNone s t) → TellsFed fed s before t
-bytes_fed false s conn piece slice before t is same read = read
-bytes_fed true s conn piece slice before t is same read =
-    subst (λ (x : Step). TellsFed true s x t) (sym is) (subst (λ (xs : List ℕ). ReadsPiece s conn xs t) same read)
-
 -- the same from before the mails were written
 pub fed_discharged : (fed : Bool) (s mid : Standing) (step : Step) (t : Standing) → mid ≡ discharged s → TellsFed fed mid step t → TellsFed fed s step t
 fed_discharged false s mid step t is none = λ k. none k ∙ same_reads (discharged s) mid is k ∙ discharged_reads s k

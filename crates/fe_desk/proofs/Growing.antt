@@ -14,7 +14,7 @@ use Rattle.fe_desk.specs.declared.step.Step.{Step}
 use Rattle.fe_desk.specs.declared.step.Step.TheVariants as step
 use Rattle.fe_desk.specs.Crash.{DeskState, with_handed}
 use Rattle.fe_desk.specs.Checks.{IsStoreNow, AreAppended, StoresMore, Checks}
-use Rattle.fe_desk.proofs.Advancing.{HasStore}
+use Rattle.fe_desk.specs.within.Keeping.{HasStore}
 
 appended_both : {D : Type 0} (a b c : KeeperState D) (xs ys : List (List Entry)) → AreAppended a xs b → AreAppended b ys c → AreAppended a (xs ++ ys) c
 appended_both {D} a b c [] ys h k = subst (λ (s : KeeperState D). AreAppended s ys c) h k

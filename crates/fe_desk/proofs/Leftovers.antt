@@ -1,19 +1,17 @@
 -- The messages that are left of a connection are taken one after the other.
-use Rattle.std.proofs.Common.{Vec, Global, ◌≡◌, ℕ, ◌<◌, Bool, true, false, true≢false, Result, Err, List, [], ◌∷◌, ◌++◌, length, map, Option, Some, None, refl, sym, ap, ◌∙◌, subst, append_assoc, get_or, arith}
-use Rattle.std.specs.Prelude.{is_some, slice_get, slice_set, nat_lt, IsErrOf}
+use Rattle.std.proofs.Common.{Vec, Global, ◌≡◌, ℕ, ◌<◌, Bool, true, false, true≢false, Ok, List, [], ◌∷◌, ◌++◌, length, map, Option, Some, None, refl, sym, ap, ◌∙◌, subst, append_assoc, get_or, arith}
+use Rattle.std.specs.Prelude.{⊤, is_some, slice_get, slice_set, nat_lt}
 use Rattle.std.proofs.lemmas.Bool.Decides.{nat_tests}
 use Rattle.std.specs.Option.{option_map}
 use Rattle.std.proofs.lemmas.List.{length-map, map-set}
 use Rattle.std.proofs.lemmas.Option.{slice_get-map, slice_get_read}
 use Rattle.fe_keeper.specs.Keeper.{KeeperState}
-use Rattle.fe_disk.specs.Disk.{Rises}
+use Rattle.fe_disk.specs.declared.disk.Disk.{Ghosts}
 use Rattle.fe_state.specs.State.{ServerState, after_all}
 use Rattle.fe_state.specs.History.{AreLegal}
 use Rattle.fe_state.specs.declared.entry.Entry.{Entry}
 use Rattle.fe_state.proofs.Histories.{legal-append, after-append}
 use Rattle.fe_wire.specs.declared.client_message.ClientMessage.{ClientMessage}
-use Rattle.fe_keeper.specs.declared.fault.Fault.{Fault}
-use Rattle.fe_keeper.specs.declared.fault.Fault.TheVariants as keeper
 use Rattle.fe_front.specs.Front.{FrontState}
 use Rattle.fe_desk.specs.Standing.{Client, Standing}
 use Rattle.fe_desk.specs.Storing.{roomy}
@@ -23,15 +21,16 @@ use Rattle.fe_desk.specs.Steps.{find, on_client, with_left}
 use Rattle.fe_messages.specs.Enters.{Enters}
 use Rattle.fe_desk.specs.Messages.{left_of, TakesNext, EndsWith}
 use Rattle.fe_desk.specs.within.Places.{IsFirstAt}
-use Rattle.fe_desk.specs.Crash.{DeskState, Advances, IsFine, TellsCall, disk_of}
-use Rattle.fe_desk.specs.Checks.{StoresMore}
+use Rattle.fe_desk.specs.Crash.{DeskState}
 use Rattle.fe_desk.specs.declared.port.Port.{Port}
 use Rattle.fe_desk.specs.Acknowledged.{cut_entries}
+use Rattle.fe_desk.specs.within.Keeping.{HasStore}
 use Rattle.fe_desk.specs.within.Desk.{IsAhead, IsDesk, IsHanded, unstored, client_of}
-use Rattle.fe_desk.proofs.Places.{numbers, numbers_changed, first_by_numbers, found_first, changed_first}
+use Rattle.fe_desk.proofs.Places.{numbers, numbers_changed, first_by_numbers, found_first, port_here, port_changed}
 use Rattle.fe_desk.proofs.Reading.{on_client-twice, find-on_client, found-on_client, relieved, none_left, left_among, with_clients, roomy-clients, roomy-keeps, takes_one_of, takes_all-append, on_client-stays}
-use Rattle.fe_desk.proofs.Growing.{stores_none, stores_both, stores_then}
-use Rattle.fe_desk.proofs.Advancing.{HasStore, store_itself, advances_then, advances_both, desk_as, fine_both, fine_as, advances_itself}
+use Rattle.fe_desk.proofs.Advancing.{store_itself, desk_as}
+use Rattle.fe_desk.specs.within.Goes.{Goes, Is}
+use Rattle.fe_desk.proofs.Goes.{OnlyNow, then, stays, after}
 
 -- ---- the store side of a desk whose front entries entered
 
@@ -62,19 +61,8 @@ desk_enters {D} honest may_leave old new es conn change same handed enters clien
 
 -- ---- the port of a client
 
-pub client_here : (ports : List Port) (conn at : ℕ) (p : Port) → IsFirstAt (map client_of ports) conn at → p ≡ get_or ports at p → slice_get (map client_of ports) at ≡ Some (client_of p)
-client_here ports conn at p place is =
-    let within : at < length ports = omega (arith, place.within, length-map ports client_of) in
-    slice_get-map client_of ports at ∙ ap (option_map client_of) (slice_get_read ports (length ports) at p refl within is)
-
-pub port_changed : (ports : List Port) (conn at : ℕ) (p q : Port) (change : Client → Client) → IsFirstAt (map client_of ports) conn at → p ≡ get_or ports at p → client_of q ≡ change (client_of p)
-    → map client_of (slice_set ports at q) ≡ on_client conn change (map client_of ports)
-port_changed ports conn at p q change place is changed =
-    map-set client_of ports at q ∙ ap (λ (c : Client). slice_set (map client_of ports) at c) changed
-    ∙ sym (changed_first (map client_of ports) conn at (client_of p) change place (client_here ports conn at p place is))
-
 pub left_here : (ports : List Port) (conn at : ℕ) (p : Port) → IsFirstAt (map client_of ports) conn at → p ≡ get_or ports at p → left_among (find conn (map client_of ports)) ≡ (client_of p).left
-left_here ports conn at p place is = ap left_among (found_first (map client_of ports) conn at (client_of p) place (client_here ports conn at p place is))
+left_here ports conn at p place is = ap left_among (found_first (map client_of ports) conn at (client_of p) place (port_here ports conn at p place is))
 
 some_of : (ms : List ClientMessage) (b : Bool) → b ≡ nat_lt 0 (length ms) → b ≡ true → 0 < length ms
 some_of ms b is on = grind (arith, nat_tests)
@@ -92,9 +80,6 @@ some_left ports conn at p b place is has on =
 pub none_left_here : (ports : List Port) (conn at : ℕ) (p : Port) (b : Bool) → IsFirstAt (map client_of ports) conn at → p ≡ get_or ports at p → b ≡ nat_lt 0 (length (client_of p).left) → b ≡ false
     → left_among (find conn (map client_of ports)) ≡ []
 none_left_here ports conn at p b place is has off = left_here ports conn at p place is ∙ none_of (client_of p).left b has off
-
-pub same_clients : (a b : Vec Port Global) → b ≡ a → map client_of b.items ≡ map client_of a.items
-same_clients a b same = ap (λ (v : Vec Port Global). map client_of v.items) same
 
 -- the first message left of a port was taken
 pub port_next : (s : Standing) (ports : List Port) (conn at : ℕ) (p q : Port) (m : ClientMessage) (es : List Entry) (g : FrontState) → s.clients ≡ map client_of ports
@@ -218,70 +203,31 @@ clients_then conn s a u clients taken =
 pub rest_then : (conn : ℕ) (s a u : Standing) → u.clients ≡ a.clients → IsTaken conn s a → EndsWith (left_of s conn) (left_of u conn)
 rest_then conn s a u clients taken = subst (λ (cs : List Client). EndsWith (left_of s conn) (left_among (find conn cs))) (sym clients) taken.rest
 
--- ---- what is reported of the disk
-
-pub tells_after : {D : Type 0} (failures : D → ℕ) (a b c : DeskState D) (fault : Fault) → IsFine failures a b → TellsCall failures b c fault → TellsCall failures a c fault
-tells_after failures a b c keeper.Device fine tells = record { failed = tells.failed; rises = subst (λ (n : ℕ). Rises n (failures (disk_of c))) fine.still tells.rises }
-tells_after failures a b c keeper.Failed fine tells = tells
-tells_after failures a b c keeper.NoMemory fine tells = record { works = tells.works; still = tells.still ∙ fine.still }
-tells_after failures a b c (keeper.Mismatch place) fine tells = tells
-tells_after failures a b c (keeper.Damaged offset) fine tells = tells
-tells_after failures a b c keeper.Unformatted fine tells = tells
-
--- what `?` tells is what the call told
-pub told_on : {T U : Type 0} (r : Result T Fault) (q : Result U Fault) (told fault other : Fault) → r ≡ Err told → told ≡ fault → q ≡ Err fault → IsErrOf r other → IsErrOf q other
-told_on r q told fault other is same was asked = let there : fault ≡ other = cc in cc
-
 -- ---- the loop
 
 -- messages of the connection whose client is there were taken as far as to a desk
-pub record Going {D : Type 0} (honest : D → Type 0) (may_leave : D → List ℕ → Type 0) (moment : D → ℕ) (left_since : D → ℕ → List ℕ → Type 0) (failures : D → ℕ) (conn at : ℕ) (old new : DeskState D) : Type 0 where
-  pub desk : IsDesk honest may_leave new
+pub record Going {D : Type 0} (k : Ghosts D) (conn at : ℕ) (old new : DeskState D) : Type 0 where
+  pub desk : IsDesk k.honest k.may_leave new
   pub place : IsFirstAt new.standing.clients conn at
   pub taken : IsTaken conn old.standing new.standing
-  pub advances : Advances honest moment left_since old new
-  pub fine : IsFine failures old new
-  pub grows : StoresMore old new
+  pub goes : Goes k (λ s. ⊤) (λ d. ⊤) (λ s. ⊤) (Ok tt) old new
 
 pub place_as : (clients others : List Client) (conn at : ℕ) → others ≡ clients → IsFirstAt clients conn at → IsFirstAt others conn at
 place_as clients others conn at same place = subst (λ (cs : List Client). IsFirstAt cs conn at) (sym same) place
 
--- what making room did to a desk
-pub record IsRoomy {D : Type 0} (honest : D → Type 0) (moment : D → ℕ) (left_since : D → ℕ → List ℕ → Type 0) (failures : D → ℕ) (conn : ℕ) (old new : DeskState D) : Type 0 where
-  pub made : new.standing ≡ roomy old.standing conn
-  pub owes : new.standing.owes ≡ old.standing.owes
-  pub advances : Advances honest moment left_since old new
-  pub fine : IsFine failures old new
-  pub grows : StoresMore old new
+module _ {D : Type 0} {k : Ghosts D} (conn at : ℕ) where
+  pub going_first : (d : DeskState D) → OnlyNow k → IsDesk k.honest k.may_leave d → d.keeper.store.has_failed ≡ false → IsFirstAt d.standing.clients conn at → Going k conn at d d
+  going_first d only_now desk works place = record { desk = desk; place = place; taken = taken_none conn d.standing; goes = stays only_now desk works (store_itself d) refl tt }
 
-module _ {D : Type 0} (honest : D → Type 0) (may_leave : D → List ℕ → Type 0) (moment : D → ℕ) (left_since : D → ℕ → List ℕ → Type 0) (failures : D → ℕ) where
-  pub going_first : ((disk : D) (image : List ℕ) → honest disk → left_since disk (moment disk) image → may_leave disk image) → (conn at : ℕ) (d : DeskState D)
-      → IsDesk honest may_leave d → d.keeper.store.has_failed ≡ false → IsFirstAt d.standing.clients conn at → Going honest may_leave moment left_since failures conn at d d
-  going_first only_now conn at d desk works place =
-      record {
-        desk = desk;
-        place = place;
-        taken = taken_none conn d.standing;
-        advances = advances_itself honest may_leave moment left_since only_now d desk;
-        fine = record { works = works; still = refl };
-        grows = stores_none d d (store_itself d);
-      }
-
-  pub going_on : (conn at : ℕ) (old a r t : DeskState D) → is_some (find conn old.standing.clients) ≡ true → Going honest may_leave moment left_since failures conn at old a
-      → IsRoomy honest moment left_since failures conn a r → TakesNext r.standing conn t.standing → HasStore r t → IsDesk honest may_leave t → Going honest may_leave moment left_since failures conn at old t
-  going_on conn at old a r t here going room next same desk =
-      let clients : r.standing.clients ≡ a.standing.clients = ap (λ (u : Standing). u.clients) room.made ∙ roomy-keeps a.standing conn in
+  pub going_on : {Q : DeskState D → Type 0} {R : Standing → Type 0} {x : Unit {0}} (old a r t : DeskState D) → is_some (find conn old.standing.clients) ≡ true → Going k conn at old a
+      → Goes k (Is (roomy a.standing conn)) Q R (Ok x) a r → TakesNext r.standing conn t.standing → HasStore r t → IsDesk k.honest k.may_leave t → Going k conn at old t
+  going_on old a r t here going room next same desk =
+      let clients : r.standing.clients ≡ a.standing.clients = ap (λ (u : Standing). u.clients) room.ends.1 ∙ roomy-keeps a.standing conn in
       let changed : numbers t.standing.clients ≡ numbers a.standing.clients =
       ap (λ (u : Standing). numbers u.clients) next.after ∙ numbers_changed r.standing.clients conn (relieved next.left) (λ c. refl) ∙ ap numbers clients in
       record {
         desk = desk;
         place = first_by_numbers a.standing.clients t.standing.clients conn at changed going.place;
-        taken = taken_next conn old.standing a.standing r.standing t.standing here room.made room.owes going.taken next;
-        advances = advances_then honest may_leave moment left_since old r t (advances_both honest may_leave moment left_since old a r going.fine.works going.advances room.advances) same;
-        fine = fine_both failures old r t (fine_both failures old a r going.fine room.fine) (fine_as failures r t room.fine.works same);
-        grows = stores_then old r t (stores_both old a r going.grows room.grows) same;
+        taken = taken_next conn old.standing a.standing r.standing t.standing here room.ends.1 room.owes going.taken next;
+        goes = after (then going.goes room) same (ap (λ (u : Standing). u.owes) next.after) tt;
       }
-
-  pub going_stops : (conn at : ℕ) (old a u : DeskState D) → Going honest may_leave moment left_since failures conn at old a
-      → Advances honest moment left_since a u → Advances honest moment left_since old u
-  going_stops conn at old a u going advances = advances_both honest may_leave moment left_since old a u going.fine.works going.advances advances

@@ -18,10 +18,10 @@ pub mod Reading
 pub mod Feeding
 pub mod Pieces
 pub mod Making
-pub mod Untouched
 pub mod Growing
 pub mod Stops
-pub mod Ending
+pub mod Goes
+pub mod Acted
 pub mod Seated
 pub mod Answered
 pub mod Messaging

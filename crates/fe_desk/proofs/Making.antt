@@ -18,10 +18,6 @@ use Rattle.fe_desk.specs.within.Desk.{IsDesk, IsAhead, IsHanded}
 use Rattle.fe_front.proofs.Coming.{posted-stays}
 use Rattle.fe_desk.proofs.Groups.{advances_kept, desk_kept}
 
-pub on_ok : {T E P Q : Type 0} (r : Result T E) → (P → Q) → OnOk r P → OnOk r Q
-on_ok (Ok x) f p = f p
-on_ok (Err e) f p = tt
-
 -- ---- room
 
 -- what is out is posted, and then none is
@@ -72,7 +68,7 @@ begun_twice s conn = by (is_making s conn) refl
     by true is = let done = begun_by s conn true is in ap (λ (t : Standing). begun_room t conn) done ∙ sym done
     by false is = ap (λ (t : Standing). begun_room t conn) (begun_by s conn false is)
 
-room_by : (s : Standing) (b : Bool) → has_room s.front ≡ b → with_room s ≡ (if b then s else made (committed (cleared s)))
+pub room_by : (s : Standing) (b : Bool) → has_room s.front ≡ b → with_room s ≡ (if b then s else made (committed (cleared s)))
 room_by s b is = ap (λ (c : Bool). if c then s else made (committed (cleared s))) is
 
 -- because memory is short nothing was done, or what was done is gone on with

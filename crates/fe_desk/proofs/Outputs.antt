@@ -15,7 +15,7 @@ use Rattle.fe_desk.specs.Standing.{Client, Standing, unwritten, all_told}
 use Rattle.fe_desk.specs.Storing.{stored, stored_from, posted, posted_from, is_making}
 use Rattle.fe_desk.specs.Taking.{TakesAll}
 use Rattle.fe_desk.specs.Steps.{find, on_client, with_left, with_decoder, new_client, clients_with, unmade, Connects, gone, TakesPiece, TakesFrom, TakesBytes, after_frame, Acts}
-use Rattle.fe_desk.proofs.Reading.{roomy-keeps}
+use Rattle.fe_desk.proofs.Reading.{each-on_client, takes_all-keeps}
 
 pub extends_itself : (xs : List (ℕ × List ℕ)) → Extends xs xs
 extends_itself [] = tt
@@ -51,23 +51,11 @@ all_told-extends f (c ∷ cs) = (refl, (unwritten f c, refl), all_told-extends (
 
 -- ---- the clients over what a step does
 
--- what is written to a client stays
-abbrev pub Keeps : (Client → Client) → Type 0
-Keeps change = (c : Client) → output_of (change c) ≡ output_of c
-
-pub changed : (conn : ℕ) (change : Client → Client) → Keeps change → (cs : List Client) → map output_of (on_client conn change cs) ≡ map output_of cs
-changed conn change keeps [] = refl
-changed conn change keeps (c ∷ cs) = by (nat_eq c.conn conn) (changed conn change keeps cs)
-  where
-    by : (b : Bool) → map output_of (on_client conn change cs) ≡ map output_of cs → map output_of (if b then change c ∷ cs else c ∷ on_client conn change cs) ≡ map output_of (c ∷ cs)
-    by true rest = ap (λ (x : ℕ × List ℕ). x ∷ map output_of cs) (keeps c)
-    by false rest = ap (λ (xs : List (ℕ × List ℕ)). output_of c ∷ xs) rest
-
 came : (cs : List Client) (conn : ℕ) (d : Decoding) → Extends (map output_of cs) (map output_of (clients_with cs conn d))
 came cs conn d = by (is_some (find conn cs))
   where
     by : (b : Bool) → Extends (map output_of cs) (map output_of (if b then on_client conn (λ c. record c { decoder = d; left = [] }) cs else cs ++ new_client conn d ∷ []))
-    by true = extends_as (map output_of cs) (map output_of (on_client conn (λ c. record c { decoder = d; left = [] }) cs)) (changed conn (λ c. record c { decoder = d; left = [] }) (λ c. refl) cs)
+    by true = extends_as (map output_of cs) (map output_of (on_client conn (λ c. record c { decoder = d; left = [] }) cs)) (each-on_client output_of conn (λ c. record c { decoder = d; left = [] }) cs (λ c. refl))
     by false = extends_behind cs (new_client conn d)
 
 -- the parts of a step that leave the clients
@@ -88,13 +76,6 @@ unmade_clients s conn = by (is_making s conn)
     by true = refl
     by false = refl
 
-pub takes_clients : (ms : List ClientMessage) (s : Standing) (conn : ℕ) (t : Standing) → TakesAll s conn ms t → t.clients ≡ s.clients
-takes_clients [] s conn t e = ap (λ (u : Standing). u.clients) e
-takes_clients (m ∷ ms) s conn t e =
-    let u = e.0 in
-    let one : u.clients ≡ s.clients = ap (λ (u : Standing). u.clients) e.1.after ∙ roomy-keeps s conn in
-    takes_clients ms u conn t e.2 ∙ one
-
 -- ---- output over what a step does
 
 -- the clients of one standing are those of another
@@ -102,7 +83,7 @@ same : (s t : Standing) → t.clients ≡ s.clients → outputs t ≡ outputs s
 same s t clients = ap (λ (cs : List Client). map output_of cs) clients
 
 left_output : (s : Standing) (conn : ℕ) (left : List ClientMessage) → outputs (with_left s conn left) ≡ outputs s
-left_output s conn left = changed conn (λ c. record c { left = left }) (λ c. refl) s.clients
+left_output s conn left = each-on_client output_of conn (λ c. record c { left = left }) s.clients (λ c. refl)
 
 gone_output : (s : Standing) (conn : ℕ) → outputs (gone s conn) ≡ outputs s
 gone_output s conn = left_output (unmade s conn) conn [] ∙ same s (unmade s conn) (unmade_clients s conn)
@@ -116,13 +97,13 @@ piece_output s conn before piece t p =
     let read = with_decoder s conn p.decoder in
     ap outputs p.after
     ∙ frame_output p.decoder.is_bad p.last conn
-    ∙ same read p.last (takes_clients p.more read conn p.last p.takes)
-    ∙ changed conn (λ c. record c { decoder = p.decoder }) (λ c. refl) s.clients
+    ∙ same read p.last (takes_all-keeps read conn p.more p.last p.takes)
+    ∙ each-on_client output_of conn (λ c. record c { decoder = p.decoder }) s.clients (λ c. refl)
 
 from_output : (s : Standing) (conn : ℕ) (left : List ClientMessage) (before : Decoding) (piece : List ℕ) (t : Standing) → TakesFrom s conn left before piece t → outputs t ≡ outputs s
 from_output s conn left before piece t p =
     by (is_connected p.mid.front conn) p.reading
-    ∙ same (with_left s conn []) p.mid (takes_clients left (with_left s conn []) conn p.mid p.leftovers)
+    ∙ same (with_left s conn []) p.mid (takes_all-keeps (with_left s conn []) conn left p.mid p.leftovers)
     ∙ left_output s conn []
   where
     by : (b : Bool) → MatchBool b (TakesPiece p.mid conn before piece t) (t ≡ p.mid) → outputs t ≡ outputs p.mid

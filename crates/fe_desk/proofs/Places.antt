@@ -76,15 +76,6 @@ first_by_numbers clients others conn at same p =
       first = λ i lt e. p.first i lt (sym (each i) ∙ e);
     }
 
--- another client of the same number at the place
-pub numbers_replaced : (clients : List Client) (conn at : ℕ) (d : Client) → IsFirstAt clients conn at → d.conn ≡ conn → numbers (slice_set clients at d) ≡ numbers clients
-numbers_replaced clients conn at d p same =
-    let is = slice_get-get_or clients at d p.within in
-    map-set_same (λ (c : Client). c.conn) clients at d d (same ∙ sym (number_here clients conn at (get_or clients at d) p is))
-
-pub first_replaced : (clients : List Client) (conn at : ℕ) (d : Client) → IsFirstAt clients conn at → d.conn ≡ conn → IsFirstAt (slice_set clients at d) conn at
-first_replaced clients conn at d p same = first_by_numbers clients (slice_set clients at d) conn at (numbers_replaced clients conn at d p same) p
-
 -- a change that keeps the number keeps all numbers
 pub numbers_changed : (clients : List Client) (conn : ℕ) (change : Client → Client) → ((c : Client) → (change c).conn ≡ c.conn) → numbers (on_client conn change clients) ≡ numbers clients
 numbers_changed [] conn change keeps = refl

@@ -1,6 +1,6 @@
 -- Where nothing is to be written, writing all of it changes nothing; and the steps that make no mail keep it so.
 use Rattle.std.proofs.Common.{◌≡◌, ℕ, Bool, true, false, true≢false, List, [], ◌∷◌, ◌++◌, Option, Some, None, refl, sym, ap, ◌∙◌, subst, append-nil, inl, inr, Result, Ok, Err, OnOk, if◌then◌else◌}
-use Rattle.std.specs.Prelude.{nat_eq, is_some, is_err, length, map, MatchBool}
+use Rattle.std.specs.Prelude.{nat_eq, is_some, is_err, length, map, OnErr, MatchBool}
 use Rattle.std.specs.Option.{option_map_or}
 use Rattle.std.specs.FinMap.{insert}
 use Rattle.std.specs.declared.alloc.AllocError.{AllocError}
@@ -22,7 +22,11 @@ use Rattle.fe_desk.specs.Storing.{stored_from, is_making}
 use Rattle.fe_desk.specs.Quiet.{HasNoMail, AreWritten, mails_nothing}
 use Rattle.fe_desk.specs.within.Desk.{client_of, standing_of}
 use Rattle.fe_desk.proofs.Emptying.{AreQuiet, quiet_all_emptied, quiet_all_told}
-use Rattle.fe_desk.proofs.StepParts.{discharged_at}
+use Rattle.fe_desk.specs.within.Keeping.{AreToldLater, KeepsFront}
+use Rattle.fe_desk.specs.within.Goes.{Empties}
+use Rattle.fe_desk.specs.Writing.{WritesFirst}
+use Rattle.fe_desk.proofs.StepParts.{all_written, some_written, none_boxed, discharged_at}
+use Rattle.fe_desk.proofs.Writing.{writes_some}
 
 -- ---- there is nothing to write
 
@@ -58,6 +62,19 @@ all_quiet p q (Ok x) boxes told owes = record {
   owes = owes;
 }
 all_quiet p q (Err e) boxes told owes = tt
+
+-- how the boxes were emptied
+pub empties : {D : Type 0} (p q : Parts D) (r : Result (Unit {0}) AllocError) → ((conn : ℕ) → is_connected p.front conn ≡ true → is_some (find conn (map client_of p.trace.ports.items)) ≡ true) → KeepsFront p.front q.front
+    → OnOk r (map client_of q.trace.ports.items ≡ all_told p.front (map client_of p.trace.ports.items)) → OnOk r (q.front ≡ all_emptied p.front (map client_of p.trace.ports.items))
+    → OnErr r (AreToldLater p.front (map client_of p.trace.ports.items) q.front (map client_of q.trace.ports.items)) → OnErr r (WritesFirst p.front (map client_of p.trace.ports.items) q.front (map client_of q.trace.ports.items))
+    → q.owes ≡ is_err r → q.handed ≡ p.handed → q.making ≡ p.making → q.trace.groups ≡ p.trace.groups → Empties r (standing_of p) (standing_of q)
+empties p q (Ok x) known kept told emptied later writes owes handed making groups = record {
+  after = all_written p q (Ok x) told emptied owes handed making groups;
+  quiet = all_quiet p q (Ok x) (none_boxed p q (Ok x) known kept emptied) told owes;
+}
+empties p q (Err e) known kept told emptied later writes owes handed making groups =
+    let some = some_written p q (Err e) later owes handed making groups in
+    record { later = some.0; owes = some.1; writes = writes_some p q (Err e) writes owes handed making groups }
 
 -- ---- steps that make no mail
 
@@ -134,8 +151,3 @@ quiet_kept step.CheckFinish s t none quiet acts = subst HasNoMail (sym acts) qui
 pub still_quiet_after : (s mid t : Standing) (x : Step) → mid ≡ discharged s → mails_nothing x ≡ true → HasNoMail s → Acts mid x t → HasNoMail t
 still_quiet_after s mid t x is none quiet acts =
     quiet_kept x s t none quiet (subst (λ (m : Standing). Acts m x t) (is ∙ discharged_at s quiet.owes) acts)
-
--- what is known of a result that is good
-pub quiet_boxes : {E : Type 0} (r : Result (Unit {0}) E) (s : Standing) → OnOk r (HasNoMail s) → OnOk r ((conn : ℕ) → mails_on s.front.connections conn ≡ [])
-quiet_boxes (Ok x) s quiet = quiet.boxes
-quiet_boxes (Err e) s quiet = tt

@@ -160,13 +160,6 @@ connected_loses f conn = record {
   ];
 }
 
-pub cut_loses : (f : FrontState) → Loses f (cut f)
-cut_loses f = by (has_no_cut f)
-  where
-    by : (b : Bool) → Loses f (if b then f else record f { service = record f.service { pending = [] }; out = Some (record { first = f.durable; length = length f.service.pending }) })
-    by true = itself f
-    by false = record { holders = λ q c has. has; sessions = λ q s has. has }
-
 -- ---- posting
 
 delivered_loses : (f : FrontState) (e : Entry) (place : ℕ) → Loses f (delivered f e place)

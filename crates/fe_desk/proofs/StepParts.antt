@@ -1,6 +1,6 @@
 -- What emptying the boxes keeps of a desk, and how the parts of a step come together.
-use Rattle.std.proofs.Common.{◌≡◌, ℕ, Vec, Global, Bool, true, false, true≢false, List, [], ◌∷◌, refl, sym, ap, subst, ◌∙◌}
-use Rattle.std.specs.Prelude.{nat_eq, is_some, is_err, map, Some, None, Result, Ok, Err, OnOk, OnErr, MatchBool, if◌then◌else◌}
+use Rattle.std.proofs.Common.{◌≡◌, ℕ, Bool, true, false, true≢false, List, [], ◌∷◌, refl, sym, ap, subst, ◌∙◌}
+use Rattle.std.specs.Prelude.{nat_eq, is_some, is_err, map, Some, None, Result, Ok, Err, OnOk, OnErr, if◌then◌else◌}
 use Rattle.std.specs.declared.alloc.AllocError.{AllocError}
 use Rattle.fe_mail.specs.Connections.{mails_on}
 use Rattle.fe_front.specs.Front.{FrontState, is_connected}
@@ -8,15 +8,14 @@ use Rattle.fe_keeper.specs.Keeper.{KeeperState}
 use Rattle.fe_desk.specs.declared.parts.Parts.{Parts}
 use Rattle.fe_desk.specs.declared.port.Port.{Port}
 use Rattle.fe_desk.specs.declared.step.Step.{Step}
-use Rattle.fe_desk.specs.declared.step.Step.TheVariants as step
 use Rattle.fe_desk.specs.Output.{output_of, Extends}
 use Rattle.fe_desk.specs.Standing.{Client, Standing, emptied, discharged, all_told, all_emptied}
-use Rattle.fe_desk.specs.Steps.{find, Acts, DeskStep, IsAgain, Connects, TakesBytes, unmade, gone}
-use Rattle.fe_desk.specs.Storing.{is_making}
+use Rattle.fe_desk.specs.Steps.{find, Acts, DeskStep}
 use Rattle.fe_desk.specs.Messages.{outputs}
-use Rattle.fe_desk.specs.within.Keeping.{AreToldLater, KeepsFront}
+use Rattle.fe_desk.specs.within.Keeping.{AreToldLater, HasStore, KeepsFront}
+use Rattle.fe_desk.specs.within.Goes.{Empties, HasEmptied, Settles, StillHolds}
 use Rattle.fe_desk.specs.within.Desk.{IsDesk, IsAhead, client_of, desk_of, standing_of}
-use Rattle.fe_desk.proofs.Advancing.{HasStore, desk_as, tied_as}
+use Rattle.fe_desk.proofs.Advancing.{desk_as, tied_as}
 use Rattle.fe_desk.proofs.Outputs.{all_told-extends}
 use Rattle.fe_desk.proofs.Emptying.{boxes_empty, no_box}
 
@@ -124,10 +123,27 @@ pub when_err : {T E P : Type 0} (r : Result T E) → is_err r ≡ true → OnErr
 when_err (Ok x) some p = absurd (true≢false (sym some))
 when_err (Err e) some p = p
 
--- a step whose bytes were not taken is given again as it was
-pub given_again : (fed : Bool) (before next : Step) → fed ≡ false → IsAgain fed before next → next ≡ before
-given_again false before next none again = again
-given_again true before next none again = absurd (true≢false none)
+-- the same of how the boxes were emptied
+pub settles_ok : (r : Result (Unit {0}) AllocError) (s t : Standing) → is_err r ≡ false → Settles r s t → t ≡ discharged s
+settles_ok (Ok x) s t none h = h
+settles_ok (Err e) s t none h = absurd (true≢false none)
+
+pub settles_err : (r : Result (Unit {0}) AllocError) (s t : Standing) → is_err r ≡ true → Settles r s t → (s.owes ≡ true) × StillHolds s t
+settles_err (Ok x) s t some h = absurd (true≢false (sym some))
+settles_err (Err e) s t some h = h
+
+pub empties_ok : (r : Result (Unit {0}) AllocError) (s t : Standing) → is_err r ≡ false → Empties r s t → HasEmptied s t
+empties_ok (Ok x) s t none h = h
+empties_ok (Err e) s t none h = absurd (true≢false none)
+
+pub empties_err : (r : Result (Unit {0}) AllocError) (s t : Standing) → is_err r ≡ true → Empties r s t → StillHolds s t
+empties_err (Ok x) s t some h = absurd (true≢false (sym some))
+empties_err (Err e) s t some h = h
+
+-- mails that were owed are written, where all are
+pub settles_all : (r : Result (Unit {0}) AllocError) (s t : Standing) → s.owes ≡ true → Empties r s t → Settles r s t
+settles_all (Ok x) s t owing h = h.after ∙ sym (discharged_owing s owing)
+settles_all (Err e) s t owing h = (owing, h)
 
 -- ---- a step from its parts
 
@@ -146,41 +162,3 @@ stepped_again s mid u t step next is none again d =
 -- a step whose mails are owed took effect but for them
 pub stepped_owing : (s mid last u : Standing) (step : Step) → mid ≡ discharged s → Acts mid step last → emptied u ≡ emptied last → u.owes ≡ true → DeskStep s step (discharged u)
 stepped_owing s mid last u step is acts later owing = stepped s mid last (discharged u) step is acts (discharged_owing u owing ∙ later)
-
--- ---- connections do nothing to the groups
-
-unmade_groups : (s : Standing) (conn : ℕ) → (unmade s conn).groups ≡ s.groups
-unmade_groups s conn = by (is_making s conn)
-  where
-    by : (b : Bool) → (if b then record s { making = None } else s).groups ≡ s.groups
-    by true = refl
-    by false = refl
-
-pub gone_groups : (s t : Standing) (conn : ℕ) → t ≡ gone s conn → t.groups ≡ s.groups
-gone_groups s t conn is = ap (λ (x : Standing). x.groups) is ∙ unmade_groups s conn
-
-pub connected_groups : (r : Result (Unit {0}) AllocError) (s t : Standing) (conn : ℕ) → OnOk r (MatchBool (is_connected s.front conn) (t ≡ s) (Connects s conn t)) → OnErr r (t ≡ s) → t.groups ≡ s.groups
-connected_groups (Ok x) s t conn came none = by (is_connected s.front conn) came
-  where
-    by : (b : Bool) → MatchBool b (t ≡ s) (Connects s conn t) → t.groups ≡ s.groups
-    by true same = ap (λ (x : Standing). x.groups) same
-    by false comes = ap (λ (x : Standing). x.groups) comes.after ∙ unmade_groups s conn
-connected_groups (Err e) s t conn came none = ap (λ (x : Standing). x.groups) none
-
--- ---- bytes that are given again
-
--- as they were; or, where the piece was taken, with an empty piece
-pub bytes_again : (s u t : Standing) (conn : ℕ) (piece : Vec ℕ Global) (slice : List ℕ) (fed : Bool) (before next : Step)
-    → before ≡ step.Bytes conn piece → slice ≡ piece.items → IsAgain fed before next
-    → (TakesBytes u (find conn u.clients) (if fed then [] else slice) t → TakesBytes s (find conn s.clients) slice t) → Acts u next t → Acts s before t
-bytes_again s u t conn piece slice fed before next is same again go acts =
-    subst (λ (x : Step). Acts s x t) (sym is) (subst (λ (xs : List ℕ). TakesBytes s (find conn s.clients) xs t) same (go (by fed again)))
-  where
-    empty : (x : Step) → IsAgain true (step.Bytes conn piece) x → Acts u x t → TakesBytes u (find conn u.clients) [] t
-    empty (step.Bytes c p) a acted =
-        subst (λ (xs : List ℕ). TakesBytes u (find conn u.clients) xs t) a.1 (subst (λ (n : ℕ). TakesBytes u (find n u.clients) p.items t) a.0 acted)
-    empty other a acted = absurd a
-
-    by : (b : Bool) → IsAgain b before next → TakesBytes u (find conn u.clients) (if b then [] else slice) t
-    by false a = subst (λ (xs : List ℕ). TakesBytes u (find conn u.clients) xs t) (sym same) (subst (λ (x : Step). Acts u x t) (a ∙ is) acts)
-    by true a = empty next (subst (λ (x : Step). IsAgain true x next) is a) acts

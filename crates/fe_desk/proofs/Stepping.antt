@@ -1,79 +1,124 @@
--- A step, from what it says of each of its answers.
-use Rattle.std.proofs.Common.{◌≡◌, ℕ, Bool, true, false, length, Result, Ok, Err, refl, ap, subst}
-use Rattle.std.specs.Prelude.{OnOk, IfErr, IsErrOf, MatchBool}
-use Rattle.fe_keeper.specs.declared.fault.Fault.{Fault}
+-- A step, from what its parts came to.
+use Rattle.std.proofs.Common.{◌≡◌, ℕ, Bool, true, false, true≢false, Result, Ok, Err, inl, inr, refl, sym, ap, subst, ◌∙◌}
+use Rattle.std.specs.Prelude.{MatchBool, IsErrAnd, OnOk}
+use Rattle.fe_disk.specs.declared.disk.Disk.{Ghosts}
+use Rattle.fe_keeper.specs.Keeper.{KeeperState}
 use Rattle.fe_keeper.specs.declared.fault.Fault.TheVariants as keeper
 use Rattle.fe_desk.specs.declared.fault.DeskFault.{DeskFault}
 use Rattle.fe_desk.specs.declared.fault.DeskFault.TheVariants.{Store, NoMemory, Unwritten}
 use Rattle.fe_desk.specs.declared.step.Step.{Step}
-use Rattle.fe_desk.specs.Checks.{Checks}
-use Rattle.fe_desk.specs.Crash.{DeskState, IsFine, TellsStep}
-use Rattle.fe_desk.specs.Ends.{FindsNoMemory, Breaks, discharged_desk}
-use Rattle.fe_desk.specs.Messages.{outputs, TellsFed}
-use Rattle.fe_desk.specs.Quiet.{HasNoMail}
-use Rattle.fe_desk.specs.Standing.{Standing, discharged}
-use Rattle.fe_desk.specs.Steps.{Acts, DeskStep, IsAgain}
-use Rattle.fe_desk.specs.Taken.{Ends, IsStep}
-use Rattle.fe_desk.specs.Writing.{WritesSome}
+use Rattle.fe_desk.specs.Crash.{DeskState, IsFine}
+use Rattle.fe_desk.specs.Ends.{discharged_desk}
+use Rattle.fe_desk.specs.Messages.{outputs}
+use Rattle.fe_desk.specs.Standing.{Standing, emptied, discharged}
+use Rattle.fe_desk.specs.Steps.{Acts, DeskStep}
+use Rattle.fe_desk.specs.Taken.{Ends, IsSound, IsStep}
+use Rattle.fe_desk.specs.within.Desk.{IsDesk}
+use Rattle.fe_desk.specs.within.Keeping.{HasStore}
+use Rattle.fe_desk.specs.within.Goes.{ActEnds, GoesAct, HasEmptied, StillHolds}
+use Rattle.fe_desk.proofs.Advancing.{fine_as, fine_both}
+use Rattle.fe_desk.proofs.Feeding.{settling_reads, fed_discharged}
+use Rattle.fe_desk.proofs.Growing.{checks_as}
+use Rattle.fe_desk.proofs.StepParts.{stepped, stepped_settling, stepped_again, stepped_owing, owes_discharged, discharged_at, discharged_owing}
 
--- what a step says of its answers
-pub record Says {D : Type 0} (failures : D → ℕ) (old : DeskState D) (step : Step) (r : Result (Unit {0}) DeskFault) (new : DeskState D) : Type 0 where
-  pub failed : old.keeper.store.has_failed ≡ true → (r ≡ Err (Store keeper.Failed)) × (new ≡ old)
-  pub stepped : OnOk r (DeskStep old.standing step new.standing)
-  pub quiet : OnOk r (HasNoMail new.standing)
-  pub checked : OnOk r (Checks step old new)
-  pub fine : old.keeper.store.has_failed ≡ false → OnOk r (IsFine failures old new)
-  pub fault : old.keeper.store.has_failed ≡ false → IfErr r (TellsStep failures old new)
-  pub stored : new.keeper.store.has_failed ≡ false → new.synced ≡ length new.standing.groups
-  pub again : (fed : Bool) (next : Step) (u : Standing) → IsErrOf r (NoMemory fed) → IsAgain fed step next → DeskStep new.standing next u → DeskStep old.standing step u
-  pub fed : (fed : Bool) → IsErrOf r (NoMemory fed) → TellsFed fed old.standing step new.standing
-  pub short : (fed : Bool) → IsErrOf r (NoMemory fed) → FindsNoMemory fed step old new
-  pub output : (fed : Bool) → IsErrOf r (NoMemory fed) → old.standing.owes ≡ false → outputs new.standing ≡ outputs old.standing
-  pub unwritten : IsErrOf r Unwritten → DeskStep old.standing step (discharged new.standing) × (new.standing.owes ≡ true) × Checks step old new
-  pub owing : IsErrOf r Unwritten → (last : Standing) × Acts (discharged old.standing) step last × WritesSome last new.standing
-  pub breaks : IsErrOf r (Store keeper.Device) → Breaks step (discharged_desk old) new
-  pub silent : IsErrOf r (Store keeper.Device) → outputs new.standing ≡ outputs (discharged old.standing)
+-- of a fault nothing is said that is said of what is done
+pub of_fault : {T E : Type 0} (P : Type 0) (r : Result T E) (e : E) → IsErrAnd r (λ f. f ≡ e) → OnOk r P
+of_fault P (Ok x) e told = absurd told
+of_fault P (Err f) e told = tt
 
-module _ {D : Type 0} (failures : D → ℕ) (old : DeskState D) (step : Step) (new : DeskState D) where
-  ends : (r : Result (Unit {0}) DeskFault) → old.keeper.store.has_failed ≡ false → Says failures old step r new → Ends failures old step r new
-  ends (Ok done) works says =
-      let fine = says.fine works in
-      record { took = says.stepped; boxes = says.quiet.boxes; checked = says.checked; sound = record { fine = fine; stored = says.stored fine.works } }
-  ends (Err (Store cause)) works says =
-      let told = says.fault works in
-      let is : ◌≡◌ {A = Result (Unit {0}) DeskFault} (Err (Store cause)) (Err (Store keeper.Device)) = ap (λ (c : Fault). Err (Store c)) told.0 in
-      (told.0, record { breaks = says.breaks is; silent = says.silent is; failed = told.1 })
-  ends (Err (NoMemory fed)) works says =
-      let fine = says.fault works in
-      record {
-        finds = says.short fed refl;
-        read = says.fed fed refl;
-        again = λ next u. says.again fed next u refl;
-        silent = says.output fed refl;
-        sound = record { fine = fine; stored = says.stored fine.works };
+-- where the store works
+pub ends_of : {D : Type 0} (failures : D → ℕ) (old : DeskState D) (step : Step) (new : DeskState D) (r : Result (Unit {0}) DeskFault) → old.keeper.store.has_failed ≡ false → IsStep failures old step r new → Ends failures old step r new
+ends_of failures old step new r works is = subst (λ (b : Bool). MatchBool b ((r ≡ Err (Store keeper.Failed)) × (new ≡ old)) (Ends failures old step r new)) works is
+
+-- a desk of which all parts are the same
+pub same_desk : {D : Type 0} (a b : DeskState D) → b.standing ≡ a.standing → b.keeper ≡ a.keeper → b.synced ≡ a.synced → b ≡ a
+same_desk {D} a b standing keeper synced =
+    ap (λ (s : Standing). record b { standing = s }) standing ∙ ap (λ (k : KeeperState D). record b { standing = a.standing; keeper = k }) keeper ∙ ap (λ (n : ℕ). record a { synced = n }) synced
+
+-- a desk whose mails that were owed are written
+pub settled : {D : Type 0} (a mid : DeskState D) → mid.standing ≡ discharged a.standing → HasStore a mid → mid ≡ discharged_desk a
+settled a mid is same = same_desk (discharged_desk a) mid is same.keeper same.synced
+
+module _ {D : Type 0} (k : Ghosts D) (x : Step) (a : DeskState D) where
+  step_at : (r : Result (Unit {0}) DeskFault) (b : DeskState D) → a.keeper.store.has_failed ≡ false → Ends k.failures a x r b → IsStep k.failures a x r b
+  step_at r b works h = subst (λ (c : Bool). MatchBool c ((r ≡ Err (Store keeper.Failed)) × (b ≡ a)) (Ends k.failures a x r b)) (sym works) h
+
+  -- the device had failed
+  pub refused : a.keeper.store.has_failed ≡ true → IsStep k.failures a x (Err (Store keeper.Failed)) a
+  refused failed =
+      let told : Result (Unit {0}) DeskFault = Err (Store keeper.Failed) in
+      subst (λ (c : Bool). MatchBool c ((told ≡ Err (Store keeper.Failed)) × (a ≡ a)) (Ends k.failures a x told a)) (sym failed) (refl, refl)
+
+  sound : {b : DeskState D} → IsDesk k.honest k.may_leave b → IsFine k.failures a b → IsSound k.failures a b
+  sound desk fine = record { fine = fine; stored = desk.all fine.works }
+
+  -- memory was short for mails that were owed
+  pub step_settling : {b : DeskState D} → a.keeper.store.has_failed ≡ false → IsDesk k.honest k.may_leave b → HasStore a b → (a.standing.owes ≡ true) × StillHolds a.standing b.standing
+      → IsStep k.failures a x (Err (NoMemory false)) b
+  step_settling {b} works desk same still =
+      let later : discharged b.standing ≡ discharged a.standing = discharged_owing b.standing still.1.owes ∙ still.1.later ∙ sym (discharged_owing a.standing still.0) in
+      step_at (Err (NoMemory false)) b works (record {
+        finds = inl (refl, record { owed = still.0; writes = still.1.writes; keeper = same.keeper; synced = same.synced });
+        read = settling_reads a.standing b.standing later;
+        again = λ next t again h. stepped_settling a.standing b.standing t x later (subst (λ (y : Step). DeskStep b.standing y t) again h);
+        silent = λ none. absurd (true≢false (sym still.0 ∙ none));
+        sound = sound desk (fine_as k.failures a b works same);
+      })
+
+  -- what it does after them is at fault
+  pub step_fault : {mid b : DeskState D} {fault : DeskFault} (r : Result (Unit {0}) DeskFault) → IsErrAnd r (λ f. f ≡ fault) → a.keeper.store.has_failed ≡ false → mid ≡ discharged_desk a → IsDesk k.honest k.may_leave b
+      → GoesAct k mid x (Err fault) b → IsStep k.failures a x r b
+  step_fault {mid} {b} {fault} r told works is desk goes = by r told
+    where
+      none : b.standing.owes ≡ false
+      none = goes.owes ∙ ap (λ (d : DeskState D). d.standing.owes) is ∙ owes_discharged a.standing
+
+      of : (f : DeskFault) → ActEnds k (discharged_desk a) x b (Err f) → Ends k.failures a x (Err f) b
+      of (Store cause) h = (h.0, record { breaks = h.1.breaks; silent = h.1.silent; failed = record { failed = h.1.failed.failed; rises = h.1.failed.rises } })
+      of (NoMemory fed) h = record {
+        finds = inr h.lacks;
+        read = fed_discharged fed a.standing (discharged a.standing) x b.standing refl h.read;
+        again = λ next t again d. stepped_again a.standing (discharged a.standing) b.standing t x next refl none (λ last. h.again next last again) d;
+        silent = λ clear. h.silent ∙ ap outputs (discharged_at a.standing clear);
+        sound = sound desk (record { works = h.fine.works; still = h.fine.still });
       }
-  ends (Err Unwritten) works says =
-      let fine = says.fault works in
-      let took = says.unwritten refl in
-      let owing = says.owing refl in
-      record { last = owing.0; acts = owing.1; writes = owing.2; took = took.0; checked = took.2; sound = record { fine = fine; stored = says.stored fine.works } }
+      of Unwritten h = absurd h
 
-  pub is_step : (r : Result (Unit {0}) DeskFault) → Says failures old step r new → IsStep failures old step r new
-  is_step r says = by old.keeper.store.has_failed refl
+      by : (r : Result (Unit {0}) DeskFault) → IsErrAnd r (λ f. f ≡ fault) → IsStep k.failures a x r b
+      by (Ok y) told = absurd told
+      by (Err f) told = step_at (Err f) b works (of f (subst (λ (d : DeskState D). ActEnds k d x b (Err f)) is (subst (λ (g : DeskFault). ActEnds k mid x b (Err g)) (sym told) goes.ends)))
+
+  -- it writes nothing then
+  pub act_silent : {b : DeskState D} {fault : DeskFault} → GoesAct k a x (Err fault) b → outputs b.standing ≡ outputs a.standing
+  act_silent {b} {fault} goes = by fault goes.ends
     where
-      by : (b : Bool) → old.keeper.store.has_failed ≡ b → MatchBool b ((r ≡ Err (Store keeper.Failed)) × (new ≡ old)) (Ends failures old step r new)
-      by true failed = says.failed failed
-      by false works = ends r works says
+      by : (f : DeskFault) → ActEnds k a x b (Err f) → outputs b.standing ≡ outputs a.standing
+      by (Store cause) h = h.1.silent
+      by (NoMemory fed) h = h.silent
+      by Unwritten h = absurd h
 
-  -- where the store works
-  pub ends_of : (r : Result (Unit {0}) DeskFault) → old.keeper.store.has_failed ≡ false → IsStep failures old step r new → Ends failures old step r new
-  ends_of r works is = subst (λ (b : Bool). MatchBool b ((r ≡ Err (Store keeper.Failed)) × (new ≡ old)) (Ends failures old step r new)) works is
+  fine_to : {mid last b : DeskState D} → a.keeper.store.has_failed ≡ false → HasStore a mid → IsFine k.failures mid last → HasStore last b → IsFine k.failures a b
+  fine_to {mid} {last} {b} works before fine behind = fine_both k.failures a last b (fine_both k.failures a mid last (fine_as k.failures a mid works before) fine) (fine_as k.failures last b fine.works behind)
 
-  -- what it tells
-  pub tells_of : (fault : DeskFault) → old.keeper.store.has_failed ≡ false → IsStep failures old step (Err fault) new → TellsStep failures old new fault
-  tells_of fault works is = by fault (ends_of (Err fault) works is)
-    where
-      by : (f : DeskFault) → Ends failures old step (Err f) new → TellsStep failures old new f
-      by (Store cause) e = (e.0, e.1.failed)
-      by (NoMemory fed) e = e.sound.fine
-      by Unwritten e = e.sound.fine
+  -- memory was short for its mails
+  pub step_owing : {mid last b : DeskState D} {y : Unit {0}} → a.keeper.store.has_failed ≡ false → mid.standing ≡ discharged a.standing → HasStore a mid → GoesAct k mid x (Ok y) last
+      → HasStore last b → StillHolds last.standing b.standing → IsDesk k.honest k.may_leave b → IsStep k.failures a x (Err Unwritten) b
+  step_owing {mid} {last} {b} works is before goes behind still desk =
+      step_at (Err Unwritten) b works (record {
+        last = last.standing;
+        acts = subst (λ (s : Standing). Acts s x last.standing) is goes.ends.acts;
+        writes = still.writes;
+        took = stepped_owing a.standing mid.standing last.standing b.standing x is goes.ends.acts still.later still.owes;
+        checked = checks_as x a mid last b before behind goes.ends.checked;
+        sound = sound desk (fine_to works before goes.ends.fine behind);
+      })
+
+  pub step_whole : {mid last b : DeskState D} {y : Unit {0}} → a.keeper.store.has_failed ≡ false → mid.standing ≡ discharged a.standing → HasStore a mid → GoesAct k mid x (Ok y) last
+      → HasStore last b → HasEmptied last.standing b.standing → IsDesk k.honest k.may_leave b → IsStep k.failures a x (Ok tt) b
+  step_whole {mid} {last} {b} works is before goes behind empty desk =
+      step_at (Ok tt) b works (record {
+        took = stepped a.standing mid.standing last.standing b.standing x is goes.ends.acts empty.after;
+        boxes = empty.quiet.boxes;
+        checked = checks_as x a mid last b before behind goes.ends.checked;
+        sound = sound desk (fine_to works before goes.ends.fine behind);
+      })

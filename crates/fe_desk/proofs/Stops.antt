@@ -25,7 +25,7 @@ same_number : (n : ℕ) → nat_eq n n ≡ true
 same_number n = grind (arith, nat_tests)
 
 -- which connection room is made for tells nothing once it is made
-made_alike : (s : Standing) (m : Option ℕ) → made (cleared (record s { making = m })) ≡ made (cleared s)
+pub made_alike : (s : Standing) (m : Option ℕ) → made (cleared (record s { making = m })) ≡ made (cleared s)
 made_alike s m = by s.handed
   where
     by : (h : Handed) → made (cleared (record s { handed = h; making = m })) ≡ made (cleared (record s { handed = h }))
@@ -57,6 +57,25 @@ stops_room s mid t conn begun none may =
     let pending : mid.front.service.pending ≡ s.front.service.pending = ap (λ (u : Standing). u.front.service.pending) begun ∙ begun_pending s conn in
     let full : has_room s.front ≡ false = ap (λ (es : List Entry). nat_le (length es) 2048) (sym pending) ∙ none in
     inr (full, subst (λ (u : Standing). MayBegin u conn t) begun may)
+
+begun_handed : (s : Standing) (conn : ℕ) → IsHanded s.handed s.front.out → IsHanded (begun_room s conn).handed (begun_room s conn).front.out
+begun_handed s conn handed = by (is_making s conn)
+  where
+    gone : (h : Handed) → IsHanded h s.front.out → IsHanded (cleared (record s { handed = h })).handed (cleared (record s { handed = h })).front.out
+    gone Nothing out = out
+    gone (Cut batch) out = refl
+    gone (Stored batch) out = refl
+
+    by : (b : Bool) → IsHanded (if b then made (cleared s) else s).handed (if b then made (cleared s) else s).front.out
+    by true = gone s.handed handed
+    by false = handed
+
+-- where the making of room stopped, it comes to the same later
+pub roomy_stops : (s t : Standing) (conn : ℕ) → IsHanded s.handed s.front.out → StopsMaking s conn t → roomy t conn ≡ roomy s conn
+roomy_stops s t conn handed (inl still) = ap (λ (u : Standing). roomy u conn) still.1
+roomy_stops s t conn handed (inr begins) =
+    let none : has_room (begun_room s conn).front ≡ false = ap (λ (es : List Entry). nat_le (length es) 2048) (begun_pending s conn) ∙ begins.0 in
+    stops_later s (begun_room s conn) t conn refl (begun_handed s conn handed) none begins.1
 
 -- ---- room is made whatever stands among the clients
 
@@ -103,8 +122,5 @@ first_stops conn s a t some clients stops at_hand taken = by (left_of a conn) so
     }
 
 -- the device failed there
-pub first_tears : {D : Type 0} (conn : ℕ) (s a last : Standing) (new : DeskState D) → 0 < length (left_of a conn) → new.standing.clients ≡ a.clients → StopsMaking a conn last → IsTaken conn s a → Tears last new
-    → (u : Standing) × StopsBefore s conn u × Tears u new
-first_tears conn s a last new some clients stops taken tears =
-    let same : last.clients ≡ a.clients = sym (ap (λ (u : Standing). u.clients) tears.standing) ∙ clients in
-    (last, first_stops conn s a last some same stops tears.at_hand taken, tears)
+pub first_tears : {D : Type 0} (conn : ℕ) (s a last : Standing) (new : DeskState D) → 0 < length (left_of a conn) → new.standing.clients ≡ a.clients → StopsMaking a conn last → IsTaken conn s a → Tears last new → StopsBefore s conn last
+first_tears conn s a last new some clients stops taken tears = first_stops conn s a last some (sym (ap (λ (u : Standing). u.clients) tears.standing) ∙ clients) stops tears.at_hand taken

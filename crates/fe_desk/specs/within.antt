@@ -1,3 +1,4 @@
 pub mod Keeping
 pub mod Places
 pub mod Desk
+pub mod Goes

@@ -1,19 +1,14 @@
 //! The steps.
 
-ghost use Rattle.std.specs.Prelude.{◌≡◌, ℕ, Bool, true, false, List, map, Ok, Err, IfErr, OnOk, OnErr, IsErrOf, []};
-ghost use Rattle.fe_keeper.specs.declared.fault.Fault.TheVariants as keeper;
-ghost use Rattle.fe_desk.specs.declared.fault.DeskFault.TheVariants as fault;
-ghost use Rattle.fe_desk.specs.declared.step.Step.{Step as Steps};
+ghost use Rattle.std.specs.Prelude.{◌≡◌, true, false, OnOk, MatchResult};
 ghost use Rattle.fe_desk.specs.Output.{Extends};
-ghost use Rattle.fe_desk.specs.Standing.{Standing, discharged, emptied};
-ghost use Rattle.fe_desk.specs.Steps.{DeskStep, Acts, IsAgain};
-ghost use Rattle.fe_desk.specs.Messages.{outputs, TellsFed};
-ghost use Rattle.fe_desk.specs.Crash.{Advances, IsFine, TellsCall, TellsStep};
-ghost use Rattle.fe_desk.specs.within.Desk.{desk_of, standing_of, IsDesk};
-ghost use Rattle.fe_desk.specs.Checks.{Checks};
-ghost use Rattle.fe_desk.specs.Ends.{discharged_desk, Lacks, FindsNoMemory, Breaks};
+ghost use Rattle.fe_desk.specs.Messages.{outputs, told_as};
+ghost use Rattle.fe_desk.specs.Crash.{Advances};
 ghost use Rattle.fe_desk.specs.Quiet.{HasNoMail, mails_nothing};
-ghost use Rattle.fe_desk.specs.Writing.{WritesSome};
+ghost use Rattle.fe_desk.specs.Taken.{IsStep};
+ghost use Rattle.fe_desk.specs.within.Desk.{desk_of, standing_of, IsDesk};
+ghost use Rattle.fe_desk.specs.within.Goes.{Empties, GoesAct, Settles};
+ghost use Rattle.fe_desk.specs.within.Keeping.{HasStore};
 
 use crate::fault::DeskFault;
 use crate::messages::told;
@@ -30,36 +25,10 @@ impl<D: Disk> Parts<D> {
         requires desk { IsDesk D.honest D.may_leave (desk_of self.old) }
         requires still { still ≡ true → HasNoMail (standing_of self.old) × (mails_nothing step.now ≡ true) }
         ensures desk { IsDesk D.honest D.may_leave (desk_of self.new) }
-        ensures stepped { OnOk result (DeskStep (standing_of self.old) step.now (standing_of self.new)) }
-        ensures checked { OnOk result (Checks step.now (desk_of self.old) (desk_of self.new)) }
-        ensures again { (fed : Bool) (next : Steps) (t : Standing) → IsErrOf result (fault.NoMemory fed)
-            → IsAgain fed step.now next
-            → DeskStep (standing_of self.new) next t → DeskStep (standing_of self.old) step.now t }
-        ensures fed { (fed : Bool) → IsErrOf result (fault.NoMemory fed)
-            → TellsFed fed (standing_of self.old) step.now (standing_of self.new) }
-        ensures unwritten { IsErrOf result fault.Unwritten
-            → DeskStep (standing_of self.old) step.now (discharged (standing_of self.new)) × (self.new.owes ≡ true)
-            × Checks step.now (desk_of self.old) (desk_of self.new) }
+        ensures is_step { IsStep D.failures (desk_of self.old) step.now result (desk_of self.new) }
         ensures quiet { OnOk result (HasNoMail (standing_of self.new)) }
-        ensures advances { Advances D.honest D.moment D.left_since (desk_of self.old) (desk_of self.new) }
-        ensures failed { self.old.keeper.store.has_failed ≡ true
-            → (result ≡ Err (fault.Store keeper.Failed)) × (desk_of self.new ≡ desk_of self.old) }
-        ensures fine { self.old.keeper.store.has_failed ≡ false
-            → OnOk result (IsFine D.failures (desk_of self.old) (desk_of self.new)) }
-        ensures fault { self.old.keeper.store.has_failed ≡ false
-            → IfErr result (TellsStep D.failures (desk_of self.old) (desk_of self.new)) }
-        ensures silent { IsErrOf result (fault.Store keeper.Device)
-            → outputs (standing_of self.new) ≡ outputs (discharged (standing_of self.old)) }
-        ensures output { (fed : Bool) → IsErrOf result (fault.NoMemory fed) → self.old.owes ≡ false
-            → outputs (standing_of self.new) ≡ outputs (standing_of self.old) }
         ensures extends { Extends (outputs (standing_of self.old)) (outputs (standing_of self.new)) }
-        ensures short { (fed : Bool) → IsErrOf result (fault.NoMemory fed)
-            → FindsNoMemory fed step.now (desk_of self.old) (desk_of self.new) }
-        ensures breaks { IsErrOf result (fault.Store keeper.Device)
-            → Breaks step.now (discharged_desk (desk_of self.old)) (desk_of self.new) }
-        ensures owing { IsErrOf result fault.Unwritten
-            → (last : Standing) × Acts (discharged (standing_of self.old)) step.now last
-            × WritesSome last (standing_of self.new) }
+        ensures advances { Advances D.honest D.moment D.left_since (desk_of self.old) (desk_of self.new) }
     {
         if self.keeper.has_failed() {
             return Err(DeskFault::Store(Fault::Failed));
@@ -78,14 +47,9 @@ impl<D: Disk> Parts<D> {
     fn settle(&mut self) -> Result<(), AllocError>
         requires desk { IsDesk D.honest D.may_leave (desk_of self.old) }
         ensures desk { IsDesk D.honest D.may_leave (desk_of self.new) }
-        ensures discharged { OnOk result (standing_of self.new ≡ discharged (standing_of self.old)) }
-        ensures later { OnErr result (discharged (standing_of self.new) ≡ discharged (standing_of self.old)) }
-        ensures keeper { self.new.keeper ≡ self.old.keeper }
-        ensures synced { self.new.trace.synced ≡ self.old.trace.synced }
-        ensures groups { (standing_of self.new).groups ≡ (standing_of self.old).groups }
+        ensures settles { Settles result (standing_of self.old) (standing_of self.new) }
+        ensures store { HasStore (desk_of self.old) (desk_of self.new) }
         ensures extends { Extends (outputs (standing_of self.old)) (outputs (standing_of self.new)) }
-        ensures owed { OnErr result (self.old.owes ≡ true) }
-        ensures writes { OnErr result (WritesSome (standing_of self.old) (standing_of self.new)) }
     {
         if self.owes {
             return self.empty();
@@ -98,15 +62,9 @@ impl<D: Disk> Parts<D> {
         requires desk { IsDesk D.honest D.may_leave (desk_of self.old) }
         requires still { still ≡ true → HasNoMail (standing_of self.old) }
         ensures desk { IsDesk D.honest D.may_leave (desk_of self.new) }
-        ensures emptied { OnOk result (standing_of self.new ≡ emptied (standing_of self.old)) }
-        ensures later { OnErr result ((emptied (standing_of self.new) ≡ emptied (standing_of self.old))
-            × (self.new.owes ≡ true)) }
-        ensures quiet { OnOk result (HasNoMail (standing_of self.new)) }
-        ensures keeper { self.new.keeper ≡ self.old.keeper }
-        ensures synced { self.new.trace.synced ≡ self.old.trace.synced }
-        ensures groups { (standing_of self.new).groups ≡ (standing_of self.old).groups }
+        ensures empties { Empties result (standing_of self.old) (standing_of self.new) }
+        ensures store { HasStore (desk_of self.old) (desk_of self.new) }
         ensures extends { Extends (outputs (standing_of self.old)) (outputs (standing_of self.new)) }
-        ensures writes { OnErr result (WritesSome (standing_of self.old) (standing_of self.new)) }
     {
         if still {
             return Ok(());
@@ -118,15 +76,9 @@ impl<D: Disk> Parts<D> {
     fn empty(&mut self) -> Result<(), AllocError>
         requires desk { IsDesk D.honest D.may_leave (desk_of self.old) }
         ensures desk { IsDesk D.honest D.may_leave (desk_of self.new) }
-        ensures emptied { OnOk result (standing_of self.new ≡ emptied (standing_of self.old)) }
-        ensures later { OnErr result ((emptied (standing_of self.new) ≡ emptied (standing_of self.old))
-            × (self.new.owes ≡ true)) }
-        ensures quiet { OnOk result (HasNoMail (standing_of self.new)) }
-        ensures keeper { self.new.keeper ≡ self.old.keeper }
-        ensures synced { self.new.trace.synced ≡ self.old.trace.synced }
-        ensures groups { (standing_of self.new).groups ≡ (standing_of self.old).groups }
+        ensures empties { Empties result (standing_of self.old) (standing_of self.new) }
+        ensures store { HasStore (desk_of self.old) (desk_of self.new) }
         ensures extends { Extends (outputs (standing_of self.old)) (outputs (standing_of self.new)) }
-        ensures writes { OnErr result (WritesSome (standing_of self.old) (standing_of self.new)) }
     {
         let outcome = empty_boxes(&mut self.front, &mut self.trace.ports);
         self.owes = outcome.is_err();
@@ -138,28 +90,15 @@ impl<D: Disk> Parts<D> {
         requires desk { IsDesk D.honest D.may_leave (desk_of self.old) }
         requires works { self.old.keeper.store.has_failed ≡ false }
         ensures desk { IsDesk D.honest D.may_leave (desk_of self.new) }
-        ensures acts { OnOk result (Acts (standing_of self.old) step.now (standing_of self.new)) }
-        ensures checked { OnOk result (Checks step.now (desk_of self.old) (desk_of self.new)) }
-        ensures again { (fed : Bool) (next : Steps) (t : Standing) → IsErrOf result (fault.NoMemory fed)
-            → IsAgain fed step.now next
-            → Acts (standing_of self.new) next t → Acts (standing_of self.old) step.now t }
-        ensures fed { (fed : Bool) → IsErrOf result (fault.NoMemory fed)
-            → TellsFed fed (standing_of self.old) step.now (standing_of self.new) }
-        ensures owes { self.new.owes ≡ self.old.owes }
-        ensures outputs { OnErr result (outputs (standing_of self.new) ≡ outputs (standing_of self.old)) }
-        ensures advances { Advances D.honest D.moment D.left_since (desk_of self.old) (desk_of self.new) }
-        ensures fine { OnOk result (IsFine D.failures (desk_of self.old) (desk_of self.new)) }
-        ensures fault { IfErr result (TellsStep D.failures (desk_of self.old) (desk_of self.new)) }
-        ensures written { OnErr result (IsErrOf result fault.Unwritten → ⊥) }
-        ensures lacks { (fed : Bool) → IsErrOf result (fault.NoMemory fed)
-            → Lacks fed step.now (desk_of self.old) (desk_of self.new) }
-        ensures breaks { IsErrOf result (fault.Store keeper.Device)
-            → Breaks step.now (desk_of self.old) (desk_of self.new) }
+        ensures goes { GoesAct D.Disk (desk_of self.old) step.now result (desk_of self.new) }
     {
         match step {
-            Step::Connect { conn } => self
-                .connect(*conn)
-                .map_err(|_| DeskFault::NoMemory { fed: false }),
+            Step::Connect { conn } => {
+                if self.connect(*conn).is_err() {
+                    return Err(DeskFault::NoMemory { fed: false });
+                }
+                Ok(())
+            }
             Step::Bytes { conn, piece } => self.bytes(*conn, piece.as_slice()),
             Step::Gone { conn } => {
                 self.leave(*conn);
@@ -169,42 +108,24 @@ impl<D: Disk> Parts<D> {
                 self.cut();
                 Ok(())
             }
-            Step::Append => self.store().map_err(|fault| told(fault, false)),
+            Step::Append => told_by(self.store()),
             Step::Post => {
                 self.post();
                 Ok(())
             }
-            Step::CheckBegin | Step::CheckStep | Step::CheckFinish => {
-                self.check(step).map_err(|fault| told(fault, false))
-            }
+            Step::CheckBegin => told_by(self.keeper.checkpoint_begin()),
+            Step::CheckStep => told_by(self.keeper.checkpoint_step()),
+            Step::CheckFinish => told_by(self.keeper.checkpoint_finish()),
         }
     }
+}
 
-    /// A call of the keeper's checkpoints. Other steps are none.
-    fn check(&mut self, step: &Step) -> Result<(), Fault>
-        requires desk { IsDesk D.honest D.may_leave (desk_of self.old) }
-        requires works { self.old.keeper.store.has_failed ≡ false }
-        ensures desk { IsDesk D.honest D.may_leave (desk_of self.new) }
-        ensures standing { standing_of self.new ≡ standing_of self.old }
-        ensures checked { OnOk result (Checks step.now (desk_of self.old) (desk_of self.new)) }
-        ensures advances { Advances D.honest D.moment D.left_since (desk_of self.old) (desk_of self.new) }
-        ensures fine { OnOk result (IsFine D.failures (desk_of self.old) (desk_of self.new)) }
-        ensures fault { IfErr result (TellsCall D.failures (desk_of self.old) (desk_of self.new)) }
-        ensures lacks { IsErrOf result keeper.NoMemory → Lacks false step.now (desk_of self.old) (desk_of self.new) }
-        ensures breaks { IsErrOf result keeper.Device → Breaks step.now (desk_of self.old) (desk_of self.new) }
-    {
-        match step {
-            Step::CheckBegin => {
-                self.keeper.checkpoint_begin()?;
-            }
-            Step::CheckStep => {
-                self.keeper.checkpoint_step()?;
-            }
-            Step::CheckFinish => {
-                self.keeper.checkpoint_finish()?;
-            }
-            _ => {}
-        }
-        Ok(())
+/// What a step that reads no bytes tells where the keeper answered this.
+fn told_by<T: Drop>(outcome: Result<T, Fault>) -> Result<(), DeskFault>
+    ensures { MatchResult outcome (λ _. result ≡ Ok tt) (λ fault. result ≡ Err (told_as fault false)) }
+{
+    match outcome {
+        Ok(_) => Ok(()),
+        Err(fault) => Err(told(fault, false)),
     }
 }

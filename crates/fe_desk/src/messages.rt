@@ -1,19 +1,13 @@
 //! Bytes of a connection, and the messages in them.
 
-ghost use Rattle.std.specs.Prelude.{◌≡◌, ◌<◌, Bool, false, true, List, [], ◌∷◌, length, map, if◌then◌else◌, IfErr, OnOk, IsErrOf, IsTrue, MatchBool};
+ghost use Rattle.std.specs.Prelude.{◌≡◌, ◌<◌, false, ◌∷◌, length, IsTrue};
 ghost use Rattle.fe_front.specs.Front.{has_room};
-ghost use Rattle.fe_keeper.specs.declared.fault.Fault.TheVariants as keeper;
-ghost use Rattle.fe_desk.specs.declared.fault.DeskFault.TheVariants as fault;
-ghost use Rattle.fe_desk.specs.Standing.{Standing};
-ghost use Rattle.fe_desk.specs.Taking.{TakesAll};
-ghost use Rattle.fe_desk.specs.Steps.{find, with_left, TakesBytes};
+ghost use Rattle.fe_desk.specs.Steps.{with_left};
 ghost use Rattle.fe_desk.specs.within.Places.{IsFirstAt};
-ghost use Rattle.fe_desk.specs.Messages.{left_of, outputs, told_as, TakesNext, EndsWith, ReadsNone, ReadsPiece};
-ghost use Rattle.fe_desk.specs.Crash.{Advances, IsFine, TellsCall, TellsStep};
-ghost use Rattle.fe_desk.specs.Stopping.{StopsBefore, StopsShort};
-ghost use Rattle.fe_desk.specs.Checks.{StoresMore};
-ghost use Rattle.fe_desk.specs.Ends.{Tears, TearsBytes};
+ghost use Rattle.fe_desk.specs.Messages.{left_of, outputs, told_as, TakesNext, EndsWith};
+ghost use Rattle.fe_desk.specs.Stopping.{StopsBefore};
 ghost use Rattle.fe_desk.specs.within.Desk.{client_of, desk_of, standing_of, IsDesk};
+ghost use Rattle.fe_desk.specs.within.Goes.{Goes, GoesPiece, LeavesSome, LeavesStream, StopsStream, TakesLeft, TakesStream};
 
 use crate::fault::DeskFault;
 use crate::parts::Parts;
@@ -30,27 +24,10 @@ impl<D: Disk> Parts<D> {
         requires desk { IsDesk D.honest D.may_leave (desk_of self.old) }
         requires works { self.old.keeper.store.has_failed ≡ false }
         ensures desk { IsDesk D.honest D.may_leave (desk_of self.new) }
-        ensures taken { OnOk result
-            (TakesBytes (standing_of self.old) (find conn (standing_of self.old).clients) piece.now
-            (standing_of self.new)) }
-        ensures again { (fed : Bool) → IsErrOf result (fault.NoMemory fed) → (t : Standing)
-            → TakesBytes (standing_of self.new) (find conn (standing_of self.new).clients)
-            (if fed then [] else piece.now) t
-            → TakesBytes (standing_of self.old) (find conn (standing_of self.old).clients) piece.now t }
-        ensures fed { (fed : Bool) → IsErrOf result (fault.NoMemory fed)
-            → MatchBool fed (ReadsPiece (standing_of self.old) conn piece.now (standing_of self.new))
-            (ReadsNone (standing_of self.old) (standing_of self.new)) }
-        ensures owes { self.new.owes ≡ self.old.owes }
         ensures outputs { outputs (standing_of self.new) ≡ outputs (standing_of self.old) }
-        ensures advances { Advances D.honest D.moment D.left_since (desk_of self.old) (desk_of self.new) }
-        ensures fine { OnOk result (IsFine D.failures (desk_of self.old) (desk_of self.new)) }
-        ensures fault { IfErr result (TellsStep D.failures (desk_of self.old) (desk_of self.new)) }
-        ensures stops { (fed : Bool) → IsErrOf result (fault.NoMemory fed)
-            → StopsShort fed (standing_of self.old) conn piece.now (standing_of self.new) }
-        ensures torn { IsErrOf result (fault.Store keeper.Device)
-            → TearsBytes (standing_of self.old) conn piece.now (desk_of self.new) }
-        ensures grows { self.new.keeper.store.has_failed ≡ false → StoresMore (desk_of self.old) (desk_of self.new) }
-        ensures written { IsErrOf result fault.Unwritten → ⊥ }
+        ensures goes { GoesPiece D.Disk (TakesStream (standing_of self.old) conn piece.now)
+            (LeavesStream (standing_of self.old) conn piece.now) (StopsStream (standing_of self.old) conn piece.now)
+            result (desk_of self.old) (desk_of self.new) }
     {
         let Some(at) = self.place_of(conn) else {
             return Ok(());
@@ -80,26 +57,13 @@ impl<D: Disk> Parts<D> {
         requires works { self.old.keeper.store.has_failed ≡ false }
         requires place { IsFirstAt (standing_of self.old).clients conn at }
         ensures desk { IsDesk D.honest D.may_leave (desk_of self.new) }
-        ensures taken { OnOk result
-            (TakesAll (with_left (standing_of self.old) conn []) conn (left_of (standing_of self.old) conn)
-            (standing_of self.new)) }
-        ensures again { IsErrOf result keeper.NoMemory → (t : Standing)
-            → TakesAll (with_left (standing_of self.new) conn []) conn (left_of (standing_of self.new) conn) t
-            → TakesAll (with_left (standing_of self.old) conn []) conn (left_of (standing_of self.old) conn) t }
-        ensures still { IsErrOf result keeper.NoMemory → 0 < length (left_of (standing_of self.new) conn) }
-        ensures rest { EndsWith (left_of (standing_of self.old) conn) (left_of (standing_of self.new) conn) }
+        ensures place { IsFirstAt (standing_of self.new).clients conn at }
         ensures clients { (standing_of self.new).clients
             ≡ (with_left (standing_of self.old) conn (left_of (standing_of self.new) conn)).clients }
-        ensures place { IsFirstAt (standing_of self.new).clients conn at }
-        ensures owes { self.new.owes ≡ self.old.owes }
-        ensures advances { Advances D.honest D.moment D.left_since (desk_of self.old) (desk_of self.new) }
-        ensures fine { OnOk result (IsFine D.failures (desk_of self.old) (desk_of self.new)) }
-        ensures fault { IfErr result (TellsCall D.failures (desk_of self.old) (desk_of self.new)) }
-        ensures stops { IsErrOf result keeper.NoMemory
-            → StopsBefore (standing_of self.old) conn (standing_of self.new) }
-        ensures torn { IsErrOf result keeper.Device
-            → (last : Standing) × StopsBefore (standing_of self.old) conn last × Tears last (desk_of self.new) }
-        ensures grows { self.new.keeper.store.has_failed ≡ false → StoresMore (desk_of self.old) (desk_of self.new) }
+        ensures rest { EndsWith (left_of (standing_of self.old) conn) (left_of (standing_of self.new) conn) }
+        ensures goes { Goes D.Disk (TakesLeft (standing_of self.old) conn)
+            (λ d. LeavesSome (standing_of self.old) conn d.standing) (StopsBefore (standing_of self.old) conn) result
+            (desk_of self.old) (desk_of self.new) }
     {
         while self.trace.ports[at].has_left() {
             self.make_room(conn)?;

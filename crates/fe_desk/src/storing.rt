@@ -1,18 +1,14 @@
 //! The way of a batch: it is cut, stored as a group, and posted.
 
-ghost use Rattle.std.specs.Prelude.{◌≡◌, true, false, Some, Ok, IsTrue, IfOk, IfErr, OnOk, OnErr, IsErrOf};
-ghost use Rattle.fe_state.specs.declared.batch.Batch.{Batch};
+ghost use Rattle.std.specs.Prelude.{◌≡◌, false, IsTrue, IfOk, OnOk};
 ghost use Rattle.fe_front.specs.Front.{has_room};
-ghost use Rattle.fe_keeper.specs.declared.fault.Fault.TheVariants.{Device, NoMemory};
 ghost use Rattle.fe_desk.specs.declared.handed.Handed.TheVariants.{Cut};
-ghost use Rattle.fe_desk.specs.Standing.{Standing};
 ghost use Rattle.fe_desk.specs.Storing as way;
-ghost use Rattle.fe_desk.specs.Storing.{handing, stored, posted, cleared, made, committed, is_making, begun_room, roomy};
-ghost use Rattle.fe_desk.specs.Crash.{Advances, IsFine, TellsCall, with_handed};
-ghost use Rattle.fe_desk.specs.Stopping.{HasCut, MayBegin, StopsMaking};
-ghost use Rattle.fe_desk.specs.Checks.{StoresMore};
-ghost use Rattle.fe_desk.specs.Ends.{Tears};
+ghost use Rattle.fe_desk.specs.Storing.{stored, posted, cleared, made, committed, begun_room, roomy};
+ghost use Rattle.fe_desk.specs.Crash.{with_handed};
+ghost use Rattle.fe_desk.specs.Stopping.{MayBegin, StopsMaking};
 ghost use Rattle.fe_desk.specs.within.Desk.{desk_of, standing_of, IsDesk};
+ghost use Rattle.fe_desk.specs.within.Goes.{Goes, GoesTo, Is, IsUnstored, WasBegun};
 
 use crate::handed::Handed;
 use crate::parts::Parts;
@@ -41,16 +37,9 @@ impl<D: Disk> Parts<D> {
         requires desk { IsDesk D.honest D.may_leave (desk_of self.old) }
         requires works { self.old.keeper.store.has_failed ≡ false }
         ensures desk { IsDesk D.honest D.may_leave (desk_of self.new) }
-        ensures stored { OnOk result (standing_of self.new ≡ stored (standing_of self.old)) }
-        ensures memory { IsErrOf result NoMemory → desk_of self.new ≡ desk_of self.old }
-        ensures owes { self.new.owes ≡ self.old.owes }
-        ensures ports { self.new.trace.ports ≡ self.old.trace.ports }
-        ensures advances { Advances D.honest D.moment D.left_since (desk_of self.old) (desk_of self.new) }
-        ensures fine { OnOk result (IsFine D.failures (desk_of self.old) (desk_of self.new)) }
-        ensures fault { IfErr result (TellsCall D.failures (desk_of self.old) (desk_of self.new)) }
-        ensures at_hand { OnErr result (HasCut (standing_of self.old)) }
-        ensures torn { IsErrOf result Device → Tears (standing_of self.old) (desk_of self.new) }
-        ensures grows { self.new.keeper.store.has_failed ≡ false → StoresMore (desk_of self.old) (desk_of self.new) }
+        ensures clients { (standing_of self.new).clients ≡ (standing_of self.old).clients }
+        ensures goes { Goes D.Disk (Is (stored (standing_of self.old))) (IsUnstored (desk_of self.old))
+            (Is (standing_of self.old)) result (desk_of self.old) (desk_of self.new) }
     {
         match mem::replace(&mut self.handed, Handed::Nothing) {
             Handed::Cut(batch) => {
@@ -70,19 +59,10 @@ impl<D: Disk> Parts<D> {
         requires desk { IsDesk D.honest D.may_leave (with_handed (desk_of self.old) (Cut batch)) }
         requires works { self.old.keeper.store.has_failed ≡ false }
         ensures desk { IsDesk D.honest D.may_leave (with_handed (desk_of self.new) result.0) }
-        ensures stored { OnOk result.1 (handing (standing_of self.new) result.0
-            ≡ stored (handing (standing_of self.old) (Cut batch))) }
-        ensures memory { IsErrOf result.1 NoMemory
-            → with_handed (desk_of self.new) result.0 ≡ with_handed (desk_of self.old) (Cut batch) }
-        ensures owes { self.new.owes ≡ self.old.owes }
-        ensures ports { self.new.trace.ports ≡ self.old.trace.ports }
-        ensures advances { Advances D.honest D.moment D.left_since (with_handed (desk_of self.old) (Cut batch))
+        ensures clients { (standing_of self.new).clients ≡ (standing_of self.old).clients }
+        ensures goes { let old = with_handed (desk_of self.old) (Cut batch) in
+            Goes D.Disk (Is (stored old.standing)) (IsUnstored old) (Is old.standing) result.1 old
             (with_handed (desk_of self.new) result.0) }
-        ensures fine { OnOk result.1 (IsFine D.failures (desk_of self.old) (desk_of self.new)) }
-        ensures fault { IfErr result.1 (TellsCall D.failures (desk_of self.old) (desk_of self.new)) }
-        ensures torn { IsErrOf result.1 Device
-            → Tears (handing (standing_of self.old) (Cut batch)) (with_handed (desk_of self.new) result.0) }
-        ensures grows { self.new.keeper.store.has_failed ≡ false → StoresMore (desk_of self.old) (desk_of self.new) }
     {
         // It names a type for the checker (`docs/DECISIONS.md`, "Toolchain").
         let _ = self.front.state();
@@ -130,16 +110,9 @@ impl<D: Disk> Parts<D> {
         requires desk { IsDesk D.honest D.may_leave (desk_of self.old) }
         requires works { self.old.keeper.store.has_failed ≡ false }
         ensures desk { IsDesk D.honest D.may_leave (desk_of self.new) }
-        ensures cleared { OnOk result (standing_of self.new ≡ cleared (standing_of self.old)) }
-        ensures memory { IsErrOf result NoMemory → desk_of self.new ≡ desk_of self.old }
-        ensures owes { self.new.owes ≡ self.old.owes }
-        ensures ports { self.new.trace.ports ≡ self.old.trace.ports }
-        ensures advances { Advances D.honest D.moment D.left_since (desk_of self.old) (desk_of self.new) }
-        ensures fine { OnOk result (IsFine D.failures (desk_of self.old) (desk_of self.new)) }
-        ensures fault { IfErr result (TellsCall D.failures (desk_of self.old) (desk_of self.new)) }
-        ensures at_hand { OnErr result (HasCut (standing_of self.old)) }
-        ensures torn { IsErrOf result Device → Tears (standing_of self.old) (desk_of self.new) }
-        ensures grows { self.new.keeper.store.has_failed ≡ false → StoresMore (desk_of self.old) (desk_of self.new) }
+        ensures clients { (standing_of self.new).clients ≡ (standing_of self.old).clients }
+        ensures goes { GoesTo D.Disk (cleared (standing_of self.old)) (Is (standing_of self.old)) result
+            (desk_of self.old) (desk_of self.new) }
     {
         self.store()?;
         self.post();
@@ -151,20 +124,10 @@ impl<D: Disk> Parts<D> {
         requires desk { IsDesk D.honest D.may_leave (desk_of self.old) }
         requires works { self.old.keeper.store.has_failed ≡ false }
         ensures desk { IsDesk D.honest D.may_leave (desk_of self.new) }
-        ensures made { OnOk result (standing_of self.new ≡ roomy (standing_of self.old) conn) }
+        ensures clients { (standing_of self.new).clients ≡ (standing_of self.old).clients }
         ensures room { OnOk result (IsTrue (has_room self.new.front)) }
-        ensures memory { IsErrOf result NoMemory
-            → roomy (standing_of self.new) conn ≡ roomy (standing_of self.old) conn }
-        ensures owes { self.new.owes ≡ self.old.owes }
-        ensures ports { self.new.trace.ports ≡ self.old.trace.ports }
-        ensures advances { Advances D.honest D.moment D.left_since (desk_of self.old) (desk_of self.new) }
-        ensures fine { OnOk result (IsFine D.failures (desk_of self.old) (desk_of self.new)) }
-        ensures fault { IfErr result (TellsCall D.failures (desk_of self.old) (desk_of self.new)) }
-        ensures stops { IsErrOf result NoMemory
-            → StopsMaking (standing_of self.old) conn (standing_of self.new) × HasCut (standing_of self.new) }
-        ensures torn { IsErrOf result Device
-            → (last : Standing) × StopsMaking (standing_of self.old) conn last × Tears last (desk_of self.new) }
-        ensures grows { self.new.keeper.store.has_failed ≡ false → StoresMore (desk_of self.old) (desk_of self.new) }
+        ensures goes { GoesTo D.Disk (roomy (standing_of self.old) conn) (StopsMaking (standing_of self.old) conn)
+            result (desk_of self.old) (desk_of self.new) }
     {
         self.go_on(conn)?;
         if self.front.room() {
@@ -178,17 +141,9 @@ impl<D: Disk> Parts<D> {
         requires desk { IsDesk D.honest D.may_leave (desk_of self.old) }
         requires works { self.old.keeper.store.has_failed ≡ false }
         ensures desk { IsDesk D.honest D.may_leave (desk_of self.new) }
-        ensures begun { OnOk result (standing_of self.new ≡ begun_room (standing_of self.old) conn) }
-        ensures memory { IsErrOf result NoMemory → desk_of self.new ≡ desk_of self.old }
-        ensures owes { self.new.owes ≡ self.old.owes }
-        ensures ports { self.new.trace.ports ≡ self.old.trace.ports }
-        ensures advances { Advances D.honest D.moment D.left_since (desk_of self.old) (desk_of self.new) }
-        ensures fine { OnOk result (IsFine D.failures (desk_of self.old) (desk_of self.new)) }
-        ensures fault { IfErr result (TellsCall D.failures (desk_of self.old) (desk_of self.new)) }
-        ensures making { OnErr result (is_making (standing_of self.old) conn ≡ true) }
-        ensures at_hand { OnErr result (HasCut (standing_of self.old)) }
-        ensures torn { IsErrOf result Device → Tears (standing_of self.old) (desk_of self.new) }
-        ensures grows { self.new.keeper.store.has_failed ≡ false → StoresMore (desk_of self.old) (desk_of self.new) }
+        ensures clients { (standing_of self.new).clients ≡ (standing_of self.old).clients }
+        ensures goes { GoesTo D.Disk (begun_room (standing_of self.old) conn) (WasBegun (standing_of self.old) conn)
+            result (desk_of self.old) (desk_of self.new) }
     {
         if self.making == Some(conn) {
             self.clear()?;
@@ -203,17 +158,9 @@ impl<D: Disk> Parts<D> {
         requires desk { IsDesk D.honest D.may_leave (desk_of self.old) }
         requires works { self.old.keeper.store.has_failed ≡ false }
         ensures desk { IsDesk D.honest D.may_leave (desk_of self.new) }
-        ensures committed { OnOk result (standing_of self.new ≡ made (committed (cleared (standing_of self.old)))) }
-        ensures stops { IsErrOf result NoMemory
-            → MayBegin (standing_of self.old) conn (standing_of self.new) × HasCut (standing_of self.new) }
-        ensures owes { self.new.owes ≡ self.old.owes }
-        ensures ports { self.new.trace.ports ≡ self.old.trace.ports }
-        ensures advances { Advances D.honest D.moment D.left_since (desk_of self.old) (desk_of self.new) }
-        ensures fine { OnOk result (IsFine D.failures (desk_of self.old) (desk_of self.new)) }
-        ensures fault { IfErr result (TellsCall D.failures (desk_of self.old) (desk_of self.new)) }
-        ensures torn { IsErrOf result Device
-            → (last : Standing) × MayBegin (standing_of self.old) conn last × Tears last (desk_of self.new) }
-        ensures grows { self.new.keeper.store.has_failed ≡ false → StoresMore (desk_of self.old) (desk_of self.new) }
+        ensures clients { (standing_of self.new).clients ≡ (standing_of self.old).clients }
+        ensures goes { GoesTo D.Disk (made (committed (cleared (standing_of self.old))))
+            (MayBegin (standing_of self.old) conn) result (desk_of self.old) (desk_of self.new) }
     {
         self.clear()?;
         self.cut();

@@ -1,9 +1,10 @@
--- What stays of a front where mails are taken and connections go.
+-- What stays of a desk where mails are taken and connections go.
 use Rattle.std.specs.Prelude.{◌≡◌, ℕ, true, List, [], ◌++◌, map}
 use Rattle.fe_mail.specs.Connections.{mails_on}
 use Rattle.fe_front.specs.Front.{FrontState, is_connected}
 use Rattle.fe_desk.specs.Mails.{emptied_box}
 use Rattle.fe_desk.specs.Output.{output_of, Extends}
+use Rattle.fe_desk.specs.Crash.{DeskState}
 use Rattle.fe_desk.specs.Standing.{Client, told, all_told, all_emptied}
 
 -- the state, what is pending and what is out stay, and no connection comes
@@ -13,6 +14,12 @@ pub record KeepsFront (f g : FrontState) : Type 0 where
   pub out : g.out ≡ f.out
   pub durable : g.durable ≡ f.durable
   pub none_comes : (conn : ℕ) → is_connected g conn ≡ true → is_connected f conn ≡ true
+
+-- the groups, those that are stored and the keeper stay
+pub record HasStore {D : Type 0} (old new : DeskState D) : Type 0 where
+  pub keeper : new.keeper ≡ old.keeper
+  pub groups : new.standing.groups ≡ old.standing.groups
+  pub synced : new.synced ≡ old.synced
 
 -- no empty box gets a mail
 pub record KeepsEmpty (f g : FrontState) : Type 0 where

@@ -4,30 +4,11 @@ use Rattle.fe_desk.specs.Taken.{IsStep}
 use Rattle.fe_desk.specs.within.Desk.{desk_of}
 use Rattle.fe_messages.proofs.Answers.{keeps_below}
 use Rattle.fe_desk.proofs.Answering.{step_acknowledged}
-use Rattle.fe_desk.proofs.Stepping.{is_step}
 use Rattle.fe_desk.proofs.desk.Desk.step.Goals as goal
 
 pub returns-clause-is_step : goal.returns-clause-is_step
 returns-clause-is_step g c =
-    let says = c.step-outcome.ensures in
-    subst (λ (d : DeskState g.row.D.Denot). IsStep g.D.Disk.failures d c.args.step.now c.step-outcome.result (desk_of c.step-outcome.new.self)) c.self.view_is
-    (is_step g.D.Disk.failures (desk_of c.self.inside.parts) c.args.step.now (desk_of c.step-outcome.new.self) c.step-outcome.result (record {
-      failed = says.failed;
-      stepped = says.stepped;
-      quiet = says.quiet;
-      checked = says.checked;
-      fine = says.fine;
-      fault = says.fault;
-      stored = says.desk.all;
-      again = says.again;
-      fed = says.fed;
-      short = says.short;
-      output = says.output;
-      unwritten = says.unwritten;
-      owing = says.owing;
-      breaks = says.breaks;
-      silent = says.silent;
-    }))
+    subst (λ (d : DeskState g.row.D.Denot). IsStep g.D.Disk.failures d c.args.step.now c.step-outcome.result (desk_of c.step-outcome.new.self)) c.self.view_is c.step-outcome.ensures.is_step
 
 pub returns-clause-acknowledged : goal.returns-clause-acknowledged
 returns-clause-acknowledged g c = λ begun asked limits asks is.

@@ -1,155 +1,143 @@
-use Rattle.std.proofs.Common.{◌≡◌, map, Bool, true, false, refl, sym, ap, ◌∙◌, subst, List, Result, Err, slice_set}
-use Rattle.fe_keeper.specs.declared.fault.Fault.{Fault}
+use Rattle.std.proofs.Common.{◌≡◌, map, List, Bool, true, false, inl, inr, Err, refl, sym, ap, subst, ◌∙◌, slice_set}
 use Rattle.fe_wire.specs.Stream.{Decoding, CompletesMessage}
-use Rattle.fe_desk.specs.declared.fault.DeskFault.{DeskFault}
-use Rattle.fe_desk.specs.declared.fault.DeskFault.TheVariants as fault
+use Rattle.fe_desk.specs.Messages.{outputs}
 use Rattle.fe_desk.specs.Standing.{Client, Standing}
 use Rattle.fe_desk.specs.Steps.{after_frame}
-use Rattle.fe_desk.specs.within.Desk.{client_of, desk_of}
-use Rattle.fe_desk.proofs.Leftovers.{left_here, port_changed}
-use Rattle.fe_desk.proofs.Pieces.{TookLeft, TookBytes, here_at, all_taken, port_same, fed_by, fed_place, desk_reads, reading, gone_groups, bytes_unknown, bytes_left, bytes_off, port_reads, bytes_unread, bytes_more, bytes_all}
+use Rattle.fe_desk.specs.declared.fault.DeskFault.TheVariants.{NoMemory}
+use Rattle.fe_desk.specs.within.Desk.{client_of, desk_of, standing_of, IsDesk}
+use Rattle.fe_desk.specs.within.Goes.{GoesPiece, TakesStream, LeavesStream, StopsStream}
+use Rattle.fe_desk.proofs.Advancing.{store_itself}
+use Rattle.fe_desk.proofs.Goes.{unread, piece_done, piece_short, piece_told, then, before}
+use Rattle.fe_desk.proofs.Places.{port_changed}
+use Rattle.fe_desk.proofs.Leftovers.{left_here}
+use Rattle.fe_desk.proofs.Pieces.{relieves, has_fed, all_taken, port_same, port_reads, fed_place, desk_reads, reading, gone_groups, frame_stays, stream_unknown, stream_left, stream_off, stream_unread, stream_more, stream_all, fed_outputs, fed_stops, left_outputs}
 use Rattle.fe_desk.proofs.parts.Parts.bytes.Goals as goal
 
-pub returns-in_default-clause-advances : goal.returns-in_default-clause-advances
-returns-in_default-clause-advances g c =
-    let honest = g.D.Disk.honest in let may_leave = g.D.Disk.may_leave in let moment = g.D.Disk.moment in let since = g.D.Disk.left_since in let failures = g.D.Disk.failures in
-    let conn = c.args.conn in let piece = c.args.piece.now in let a = desk_of c.args.self.now in
-    (bytes_unknown honest may_leave moment since failures g.met.D.Disk.only_now conn piece a c.in_default.ensures.none c.requires.desk c.requires.works).advances
+pub returns-in_default-clause-goes : goal.returns-in_default-clause-goes
+returns-in_default-clause-goes g c =
+    unread {k = g.D.Disk} g.met.D.Disk.only_now c.requires.desk c.requires.works (stream_unknown (standing_of c.args.self.now) c.args.conn c.args.piece.now c.in_default.ensures.none)
 
-pub returns-in-Err : goal.returns-in-Err
-returns-in-Err g c =
-    let honest = g.D.Disk.honest in let may_leave = g.D.Disk.may_leave in let moment = g.D.Disk.moment in let since = g.D.Disk.left_since in let failures = g.D.Disk.failures in
-    let conn = c.args.conn in let piece = c.args.piece.now in let a = desk_of c.args.self.now in
-    let (client, here) = here_at a.standing conn c.in-Some.at c.in-Some.ensures.place in
-    let b = desk_of c.take_left.new.self in
-    let left_any : TookLeft honest may_leave moment since failures conn c.in-Some.at a c.take_left.result b = (record { desk_is = c.take_left.ensures.desk; taken = c.take_left.ensures.taken; again = c.take_left.ensures.again; still = c.take_left.ensures.still; rest = c.take_left.ensures.rest; clients = c.take_left.ensures.clients; owes = c.take_left.ensures.owes; advances = c.take_left.ensures.advances; fine = c.take_left.ensures.fine; fault = c.take_left.ensures.fault; stops = c.take_left.ensures.stops; torn = c.take_left.ensures.torn; grows = c.take_left.ensures.grows }) in
-    let left = subst (λ (r : Result (Unit {0}) Fault). TookLeft honest may_leave moment since failures conn c.in-Some.at a r b) c.in-Err.is left_any in
-    let same = bytes_left honest may_leave moment since failures conn c.in-Some.at piece a b client c.in-Err.fault here left in
-    let made = subst (λ (f : DeskFault). TookBytes honest may_leave moment since failures conn piece a (Err f) b) (sym c.told.ensures) same in
-    record { desk = made.desk_is; taken = made.taken; again = made.again; fed = made.fed; owes = made.owes; outputs = made.outputs_are; advances = made.advances; fine = made.fine; fault = made.fault; written = made.written; stops = made.stops; torn = made.torn; grows = made.grows }
+pub returns-in-Err-clause-outputs : goal.returns-in-Err-clause-outputs
+returns-in-Err-clause-outputs g c = left_outputs c.args.conn (standing_of c.args.self.now) (standing_of c.take_left.new.self) c.take_left.ensures.clients
 
-pub returns-then-not-connected : goal.returns-then-not-connected
-returns-then-not-connected g c =
-    let honest = g.D.Disk.honest in let may_leave = g.D.Disk.may_leave in let moment = g.D.Disk.moment in let since = g.D.Disk.left_since in let failures = g.D.Disk.failures in
-    let conn = c.args.conn in let piece = c.args.piece.now in let a = desk_of c.args.self.now in
-    let (client, here) = here_at a.standing conn c.in-Some.at c.in-Some.ensures.place in
-    let b = desk_of c.take_left.new.self in
-    let left_any : TookLeft honest may_leave moment since failures conn c.in-Some.at a c.take_left.result b = (record { desk_is = c.take_left.ensures.desk; taken = c.take_left.ensures.taken; again = c.take_left.ensures.again; still = c.take_left.ensures.still; rest = c.take_left.ensures.rest; clients = c.take_left.ensures.clients; owes = c.take_left.ensures.owes; advances = c.take_left.ensures.advances; fine = c.take_left.ensures.fine; fault = c.take_left.ensures.fault; stops = c.take_left.ensures.stops; torn = c.take_left.ensures.torn; grows = c.take_left.ensures.grows }) in
-    let left = subst (λ (r : Result (Unit {0}) Fault). TookLeft honest may_leave moment since failures conn c.in-Some.at a r b) c.in_default-take_left.is left_any in
-    let made = bytes_off honest may_leave moment since failures conn c.in-Some.at piece a b client here left (sym c.connected.ensures ∙ c.if-not-connected.true) in
-    record { desk = made.desk_is; taken = made.taken; again = made.again; fed = made.fed; owes = made.owes; outputs = made.outputs_are; advances = made.advances; fine = made.fine; fault = made.fault; written = made.written; stops = made.stops; torn = made.torn; grows = made.grows }
+pub returns-in-Err-clause-goes : goal.returns-in-Err-clause-goes
+returns-in-Err-clause-goes g c =
+    let is = relieves (standing_of c.args.self.now) (standing_of c.take_left.new.self) c.args.conn c.in-Some.at c.in-Some.ensures.place c.take_left.ensures.clients in
+    piece_told false c.told.ensures (λ some. stream_left c.args.piece.now is some) (λ last stops. inl stops) c.in-Err.ensures.goes
+
+pub returns-then-not-connected-clause-outputs : goal.returns-then-not-connected-clause-outputs
+returns-then-not-connected-clause-outputs g c = left_outputs c.args.conn (standing_of c.args.self.now) (standing_of c.take_left.new.self) c.take_left.ensures.clients
+
+pub returns-then-not-connected-clause-goes : goal.returns-then-not-connected-clause-goes
+returns-then-not-connected-clause-goes g c =
+    let is = relieves (standing_of c.args.self.now) (standing_of c.take_left.new.self) c.args.conn c.in-Some.at c.in-Some.ensures.place c.take_left.ensures.clients in
+    let goes = c.in_default-take_left.ensures.goes in
+    piece_done goes (store_itself _) refl (stream_off c.args.piece.now is goes.ends.1 (sym c.connected.ensures ∙ c.if-not-connected.true))
 
 pub feed-requires : goal.feed-requires
 feed-requires g c =
-    let honest = g.D.Disk.honest in let may_leave = g.D.Disk.may_leave in let moment = g.D.Disk.moment in let since = g.D.Disk.left_since in let failures = g.D.Disk.failures in
-    let conn = c.args.conn in let piece = c.args.piece.now in let a = desk_of c.args.self.now in
-    let (client, here) = here_at a.standing conn c.in-Some.at c.in-Some.ensures.place in
-    let b = desk_of c.take_left.new.self in
-    let left_any : TookLeft honest may_leave moment since failures conn c.in-Some.at a c.take_left.result b = (record { desk_is = c.take_left.ensures.desk; taken = c.take_left.ensures.taken; again = c.take_left.ensures.again; still = c.take_left.ensures.still; rest = c.take_left.ensures.rest; clients = c.take_left.ensures.clients; owes = c.take_left.ensures.owes; advances = c.take_left.ensures.advances; fine = c.take_left.ensures.fine; fault = c.take_left.ensures.fault; stops = c.take_left.ensures.stops; torn = c.take_left.ensures.torn; grows = c.take_left.ensures.grows }) in
-    let left = subst (λ (r : Result (Unit {0}) Fault). TookLeft honest may_leave moment since failures conn c.in-Some.at a r b) c.in_default-take_left.is left_any in
-    let ports = c.take_left.new.self.trace.ports.items in let p = c.index_mut.result.now in
-    sym (left_here ports conn c.in-Some.at p c.take_left.ensures.place c.index_mut.ensures.value) ∙ all_taken honest may_leave moment since failures conn c.in-Some.at a b left
+    let u = standing_of c.take_left.new.self in
+    sym (left_here c.take_left.new.self.trace.ports.items c.args.conn c.in-Some.at c.index_mut.result.now c.take_left.ensures.place c.index_mut.ensures.value)
+    ∙ all_taken c.args.conn (standing_of c.args.self.now) u c.in_default-take_left.ensures.goes.ends.1
 
 pub returns-in_default-feed : goal.returns-in_default-feed
 returns-in_default-feed g c =
-    let honest = g.D.Disk.honest in let may_leave = g.D.Disk.may_leave in let moment = g.D.Disk.moment in let since = g.D.Disk.left_since in let failures = g.D.Disk.failures in
-    let conn = c.args.conn in let piece = c.args.piece.now in let a = desk_of c.args.self.now in
-    let (client, here) = here_at a.standing conn c.in-Some.at c.in-Some.ensures.place in
+    let s = standing_of c.args.self.now in
     let b = desk_of c.take_left.new.self in
-    let left_any : TookLeft honest may_leave moment since failures conn c.in-Some.at a c.take_left.result b = (record { desk_is = c.take_left.ensures.desk; taken = c.take_left.ensures.taken; again = c.take_left.ensures.again; still = c.take_left.ensures.still; rest = c.take_left.ensures.rest; clients = c.take_left.ensures.clients; owes = c.take_left.ensures.owes; advances = c.take_left.ensures.advances; fine = c.take_left.ensures.fine; fault = c.take_left.ensures.fault; stops = c.take_left.ensures.stops; torn = c.take_left.ensures.torn; grows = c.take_left.ensures.grows }) in
-    let left = subst (λ (r : Result (Unit {0}) Fault). TookLeft honest may_leave moment since failures conn c.in-Some.at a r b) c.in_default-take_left.is left_any in
-    let ports = c.take_left.new.self.trace.ports.items in let p = c.index_mut.result.now in
-    let same = port_same ports conn c.in-Some.at p c.feed.new.self c.take_left.ensures.place c.index_mut.ensures.value c.in_default-feed.ensures.err in
-    let completes : CompletesMessage client.decoder piece = subst (λ (d : Decoding). CompletesMessage d piece)
-    (port_reads honest may_leave moment since failures conn c.in-Some.at a b client ports p here left refl c.take_left.ensures.place c.index_mut.ensures.value) c.in_default-feed.ensures.memory in
-    let made = subst (λ (cs : List Client). TookBytes honest may_leave moment since failures conn piece a (Err (fault.NoMemory false)) (record b { standing = record b.standing { clients = cs } })) (sym same) (bytes_unread honest may_leave moment since failures conn c.in-Some.at piece a b client here left (sym c.connected.ensures ∙ c.if-not-connected.false) completes) in
-    record { desk = made.desk_is; taken = made.taken; again = made.again; fed = made.fed; owes = made.owes; outputs = made.outputs_are; advances = made.advances; fine = made.fine; fault = made.fault; written = made.written; stops = made.stops; torn = made.torn; grows = made.grows }
+    let conn = c.args.conn in
+    let piece = c.args.piece.now in
+    let ports = c.take_left.new.self.trace.ports.items in
+    let p = c.index_mut.result.now in
+    let goes = c.in_default-take_left.ensures.goes in
+    let is = relieves s b.standing conn c.in-Some.at c.in-Some.ensures.place c.take_left.ensures.clients in
+    let same = sym (port_same ports conn c.in-Some.at p c.feed.new.self c.take_left.ensures.place c.index_mut.ensures.value c.in_default-feed.ensures.err) in
+    let completes : CompletesMessage is.client.decoder piece =
+    subst (λ (d : Decoding). CompletesMessage d piece) (port_reads piece is ports c.in-Some.at p refl c.take_left.ensures.place c.index_mut.ensures.value) c.in_default-feed.ensures.memory in
+    record {
+      desk = subst (λ (cs : List Client). IsDesk g.D.Disk.honest g.D.Disk.may_leave (record b { standing = record b.standing { clients = cs } })) same c.take_left.ensures.desk;
+      outputs = subst (λ (cs : List Client). outputs (record b.standing { clients = cs }) ≡ outputs s) same (left_outputs conn s b.standing c.take_left.ensures.clients);
+      goes =
+          subst
+          (λ (cs : List Client). GoesPiece g.D.Disk (TakesStream s conn piece) (LeavesStream s conn piece) (StopsStream s conn piece) (Err (NoMemory false)) (desk_of c.args.self.now)
+          (record b { standing = record b.standing { clients = cs } })) same
+          (piece_short goes (stream_unread piece is goes.ends.1 (sym c.connected.ensures ∙ c.if-not-connected.false) completes));
+    }
 
 pub take_left-requires-2-clause-desk : goal.take_left-requires-2-clause-desk
 take_left-requires-2-clause-desk g c =
-    let honest = g.D.Disk.honest in let may_leave = g.D.Disk.may_leave in let moment = g.D.Disk.moment in let since = g.D.Disk.left_since in let failures = g.D.Disk.failures in
-    let conn = c.args.conn in let piece = c.args.piece.now in let a = desk_of c.args.self.now in
-    let (client, here) = here_at a.standing conn c.in-Some.at c.in-Some.ensures.place in
-    let b = desk_of c.take_left.new.self in
-    let left_any : TookLeft honest may_leave moment since failures conn c.in-Some.at a c.take_left.result b = (record { desk_is = c.take_left.ensures.desk; taken = c.take_left.ensures.taken; again = c.take_left.ensures.again; still = c.take_left.ensures.still; rest = c.take_left.ensures.rest; clients = c.take_left.ensures.clients; owes = c.take_left.ensures.owes; advances = c.take_left.ensures.advances; fine = c.take_left.ensures.fine; fault = c.take_left.ensures.fault; stops = c.take_left.ensures.stops; torn = c.take_left.ensures.torn; grows = c.take_left.ensures.grows }) in
-    let left = subst (λ (r : Result (Unit {0}) Fault). TookLeft honest may_leave moment since failures conn c.in-Some.at a r b) c.in_default-take_left.is left_any in
-    let ports = c.take_left.new.self.trace.ports.items in let p = c.index_mut.result.now in
+    let ports = c.take_left.new.self.trace.ports.items in
     let q = c.feed.new.self in
-    let m = record b { standing = record b.standing { clients = map client_of (slice_set ports c.in-Some.at q) } } in
-    let fed = fed_by honest may_leave moment since failures conn c.in-Some.at piece b ports p q refl c.take_left.ensures.place c.index_mut.ensures.value c.in-Ok.ensures.reads c.in-Ok.ensures.client in
-    desk_reads honest may_leave b conn (reading q.decoder (client_of q).left) (map client_of (slice_set ports c.in-Some.at q)) (λ d. refl) (port_changed ports conn c.in-Some.at p q (reading q.decoder (client_of q).left) c.take_left.ensures.place c.index_mut.ensures.value c.in-Ok.ensures.client) c.take_left.ensures.desk
+    let change = reading q.decoder (client_of q).left in
+    desk_reads g.D.Disk.honest g.D.Disk.may_leave (desk_of c.take_left.new.self) c.args.conn change (map client_of (slice_set ports c.in-Some.at q)) (λ d. refl)
+    (port_changed ports c.args.conn c.in-Some.at c.index_mut.result.now q change c.take_left.ensures.place c.index_mut.ensures.value c.in-Ok.ensures.client) c.take_left.ensures.desk
 
 pub take_left-requires-2-clause-place : goal.take_left-requires-2-clause-place
 take_left-requires-2-clause-place g c =
-    let honest = g.D.Disk.honest in let may_leave = g.D.Disk.may_leave in let moment = g.D.Disk.moment in let since = g.D.Disk.left_since in let failures = g.D.Disk.failures in
-    let conn = c.args.conn in let piece = c.args.piece.now in let a = desk_of c.args.self.now in
-    let (client, here) = here_at a.standing conn c.in-Some.at c.in-Some.ensures.place in
-    let b = desk_of c.take_left.new.self in
-    let left_any : TookLeft honest may_leave moment since failures conn c.in-Some.at a c.take_left.result b = (record { desk_is = c.take_left.ensures.desk; taken = c.take_left.ensures.taken; again = c.take_left.ensures.again; still = c.take_left.ensures.still; rest = c.take_left.ensures.rest; clients = c.take_left.ensures.clients; owes = c.take_left.ensures.owes; advances = c.take_left.ensures.advances; fine = c.take_left.ensures.fine; fault = c.take_left.ensures.fault; stops = c.take_left.ensures.stops; torn = c.take_left.ensures.torn; grows = c.take_left.ensures.grows }) in
-    let left = subst (λ (r : Result (Unit {0}) Fault). TookLeft honest may_leave moment since failures conn c.in-Some.at a r b) c.in_default-take_left.is left_any in
-    let ports = c.take_left.new.self.trace.ports.items in let p = c.index_mut.result.now in
-    let q = c.feed.new.self in
-    let m = record b { standing = record b.standing { clients = map client_of (slice_set ports c.in-Some.at q) } } in
-    let fed = fed_by honest may_leave moment since failures conn c.in-Some.at piece b ports p q refl c.take_left.ensures.place c.index_mut.ensures.value c.in-Ok.ensures.reads c.in-Ok.ensures.client in
-    fed_place ports conn c.in-Some.at p q c.take_left.ensures.place c.index_mut.ensures.value c.in-Ok.ensures.client
+    fed_place c.take_left.new.self.trace.ports.items c.args.conn c.in-Some.at c.index_mut.result.now c.feed.new.self c.take_left.ensures.place c.index_mut.ensures.value c.in-Ok.ensures.client
+
+pub take_left-requires-2-clause-works : goal.take_left-requires-2-clause-works
+take_left-requires-2-clause-works g c = c.in_default-take_left.ensures.goes.ends.0.fine.works
 
 pub returns-in-Err-take_left : goal.returns-in-Err-take_left
 returns-in-Err-take_left g c =
-    let honest = g.D.Disk.honest in let may_leave = g.D.Disk.may_leave in let moment = g.D.Disk.moment in let since = g.D.Disk.left_since in let failures = g.D.Disk.failures in
-    let conn = c.args.conn in let piece = c.args.piece.now in let a = desk_of c.args.self.now in
-    let (client, here) = here_at a.standing conn c.in-Some.at c.in-Some.ensures.place in
-    let b = desk_of c.take_left.new.self in
-    let left_any : TookLeft honest may_leave moment since failures conn c.in-Some.at a c.take_left.result b = (record { desk_is = c.take_left.ensures.desk; taken = c.take_left.ensures.taken; again = c.take_left.ensures.again; still = c.take_left.ensures.still; rest = c.take_left.ensures.rest; clients = c.take_left.ensures.clients; owes = c.take_left.ensures.owes; advances = c.take_left.ensures.advances; fine = c.take_left.ensures.fine; fault = c.take_left.ensures.fault; stops = c.take_left.ensures.stops; torn = c.take_left.ensures.torn; grows = c.take_left.ensures.grows }) in
-    let left = subst (λ (r : Result (Unit {0}) Fault). TookLeft honest may_leave moment since failures conn c.in-Some.at a r b) c.in_default-take_left.is left_any in
-    let ports = c.take_left.new.self.trace.ports.items in let p = c.index_mut.result.now in
-    let q = c.feed.new.self in
-    let m = record b { standing = record b.standing { clients = map client_of (slice_set ports c.in-Some.at q) } } in
-    let fed = fed_by honest may_leave moment since failures conn c.in-Some.at piece b ports p q refl c.take_left.ensures.place c.index_mut.ensures.value c.in-Ok.ensures.reads c.in-Ok.ensures.client in
-    let n = desk_of c.take_left-2.new.self in
-    let rest_any : TookLeft honest may_leave moment since failures conn c.in-Some.at m c.take_left-2.result n = (record { desk_is = c.take_left-2.ensures.desk; taken = c.take_left-2.ensures.taken; again = c.take_left-2.ensures.again; still = c.take_left-2.ensures.still; rest = c.take_left-2.ensures.rest; clients = c.take_left-2.ensures.clients; owes = c.take_left-2.ensures.owes; advances = c.take_left-2.ensures.advances; fine = c.take_left-2.ensures.fine; fault = c.take_left-2.ensures.fault; stops = c.take_left-2.ensures.stops; torn = c.take_left-2.ensures.torn; grows = c.take_left-2.ensures.grows }) in
-    let rest = subst (λ (r : Result (Unit {0}) Fault). TookLeft honest may_leave moment since failures conn c.in-Some.at m r n) c.in-Err-take_left.is rest_any in
-    let same = bytes_more honest may_leave moment since failures conn c.in-Some.at piece a b m n client c.in-Err-take_left.fault here left (sym c.connected.ensures ∙ c.if-not-connected.false) fed rest in
-    let made = subst (λ (f : DeskFault). TookBytes honest may_leave moment since failures conn piece a (Err f) n) (sym c.told-in-Err-take_left.ensures) same in
-    record { desk = made.desk_is; taken = made.taken; again = made.again; fed = made.fed; owes = made.owes; outputs = made.outputs_are; advances = made.advances; fine = made.fine; fault = made.fault; written = made.written; stops = made.stops; torn = made.torn; grows = made.grows }
+    let s = standing_of c.args.self.now in
+    let u = standing_of c.take_left.new.self in
+    let m = record u { clients = map client_of (slice_set c.take_left.new.self.trace.ports.items c.in-Some.at c.feed.new.self) } in
+    let n = standing_of c.take_left-2.new.self in
+    let goes = c.in_default-take_left.ensures.goes in
+    let is = relieves s u c.args.conn c.in-Some.at c.in-Some.ensures.place c.take_left.ensures.clients in
+    let fed =
+    has_fed c.args.conn c.in-Some.at c.args.piece.now s u c.take_left.new.self.trace.ports.items c.index_mut.result.now c.feed.new.self is goes.ends.1 (sym c.connected.ensures ∙ c.if-not-connected.false) refl
+    c.take_left.ensures.place c.index_mut.ensures.value c.in-Ok.ensures.reads c.in-Ok.ensures.client in
+    record {
+      desk = c.take_left-2.ensures.desk;
+      outputs = left_outputs c.args.conn m n c.take_left-2.ensures.clients ∙ fed_outputs fed;
+      goes =
+          piece_told true c.told-in-Err-take_left.ensures (λ some. stream_more fed n c.take_left-2.ensures.clients c.take_left-2.ensures.rest some) (λ last stops. inr (fed_stops fed last stops))
+          (then goes (before goes.ends.0.fine.works (record { keeper = refl; groups = refl; synced = refl }) refl c.in-Err-take_left.ensures.goes));
+    }
 
 pub returns-then-bad : goal.returns-then-bad
 returns-then-bad g c =
-    let honest = g.D.Disk.honest in let may_leave = g.D.Disk.may_leave in let moment = g.D.Disk.moment in let since = g.D.Disk.left_since in let failures = g.D.Disk.failures in
-    let conn = c.args.conn in let piece = c.args.piece.now in let a = desk_of c.args.self.now in
-    let (client, here) = here_at a.standing conn c.in-Some.at c.in-Some.ensures.place in
-    let b = desk_of c.take_left.new.self in
-    let left_any : TookLeft honest may_leave moment since failures conn c.in-Some.at a c.take_left.result b = (record { desk_is = c.take_left.ensures.desk; taken = c.take_left.ensures.taken; again = c.take_left.ensures.again; still = c.take_left.ensures.still; rest = c.take_left.ensures.rest; clients = c.take_left.ensures.clients; owes = c.take_left.ensures.owes; advances = c.take_left.ensures.advances; fine = c.take_left.ensures.fine; fault = c.take_left.ensures.fault; stops = c.take_left.ensures.stops; torn = c.take_left.ensures.torn; grows = c.take_left.ensures.grows }) in
-    let left = subst (λ (r : Result (Unit {0}) Fault). TookLeft honest may_leave moment since failures conn c.in-Some.at a r b) c.in_default-take_left.is left_any in
-    let ports = c.take_left.new.self.trace.ports.items in let p = c.index_mut.result.now in
-    let q = c.feed.new.self in
-    let m = record b { standing = record b.standing { clients = map client_of (slice_set ports c.in-Some.at q) } } in
-    let fed = fed_by honest may_leave moment since failures conn c.in-Some.at piece b ports p q refl c.take_left.ensures.place c.index_mut.ensures.value c.in-Ok.ensures.reads c.in-Ok.ensures.client in
-    let n = desk_of c.take_left-2.new.self in
-    let rest_any : TookLeft honest may_leave moment since failures conn c.in-Some.at m c.take_left-2.result n = (record { desk_is = c.take_left-2.ensures.desk; taken = c.take_left-2.ensures.taken; again = c.take_left-2.ensures.again; still = c.take_left-2.ensures.still; rest = c.take_left-2.ensures.rest; clients = c.take_left-2.ensures.clients; owes = c.take_left-2.ensures.owes; advances = c.take_left-2.ensures.advances; fine = c.take_left-2.ensures.fine; fault = c.take_left-2.ensures.fault; stops = c.take_left-2.ensures.stops; torn = c.take_left-2.ensures.torn; grows = c.take_left-2.ensures.grows }) in
-    let rest = subst (λ (r : Result (Unit {0}) Fault). TookLeft honest may_leave moment since failures conn c.in-Some.at m r n) c.in_default-take_left-2.is rest_any in
-    let bad : q.decoder.is_bad ≡ true = sym c.in-Ok.ensures.bad ∙ c.if-bad.true in
-    let p2 = desk_of c.leave.new.self in
-    let after : p2.standing ≡ after_frame q.decoder.is_bad n.standing conn = c.leave.ensures.gone ∙ ap (λ (x : Bool). after_frame x n.standing conn) (sym bad) in
-    let groups : p2.standing.groups ≡ n.standing.groups = ap (λ (u : Standing). u.groups) c.leave.ensures.gone ∙ gone_groups n.standing conn in
-    let made = bytes_all honest may_leave moment since failures conn c.in-Some.at piece a b m n p2 client here left (sym c.connected.ensures ∙ c.if-not-connected.false) fed rest after (record { keeper = c.leave.ensures.keeper; groups = groups; synced = c.leave.ensures.synced }) c.leave.ensures.desk in
-    record { desk = made.desk_is; taken = made.taken; again = made.again; fed = made.fed; owes = made.owes; outputs = made.outputs_are; advances = made.advances; fine = made.fine; fault = made.fault; written = made.written; stops = made.stops; torn = made.torn; grows = made.grows }
+    let s = standing_of c.args.self.now in
+    let u = standing_of c.take_left.new.self in
+    let m = record u { clients = map client_of (slice_set c.take_left.new.self.trace.ports.items c.in-Some.at c.feed.new.self) } in
+    let n = standing_of c.take_left-2.new.self in
+    let goes = c.in_default-take_left.ensures.goes in
+    let is = relieves s u c.args.conn c.in-Some.at c.in-Some.ensures.place c.take_left.ensures.clients in
+    let fed =
+    has_fed c.args.conn c.in-Some.at c.args.piece.now s u c.take_left.new.self.trace.ports.items c.index_mut.result.now c.feed.new.self is goes.ends.1 (sym c.connected.ensures ∙ c.if-not-connected.false) refl
+    c.take_left.ensures.place c.index_mut.ensures.value c.in-Ok.ensures.reads c.in-Ok.ensures.client in
+    let rest = c.in_default-take_left-2.ensures.goes in
+    let bad : c.feed.new.self.decoder.is_bad ≡ true = sym c.in-Ok.ensures.bad ∙ c.if-bad.true in
+    let gone : standing_of c.leave.new.self ≡ after_frame c.feed.new.self.decoder.is_bad n c.args.conn = c.leave.ensures.gone ∙ ap (λ (x : Bool). after_frame x n c.args.conn) (sym bad) in
+    let stays = frame_stays true n c.args.conn in
+    record {
+      desk = c.leave.ensures.desk;
+      outputs = ap (λ (t : Standing). outputs t) c.leave.ensures.gone ∙ stays.outputs_are ∙ left_outputs c.args.conn m n c.take_left-2.ensures.clients ∙ fed_outputs fed;
+      goes =
+          piece_done (then goes (before goes.ends.0.fine.works (record { keeper = refl; groups = refl; synced = refl }) refl rest))
+          (record { keeper = c.leave.ensures.keeper; groups = ap (λ (t : Standing). t.groups) c.leave.ensures.gone ∙ gone_groups n c.args.conn; synced = c.leave.ensures.synced })
+          (ap (λ (t : Standing). t.owes) c.leave.ensures.gone ∙ stays.owes) (stream_all fed n (standing_of c.leave.new.self) rest.ends.1 gone);
+    }
 
 pub returns-else-bad : goal.returns-else-bad
 returns-else-bad g c =
-    let honest = g.D.Disk.honest in let may_leave = g.D.Disk.may_leave in let moment = g.D.Disk.moment in let since = g.D.Disk.left_since in let failures = g.D.Disk.failures in
-    let conn = c.args.conn in let piece = c.args.piece.now in let a = desk_of c.args.self.now in
-    let (client, here) = here_at a.standing conn c.in-Some.at c.in-Some.ensures.place in
-    let b = desk_of c.take_left.new.self in
-    let left_any : TookLeft honest may_leave moment since failures conn c.in-Some.at a c.take_left.result b = (record { desk_is = c.take_left.ensures.desk; taken = c.take_left.ensures.taken; again = c.take_left.ensures.again; still = c.take_left.ensures.still; rest = c.take_left.ensures.rest; clients = c.take_left.ensures.clients; owes = c.take_left.ensures.owes; advances = c.take_left.ensures.advances; fine = c.take_left.ensures.fine; fault = c.take_left.ensures.fault; stops = c.take_left.ensures.stops; torn = c.take_left.ensures.torn; grows = c.take_left.ensures.grows }) in
-    let left = subst (λ (r : Result (Unit {0}) Fault). TookLeft honest may_leave moment since failures conn c.in-Some.at a r b) c.in_default-take_left.is left_any in
-    let ports = c.take_left.new.self.trace.ports.items in let p = c.index_mut.result.now in
-    let q = c.feed.new.self in
-    let m = record b { standing = record b.standing { clients = map client_of (slice_set ports c.in-Some.at q) } } in
-    let fed = fed_by honest may_leave moment since failures conn c.in-Some.at piece b ports p q refl c.take_left.ensures.place c.index_mut.ensures.value c.in-Ok.ensures.reads c.in-Ok.ensures.client in
-    let n = desk_of c.take_left-2.new.self in
-    let rest_any : TookLeft honest may_leave moment since failures conn c.in-Some.at m c.take_left-2.result n = (record { desk_is = c.take_left-2.ensures.desk; taken = c.take_left-2.ensures.taken; again = c.take_left-2.ensures.again; still = c.take_left-2.ensures.still; rest = c.take_left-2.ensures.rest; clients = c.take_left-2.ensures.clients; owes = c.take_left-2.ensures.owes; advances = c.take_left-2.ensures.advances; fine = c.take_left-2.ensures.fine; fault = c.take_left-2.ensures.fault; stops = c.take_left-2.ensures.stops; torn = c.take_left-2.ensures.torn; grows = c.take_left-2.ensures.grows }) in
-    let rest = subst (λ (r : Result (Unit {0}) Fault). TookLeft honest may_leave moment since failures conn c.in-Some.at m r n) c.in_default-take_left-2.is rest_any in
-    let bad : q.decoder.is_bad ≡ false = sym c.in-Ok.ensures.bad ∙ c.if-bad.false in
-    let after : n.standing ≡ after_frame q.decoder.is_bad n.standing conn = ap (λ (x : Bool). after_frame x n.standing conn) (sym bad) in
-    let made = bytes_all honest may_leave moment since failures conn c.in-Some.at piece a b m n n client here left (sym c.connected.ensures ∙ c.if-not-connected.false) fed rest after (record { keeper = refl; groups = refl; synced = refl }) c.take_left-2.ensures.desk in
-    record { desk = made.desk_is; taken = made.taken; again = made.again; fed = made.fed; owes = made.owes; outputs = made.outputs_are; advances = made.advances; fine = made.fine; fault = made.fault; written = made.written; stops = made.stops; torn = made.torn; grows = made.grows }
+    let s = standing_of c.args.self.now in
+    let u = standing_of c.take_left.new.self in
+    let m = record u { clients = map client_of (slice_set c.take_left.new.self.trace.ports.items c.in-Some.at c.feed.new.self) } in
+    let n = standing_of c.take_left-2.new.self in
+    let goes = c.in_default-take_left.ensures.goes in
+    let is = relieves s u c.args.conn c.in-Some.at c.in-Some.ensures.place c.take_left.ensures.clients in
+    let fed =
+    has_fed c.args.conn c.in-Some.at c.args.piece.now s u c.take_left.new.self.trace.ports.items c.index_mut.result.now c.feed.new.self is goes.ends.1 (sym c.connected.ensures ∙ c.if-not-connected.false) refl
+    c.take_left.ensures.place c.index_mut.ensures.value c.in-Ok.ensures.reads c.in-Ok.ensures.client in
+    let rest = c.in_default-take_left-2.ensures.goes in
+    let bad : c.feed.new.self.decoder.is_bad ≡ false = sym c.in-Ok.ensures.bad ∙ c.if-bad.false in
+    record {
+      desk = c.take_left-2.ensures.desk;
+      outputs = left_outputs c.args.conn m n c.take_left-2.ensures.clients ∙ fed_outputs fed;
+      goes =
+          piece_done (then goes (before goes.ends.0.fine.works (record { keeper = refl; groups = refl; synced = refl }) refl rest)) (store_itself _) refl
+          (stream_all fed n n rest.ends.1 (ap (λ (x : Bool). after_frame x n c.args.conn) (sym bad)));
+    }

@@ -1,10 +1,18 @@
-use Rattle.std.proofs.Common.{◌≡◌, Err}
-use Rattle.std.proofs.lemmas.Result.{err_from_is_err_and}
-use Rattle.fe_keeper.specs.declared.fault.Fault.TheVariants.{Device}
+use Rattle.std.proofs.Common.{map, ap, ◌∙◌}
+use Rattle.fe_desk.specs.Standing.{Standing}
+use Rattle.fe_desk.specs.Storing.{posted}
+use Rattle.fe_desk.specs.within.Desk.{client_of, standing_of}
+use Rattle.fe_desk.proofs.Goes.{passed, after, unstored_short, posted_owes}
 use Rattle.fe_desk.proofs.parts.Parts.clear.Goals as goal
 
-pub returns-in_err-store-clause-torn : goal.returns-in_err-store-clause-torn
-returns-in_err-store-clause-torn g c = λ is.
-    let told = err_from_is_err_and c.from_residual.result c.from_residual.ensures.1 in
-    let was : c.store.result ≡ Err Device = cc (told.1, told.2, c.in_err-store.was, is) in
-    c.store.ensures.torn was
+pub returns-in_err-store-clause-goes : goal.returns-in_err-store-clause-goes
+returns-in_err-store-clause-goes g c = passed c.from_residual.ensures.1 unstored_short (λ last is tears. is) c.in_err-store.ensures.goes
+
+pub returns-clause-clients : goal.returns-clause-clients
+returns-clause-clients g c = ap (λ t. map client_of t.ports.items) c.post.ensures.trace ∙ c.store.ensures.clients
+
+pub returns-clause-goes : goal.returns-clause-goes
+returns-clause-goes g c =
+    let goes = c.in_ok-store.ensures.goes in
+    after goes (record { keeper = c.post.ensures.keeper; groups = ap (λ t. map (λ g. g.items) t.groups.items) c.post.ensures.trace; synced = ap (λ t. t.synced) c.post.ensures.trace })
+    (ap (λ (s : Standing). s.owes) c.post.ensures.posted ∙ posted_owes (standing_of c.store.new.self)) (c.post.ensures.posted ∙ ap (λ (s : Standing). posted s) goes.ends.1)

@@ -1,16 +1,23 @@
-use Rattle.std.proofs.Common.{◌≡◌, Err}
-use Rattle.std.proofs.lemmas.Result.{err_from_is_err_and}
-use Rattle.fe_keeper.specs.declared.fault.Fault.TheVariants.{Device}
-use Rattle.fe_desk.specs.within.Desk.{desk_of}
-use Rattle.fe_desk.proofs.Advancing.{advances_itself}
+use Rattle.std.proofs.Common.{true, false, refl, sym, ap, ◌∙◌}
+use Rattle.fe_desk.specs.Standing.{Standing}
+use Rattle.fe_desk.specs.Storing.{made}
+use Rattle.fe_desk.specs.within.Desk.{standing_of}
+use Rattle.fe_desk.proofs.Advancing.{store_itself}
+use Rattle.fe_desk.proofs.Making.{begun_by}
+use Rattle.fe_desk.proofs.Goes.{passed_on, after, stays, making_there, making_not}
 use Rattle.fe_desk.proofs.parts.Parts.go_on.Goals as goal
 
-pub returns-else-eq-clause-advances : goal.returns-else-eq-clause-advances
-returns-else-eq-clause-advances g c =
-    advances_itself g.D.Disk.honest g.D.Disk.may_leave g.D.Disk.moment g.D.Disk.left_since g.met.D.Disk.only_now (desk_of c.args.self.now) c.requires.desk
+pub returns-in_err-clear-clause-goes : goal.returns-in_err-clear-clause-goes
+returns-in_err-clear-clause-goes g c =
+    passed_on c.from_residual.ensures.1 (λ last is. (making_there c.args.self.now.making c.args.conn c.eq.result c.eq.ensures c.if-eq.true, is)) c.in_err-clear.ensures.goes
 
-pub returns-in_err-clear-clause-torn : goal.returns-in_err-clear-clause-torn
-returns-in_err-clear-clause-torn g c = λ is.
-    let told = err_from_is_err_and c.from_residual.result c.from_residual.ensures.1 in
-    let was : c.clear.result ≡ Err Device = cc (told.1, told.2, c.in_err-clear.was, is) in
-    c.clear.ensures.torn was
+pub returns-else-eq-clause-goes : goal.returns-else-eq-clause-goes
+returns-else-eq-clause-goes g c =
+    stays {k = g.D.Disk} g.met.D.Disk.only_now c.requires.desk c.requires.works (store_itself _) refl
+    (sym (begun_by (standing_of c.args.self.now) c.args.conn false (making_not c.args.self.now.making c.args.conn c.eq.result c.eq.ensures c.if-eq.false)))
+
+pub returns-in_ok-clear-clause-goes : goal.returns-in_ok-clear-clause-goes
+returns-in_ok-clear-clause-goes g c =
+    let goes = c.in_ok-clear.ensures.goes in
+    after goes (record { keeper = refl; groups = refl; synced = refl }) refl
+    (ap (λ (s : Standing). made s) goes.ends.1 ∙ sym (begun_by (standing_of c.args.self.now) c.args.conn true (making_there c.args.self.now.making c.args.conn c.eq.result c.eq.ensures c.if-eq.true)))

@@ -1,7 +1,19 @@
+use Rattle.std.proofs.Common.{refl, sym}
 use Rattle.fe_desk.specs.within.Desk.{standing_of}
 use Rattle.fe_desk.specs.Messages.{outputs}
 use Rattle.fe_desk.proofs.Outputs.{extends_itself}
+use Rattle.fe_desk.proofs.StepParts.{settles_all, discharged_at}
 use Rattle.fe_desk.proofs.parts.Parts.settle.Goals as goal
 
-pub returns-clause-extends : goal.returns-clause-extends
-returns-clause-extends g c = extends_itself (outputs (standing_of c.args.self.now))
+pub returns-then-self-clause-settles : goal.returns-then-self-clause-settles
+returns-then-self-clause-settles g c = settles_all c.empty.result (standing_of c.args.self.now) (standing_of c.empty.new.self) c.if-self.true c.empty.ensures.empties
+
+pub returns : goal.returns
+returns g c =
+    let s = standing_of c.args.self.now in
+    record {
+      desk = c.requires.desk;
+      settles = sym (discharged_at s c.if-self.false);
+      store = record { keeper = refl; groups = refl; synced = refl };
+      extends = extends_itself (outputs s);
+    }

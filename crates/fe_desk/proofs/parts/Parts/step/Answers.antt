@@ -1,157 +1,100 @@
-use Rattle.std.proofs.Common.{◌≡◌, true, false, true≢false, Err, sym, ap, subst, ◌∙◌}
-use Rattle.std.proofs.lemmas.Result.{err_from_is_err_and}
-use Rattle.fe_desk.specs.declared.fault.DeskFault.TheVariants.{NoMemory, Store}
-use Rattle.fe_keeper.specs.declared.fault.Fault.TheVariants.{Device}
-use Rattle.fe_desk.specs.declared.step.Step.{Step}
-use Rattle.fe_desk.specs.Standing.{Standing}
-use Rattle.fe_desk.specs.Steps.{Acts, DeskStep}
+use Rattle.std.proofs.Common.{sym, ap, ◌∙◌}
 use Rattle.fe_desk.specs.within.Desk.{standing_of, desk_of}
 use Rattle.fe_desk.specs.Messages.{outputs}
+use Rattle.fe_desk.specs.Quiet.{HasNoMail}
 use Rattle.fe_desk.proofs.Outputs.{extends_itself, extends_both, extends_as, acts_extends}
-use Rattle.fe_desk.proofs.Advancing.{advances_as}
-use Rattle.fe_desk.proofs.Feeding.{unfed, settling_reads, fed_discharged}
+use Rattle.fe_desk.proofs.Advancing.{advances_as, advances_itself, advances_after, advances_then}
 use Rattle.fe_desk.proofs.Quiets.{still_quiet_after}
-use Rattle.fe_desk.proofs.StepParts.{when_ok, when_err, given_again, stepped, stepped_settling, stepped_again, stepped_owing, owes_discharged, discharged_at}
-use Rattle.fe_desk.proofs.Growing.{checks_as}
-use Rattle.fe_desk.proofs.Ending.{settles_desk, short_owed, short_acts, breaks_acts}
+use Rattle.fe_desk.proofs.StepParts.{settles_ok, settles_err, empties_ok, empties_err}
+use Rattle.fe_desk.proofs.Stepping.{refused, settled, step_settling, step_fault, step_owing, step_whole, act_silent, of_fault}
 use Rattle.fe_desk.proofs.parts.Parts.step.Goals as goal
 
-pub returns-then-is_err-clause-again : goal.returns-then-is_err-clause-again
-returns-then-is_err-clause-again g c = λ fed next t is again d.
-    let s = standing_of c.args.self.now in
-    let u = standing_of c.settle.new.self in
-    let unfed : fed ≡ false = cc in
-    stepped_settling s u t c.args.step.now (when_err c.settle.result (sym c.if-is_err.ensures.value) c.settle.ensures.later)
-    (subst (λ (x : Step). DeskStep u x t) (given_again fed c.args.step.now next unfed again) d)
+pub returns-then-has_failed : goal.returns-then-has_failed
+returns-then-has_failed g c = record {
+  desk = c.requires.desk;
+  is_step = refused g.D.Disk c.args.step.now (desk_of c.args.self.now) (sym c.has_failed.ensures ∙ c.if-has_failed.true);
+  quiet = tt;
+  extends = extends_itself (outputs (standing_of c.args.self.now));
+  advances = advances_itself g.D.Disk.honest g.D.Disk.may_leave g.D.Disk.moment g.D.Disk.left_since g.met.D.Disk.only_now (desk_of c.args.self.now) c.requires.desk;
+}
 
-pub returns-then-is_err-clause-advances : goal.returns-then-is_err-clause-advances
-returns-then-is_err-clause-advances g c =
-    advances_as g.D.Disk.honest g.D.Disk.may_leave g.D.Disk.moment g.D.Disk.left_since g.met.D.Disk.only_now (desk_of c.args.self.now) (desk_of c.settle.new.self) c.requires.desk
-    (record { keeper = c.settle.ensures.keeper; groups = c.settle.ensures.groups; synced = c.settle.ensures.synced })
+pub returns-then-is_err : goal.returns-then-is_err
+returns-then-is_err g c = record {
+  desk = c.settle.ensures.desk;
+  is_step =
+      step_settling g.D.Disk c.args.step.now (desk_of c.args.self.now) (sym c.has_failed.ensures ∙ c.if-has_failed.false) c.settle.ensures.desk c.settle.ensures.store
+      (settles_err c.settle.result (standing_of c.args.self.now) (standing_of c.settle.new.self) (sym c.if-is_err.ensures.value) c.settle.ensures.settles);
+  quiet = tt;
+  extends = c.settle.ensures.extends;
+  advances =
+      advances_as g.D.Disk.honest g.D.Disk.may_leave g.D.Disk.moment g.D.Disk.left_since g.met.D.Disk.only_now (desk_of c.args.self.now) (desk_of c.settle.new.self) c.requires.desk c.settle.ensures.store;
+}
 
-pub returns-in_err-act-clause-again : goal.returns-in_err-act-clause-again
-returns-in_err-act-clause-again g c = λ fed next t is again d.
-    let s = standing_of c.args.self.now in
-    let mid = standing_of c.settle.new.self in
-    let u = standing_of c.act.new.self in
-    let settles = when_ok c.settle.result (sym c.if-is_err.ensures.value) c.settle.ensures.discharged in
-    let told = err_from_is_err_and c.from_residual.result c.from_residual.ensures.1 in
-    let was : c.act.result ≡ Err (NoMemory fed) = cc (told.1, told.2, c.in_err-act.was, is) in
-    stepped_again s mid u t c.args.step.now next settles (c.act.ensures.owes ∙ ap (λ x. x.owes) settles ∙ owes_discharged s)
-    (λ last. c.act.ensures.again fed next last was again) d
+pub act-requires-clause-works : goal.act-requires-clause-works
+act-requires-clause-works g c = ap (λ (k : _). k.store.has_failed) c.settle.ensures.store.keeper ∙ sym c.has_failed.ensures ∙ c.if-has_failed.false
+
+pub returns-in_err-act : goal.returns-in_err-act
+returns-in_err-act g c =
+    let old = c.args.self.now in
+    let mid = c.settle.new.self in
+    let new = c.act.new.self in
+    let settles = settles_ok c.settle.result (standing_of c.args.self.now) (standing_of c.settle.new.self) (sym c.if-is_err.ensures.value) c.settle.ensures.settles in
+    record {
+      desk = c.act.ensures.desk;
+      is_step =
+          step_fault g.D.Disk c.args.step.now (desk_of old) c.from_residual.result c.from_residual.ensures.1 (sym c.has_failed.ensures ∙ c.if-has_failed.false) (settled (desk_of old) (desk_of mid) settles c.settle.ensures.store) c.act.ensures.desk c.in_err-act.ensures.goes;
+      quiet = of_fault (HasNoMail (standing_of new)) c.from_residual.result _ c.from_residual.ensures.1;
+      extends = extends_both (outputs (standing_of old)) (outputs (standing_of mid)) (outputs (standing_of new)) c.settle.ensures.extends (extends_as (outputs (standing_of mid)) (outputs (standing_of new)) (act_silent g.D.Disk c.args.step.now (desk_of mid) c.in_err-act.ensures.goes));
+      advances = advances_after g.D.Disk.honest g.D.Disk.may_leave g.D.Disk.moment g.D.Disk.left_since (desk_of old) (desk_of mid) (desk_of new) c.settle.ensures.store c.in_err-act.ensures.goes.advances;
+    }
 
 pub finish-requires-clause-still : goal.finish-requires-clause-still
 finish-requires-clause-still g c = λ still.
     let quiet = c.requires.still still in
-    let settles = when_ok c.settle.result (sym c.if-is_err.ensures.value) c.settle.ensures.discharged in
-    still_quiet_after (standing_of c.args.self.now) (standing_of c.settle.new.self) (standing_of c.act.new.self) c.args.step.now settles quiet.1 quiet.0 c.in_ok-act.ensures.acts
+    let settles = settles_ok c.settle.result (standing_of c.args.self.now) (standing_of c.settle.new.self) (sym c.if-is_err.ensures.value) c.settle.ensures.settles in
+    still_quiet_after (standing_of c.args.self.now) (standing_of c.settle.new.self) (standing_of c.act.new.self) c.args.step.now settles quiet.1 quiet.0 c.in_ok-act.ensures.goes.ends.acts
 
-pub returns-then-is_err-2-clause-unwritten : goal.returns-then-is_err-2-clause-unwritten
-returns-then-is_err-2-clause-unwritten g c = λ is.
-    let s = standing_of c.args.self.now in
-    let mid = standing_of c.settle.new.self in
-    let last = standing_of c.act.new.self in
-    let u = standing_of c.finish.new.self in
-    let settles = when_ok c.settle.result (sym c.if-is_err.ensures.value) c.settle.ensures.discharged in
-    let later = when_err c.finish.result (sym c.if-is_err-2.ensures.value) c.finish.ensures.later in
-    let checked =
-    checks_as c.args.step.now (desk_of c.args.self.now) (desk_of c.settle.new.self) (desk_of c.act.new.self) (desk_of c.finish.new.self)
-    (record { keeper = c.settle.ensures.keeper; groups = c.settle.ensures.groups; synced = c.settle.ensures.synced })
-    (record { keeper = c.finish.ensures.keeper; groups = c.finish.ensures.groups; synced = c.finish.ensures.synced }) c.in_ok-act.ensures.checked in
-    (stepped_owing s mid last u c.args.step.now settles c.in_ok-act.ensures.acts later.0 later.1, later.1, checked)
+pub returns-then-is_err-2 : goal.returns-then-is_err-2
+returns-then-is_err-2 g c =
+    let old = c.args.self.now in
+    let mid = c.settle.new.self in
+    let last = c.act.new.self in
+    let new = c.finish.new.self in
+    let goes = c.in_ok-act.ensures.goes in
+    let settles = settles_ok c.settle.result (standing_of c.args.self.now) (standing_of c.settle.new.self) (sym c.if-is_err.ensures.value) c.settle.ensures.settles in
+    record {
+      desk = c.finish.ensures.desk;
+      is_step =
+          step_owing g.D.Disk c.args.step.now (desk_of old) (sym c.has_failed.ensures ∙ c.if-has_failed.false) settles c.settle.ensures.store goes c.finish.ensures.store
+          (empties_err c.finish.result (standing_of last) (standing_of new) (sym c.if-is_err-2.ensures.value) c.finish.ensures.empties) c.finish.ensures.desk;
+      quiet = tt;
+      extends =
+          extends_both (outputs (standing_of old)) (outputs (standing_of last)) (outputs (standing_of new))
+          (extends_both (outputs (standing_of old)) (outputs (standing_of mid)) (outputs (standing_of last)) c.settle.ensures.extends (acts_extends (standing_of mid) c.args.step.now (standing_of last) goes.ends.acts))
+          c.finish.ensures.extends;
+      advances =
+          advances_then g.D.Disk.honest g.D.Disk.may_leave g.D.Disk.moment g.D.Disk.left_since (desk_of old) (desk_of last) (desk_of new)
+          (advances_after g.D.Disk.honest g.D.Disk.may_leave g.D.Disk.moment g.D.Disk.left_since (desk_of old) (desk_of mid) (desk_of last) c.settle.ensures.store goes.advances) c.finish.ensures.store;
+    }
 
-pub returns-then-is_err-2-clause-owing : goal.returns-then-is_err-2-clause-owing
-returns-then-is_err-2-clause-owing g c = λ is.
-    let settles = when_ok c.settle.result (sym c.if-is_err.ensures.value) c.settle.ensures.discharged in
-    let writes = when_err c.finish.result (sym c.if-is_err-2.ensures.value) c.finish.ensures.writes in
-    (standing_of c.act.new.self, subst (λ (s : Standing). Acts s c.args.step.now (standing_of c.act.new.self)) settles c.in_ok-act.ensures.acts, writes)
-
-pub returns-clause-stepped : goal.returns-clause-stepped
-returns-clause-stepped g c =
-    let s = standing_of c.args.self.now in
-    let mid = standing_of c.settle.new.self in
-    let last = standing_of c.act.new.self in
-    let t = standing_of c.finish.new.self in
-    let settles = when_ok c.settle.result (sym c.if-is_err.ensures.value) c.settle.ensures.discharged in
-    stepped s mid last t c.args.step.now settles c.in_ok-act.ensures.acts (when_ok c.finish.result (sym c.if-is_err-2.ensures.value) c.finish.ensures.emptied)
-
-pub returns-then-is_err-clause-fed : goal.returns-then-is_err-clause-fed
-returns-then-is_err-clause-fed g c = λ fed asked.
-    let s = standing_of c.args.self.now in
-    let u = standing_of c.settle.new.self in
-    let none : false ≡ fed = cc in
-    unfed fed s c.args.step.now u none (settling_reads s u (when_err c.settle.result (sym c.if-is_err.ensures.value) c.settle.ensures.later))
-
-pub returns-in_err-act-clause-fed : goal.returns-in_err-act-clause-fed
-returns-in_err-act-clause-fed g c = λ fed asked.
-    let s = standing_of c.args.self.now in
-    let mid = standing_of c.settle.new.self in
-    let settles = when_ok c.settle.result (sym c.if-is_err.ensures.value) c.settle.ensures.discharged in
-    let told = err_from_is_err_and c.from_residual.result c.from_residual.ensures.1 in
-    let was : c.act.result ≡ Err (NoMemory fed) = cc (told.1, told.2, c.in_err-act.was, asked) in
-    fed_discharged fed s mid c.args.step.now (standing_of c.act.new.self) settles (c.act.ensures.fed fed was)
-
-pub returns-clause-checked : goal.returns-clause-checked
-returns-clause-checked g c =
-    checks_as c.args.step.now (desk_of c.args.self.now) (desk_of c.settle.new.self) (desk_of c.act.new.self) (desk_of c.finish.new.self)
-    (record { keeper = c.settle.ensures.keeper; groups = c.settle.ensures.groups; synced = c.settle.ensures.synced })
-    (record { keeper = c.finish.ensures.keeper; groups = c.finish.ensures.groups; synced = c.finish.ensures.synced }) c.in_ok-act.ensures.checked
-
-pub returns-then-is_err-clause-short : goal.returns-then-is_err-clause-short
-returns-then-is_err-clause-short g c = λ fed asked.
-    let none : false ≡ fed = cc in
-    let owed = when_err c.settle.result (sym c.if-is_err.ensures.value) c.settle.ensures.owed in
-    let writes = when_err c.settle.result (sym c.if-is_err.ensures.value) c.settle.ensures.writes in
-    short_owed fed c.args.step.now (desk_of c.args.self.now) (desk_of c.settle.new.self) none owed writes c.settle.ensures.keeper c.settle.ensures.synced
-
-pub returns-in_err-act-clause-short : goal.returns-in_err-act-clause-short
-returns-in_err-act-clause-short g c = λ fed asked.
-    let settles = when_ok c.settle.result (sym c.if-is_err.ensures.value) c.settle.ensures.discharged in
-    let told = err_from_is_err_and c.from_residual.result c.from_residual.ensures.1 in
-    let was : c.act.result ≡ Err (NoMemory fed) = cc (told.1, told.2, c.in_err-act.was, asked) in
-    let mid = settles_desk (desk_of c.args.self.now) (desk_of c.settle.new.self) settles c.settle.ensures.keeper c.settle.ensures.synced in
-    short_acts fed c.args.step.now (desk_of c.args.self.now) (desk_of c.settle.new.self) (desk_of c.act.new.self) mid (c.act.ensures.lacks fed was)
-
-pub returns-in_err-act-clause-breaks : goal.returns-in_err-act-clause-breaks
-returns-in_err-act-clause-breaks g c = λ asked.
-    let settles = when_ok c.settle.result (sym c.if-is_err.ensures.value) c.settle.ensures.discharged in
-    let told = err_from_is_err_and c.from_residual.result c.from_residual.ensures.1 in
-    let was : c.act.result ≡ Err (Store Device) = cc (told.1, told.2, c.in_err-act.was, asked) in
-    let mid = settles_desk (desk_of c.args.self.now) (desk_of c.settle.new.self) settles c.settle.ensures.keeper c.settle.ensures.synced in
-    breaks_acts c.args.step.now (desk_of c.args.self.now) (desk_of c.settle.new.self) (desk_of c.act.new.self) mid (c.act.ensures.breaks was)
-
-pub returns-then-has_failed-clause-extends : goal.returns-then-has_failed-clause-extends
-returns-then-has_failed-clause-extends g c = extends_itself (outputs (standing_of c.args.self.now))
-
-pub returns-then-is_err-clause-output : goal.returns-then-is_err-clause-output
-returns-then-is_err-clause-output g c = λ fed asked none.
-    let owed : c.args.self.now.owes ≡ true = when_err c.settle.result (sym c.if-is_err.ensures.value) c.settle.ensures.owed in
-    absurd (true≢false (sym owed ∙ none))
-
-pub returns-in_err-act-clause-output : goal.returns-in_err-act-clause-output
-returns-in_err-act-clause-output g c = λ fed asked none.
-    let settles = when_ok c.settle.result (sym c.if-is_err.ensures.value) c.settle.ensures.discharged in
-    c.in_err-act.ensures.outputs ∙ ap outputs (settles ∙ discharged_at (standing_of c.args.self.now) none)
-
-pub returns-in_err-act-clause-extends : goal.returns-in_err-act-clause-extends
-returns-in_err-act-clause-extends g c =
-    let s = outputs (standing_of c.args.self.now) in
-    let mid = outputs (standing_of c.settle.new.self) in
-    let t = outputs (standing_of c.act.new.self) in
-    extends_both s mid t c.settle.ensures.extends (extends_as mid t c.in_err-act.ensures.outputs)
-
-pub returns-then-is_err-2-clause-extends : goal.returns-then-is_err-2-clause-extends
-returns-then-is_err-2-clause-extends g c =
-    let s = outputs (standing_of c.args.self.now) in
-    let mid = outputs (standing_of c.settle.new.self) in
-    let last = outputs (standing_of c.act.new.self) in
-    let t = outputs (standing_of c.finish.new.self) in
-    extends_both s last t (extends_both s mid last c.settle.ensures.extends (acts_extends (standing_of c.settle.new.self) c.args.step.now (standing_of c.act.new.self) c.in_ok-act.ensures.acts)) c.finish.ensures.extends
-
-pub returns-clause-extends : goal.returns-clause-extends
-returns-clause-extends g c =
-    let s = outputs (standing_of c.args.self.now) in
-    let mid = outputs (standing_of c.settle.new.self) in
-    let last = outputs (standing_of c.act.new.self) in
-    let t = outputs (standing_of c.finish.new.self) in
-    extends_both s last t (extends_both s mid last c.settle.ensures.extends (acts_extends (standing_of c.settle.new.self) c.args.step.now (standing_of c.act.new.self) c.in_ok-act.ensures.acts)) c.finish.ensures.extends
+pub returns : goal.returns
+returns g c =
+    let old = c.args.self.now in
+    let mid = c.settle.new.self in
+    let last = c.act.new.self in
+    let new = c.finish.new.self in
+    let goes = c.in_ok-act.ensures.goes in
+    let settles = settles_ok c.settle.result (standing_of c.args.self.now) (standing_of c.settle.new.self) (sym c.if-is_err.ensures.value) c.settle.ensures.settles in
+    let empty = empties_ok c.finish.result (standing_of last) (standing_of new) (sym c.if-is_err-2.ensures.value) c.finish.ensures.empties in
+    record {
+      desk = c.finish.ensures.desk;
+      is_step = step_whole g.D.Disk c.args.step.now (desk_of old) (sym c.has_failed.ensures ∙ c.if-has_failed.false) settles c.settle.ensures.store goes c.finish.ensures.store empty c.finish.ensures.desk;
+      quiet = empty.quiet;
+      extends =
+          extends_both (outputs (standing_of old)) (outputs (standing_of last)) (outputs (standing_of new))
+          (extends_both (outputs (standing_of old)) (outputs (standing_of mid)) (outputs (standing_of last)) c.settle.ensures.extends (acts_extends (standing_of mid) c.args.step.now (standing_of last) goes.ends.acts))
+          c.finish.ensures.extends;
+      advances =
+          advances_then g.D.Disk.honest g.D.Disk.may_leave g.D.Disk.moment g.D.Disk.left_since (desk_of old) (desk_of last) (desk_of new)
+          (advances_after g.D.Disk.honest g.D.Disk.may_leave g.D.Disk.moment g.D.Disk.left_since (desk_of old) (desk_of mid) (desk_of last) c.settle.ensures.store goes.advances) c.finish.ensures.store;
+    }

@@ -5,27 +5,32 @@ use Rattle.fe_state.specs.State.{after_all}
 use Rattle.fe_state.specs.declared.batch.Batch.{Batch}
 use Rattle.fe_keeper.specs.Keeper.{KeeperState, StoreState}
 use Rattle.fe_keeper.specs.declared.fault.Fault.{Fault}
-use Rattle.fe_keeper.specs.declared.fault.Fault.TheVariants.{Device}
-use Rattle.fe_desk.specs.declared.handed.Handed.TheVariants.{Cut}
+use Rattle.fe_keeper.specs.declared.fault.Fault.TheVariants.{Device, NoMemory}
+use Rattle.fe_desk.specs.declared.handed.Handed.TheVariants.{Cut, Stored}
 use Rattle.fe_desk.specs.Storing.{handing}
-use Rattle.fe_desk.specs.Crash.{TellsCall, with_handed}
+use Rattle.fe_desk.specs.Crash.{with_handed}
+use Rattle.fe_desk.specs.within.Goes.{Faults, Is, IsUnstored}
+use Rattle.fe_desk.proofs.Goes.{unstored}
 use Rattle.fe_desk.specs.within.Desk.{desk_of, standing_of, IsAhead}
-use Rattle.fe_desk.proofs.Advancing.{advances_itself, advances_as, desk_as}
-use Rattle.fe_desk.proofs.Growing.{stores_none, stores_one, handed_back}
+use Rattle.fe_desk.proofs.Advancing.{desk_as}
+use Rattle.fe_desk.proofs.Growing.{stores_one, handed_back}
 use Rattle.fe_desk.proofs.Groups.{legal_both, tied_stored, tied_cut, pushed, unpushed, popped, appends_working, advances_group, begins_there, no_mismatch, desk_stored, desk_torn}
 use Rattle.fe_desk.proofs.Failing.{short_told, device_told, only_device}
 use Rattle.fe_keeper.specs.Ends.{ForBatch}
 use Rattle.fe_desk.proofs.parts.Parts.store_batch.Goals as goal
 
-pub returns-in_default-clause-advances : goal.returns-in_default-clause-advances
-returns-in_default-clause-advances g c =
-    advances_itself g.D.Disk.honest g.D.Disk.may_leave g.D.Disk.moment g.D.Disk.left_since g.met.D.Disk.only_now (with_handed (desk_of c.args.self.now) (Cut c.args.batch)) c.requires.desk
+pub returns-in_default-clause-goes : goal.returns-in_default-clause-goes
+returns-in_default-clause-goes g c =
+    unstored {k = g.D.Disk} g.met.D.Disk.only_now refl c.requires.desk c.requires.works
+    (record { batch = c.args.batch; handed = refl }) refl
 
-pub returns-then-is_err-clause-advances : goal.returns-then-is_err-clause-advances
-returns-then-is_err-clause-advances g c =
+pub returns-then-is_err-clause-goes : goal.returns-then-is_err-clause-goes
+returns-then-is_err-clause-goes g c =
     let old = c.args.self.now in
-    advances_as g.D.Disk.honest g.D.Disk.may_leave g.D.Disk.moment g.D.Disk.left_since g.met.D.Disk.only_now (with_handed (desk_of old) (Cut c.args.batch)) _ c.requires.desk
-    (record { keeper = refl; groups = unpushed (λ g. g.items) old.trace.groups.items c.push.new.self.items _ c.push.result c.is_err.result c.push.ensures.items c.is_err.ensures.value c.if-is_err.true; synced = refl })
+    unstored {k = g.D.Disk} g.met.D.Disk.only_now refl c.requires.desk c.requires.works
+    (record { batch = c.args.batch; handed = refl })
+    (handed_back (with_handed (desk_of old) (Cut c.args.batch)) c.args.batch c.args.batch _ _ refl
+    (unpushed (λ g. g.items) old.trace.groups.items c.push.new.self.items _ c.push.result c.is_err.result c.push.ensures.items c.is_err.ensures.value c.if-is_err.true) refl)
 
 pub returns-in-Ok-append-clause-desk : goal.returns-in-Ok-append-clause-desk
 returns-in-Ok-append-clause-desk g c =
@@ -42,26 +47,28 @@ returns-in-Ok-append-clause-desk g c =
     (tied_stored (standing_of old) (map (λ g. g.items) c.push.new.self.items) old.keeper.state new.state c.in-Ok-append.batch next tied)
     c.requires.desk.known (c.len.ensures ∙ omega (arith, c.push.new.self.ok.0, length-map c.push.new.self.items (λ g. g.items))) (λ honest. c.append.ensures.durable honest works)
 
-pub returns-in-Ok-append-clause-advances : goal.returns-in-Ok-append-clause-advances
-returns-in-Ok-append-clause-advances g c =
+pub returns-in-Ok-append-clause-goes : goal.returns-in-Ok-append-clause-goes
+returns-in-Ok-append-clause-goes g c =
     let old = c.args.self.now in
     let batch = c.args.batch in
-    let replica : c.append.new.self.state ≡ after_all old.keeper.state batch.entries = c.in-Ok-append.ensures.appended.state in
+    let e = c.in-Ok-append.ensures in
+    let replica : c.append.new.self.state ≡ after_all old.keeper.state batch.entries = e.appended.state in
     let stored : c.len.result ≡ length (map (λ g. g.items) c.push.new.self.items) =
     c.len.ensures ∙ omega (arith, c.push.new.self.ok.0, length-map c.push.new.self.items (λ g. g.items)) in
-    advances_group g.D.Disk.honest g.D.Disk.may_leave g.D.Disk.moment g.D.Disk.left_since (with_handed (desk_of old) (Cut batch)) _ batch.entries
-    (pushed (λ g. g.items) old.trace.groups.items c.push.new.self.items c.in-Ok.group batch.entries c.push.result c.is_err.result c.push.ensures.items c.is_err.ensures.value c.if-is_err.false
-    (c.in-Ok.ensures ∙ c.as_slice.ensures.entries))
-    (c.requires.desk.all c.requires.works) c.requires.desk.tied.handed.1 (legal_both old.keeper.state batch.entries old.front.service.pending c.requires.desk.tied.legal).0
-    (inr (stored, replica)) c.append.ensures.any_moment c.append.ensures.honesty
-
-pub returns-in-Ok-append-clause-grows : goal.returns-in-Ok-append-clause-grows
-returns-in-Ok-append-clause-grows g c = λ works.
-    let old = c.args.self.now in
-    stores_one (desk_of old) _ c.args.batch.entries
-    (pushed (λ g. g.items) old.trace.groups.items c.push.new.self.items c.in-Ok.group c.args.batch.entries c.push.result c.is_err.result c.push.ensures.items c.is_err.ensures.value c.if-is_err.false
-    (c.in-Ok.ensures ∙ c.as_slice.ensures.entries))
-    c.in-Ok-append.ensures.appended.state c.in-Ok-append.ensures.appended.store
+    let groups : map (λ g. g.items) c.push.new.self.items ≡ map (λ g. g.items) old.trace.groups.items ++ batch.entries ∷ [] =
+    pushed (λ g. g.items) old.trace.groups.items c.push.new.self.items c.in-Ok.group batch.entries c.push.result c.is_err.result c.push.ensures.items c.is_err.ensures.value c.if-is_err.false
+    (c.in-Ok.ensures ∙ c.as_slice.ensures.entries) in
+    record {
+      owes = refl;
+      advances =
+          advances_group g.D.Disk.honest g.D.Disk.may_leave g.D.Disk.moment g.D.Disk.left_since (with_handed (desk_of old) (Cut batch)) _ batch.entries groups
+          (c.requires.desk.all c.requires.works) c.requires.desk.tied.handed.1 (legal_both old.keeper.state batch.entries old.front.service.pending c.requires.desk.tied.legal).0
+          (inr (stored, replica)) c.append.ensures.any_moment c.append.ensures.honesty;
+      ends = (
+        record { fine = record { works = e.ends.after; still = e.ends.still }; grows = stores_one (with_handed (desk_of old) (Cut batch)) _ batch.entries groups e.appended.state e.appended.store },
+        ap (λ (b : Batch). record (handing (standing_of old) (Stored b)) { groups = map (λ g. g.items) c.push.new.self.items }) e.returned ∙ ap (λ gs. record (handing (standing_of old) (Stored batch)) { groups = gs }) groups,
+      );
+    }
 
 pub returns-in-NoMemory : goal.returns-in-NoMemory
 returns-in-NoMemory g c =
@@ -78,19 +85,10 @@ returns-in-NoMemory g c =
       desk =
           desk_as g.D.Disk.honest g.D.Disk.may_leave (with_handed (desk_of old) (Cut batch)) _ c.requires.desk (record { keeper = kept; groups = groups; synced = refl })
           (tied_cut (standing_of old) (map (λ g. g.items) c.pop.new.self.items) old.keeper.state new.state batch c.in-Err.batch back replica c.requires.desk.tied) c.requires.desk.known;
-      stored = tt;
-      memory = λ is. handed_back (with_handed (desk_of old) (Cut batch)) c.in-Err.batch batch _ _ back groups kept;
-      owes = refl;
-      ports = refl;
-      advances =
-          advances_as g.D.Disk.honest g.D.Disk.may_leave g.D.Disk.moment g.D.Disk.left_since g.met.D.Disk.only_now (with_handed (desk_of old) (Cut batch)) _ c.requires.desk
-          (record { keeper = kept; groups = groups; synced = refl });
-      fine = tt;
-      fault =
-          rw c.in-NoMemory.is
-          (record { works = ap (λ (k : KeeperState g.row.D.Denot). k.store.has_failed) kept ∙ c.requires.works; still = ap (λ (k : KeeperState g.row.D.Denot). g.D.Disk.failures k.store.disk) kept });
-      torn = λ is. absurd (cc (c.in-NoMemory.is, is));
-      grows = λ works. stores_none (desk_of old) _ (record { keeper = kept; groups = groups; synced = refl });
+      clients = refl;
+      goes =
+          unstored {k = g.D.Disk} g.met.D.Disk.only_now c.in-NoMemory.is c.requires.desk c.requires.works
+          (record { batch = batch; handed = refl }) (handed_back (with_handed (desk_of old) (Cut batch)) c.in-Err.batch batch _ _ back groups kept);
     }
 
 pub returns-in_default-fault : goal.returns-in_default-fault
@@ -117,19 +115,25 @@ returns-in_default-fault g c =
           desk_torn g.D.Disk.honest g.D.Disk.may_leave g.D.Disk.moment g.D.Disk.left_since g.met.D.Disk.counts_now (with_handed (desk_of old) (Cut batch)) _ batch.entries c.requires.works
           groups all refl replica breaks.failed c.append.ensures.any_moment c.append.ensures.honesty
           (tied_cut (standing_of old) (map (λ g. g.items) c.push.new.self.items) old.keeper.state new.state batch c.in-Err.batch back replica tied) c.requires.desk.known;
-      stored = tt;
-      memory = λ is. absurd (c.in_default-fault.not-NoMemory (cc is));
-      owes = refl;
-      ports = refl;
-      advances =
-          advances_group g.D.Disk.honest g.D.Disk.may_leave g.D.Disk.moment g.D.Disk.left_since (with_handed (desk_of old) (Cut batch)) _ batch.entries groups all tied.handed.1 legal
-          (inl (refl, replica)) c.append.ensures.any_moment c.append.ensures.honesty;
-      fine = tt;
-      fault = subst (λ (fault : Fault). TellsCall g.D.Disk.failures (desk_of old) (desk_of (record old { keeper = new; trace = record old.trace { groups = c.push.new.self } })) fault) (sym device) (record { failed = breaks.failed; rises = breaks.rises });
-      torn = λ is. record {
-        at_hand = record { batch = batch; handed = refl };
-        standing = ap (λ (b : Batch). record (handing (standing_of old) (Cut b)) { groups = map (λ g. g.items) c.push.new.self.items }) back ∙ ap (λ gs. record (handing (standing_of old) (Cut batch)) { groups = gs }) groups;
-        synced = all;
+      clients = refl;
+      goes = record {
+        owes = refl;
+        advances =
+            advances_group g.D.Disk.honest g.D.Disk.may_leave g.D.Disk.moment g.D.Disk.left_since (with_handed (desk_of old) (Cut batch)) _ batch.entries groups all tied.handed.1 legal
+            (inl (refl, replica)) c.append.ensures.any_moment c.append.ensures.honesty;
+        ends =
+            subst
+            (Faults g.D.Disk (IsUnstored (with_handed (desk_of old) (Cut batch))) (Is (handing (standing_of old) (Cut batch))) (with_handed (desk_of old) (Cut batch))
+            (with_handed (desk_of (record old { keeper = new; trace = record old.trace { groups = c.push.new.self } })) (Cut c.in-Err.batch))) (sym device)
+            (record {
+              last = handing (standing_of old) (Cut batch);
+              until = refl;
+              tears = record {
+                at_hand = record { batch = batch; handed = refl };
+                standing = ap (λ (b : Batch). record (handing (standing_of old) (Cut b)) { groups = map (λ g. g.items) c.push.new.self.items }) back ∙ ap (λ gs. record (handing (standing_of old) (Cut batch)) { groups = gs }) groups;
+                synced = all;
+              };
+              failed = record { failed = breaks.failed; rises = breaks.rises };
+            });
       };
-      grows = λ works. absurd (cc (breaks.failed, works));
     }

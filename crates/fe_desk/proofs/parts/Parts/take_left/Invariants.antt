@@ -6,7 +6,7 @@ use Rattle.fe_desk.proofs.parts.Parts.take_left.Given as goal
 
 abbrev pub invariant-loop-self : goal.invariant-loop-self
 invariant-loop-self g l =
-    Going g.D.Disk.honest g.D.Disk.may_leave g.D.Disk.moment g.D.Disk.left_since g.D.Disk.failures l.conn l.at (desk_of l.initial.self) (desk_of l.self)
+    Going g.D.Disk l.conn l.at (desk_of l.initial.self) (desk_of l.self)
 
 abbrev pub decreases-loop-self : goal.decreases-loop-self
 decreases-loop-self g l = length (left_of (standing_of l.self) l.conn)

@@ -2,7 +2,8 @@ use Rattle.std.proofs.Common.{◌<◌, length, refl, subst, List}
 use Rattle.fe_wire.specs.declared.client_message.ClientMessage.{ClientMessage}
 use Rattle.fe_desk.specs.within.Desk.{client_of, desk_of, standing_of}
 use Rattle.fe_desk.proofs.Reading.{relieved}
-use Rattle.fe_desk.proofs.Leftovers.{left_here, port_changed, port_next, desk_enters}
+use Rattle.fe_desk.proofs.Places.{port_changed}
+use Rattle.fe_desk.proofs.Leftovers.{left_here, port_next, desk_enters}
 use Rattle.fe_desk.proofs.parts.Parts.take_next.Goals as goal
 
 pub first_left-message-requires : goal.first_left-message-requires
