@@ -12,9 +12,13 @@ static bool is_same_request(const femem_request *one, const femem_request *other
   return fe_put_request(spelled[1], 0, other) == size && memcmp(spelled[0], spelled[1], size) == 0;
 }
 
+static const kept_key *find_key(femem *client, const char *key) {
+  return session_find(client->file, key, strlen(key));
+}
+
 /* Makes a request under a key, unless that was done before. */
 static femem_error begin_once(femem *client, const char *key, const femem_request *request, uint64_t *number) {
-  const kept_key *kept = session_file_find(client->file, key);
+  const kept_key *kept = find_key(client, key);
   if (!kept) return fe_send_request(client, request, key, number);
   if (!is_same_request(&kept->request, request)) return FEMEM_OTHER_REQUEST;
   *number = kept->number;
@@ -28,12 +32,13 @@ static femem_error end_once(femem *client, const char *key, femem_answer *answer
   if (error == FEMEM_TIMEOUT && (error = fe_ask_back(client, number)) == FEMEM_OK)
     error = fe_wait_for(client, fe_is_answered, number, fe_moment(client->settings.wait));
   if (error) return error;
-  const kept_key *kept = session_file_find(client->file, key);
+  const kept_key *kept = find_key(client, key);
   *answer = kept ? kept->answer : fe_end_of(client, number);
   return FEMEM_OK;
 }
 
 femem_error femem_once(femem *client, const char *key, const femem_request *request, femem_answer *answer) {
+  if (fe_is_copy(client)) return FEMEM_FORKED;
   if (!client->file || !is_key(key) || !fe_is_spelled(request)) return FEMEM_BAD_CALL;
   femem_error error = begin_once(client, key, request, &answer->number);
   if (error == FEMEM_OK) error = end_once(client, key, answer);
@@ -41,16 +46,16 @@ femem_error femem_once(femem *client, const char *key, const femem_request *requ
 }
 
 femem_error femem_forget(femem *client, const char *key) {
-  if (!client->file || !is_key(key)) return FEMEM_BAD_CALL;
   if (fe_is_copy(client)) return FEMEM_FORKED;
-  const kept_key *kept = session_file_find(client->file, key);
+  if (!client->file || !is_key(key)) return FEMEM_BAD_CALL;
+  const kept_key *kept = find_key(client, key);
   if (!kept) return FEMEM_NOTHING_OUT;
   if (!kept->is_answered) return FEMEM_BAD_CALL;
-  session_file_forget(client->file, key);
-  return FEMEM_OK;
+  return session_file_forget(client->file, key) ? FEMEM_OK : FEMEM_MEMORY;
 }
 
 femem_error femem_recovered_at(const femem *client, unsigned index, femem_recovered *recovered) {
+  if (fe_is_copy(client)) return FEMEM_FORKED;
   if (!client->file) return FEMEM_BAD_CALL;
   if (index >= client->recovered_count) return FEMEM_NOTHING_OUT;
   *recovered = client->recovered[index];
@@ -91,6 +96,7 @@ static femem_error take_next(femem *client, batch *many) {
 }
 
 static femem_error run_batch(femem *client, batch many) {
+  if (fe_is_copy(client)) return FEMEM_FORKED;
   for (size_t i = 0; i < many.count; i++) {
     if (!fe_is_spelled(&many.requests[i]) || (many.keys && !is_key(many.keys[i]))) return FEMEM_BAD_CALL;
     many.answers[i] = (femem_answer){.error = FEMEM_NOTHING_OUT};
@@ -112,6 +118,7 @@ femem_error femem_batch(femem *client, const femem_request *requests, size_t cou
 
 femem_error femem_batch_once(femem *client, const char *const *keys, const femem_request *requests, size_t count,
                              femem_answer *answers) {
+  if (fe_is_copy(client)) return FEMEM_FORKED;
   if (!client->file || !keys) return FEMEM_BAD_CALL;
   return run_batch(client, (batch){.keys = keys, .requests = requests, .answers = answers, .count = count});
 }

@@ -61,6 +61,6 @@ void fe_put_again(femem *client) {
     fe_put_slot(client, number);
     if (fe_slot_of(client, number)->cancelled == TO_END) fe_put_cancel(client, number);
   }
-  if (client->report == ASKED) fe_put_bare(client, REPORT);
+  if (client->report == REPORT_ASKED) fe_put_bare(client, REPORT);
   if (client->bye) fe_put_bare(client, BYE);
 }

@@ -66,6 +66,7 @@ static femem_error make_room(femem *client) {
 
 /* `key` may be NULL. */
 femem_error fe_send_request(femem *client, const femem_request *request, const char *key, uint64_t *number) {
+  if (fe_is_copy(client)) return FEMEM_FORKED;
   if (!fe_is_spelled(request)) return FEMEM_BAD_CALL;
   /* The first request of a write has checked this for the others. */
   bool found = client->phase == SERVED && !client->bye && client->output_begin < client->output_end;
@@ -101,6 +102,7 @@ femem_error femem_flush(femem *client) {
 }
 
 femem_error femem_next(femem *client, femem_answer *answer, int64_t within) {
+  if (fe_is_copy(client)) return FEMEM_FORKED;
   if (client->ready == 0 && client->out == 0) return FEMEM_NOTHING_OUT;
   femem_error error = fe_wait_for(client, fe_any_answered, 0, fe_moment(within));
   if (error == FEMEM_OK) fe_hand_out(client, fe_slot_of(client, client->ready_numbers[client->first_ready]), answer);
@@ -115,6 +117,7 @@ femem_answer fe_end_of(const femem *client, uint64_t number) {
 }
 
 femem_error femem_wait(femem *client, uint64_t number, femem_answer *answer, int64_t within) {
+  if (fe_is_copy(client)) return FEMEM_FORKED;
   slot *place = fe_find(client, number);
   if (!place) return FEMEM_NOTHING_OUT;
   place->given_up = false;
@@ -143,6 +146,7 @@ femem_error fe_ask_back(femem *client, uint64_t number) {
 }
 
 femem_error femem_cancel(femem *client, uint64_t number, femem_answer *answer) {
+  if (fe_is_copy(client)) return FEMEM_FORKED;
   if (!fe_find(client, number)) return FEMEM_NOTHING_OUT;
   femem_error error = fe_ask_back(client, number);
   if (error == FEMEM_OK) error = femem_wait(client, number, answer, client->settings.wait);

@@ -68,7 +68,7 @@ def blocks_known(_place):
             missing.append(f"{name} has {len(found)} blocks, and {len(known)} are known")
         pairs = zip(found, known)
         missing += [f"{name}: an unknown block: {got.splitlines()[0]}" for got, (first, _) in pairs if not got.startswith(first)]
-    known = {*BLOCKS, "docs/store.md", "docs/formats.md"}
+    known = {*BLOCKS, "docs/store.md", "docs/formats.md", "docs/session-file.md"}
     missing += [f"{page}: its blocks are not known" for page in PAGES if page not in known and split(text_of(page))[1]]
     return told(missing, count, 30, "blocks")
 
