@@ -87,9 +87,12 @@ static bool take_answered(session_file *file, const uint8_t *at) {
   return session_answered(file, wire, &answer);
 }
 
-static femem_error take(session_file *file, const uint8_t *at) {
+/* Numbers rise, except within a file's first records, which a rewriting left. */
+static femem_error take(session_file *file, const uint8_t *at, bool *rise) {
   uint8_t kind = *at++;
   bool right = false;
+  if (kind == RECORD_ENDED || kind == RECORD_ANSWERED || kind == RECORD_MOVED) *rise = true;
+  if (kind == RECORD_ASKED && *rise && session_get(at, 8) <= file->last) return FEMEM_FILE_DAMAGED;
   if (kind == RECORD_ASKED) return take_asked(file, at);
   if (kind == RECORD_KEPT) return take_kept(file, at);
   if (kind == RECORD_ENDED) right = session_ended(file, session_get(at, 8));
@@ -108,11 +111,11 @@ static size_t group_at(const session_file *file, const uint8_t *at, size_t count
   return session_get(at + GROUP_HEAD + payload, SUM) == sum_of(file->session, at, GROUP_HEAD + payload) ? whole : 0;
 }
 
-static femem_error take_group(session_file *file, const uint8_t *group, size_t count) {
+static femem_error take_group(session_file *file, const uint8_t *group, size_t count, bool *rise) {
   const uint8_t *at = group + GROUP_HEAD, *end = group + count - SUM;
   while (at < end) {
     size_t size = size_of(at, (size_t)(end - at));
-    femem_error error = size > 0 ? take(file, at) : FEMEM_FILE_DAMAGED;
+    femem_error error = size > 0 ? take(file, at, rise) : FEMEM_FILE_DAMAGED;
     if (error) return error;
     at += size;
   }
@@ -133,8 +136,9 @@ femem_error session_read_old(session_file *file, const uint8_t *bytes, size_t si
   file->session = session_get(bytes + 8, 8);
   uint64_t floor = 0, next = 0;
   size_t at = HEADER;
+  bool rise = false;
   for (size_t whole; (whole = group_at(file, bytes + at, size - at)) > 0; at += whole) {
-    femem_error error = take_group(file, bytes + at, whole);
+    femem_error error = take_group(file, bytes + at, whole, &rise);
     if (error) return error;
     floor = session_get(bytes + at + 4, 8);
     next = session_get(bytes + at + 12, 8);

@@ -654,6 +654,9 @@ static void version_one(void) {
   CHECK(found(kept, "c") && !found(kept, "c")->is_answered && !found(kept, "e"));
   CHECK(kept->requests[4].wire == 4 && kept->requests[4].number == 2 && kept->requests[4].request.operand == 1);
   session_file_close(kept);
+  old_asked(&p, 3, ""), old_asked(&p, 1, ""), old_asked(&p, 2, ""); OLD(1, 4, FEMEM_OK); /* as in a rewritten file */
+  CHECK(kept->asked == 1 && kept->requests[2].wire == 2 && kept->requests[3].wire == 3);
+  session_file_close(kept);
   OLD(0, 0, FEMEM_OK);
   CHECK(kept->session == session && kept->next == 0);
   session_file_close(kept);
@@ -669,6 +672,7 @@ static void version_one(void) {
   old_asked(&p, 40, "a"); OLD(50, 3, FEMEM_FILE_DAMAGED);
   old_asked(&p, 1, "a.b"), p.at[19] = 0; OLD_REFUSED;
   old_asked(&p, 1, ""), old_answered(&p, 1, 0); OLD_REFUSED;
+  old_asked(&p, 1, "a"), old_answered(&p, 1, 0), old_forgotten(&p, "a"), old_asked(&p, 1, "a"); OLD_REFUSED;
   old_asked(&p, 1, "a"), old_answered(&p, 1, 11); OLD_REFUSED;
   old_asked(&p, 1, "a"), old_answered(&p, 1, 300); OLD_REFUSED;
 }
