@@ -216,11 +216,26 @@ femem_error fe_write_all(femem *client, int64_t end);
 
 /* Whether the request can be encoded. */
 bool fe_is_spelled(const femem_request *request);
+/* How a request is sent: it ends with its process; nobody gets its answer. */
+enum { SEND_ENDS = 1, SEND_UNWANTED = 2 };
+
 /* Gives a request the next number and adds it to the output. `key` may be NULL. */
-femem_error fe_send_request(femem *client, const femem_request *request, const char *key, uint64_t *number);
+femem_error fe_send_request(femem *client, const femem_request *request, const char *key, unsigned how,
+                            uint64_t *number);
 /* How a request with a key has ended. (Its answer is not taken by number.) */
 femem_answer fe_end_of(const femem *client, uint64_t number);
 /* Cancels a request, if it has no answer. */
 femem_error fe_ask_back(femem *client, uint64_t number);
+/* Drops a request's answer, whether it has come or not. */
+void fe_abandon(femem *client, uint64_t number);
+
+/* ---- many.c ---- */
+
+/* The key's request and answer, as far as the session file has them; NULL if the key is free. */
+const kept_key *fe_find_key(const femem *client, const char *key);
+/* Whether it is a key. */
+bool fe_is_key(const char *key);
+/* femem_batch with requests that are sent in that way. */
+femem_error fe_batch(femem *client, unsigned how, const femem_request *requests, size_t count, femem_answer *answers);
 
 #endif

@@ -98,6 +98,7 @@ static const struct {
   {FEMEM_FILE_IN_USE, "another client has the session file"},
   {FEMEM_FILE_DAMAGED, "the session file is damaged"},
   {FEMEM_OTHER_REQUEST, "the key was asked with another request"},
+  {FEMEM_NOT_OWNER, "the job was ended or is another client's"},
   {FEMEM_BAD_FRAME, "the server sent a bad frame"},
   {FEMEM_WRONG_NUMBER, "the server replied to a number that is not out"},
   {FEMEM_STRANGE_REPLY, "the server sent a reply to nothing that was asked"},

@@ -71,6 +71,7 @@ typedef enum femem_error {
   FEMEM_FILE_IN_USE = 213,    /* another client has the session file */
   FEMEM_FILE_DAMAGED = 214,   /* the session file has content that no client writes */
   FEMEM_OTHER_REQUEST = 215,  /* the key was used with another request */
+  FEMEM_NOT_OWNER = 216,      /* the job was ended, or another client has it */
 
   /* The server, or whatever answers in its place, breaks the formats. The connection is closed. */
   FEMEM_BAD_FRAME = 301,      /* bytes that are not a reply */
@@ -139,8 +140,8 @@ typedef struct femem_settings {
    *client is NULL. A server that does not listen is tried again for `reconnect`, or for `wait` if `reconnect` has no
    limit. A path that is missing or that this process may not use fails at once, unless the settings say
    `wait_for_server`. Errors: FEMEM_UNREACHABLE (errno says why), FEMEM_TIMEOUT, FEMEM_REFUSED_SESSION_LIMIT,
-   FEMEM_REFUSED_CLOSING, FEMEM_MEMORY, FEMEM_BAD_CALL if the path is empty or too long for a socket, or if settings of a
-   newer version have a field that this one does not know. */
+   FEMEM_REFUSED_CLOSING, FEMEM_MEMORY, FEMEM_BAD_CALL if the path is empty or too long for a socket, or if settings of
+   a newer version have a field that this one does not know. */
 femem_error femem_open(femem **client, const char *path, uint64_t session, const femem_settings *settings);
 
 /* Opens a client of the session in the file at `file`, which is created if it is missing. The file holds the session's
@@ -303,6 +304,56 @@ typedef struct femem_recovered {
    order of their numbers. They are out like any others, but an answer that is not taken is dropped when its place is
    needed. FEMEM_NOTHING_OUT from the end of the list on. */
 femem_error femem_recovered_at(const femem *client, unsigned index, femem_recovered *recovered);
+
+/* ---- work queues ----
+
+   A queue of jobs that several programs put and take, in C or with the Python client's WorkQueue. A job is a value.
+   Each is given to one taker at a time until it is done; if its taker is away or says that it has failed, it is given
+   to another one, and one whose last attempt has failed is set aside. README.md says what this promises.
+
+   A queue uses a client, whose other calls may be used in between. Takers have a request out (femem_out) until the
+   queue is closed, so femem_bye comes after that. Queue calls may use femem_report. */
+
+/* A queue, opened by one client. */
+typedef struct femem_queue femem_queue;
+
+/* A job. `number` names it for ever. `attempt` counts from 1. */
+typedef struct femem_job {
+  uint64_t number;
+  uint64_t value;
+  uint32_t attempt;
+} femem_job;
+
+/* Opens the queue of that name (1 to 30 bytes) with room for `capacity` jobs (1 to 65,532), each of which is tried
+   `attempts` times (1 to 16). All programs must give the same numbers: FEMEM_BAD_CALL. A job whose taker is away is
+   given to another taker after `away_after` milliseconds, 5,000 if it is 0. FEMEM_BAD_CALL with the setting `resume`.
+   Takes memory. If it fails, *queue is NULL. */
+femem_error femem_queue_open(femem_queue **queue, femem *client, const char *name, uint32_t capacity,
+                             uint32_t attempts, int64_t away_after);
+
+/* Frees the queue, before its client is closed. It waits a second at most. Jobs that were taken and not ended are given
+   to others. NULL is allowed. */
+void femem_queue_close(femem_queue *queue);
+
+/* Puts a job. Waits for room, `within` milliseconds at most: FEMEM_WITHDRAWN. The value is below 2^64 - 1. With a key,
+   which needs a session file, it is put once, however often the program is restarted and calls this; femem_forget
+   forgets the key. `key` may be NULL. */
+femem_error femem_queue_put(femem_queue *queue, uint64_t value, const char *key, int64_t within);
+
+/* Takes a job. Waits for one, `within` milliseconds at most: FEMEM_WITHDRAWN; then nothing was taken. Takes memory. */
+femem_error femem_queue_take(femem_queue *queue, femem_job *job, int64_t within);
+
+/* The job is done. FEMEM_NOT_OWNER: it was ended by another attempt, since this client was away. */
+femem_error femem_queue_done(femem_queue *queue, const femem_job *job);
+
+/* The attempt has failed: the job is given to another taker, or set aside if this was its last attempt. */
+femem_error femem_queue_fail(femem_queue *queue, const femem_job *job);
+
+/* The jobs that are set aside, `most` at most; *count gets how many there are. `jobs` may be NULL if `most` is 0. */
+femem_error femem_queue_aside(femem_queue *queue, femem_job *jobs, size_t most, size_t *count);
+
+/* Ends a job that is set aside. FEMEM_NOT_OWNER: it has ended. */
+femem_error femem_queue_drop(femem_queue *queue, uint64_t number);
 
 /* ---- what a client knows about itself ---- */
 

@@ -65,7 +65,8 @@ static femem_error make_room(femem *client) {
 }
 
 /* `key` may be NULL. */
-femem_error fe_send_request(femem *client, const femem_request *request, const char *key, uint64_t *number) {
+femem_error fe_send_request(femem *client, const femem_request *request, const char *key, unsigned how,
+                            uint64_t *number) {
   if (fe_is_copy(client)) return FEMEM_FORKED;
   if (!fe_is_spelled(request)) return FEMEM_BAD_CALL;
   /* The first request of a write has checked this for the others. */
@@ -77,10 +78,12 @@ femem_error fe_send_request(femem *client, const femem_request *request, const c
   /* A settle goes in the same write as a request: after it, or before it if it must make room. */
   if (is_full(client)) fe_put_settle(client, client->low);
   uint64_t own = client->next;
-  if (client->file && !session_file_ask(client->file, own, own, request, key)) return FEMEM_MEMORY;
+  bool ends = how & SEND_ENDS;
+  if (client->file && !session_file_ask(client->file, own, own, request, key, ends)) return FEMEM_MEMORY;
   client->last = client->next++;
   *fe_slot_of(client, own) =
-      (slot){.state = OUT, .wire = own, .request = *request, .answer.number = own, .keyed = key != NULL};
+      (slot){.state = OUT, .wire = own, .request = *request, .answer.number = own, .keyed = key != NULL,
+             .unwanted = how & SEND_UNWANTED};
   client->out++;
   fe_put_slot(client, own);
   if (client->low - client->floor_asked >= SETTLE_AFTER) fe_put_settle(client, client->low);
@@ -89,7 +92,7 @@ femem_error fe_send_request(femem *client, const femem_request *request, const c
 }
 
 femem_error femem_send(femem *client, const femem_request *request, uint64_t *number) {
-  return fe_send_request(client, request, NULL, number);
+  return fe_send_request(client, request, NULL, 0, number);
 }
 
 femem_error femem_flush(femem *client) {
@@ -143,6 +146,13 @@ femem_error fe_ask_back(femem *client, uint64_t number) {
   if (!moving && client->phase == SERVED) fe_put_cancel(client, place->wire);
   if (moving) fe_end_move(client);
   return FEMEM_OK;
+}
+
+void fe_abandon(femem *client, uint64_t number) {
+  slot *place = fe_find(client, number);
+  femem_answer dropped;
+  if (place && place->state == ANSWERED) fe_hand_out(client, place, &dropped);
+  else if (place) place->unwanted = true;
 }
 
 femem_error femem_cancel(femem *client, uint64_t number, femem_answer *answer) {

@@ -134,9 +134,9 @@ bool session_file_sync(session_file *file, uint64_t floor, uint64_t asked, uint6
 /* ---- adding records ---- */
 
 bool session_file_ask(session_file *file, uint64_t wire, uint64_t number, const femem_request *request,
-                      const char *key) {
+                      const char *key, bool ends) {
   size_t length = key ? strlen(key) : 0;
-  kept_request asked = {.wire = wire, .number = number};
+  kept_request asked = {.wire = wire, .number = number, .ends_with_process = ends};
   uint8_t frame[LONGEST_REQUEST];
   fe_get_request(frame, fe_put_request(frame, 0, request), &asked.request);
   if (!session_room(file, length) || session_asked(file, &asked, key, length) != FEMEM_OK) return false;

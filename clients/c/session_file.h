@@ -54,9 +54,10 @@ femem_error session_file_open(session_file **file, const char *path);
 /* Closes and unlocks the file. Writes nothing. */
 void session_file_close(session_file *file);
 
-/* Notes a request, under its number on the wire. `key` may be NULL. False if there is no memory. */
+/* Notes a request, under its number on the wire; `ends` if it ends with its process. `key` may be NULL. False if there
+   is no memory. */
 bool session_file_ask(session_file *file, uint64_t wire, uint64_t number, const femem_request *request,
-                      const char *key);
+                      const char *key, bool ends);
 /* Notes a request's new number. */
 void session_file_move(session_file *file, uint64_t wire, uint64_t to);
 /* Notes how a request has ended. A key keeps an answer, and is forgotten if the request has not happened. */

@@ -1,5 +1,5 @@
-/* Tests of the order of a client's system calls: whatever it sends, the synced bytes of its session file have the note of
-   it. The linker puts functions of this file in the place of the calls. What was synced is read here, by
+/* Tests of the order of a client's system calls: whatever it sends, the synced bytes of its session file have the note
+   of it. The linker puts functions of this file in the place of the calls. What was synced is read here, by
    docs/session-file.md, not by the client's own reader. It ends by itself, and prints what failed. */
 #define _DEFAULT_SOURCE
 #define _POSIX_C_SOURCE 200809L
@@ -80,7 +80,7 @@ int __wrap_rename(const char *from, const char *to) {
   return __real_rename(from, to);
 }
 
-/* At most one block is not synced, so a stop can tear only the last. (A rewritten file is synced before it is renamed.) */
+/* At most one block is not synced, so a stop can tear only the last. (A new file is synced before it is renamed.) */
 ssize_t __wrap_write(int descriptor, const void *bytes, size_t count) {
   struct stat about, file;
   bool is_file = fstat(descriptor, &about) == 0 && stat(kept_at, &file) == 0 && about.st_ino == file.st_ino;
@@ -117,7 +117,9 @@ static const uint8_t *take_record(noted *all, const uint8_t *at) {
   if (kind == 1 || kind == 4) all->unanswered[all->count++] = kind == 1 ? number : number_of(at + 8, 8);
   if (kind == 7) all->leaving = true;
   if (kind == 1 || kind == 6) behind += 4 + number_of(behind, 4);
-  return kind == 1 || kind == 5 ? behind : kind == 6 ? behind + 13 : kind == 7 ? at : at + (kind == 2 ? 8 : kind == 3 ? 21 : 16);
+  if (kind == 1 || kind == 5) return behind;
+  if (kind == 6) return behind + 13;
+  return at + (kind == 7 ? 0 : kind == 2 ? 8 : kind == 3 ? 21 : 16);
 }
 
 static noted notes(void) {
@@ -196,7 +198,8 @@ static void serve(int line, uint64_t *floor) {
     if (kind == 1) session = number;
     if (kind == 5) waiting[number % 32] = frame[13] == 16 ? number : 0;
     if (kind == 1) snprintf(hex, sizeof hex, "00000011 41 %016llx %016llx", number, (unsigned long long)*floor);
-    if (kind == 5 && frame[13] != 16) snprintf(hex, sizeof hex, "00000016 42 %016llx 01 %016llx 00000000", number, number);
+    if (kind == 5 && frame[13] != 16)
+      snprintf(hex, sizeof hex, "00000016 42 %016llx 01 %016llx 00000000", number, number);
     if (kind == 6 && !waits) snprintf(hex, sizeof hex, "0000000a 46 %016llx 0a", number);
     if (kind == 6 && waits) snprintf(hex, sizeof hex, "00000009 43 %016llx", number);
     if (kind == 7) snprintf(hex, sizeof hex, "00000009 44 %016llx", (unsigned long long)(*floor = number));
@@ -260,7 +263,8 @@ static void nothing_early(void) {
   work(client, 200);
   ERROR(femem_reconnect(client, 20000), FEMEM_OK);
   femem_answer answer;
-  for (uint64_t number = last - 4; number <= last; number++) ERROR(femem_cancel(client, number, &answer), FEMEM_WITHDRAWN);
+  for (uint64_t number = last - 4; number <= last; number++)
+    ERROR(femem_cancel(client, number, &answer), FEMEM_WITHDRAWN);
   /* A settle whose answers were noted with an earlier send. */
   ERROR(femem_int_fetch_add(client, 1, 0, 1, NULL), FEMEM_OK);
   ERROR(femem_send_readfe(client, 1, 0, &last), FEMEM_OK);

@@ -43,22 +43,21 @@ static void write_kept(const uint8_t *bytes, size_t count) {
 
 /* ---- what it keeps ---- */
 
-/* Makes a file with records of most kinds, in several blocks: those of the example in docs/session-file.md, except that
-   39 does not end with its process. */
+/* Makes a file with records of most kinds, in several blocks: those of the example in docs/session-file.md. */
 static void fill(session_file *kept) {
-  CHECK(session_file_ask(kept, 33, 33, &add_one, "first"));
-  CHECK(session_file_ask(kept, 34, 34, &read_one, NULL));
-  CHECK(session_file_ask(kept, 35, 35, &read_one, "waits"));
+  CHECK(session_file_ask(kept, 33, 33, &add_one, "first", false));
+  CHECK(session_file_ask(kept, 34, 34, &read_one, NULL, false));
+  CHECK(session_file_ask(kept, 35, 35, &read_one, "waits", false));
   CHECK(session_file_sync(kept, 33, 33, 36));
   session_file_end(kept, 33, &(femem_answer){.number = 33, .value = 41});
-  CHECK(session_file_ask(kept, 36, 36, &add_one, "gone"));
+  CHECK(session_file_ask(kept, 36, 36, &add_one, "gone", false));
   CHECK(session_file_sync(kept, 33, 33, 37));
   session_file_end(kept, 36, &(femem_answer){.number = 36, .error = FEMEM_WITHDRAWN});
   session_file_move(kept, 34, 37);
-  CHECK(session_file_ask(kept, 38, 38, &add_one, "late"));
+  CHECK(session_file_ask(kept, 38, 38, &add_one, "late", false));
   CHECK(session_file_sync(kept, 33, 34, 39));
   session_file_end(kept, 38, &(femem_answer){.number = 38, .error = FEMEM_BAD_INDEX});
-  CHECK(session_file_ask(kept, 39, 39, &add_one, NULL));
+  CHECK(session_file_ask(kept, 39, 39, &add_one, NULL, true));
   CHECK(session_file_forget(kept, "late"));
   CHECK(session_file_sync(kept, 34, 34, 40));
 }
@@ -69,6 +68,7 @@ static void is_filled(session_file *kept) {
   CHECK(kept->requests[37 % 32].wire == 37 && kept->requests[37 % 32].number == 34);
   CHECK(kept->requests[37 % 32].request.operation == FEMEM_READFE && !kept->requests[37 % 32].key);
   CHECK(kept->requests[39 % 32].wire == 39 && kept->requests[39 % 32].request.operand == 1);
+  CHECK(kept->requests[39 % 32].ends_with_process && !kept->requests[35 % 32].ends_with_process);
   const kept_key *first = found(kept, "first"), *waits = found(kept, "waits");
   CHECK(first && first->is_answered && first->answer.value == 41 && first->answer.number == 33);
   CHECK(waits && !waits->is_answered && kept->requests[35 % 32].key == waits);
@@ -167,7 +167,7 @@ static void compaction(void) {
   for (uint64_t wire = 33; wire < 333; wire++) {
     snprintf(key, sizeof key, "key %u", (unsigned)(wire % 50));
     if (found(kept, key)) CHECK(session_file_forget(kept, key));
-    CHECK(session_file_ask(kept, wire, wire, &add_one, key) && session_file_sync(kept, wire, wire, wire + 1));
+    CHECK(session_file_ask(kept, wire, wire, &add_one, key, false) && session_file_sync(kept, wire, wire, wire + 1));
     session_file_end(kept, wire, &(femem_answer){.number = wire, .value = wire});
     most = kept->size > most ? kept->size : most;
   }
@@ -179,7 +179,7 @@ static void compaction(void) {
     kept = OPEN_FILE(FEMEM_OK);
     uint64_t first = kept->next;
     for (uint64_t wire = first; wire < first + 16; wire++) {
-      CHECK(session_file_ask(kept, wire, wire, &add_one, "again"));
+      CHECK(session_file_ask(kept, wire, wire, &add_one, "again", false));
       session_file_end(kept, wire, &(femem_answer){.number = wire});
       CHECK(session_file_forget(kept, "again"));
     }
@@ -209,7 +209,7 @@ static void one_block(void) {
   for (; wire < 333; wire++) {
     snprintf(key, 30, "%029u", (unsigned)wire);
     key[29] = 'k';
-    CHECK(session_file_ask(kept, wire, wire, &add_one, key) && session_file_sync(kept, wire, wire, wire + 1));
+    CHECK(session_file_ask(kept, wire, wire, &add_one, key, false) && session_file_sync(kept, wire, wire, wire + 1));
     session_file_end(kept, wire, &(femem_answer){.number = wire, .value = 5});
   }
   CHECK(session_file_sync(kept, 333, 333, 333));
@@ -220,7 +220,7 @@ static void one_block(void) {
   }
   for (; wire < 365; wire++) {
     snprintf(key, sizeof key, "later %u", (unsigned)wire);
-    CHECK(session_file_ask(kept, wire, wire, &add_one, key));
+    CHECK(session_file_ask(kept, wire, wire, &add_one, key, false));
   }
   session_file_close(kept);
   kept = OPEN_FILE(FEMEM_OK);
@@ -244,7 +244,7 @@ static void unused_fields(void) {
   for (unsigned i = 0; i < COUNT; i++) {
     odd.operation = operations[i];
     odd.name_length = i < 2 ? 20 : 200;
-    CHECK(session_file_ask(kept, 33 + i, 33 + i, &odd, NULL));
+    CHECK(session_file_ask(kept, 33 + i, 33 + i, &odd, NULL, false));
   }
   CHECK(session_file_sync(kept, 33, 33, 33 + COUNT));
   session_file_close(kept);
@@ -385,21 +385,16 @@ static const char *const example[] = {
   "3f7ed99a",
 };
 
-/* The page's example is read as it says, and its first four blocks are what the client writes. */
+/* The page's example is read as it says, and is what the client writes. */
 static void worked_example(void) {
   test = "the example of the page";
   fresh();
   bytes all = {0}, written = {0};
-  size_t fourth = 0;
-  for (int i = 0; i < 5; i++) {
-    all.count += bytes_of(example[i], all.at + all.count);
-    if (i == 3) fourth = all.count;
-  }
+  for (int i = 0; i < 5; i++) all.count += bytes_of(example[i], all.at + all.count);
   CHECK(all.count == 599 && session_sum(0, (const uint8_t *)"123456789", 9) == 0xcbf43926);
   write_kept(all.at, all.count);
   session_file *kept = OPEN_FILE(FEMEM_OK);
-  CHECK(kept->session == session && kept->requests[39 % 32].ends_with_process);
-  CHECK(!kept->requests[35 % 32].ends_with_process);
+  CHECK(kept->session == session);
   is_filled(kept);
   session_file_close(kept);
 
@@ -410,7 +405,7 @@ static void worked_example(void) {
   fill(kept);
   session_file_close(kept);
   written.count = read_kept(written.at, MOST);
-  CHECK(written.count == 599 && memcmp(written.at, all.at, fourth) == 0);
+  CHECK(written.count == 599 && memcmp(written.at, all.at, 599) == 0);
 }
 
 /* A file cut anywhere is as before the write that was cut; a byte changed before the last write is damage. */
@@ -718,7 +713,7 @@ static void use(session_file *kept) {
     } else if (place->wire && room && !session_place(kept, kept->next)->wire) {
       session_file_move(kept, place->wire, kept->next++);
     } else if (!keyed && room && !session_place(kept, kept->next)->wire) {
-      if (session_file_ask(kept, kept->next, kept->next, &read_one, key)) kept->next++;
+      if (session_file_ask(kept, kept->next, kept->next, &read_one, key, false)) kept->next++;
     }
   }
 }
@@ -734,7 +729,7 @@ static void any_records(void) {
     for (unsigned blocks = 1 + draw(2); blocks > 0; blocks--) {
       payload.count = 0;
       for (unsigned records = 1 + draw(6); records > 0; records--) add_any(&payload);
-      for (unsigned turns = draw(6) == 0; turns > 0; turns--) payload.at[draw((unsigned)payload.count)] = (uint8_t)draw(256);
+      if (draw(6) == 0) payload.at[draw((unsigned)payload.count)] = (uint8_t)draw(256);
       uint64_t floor = 1 + draw(2), asked = floor + draw(2);
       add_block(&all, &payload, floor, asked, asked + draw(33));
     }

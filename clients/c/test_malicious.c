@@ -185,7 +185,8 @@ static void silence(void) {
   femem *client;
   femem_answer answer;
   int64_t began = moment_now();
-  ERROR(femem_open(&client, path, 7, &(femem_settings){.wait = 200, .reconnect = FEMEM_NEVER, .resume = true}), FEMEM_TIMEOUT);
+  static const femem_settings brief = {.wait = 200, .reconnect = FEMEM_NEVER, .resume = true};
+  ERROR(femem_open(&client, path, 7, &brief), FEMEM_TIMEOUT);
   CHECK(client == NULL);
   client = opened(&(femem_settings){.wait = 200, .reconnect = 20000, .resume = true});
   uint64_t value;
