@@ -10,6 +10,12 @@ static char folder[] = "/tmp/femem_test_XXXXXX", kept_at[100], kept_new[100], vi
 
 void kill_point(const char *name) { (void)name; }
 
+/* Thousands of files are opened here, and none outlives the machine; test_calls.c is about syncs. */
+int __wrap_fsync(int descriptor);
+int __wrap_fdatasync(int descriptor);
+int __wrap_fsync(int descriptor) { return descriptor < 0 ? -1 : 0; }
+int __wrap_fdatasync(int descriptor) { return descriptor < 0 ? -1 : 0; }
+
 static void fresh(void) {
   unlink(kept_at);
   unlink(kept_new);
@@ -723,7 +729,7 @@ static void any_records(void) {
   test = "any records";
   static bytes all, payload;
   unsigned opened = 0, damaged = 0;
-  for (int round = 0; round < 40000; round++) {
+  for (int round = 0; round < 20000; round++) {
     all.count = 0;
     add_header(&all);
     for (unsigned blocks = 1 + draw(2); blocks > 0; blocks--) {
@@ -746,7 +752,7 @@ static void any_records(void) {
     if (error == FEMEM_OK) use(kept);
     session_file_close(kept);
   }
-  CHECK(opened > 1000 && opened + damaged == 40000);
+  CHECK(opened > 300 && opened + damaged == 20000);
 }
 
 int main(void) {
