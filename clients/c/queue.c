@@ -310,14 +310,17 @@ static void let_go(femem_queue *queue, uint64_t number) {
     if (queue->held[i].number == number) queue->held[i--] = queue->held[--queue->held_count];
 }
 
+/* Ends a job, and removes its page if this was the last one there. */
 static femem_error end_job(femem_queue *queue, uint64_t number, uint64_t how) {
   uint64_t page = fq_page_of(number);
-  femem_request end = fq_fill(page, fq_end(queue, fq_slot_of(number)), how);
-  femem_answer answer;
-  femem_error error = fq_together(queue, &end, 1, &answer);
+  femem_request requests[] = {fq_fill(page, fq_end(queue, fq_slot_of(number)), how), fq_read(page, FINISHED, true)};
+  femem_answer answers[2];
+  femem_error error = fq_together(queue, requests, 2, answers);
   if (error) return error;
-  if (answer.error) return FEMEM_NOT_OWNER;
+  if (answers[0].error) return FEMEM_NOT_OWNER;
+  bool removed, last = answers[1].error == FEMEM_OK && answers[1].value + 1 >= queue->slots;
   error = fq_finished(queue, page);
+  if (error == FEMEM_OK && last) error = fq_remove_ended(queue, page, &removed);
   return error ? error : femem_flush(queue->client);
 }
 
