@@ -755,16 +755,66 @@ static void any_records(void) {
   CHECK(opened > 300 && opened + damaged == 20000);
 }
 
+/* The same for version 1. */
+static void add_any_old(bytes *to) {
+  static const char *const keys[] = {"", "a", "b", "cc"};
+  const char *key = keys[draw(4)];
+  uint64_t wire = draw(8) == 0 ? draw(3) : 1 + draw(4) + (draw(4) == 0 ? 32 : 0);
+  switch (1 + draw(7)) {
+    case 1: old_asked(to, wire, key); break;
+    case 2: add_number(to, 2, wire); break;
+    case 3: old_answered(to, wire, draw(4) ? 0 : draw(13)); break;
+    case 4: add_moved(to, wire, 1 + draw(40)); break;
+    case 5: old_forgotten(to, key); break;
+    case 6:
+      add_number(to, 6, wire), add(to, strlen(key), 1), add_text(to, key, strlen(key)), add_old_request(to);
+      add(to, draw(4) ? 0 : draw(13), 4), add(to, 0, 4), add(to, 0, 8), add(to, 7, 8);
+      break;
+    default: add(to, 7, 1);
+  }
+}
+
+static void any_old_records(void) {
+  test = "any records of version 1";
+  static bytes all, payload;
+  unsigned opened = 0, damaged = 0;
+  for (int round = 0; round < 20000; round++) {
+    all.count = 0;
+    add_text(&all, "FEMEMSF1", 8), add(&all, session, 8), add(&all, fnv(0, all.at, 16), 8);
+    for (unsigned groups = 1 + draw(2); groups > 0; groups--) {
+      size_t begin = all.count;
+      payload.count = 0;
+      for (unsigned records = 1 + draw(6); records > 0; records--) add_any_old(&payload);
+      if (draw(6) == 0) payload.at[draw((unsigned)payload.count)] = (uint8_t)draw(256);
+      add(&all, payload.count, 4), add(&all, 1 + draw(3), 8), add(&all, 2 + draw(40), 8);
+      add_text(&all, payload.at, payload.count);
+      add(&all, fnv(session, all.at + begin, all.count - begin), 8);
+    }
+    uint8_t *exact = malloc(all.count);
+    memcpy(exact, all.at, all.count);
+    session_file *kept = calloc(1, sizeof *kept);
+    kept->descriptor = -1;
+    CHECK(session_room(kept, 0));
+    femem_error error = session_read_old(kept, exact, all.count);
+    free(exact);
+    opened += error == FEMEM_OK;
+    damaged += error == FEMEM_FILE_DAMAGED;
+    if (error == FEMEM_OK) use(kept);
+    session_file_close(kept);
+  }
+  CHECK(opened > 300 && opened + damaged == 20000);
+}
+
 int main(void) {
   setvbuf(stdout, NULL, _IOLBF, 0);
-  alarm(100);
+  alarm(200);
   if (!mkdtemp(folder)) return 1;
   snprintf(kept_at, sizeof kept_at, "%s/session", folder);
   snprintf(kept_new, sizeof kept_new, "%s/session.new", folder);
   snprintf(victim, sizeof victim, "%s/victim", folder);
   void (*const tests[])(void) = {keeps, settles, no_plain_file, a_link_beside_it, compaction, one_block,
                                  unused_fields, worked_example, damage, refused_records, refused_numbers,
-                                 refused_requests, version_one, any_records};
+                                 refused_requests, version_one, any_records, any_old_records};
   for (size_t i = 0; i < sizeof tests / sizeof *tests; i++) tests[i]();
   fresh();
   rmdir(folder);
