@@ -106,7 +106,8 @@ static void arguments(femem *client) {
   pid_t child = fork();
   if (child == 0) {
     size_t count;
-    bool told = femem_queue_put(queue, 1, NULL, 0) == FEMEM_FORKED && femem_queue_take(queue, &job, 0) == FEMEM_FORKED &&
+    bool told = femem_queue_put(queue, 1, NULL, 0) == FEMEM_FORKED &&
+                femem_queue_take(queue, &job, 0) == FEMEM_FORKED &&
                 femem_queue_drop(queue, 1) == FEMEM_FORKED && femem_queue_aside(queue, NULL, 0, &count) == FEMEM_FORKED;
     femem_queue_close(queue);
     femem_close(client);

@@ -268,6 +268,19 @@ static femem_error take_next(femem_queue *queue, femem_job *job, bool *more) {
   return take_from(queue, page, job, &drawn);
 }
 
+/* Takes the job of a signal if it is new. *is_new is false if it was claimed before. */
+static femem_error take_new(femem_queue *queue, uint64_t number, femem_job *job, bool *is_new) {
+  uint64_t page = fq_page_of(number), ticket = fq_slot_of(number);
+  femem_request requests[] = {fq_fill(page, fq_claim(queue, ticket, 0), femem_session(queue->client)),
+                              fq_read(page, fq_value(queue, ticket), true), fq_read(page, fq_end(queue, ticket), true)};
+  femem_answer answers[3];
+  femem_error error = fq_together(queue, requests, 3, answers);
+  *is_new = error == FEMEM_OK && answers[0].error == FEMEM_OK;
+  bool there = *is_new && answers[1].error == FEMEM_OK && answers[1].value != NOTHING;
+  if (!there || answers[2].error != FEMEM_NOT_NOW) return error;
+  return fq_hold(queue, number, answers[1].value, 0, job);
+}
+
 /* Looks at the job of a signal. */
 static femem_error look_at_signal(femem_queue *queue, uint64_t number, femem_job *job) {
   if (number == NOTHING) return fq_rescue(queue, job);
@@ -277,8 +290,10 @@ static femem_error look_at_signal(femem_queue *queue, uint64_t number, femem_job
     femem_error error = fq_find_pages(queue);
     if (error) return error;
   }
-  bool there = fq_is_known(queue, page) && ticket < queue->slots;
-  return there ? fq_look(queue, page, ticket, ticket + 1, job) : FEMEM_OK;
+  if (!fq_is_known(queue, page) || ticket >= queue->slots) return FEMEM_OK;
+  bool is_new;
+  femem_error error = take_new(queue, number, job, &is_new);
+  return error || is_new ? error : fq_look(queue, page, ticket, ticket + 1, job);
 }
 
 femem_error femem_queue_take(femem_queue *queue, femem_job *job, int64_t within) {

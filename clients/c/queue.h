@@ -1,4 +1,4 @@
-/* What the files of a work queue share. docs/patterns.md has the words and the steps. */
+/* What the files of a work queue share. docs/work-queue.md has the words and the steps. */
 #ifndef QUEUE_H
 #define QUEUE_H
 

@@ -88,6 +88,7 @@ typedef struct visit visit;
 struct visit {
   femem_error (*act)(femem_queue *queue, visit *with, uint64_t number, const femem_answer *words);
   uint64_t head, open;   /* open: how many slots have not ended */
+  bool more;             /* a job was found, and there may be another one */
   femem_job *job, *jobs; /* the job that was found; room for those that are set aside */
   size_t most, count;
 };
@@ -101,7 +102,8 @@ static uint32_t claims_of(const femem_queue *queue, const femem_answer *words) {
 /* Takes the job if nobody has it. */
 static femem_error take_over(femem_queue *queue, visit *with, uint64_t number, const femem_answer *words) {
   uint64_t page = fq_page_of(number), ticket = fq_slot_of(number), value;
-  if (with->job->number || words[0].error == FEMEM_NO_ARRAY) return FEMEM_OK;
+  if (words[0].error == FEMEM_NO_ARRAY) return FEMEM_OK;
+  if (with->job->number) return with->more = true, FEMEM_OK;
   if (words[0].error == FEMEM_NOT_NOW && fe_now() - fq_since(queue->empty, number) < EMPTY_FOR) return FEMEM_OK;
   if (words[0].error || words[0].value == NOTHING) {
     fq_not_so(queue->empty, number);
@@ -156,8 +158,10 @@ static femem_error visit_some(femem_queue *queue, uint64_t page, uint64_t first,
 
 static femem_error visit_all(femem_queue *queue, uint64_t page, uint64_t first, uint64_t end, visit *with) {
   femem_error error = FEMEM_OK;
-  for (uint64_t at = first; at < end && error == FEMEM_OK; at += CHUNK)
+  for (uint64_t at = first; at < end && error == FEMEM_OK; at += CHUNK) {
+    if (with->job && with->job->number) return with->more = true, FEMEM_OK;
     error = visit_some(queue, page, at, end - at < CHUNK ? end - at : CHUNK, with);
+  }
   return error;
 }
 
@@ -168,6 +172,7 @@ femem_error fq_look(femem_queue *queue, uint64_t page, uint64_t first, uint64_t 
   if (error || head.error) return error;
   visit with = {.act = take_over, .head = head.value, .job = job};
   error = visit_all(queue, page, first, end, &with);
+  if (error == FEMEM_OK && with.more) error = fq_tell(queue, FEMEM_WRITEXF, queue->root, JOBS, NOTHING);
   if (error || job->number || with.open > 0 || first > 0 || end < queue->slots) return error;
   bool removed;
   return fq_remove_ended(queue, page, &removed);

@@ -271,6 +271,47 @@ static void earlier(void) {
   END(server);
 }
 
+static void passing_server(int listener) {
+  for (int life = 0; life < 2; life++) {
+    int line = take_line(listener);
+    welcome_any(line, "0000000000000021");
+    heard(line, read_of, 1);
+    heard(line, read_of, 2);
+    heard(line, cancel_of, 2);
+    if (life == 0) said(line, withdrawn_of, 2);
+    if (life == 1) said_all(line, value_of, 2, 2);
+    if (life == 1) said(line, not_waiting_of, 2);
+    said(line, value_of, 1);
+    hear_end(line);
+  }
+}
+
+/* A request that ends with its process: the next life takes it back, and nobody gets its answer. */
+static void ends_with_process(void) {
+  test = "a request that ends with its process";
+  pid_t server = begin_at(32, passing_server);
+  for (int life = 0; life < 2; life++) {
+    fresh();
+    session_file *kept = NULL;
+    femem_recovered recovered = {0};
+    femem_answer answer = {0};
+    ERROR(session_file_open(&kept, kept_at), FEMEM_OK);
+    CHECK(session_file_ask(kept, 33, 33, &read_one, NULL, false));
+    CHECK(session_file_ask(kept, 34, 34, &read_one, NULL, true));
+    CHECK(session_file_sync(kept, 33, 33, 35));
+    session_file_close(kept);
+    femem *client = OPEN(&patient, FEMEM_OK);
+    ERROR(femem_recovered_at(client, 0, &recovered), FEMEM_OK);
+    CHECK(recovered.number == 33);
+    ERROR(femem_recovered_at(client, 1, &recovered), FEMEM_NOTHING_OUT);
+    ERROR(femem_wait(client, 33, &answer, 20000), FEMEM_OK);
+    CHECK(answer.value == 1 && femem_out(client) == 0 && femem_ready(client) == 0);
+    ERROR(femem_next(client, &answer, 0), FEMEM_NOTHING_OUT);
+    femem_close(client);
+  }
+  END(server);
+}
+
 static void keys_server(int listener) {
   int line = take_line(listener);
   meet_any(line);
@@ -616,7 +657,7 @@ int main(void) {
   snprintf(path, sizeof path, "%s/socket", folder);
   snprintf(kept_at, sizeof kept_at, "%s/session", folder);
   snprintf(kept_new, sizeof kept_new, "%s/session.new", folder);
-  void (*const tests[])(void) = {batch, many, many_keys, earlier, keys, file_fault,
+  void (*const tests[])(void) = {batch, many, many_keys, earlier, ends_with_process, keys, file_fault,
                                  leaving, strange_session, left_answers, crowded, copied,
                                  arguments};
   for (size_t i = 0; i < sizeof tests / sizeof *tests; i++) tests[i]();
