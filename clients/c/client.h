@@ -83,6 +83,7 @@ struct femem {
   struct sockaddr_un address;
   uint64_t session;
   bool opened, reached, welcomed, ended, bye; /* reached: this process has connected */
+  bool restored;            /* from a session file, and not attached since */
   unsigned opening_tries;
   uint64_t attaches, settles, cancels, probes;  /* sent and without a reply */
   int64_t quiet_since;      /* microseconds: when bytes last came, or waiting began */

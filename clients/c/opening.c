@@ -94,14 +94,14 @@ static femem_error restore(femem *client) {
   if (!client->recovered) return FEMEM_MEMORY;
   client->session = file->session;
   if (file->next == 0) return FEMEM_OK;
-  client->opened = true;
+  client->opened = client->restored = true;
   client->settles = client->attaches = WINDOW;
   client->floor_told = file->floor;
   client->next = file->next;
   client->low = file->asked;
   for (uint64_t wire = client->low; wire < client->next; wire++) recover(client, wire);
   fe_advance(client);
-  client->floor_asked = client->low;
+  client->floor_asked = file->asked;
   return FEMEM_OK;
 }
 

@@ -473,8 +473,8 @@ static void strange_server(int listener) {
   heard(line, add_of, 1);
   said(line, value_of, 1);
   hear_end(line);
-  static const char *const floors[] = {"0000000000000001", "0000000000000023"};
-  for (int i = 0; i < 2; i++) {
+  static const char *const floors[] = {"0000000000000001", "0000000000000022", "0000000000000023"};
+  for (int i = 0; i < 3; i++) {
     line = take_line(listener);
     welcome_any(line, floors[i]);
     hear_end(line);
@@ -490,8 +490,7 @@ static void strange_session(void) {
   uint64_t value = 0;
   ERROR(femem_int_fetch_add(client, 1, 0, 1, &value), FEMEM_OK);
   femem_close(client);
-  OPEN(&patient, FEMEM_SESSION_LOST);
-  OPEN(&patient, FEMEM_SESSION_LOST);
+  for (int i = 0; i < 3; i++) OPEN(&patient, FEMEM_SESSION_LOST);
   END(server);
 }
 
