@@ -193,7 +193,7 @@ static void kills_at(femem *observer, uint64_t array, uint32_t index, const char
   check_exact(observer, array, index, *at ? at : "at any moment", kills);
   femem *client;
   ERROR(femem_open_file(&client, path, session, &usual), FEMEM_OK);
-  if (client) ERROR(femem_bye(client), FEMEM_OK);
+  if (client) ERROR(femem_bye_within(client, 60000), FEMEM_OK);
   femem_close(client);
   close(notes);
   unlink(session);

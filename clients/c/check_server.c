@@ -40,7 +40,7 @@ static void words(void) {
   CHECK(value == 0);
   ERROR(femem_readfe(client, cells, 2, &value), FEMEM_BAD_INDEX);
   ERROR(femem_readfe(client, 999, 0, &value), FEMEM_NO_ARRAY);
-  ERROR(femem_bye(client), FEMEM_OK);
+  ERROR(femem_bye_within(client, 60000), FEMEM_OK);
   femem_close(client);
 }
 
@@ -75,8 +75,8 @@ static void pipelines(void) {
   femem *taker = opened(8, &usual);
   ERROR(femem_readxx(other, array, 1, &value), FEMEM_REFUSED_NOT_ATTACHED);
   ERROR(femem_readxx(taker, array, 1, &value), FEMEM_OK);
-  ERROR(femem_bye(taker), FEMEM_OK);
-  ERROR(femem_bye(client), FEMEM_OK);
+  ERROR(femem_bye_within(taker, 60000), FEMEM_OK);
+  ERROR(femem_bye_within(client, 60000), FEMEM_OK);
   femem_close(taker);
   femem_close(other);
   femem_close(client);
@@ -104,7 +104,7 @@ static void batches(void) {
   ERROR(answers[1].error, FEMEM_WITHDRAWN);
   ERROR(answers[19].error, FEMEM_OK);
   CHECK(answers[19].value == COUNT + 17 && femem_out(brief) == 0 && femem_ready(brief) == 0);
-  ERROR(femem_bye(brief), FEMEM_OK);
+  ERROR(femem_bye_within(brief, 60000), FEMEM_OK);
   femem_close(brief);
   femem_close(client);
 }
@@ -135,7 +135,7 @@ static void out_of_time(void) {
   CHECK(answer.value == 100);
   femem_close(client);
   ERROR(femem_remove(other, array), FEMEM_OK);
-  ERROR(femem_bye(other), FEMEM_OK);
+  ERROR(femem_bye_within(other, 60000), FEMEM_OK);
   femem_close(other);
 }
 
@@ -162,8 +162,8 @@ static void in_the_way(void) {
   /* Each word is empty again: no value was read twice, nor by a request that had moved away. */
   for (uint32_t i = 0; i < WAITING; i++) ERROR(femem_writeef(other, array, i, 0), FEMEM_OK);
   ERROR(femem_remove(other, array), FEMEM_OK);
-  ERROR(femem_bye(client), FEMEM_OK);
-  ERROR(femem_bye(other), FEMEM_OK);
+  ERROR(femem_bye_within(client, 60000), FEMEM_OK);
+  ERROR(femem_bye_within(other, 60000), FEMEM_OK);
   femem_close(client);
   femem_close(other);
 }
@@ -203,7 +203,7 @@ static void forked(void) {
   waitpid(child, &status, 0);
   CHECK(WIFEXITED(status) && WEXITSTATUS(status) == 0);
   ERROR(femem_remove(client, array), FEMEM_OK);
-  ERROR(femem_bye(client), FEMEM_OK);
+  ERROR(femem_bye_within(client, 60000), FEMEM_OK);
   femem_close(client);
 }
 
@@ -275,7 +275,7 @@ static void kills(void) {
   check_values(end);
   printf("%llu raises by %d processes over %d kills, %llu connections made again\n", (unsigned long long)end, RAISERS,
          KILLS, (unsigned long long)reconnects);
-  ERROR(femem_bye(client), FEMEM_OK);
+  ERROR(femem_bye_within(client, 60000), FEMEM_OK);
   femem_close(client);
 }
 
@@ -294,11 +294,11 @@ static void waiting(void) {
   ERROR(femem_wait(client, number, &answer, 60000), FEMEM_OK);
   CHECK(answer.value == 77 && answer.number == number);
   CHECK(femem_reconnects(client) == 1 && femem_reconnects(other) == 1);
-  ERROR(femem_bye(other), FEMEM_OK);
+  ERROR(femem_bye_within(other, 60000), FEMEM_OK);
   femem_close(other);
 
   femem *brief = opened(9, &(femem_settings){.wait = 5000, .reconnect = 300});
-  femem *plain = opened(10, &(femem_settings){.wait = 5000});
+  femem *plain = opened(10, &(femem_settings){.wait = 5000, .reconnect = FEMEM_NEVER});
   stop_server();
   uint64_t value;
   ERROR(femem_readxx(brief, array, 0, &value), FEMEM_UNREACHABLE);

@@ -63,6 +63,7 @@ typedef struct slot {
   bool given_up;            /* its call ran out of time, so no caller waits for the withdrawal */
   bool keyed;               /* the session file keeps the answer */
   bool recovered;           /* from an earlier life: its answer may never be taken */
+  bool unwanted;            /* it ended with its process: nobody gets its answer */
   uint64_t wire;
   femem_request request;
   femem_answer answer;
@@ -71,17 +72,18 @@ typedef struct slot {
 /* OPENING: attached for the first time, and what the session kept is being settled.
    RETURNING: attached again, and nothing is sent before the welcome. */
 typedef enum phase { CLOSED, OPENING, RETURNING, SERVED } phase;
-typedef enum asked { NOTHING, ASKED, COMING, HERE } asked;
+typedef enum report_state { REPORT_NONE, REPORT_ASKED, REPORT_COMING, REPORT_HERE } report_state;
 
 struct femem {
-  pid_t owner;              /* the process that opened it */
+  unsigned forks;           /* how often the process was forked before it opened the client */
   int descriptor, system;
   phase phase;
   femem_error broken;       /* why it is CLOSED */
   femem_settings settings;
   struct sockaddr_un address;
   uint64_t session;
-  bool opened, welcomed, ended, bye;
+  bool opened, reached, welcomed, ended, bye; /* reached: this process has connected */
+  bool restored;            /* from a session file, and not attached since */
   unsigned opening_tries;
   uint64_t attaches, settles, cancels, probes;  /* sent and without a reply */
   int64_t quiet_since;      /* microseconds: when bytes last came, or waiting began */
@@ -94,7 +96,7 @@ struct femem {
   session_file *file;       /* may be NULL, like the next */
   femem_recovered *recovered;
   unsigned recovered_count, retaken; /* retaken: how often it was attached again after another had it */
-  asked report;
+  report_state report;
   femem_error report_error;
   char *text;
   size_t text_at, text_length;
@@ -109,8 +111,13 @@ void fe_put4(uint8_t *at, uint32_t number);
 void fe_put8(uint8_t *at, uint64_t number);
 /* Whether it is one of the eight operations on words. */
 bool fe_is_access(femem_operation operation);
+/* Whether the answer to one of these is a value. */
+bool fe_tells(femem_operation operation);
 /* Encodes a request. Returns its size in bytes, at most LONGEST_REQUEST. */
 size_t fe_put_request(uint8_t *at, uint64_t number, const femem_request *request);
+/* Reads the frame of a request under number 0. Fields that the operation does not use become 0. Returns the frame's
+   size, or 0 if there is no such frame. */
+size_t fe_get_request(const uint8_t *frame, size_t count, femem_request *request);
 /* Reads the reply at the start of the bytes. Returns its size, 0 if more bytes must come, -1 if no reply begins like
    this. Of a report it reads only the head. */
 int fe_read_reply(const uint8_t *bytes, size_t count, reply *read);
@@ -155,11 +162,17 @@ void fe_hand_out(femem *client, slot *place, femem_answer *answer);
 
 /* ---- replies.c ---- */
 
+/* Whether this is a possible answer to a request. */
+bool fe_fits(const femem_request *request, const reply *told);
+/* The answer in a reply, without its number. */
+femem_answer fe_answer_of(const reply *told);
 /* Handles every whole reply in the input. If it fails, the connection is closed. */
 femem_error fe_digest(femem *client);
 
 /* ---- line.c ---- */
 
+/* How often this process is a child of a fork, for fe_is_copy. */
+unsigned fe_forks(void);
 /* Closes the connection, and notes why. */
 void fe_close_line(femem *client, femem_error why);
 /* Microseconds of a monotonic clock. */
@@ -175,12 +188,14 @@ bool fe_is_copy(const femem *client);
 /* Writes the output, and waits for bytes once. FEMEM_TIMEOUT if none come before the end. */
 femem_error fe_step(femem *client, int64_t end);
 /* Connects and attaches. With `again` it tries until the end, since a server may be restarting, or have no free
-   connection or session for the moment. */
+   connection or session for the moment. The first connection ends at once if the path does not lead to a socket, unless
+   the settings say to wait. */
 femem_error fe_reach(femem *client, int64_t end, bool again);
 /* Handles a lost connection: reconnects if the settings say so. */
 femem_error fe_mend(femem *client, femem_error error, int64_t end);
-/* FEMEM_OK if requests may be sent, or why not. */
+/* FEMEM_OK if requests may be sent, or why not. The second has its own end. */
 femem_error fe_usable(femem *client);
+femem_error fe_usable_until(femem *client, int64_t end);
 
 /* ---- wait.c ---- */
 
@@ -202,11 +217,26 @@ femem_error fe_write_all(femem *client, int64_t end);
 
 /* Whether the request can be encoded. */
 bool fe_is_spelled(const femem_request *request);
+/* How a request is sent: it ends with its process; nobody gets its answer. */
+enum { SEND_ENDS = 1, SEND_UNWANTED = 2 };
+
 /* Gives a request the next number and adds it to the output. `key` may be NULL. */
-femem_error fe_send_request(femem *client, const femem_request *request, const char *key, uint64_t *number);
+femem_error fe_send_request(femem *client, const femem_request *request, const char *key, unsigned how,
+                            uint64_t *number);
 /* How a request with a key has ended. (Its answer is not taken by number.) */
 femem_answer fe_end_of(const femem *client, uint64_t number);
 /* Cancels a request, if it has no answer. */
 femem_error fe_ask_back(femem *client, uint64_t number);
+/* Drops a request's answer, whether it has come or not. */
+void fe_abandon(femem *client, uint64_t number);
+
+/* ---- many.c ---- */
+
+/* The key's request and answer, as far as the session file has them; NULL if the key is free. */
+const kept_key *fe_find_key(const femem *client, const char *key);
+/* Whether it is a key. */
+bool fe_is_key(const char *key);
+/* femem_batch with requests that are sent in that way. */
+femem_error fe_batch(femem *client, unsigned how, const femem_request *requests, size_t count, femem_answer *answers);
 
 #endif

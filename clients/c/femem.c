@@ -4,6 +4,9 @@
 
 #include <stdlib.h>
 
+/* Milliseconds. */
+enum { LONGEST_BYE = 1000 };
+
 femem_error femem_settle(femem *client) {
   femem_error error = fe_usable(client);
   if (error) return error;
@@ -12,30 +15,34 @@ femem_error femem_settle(femem *client) {
 }
 
 femem_error femem_report(femem *client, const char **text) {
-  if (!client->text) client->text = malloc(LONGEST_REPORT + 1);
-  if (!client->text) return FEMEM_MEMORY;
   femem_error error = fe_usable(client);
   if (error) return error;
+  if (!client->text) client->text = malloc(LONGEST_REPORT + 1);
+  if (!client->text) return FEMEM_MEMORY;
   /* If an earlier report was requested and its wait ended early, that report is the answer. */
-  if (client->report == NOTHING) {
-    client->report = ASKED;
+  if (client->report == REPORT_NONE) {
+    client->report = REPORT_ASKED;
     fe_put_bare(client, REPORT);
   }
   error = fe_wait_for(client, fe_is_reported, 0, fe_moment(client->settings.wait));
   if (error) return error;
-  client->report = NOTHING;
+  client->report = REPORT_NONE;
   *text = client->text;
   return client->report_error;
 }
 
-femem_error femem_bye(femem *client) {
+femem_error femem_bye(femem *client) { return femem_bye_within(client, LONGEST_BYE); }
+
+femem_error femem_bye_within(femem *client, int64_t within) {
+  int64_t end = fe_moment(within);
+  if (fe_is_copy(client)) return FEMEM_FORKED;
   if (client->out > 0) return FEMEM_BAD_CALL;
-  femem_error error = client->bye && !client->ended ? FEMEM_OK : fe_usable(client);
+  femem_error error = client->bye && !client->ended ? FEMEM_OK : fe_usable_until(client, end);
   if (error) return error;
   if (!client->bye && client->file) session_file_leave(client->file);
   if (!client->bye) fe_put_bare(client, BYE);
   client->bye = true;
-  error = fe_wait_for(client, fe_is_ended, 0, fe_moment(client->settings.wait));
+  error = fe_wait_for(client, fe_is_ended, 0, end);
   if (error) return error;
   fe_close_line(client, FEMEM_ENDED);
   /* If this fails, the next life ends the session once more. */
@@ -91,6 +98,7 @@ static const struct {
   {FEMEM_FILE_IN_USE, "another client has the session file"},
   {FEMEM_FILE_DAMAGED, "the session file is damaged"},
   {FEMEM_OTHER_REQUEST, "the key was asked with another request"},
+  {FEMEM_NOT_OWNER, "the job was ended or is another client's"},
   {FEMEM_BAD_FRAME, "the server sent a bad frame"},
   {FEMEM_WRONG_NUMBER, "the server replied to a number that is not out"},
   {FEMEM_STRANGE_REPLY, "the server sent a reply to nothing that was asked"},

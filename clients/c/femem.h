@@ -3,7 +3,8 @@
    what it answers, when it waits, and what a stop of the server does to it.
 
    A client is used by one thread at a time. No call raises a signal. Only femem_open, the first femem_report and the
-   calls that say so take memory. */
+   calls that say so take memory. In a child made by fork each call that takes a client and returns an error returns
+   FEMEM_FORKED, and sends nothing. */
 #ifndef FEMEM_H
 #define FEMEM_H
 
@@ -57,7 +58,7 @@ typedef enum femem_error {
   /* What the client itself reports. After the first four the request, if there is one, is still out. */
   FEMEM_TIMEOUT = 201,        /* no answer in time */
   FEMEM_DISCONNECTED = 202,   /* the server closed the connection, or is gone */
-  FEMEM_UNREACHABLE = 203,    /* no server was reached in time */
+  FEMEM_UNREACHABLE = 203,    /* no server was reached: femem_errno, or errno at opening */
   FEMEM_SYSTEM = 204,         /* a system call failed: femem_errno */
   FEMEM_WITHDRAWN = 205,      /* the request was taken back, and has not happened */
   FEMEM_WINDOW_FULL = 206,    /* no number is free: take answers first */
@@ -70,6 +71,7 @@ typedef enum femem_error {
   FEMEM_FILE_IN_USE = 213,    /* another client has the session file */
   FEMEM_FILE_DAMAGED = 214,   /* the session file has content that no client writes */
   FEMEM_OTHER_REQUEST = 215,  /* the key was used with another request */
+  FEMEM_NOT_OWNER = 216,      /* the job was ended, or another client has it */
 
   /* The server, or whatever answers in its place, breaks the formats. The connection is closed. */
   FEMEM_BAD_FRAME = 301,      /* bytes that are not a reply */
@@ -116,37 +118,52 @@ typedef struct femem_answer {
   uint64_t value;       /* readfe, readff, readxx, int_fetch_add */
 } femem_answer;
 
-/* Times are in milliseconds; FEMEM_FOREVER is no limit. */
+/* Times are in milliseconds. FEMEM_FOREVER is no limit; FEMEM_NEVER, in `reconnect`, is not at all. */
 #define FEMEM_FOREVER ((int64_t)-1)
+#define FEMEM_NEVER ((int64_t)-2)
 
+/* Begin with FEMEM_SETTINGS_DEFAULT and change fields, or name the fields that are not 0. */
 typedef struct femem_settings {
-  int64_t wait;      /* how long a call waits before it takes its request back; without settings: no limit */
-  int64_t reconnect; /* how long a client tries to reach a lost server; 0, or without settings: not at all */
-  bool resume;       /* numbers continue at the session's floor; otherwise what the session kept is settled first */
+  size_t size;          /* sizeof (femem_settings); 0 is the size in version 1.0 */
+  int64_t wait;         /* how long a call waits before it takes its request back; 0: no limit */
+  int64_t reconnect;    /* how long a client tries to reach a lost server; 0: no limit */
+  bool resume;          /* numbers continue at the session's floor; otherwise what the session kept is settled first */
+  bool wait_for_server; /* the first connection is tried again, too, where the path does not lead to a socket */
 } femem_settings;
+
+/* No limit for `wait`, 30 seconds for `reconnect`. NULL for settings means these. */
+#define FEMEM_SETTINGS_DEFAULT {sizeof(femem_settings), FEMEM_FOREVER, 30000, false, false}
 
 /* ---- opening and closing ---- */
 
 /* Opens a client of the session on the socket at `path`, and attaches it. `settings` may be NULL. If it fails,
-   *client is NULL. Errors: FEMEM_UNREACHABLE, FEMEM_TIMEOUT, FEMEM_REFUSED_SESSION_LIMIT, FEMEM_REFUSED_CLOSING,
-   FEMEM_MEMORY, FEMEM_BAD_CALL if the path is too long for a socket. */
+   *client is NULL. A server that does not listen is tried again for `reconnect`, or for `wait` if `reconnect` has no
+   limit. A path that is missing or that this process may not use fails at once, unless the settings say
+   `wait_for_server`. Errors: FEMEM_UNREACHABLE (errno says why), FEMEM_TIMEOUT, FEMEM_REFUSED_SESSION_LIMIT,
+   FEMEM_REFUSED_CLOSING, FEMEM_MEMORY, FEMEM_BAD_CALL if the path is empty or too long for a socket, or if settings of
+   a newer version have a field that this one does not know. */
 femem_error femem_open(femem **client, const char *path, uint64_t session, const femem_settings *settings);
 
 /* Opens a client of the session in the file at `file`, which is created if it is missing. The file holds the session's
    number and every unanswered request, and is written and synced before anything is sent; so the requests of an earlier
-   life of the program are sent again, and each happens once. A lock on the file keeps a second client out. `resume`
-   must be false. This takes the memory for the file. Errors: those of femem_open, FEMEM_FILE_FAULT (errno says why),
-   FEMEM_FILE_IN_USE, FEMEM_FILE_DAMAGED. */
+   life of the program are sent again, and each happens once. A lock on the file keeps a second client out. The file
+   may be the Python client's. `resume` must be false. This takes the memory for the file. Errors: those of femem_open,
+   FEMEM_FILE_FAULT (errno says why), FEMEM_FILE_IN_USE, FEMEM_FILE_DAMAGED. */
 femem_error femem_open_file(femem **client, const char *path, const char *file, const femem_settings *settings);
 
-/* Closes the connection and frees the client. The session stays on the server. NULL is allowed. */
+/* Closes the connection and frees the client. The session stays on the server. Never waits. NULL is allowed. */
 void femem_close(femem *client);
 
 /* Reconnects, within `within` milliseconds, and sends again what is out, under the same numbers. */
 femem_error femem_reconnect(femem *client, int64_t within);
 
-/* Ends the session. FEMEM_BAD_CALL while something is out. A session file begins a new session with the next client. */
+/* Ends the session. FEMEM_BAD_CALL while something is out. A session file begins a new session with the next client. It
+   waits for the server for a second at most: after FEMEM_TIMEOUT or FEMEM_UNREACHABLE it may be called again, and with
+   a session file the next client ends the session in any case. */
 femem_error femem_bye(femem *client);
+
+/* Like femem_bye, with its own time in milliseconds. */
+femem_error femem_bye_within(femem *client, int64_t within);
 
 /* ---- one request and its answer ----
 
@@ -257,8 +274,8 @@ femem_error femem_report(femem *client, const char **text);
 
 /* ---- over the client's own restarts: only with a session file, otherwise FEMEM_BAD_CALL ---- */
 
-/* The longest key. */
-enum { FEMEM_KEY = 64 };
+/* The longest key, in bytes. */
+enum { FEMEM_KEY = 1024 };
 
 /* Makes the request once under that key (1 to FEMEM_KEY bytes and a zero byte), whatever stops in between and however
    often the program is restarted. The answer is that of the one time; it comes from the file if it is there. If the
@@ -270,14 +287,16 @@ femem_error femem_once(femem *client, const char *key, const femem_request *requ
 femem_error femem_batch_once(femem *client, const char *const *keys, const femem_request *requests, size_t count,
                              femem_answer *answers);
 
-/* Forgets a key and its answer. FEMEM_NOTHING_OUT if there is none, FEMEM_BAD_CALL while its request is out. */
+/* Forgets a key and its answer. FEMEM_NOTHING_OUT if there is none, FEMEM_BAD_CALL while its request is out. May take
+   memory; FEMEM_MEMORY changes nothing. */
 femem_error femem_forget(femem *client, const char *key);
 
 /* A request of the earlier life. femem_wait has its answer, by `number`; if it has a key, femem_once has. Without one
-   `key` is "". */
+   `key` is "". A key of the Python client may have any bytes, so its length is told too. */
 typedef struct femem_recovered {
   uint64_t number;
   femem_request request;
+  size_t key_length;
   char key[FEMEM_KEY + 1];
 } femem_recovered;
 
@@ -285,6 +304,56 @@ typedef struct femem_recovered {
    order of their numbers. They are out like any others, but an answer that is not taken is dropped when its place is
    needed. FEMEM_NOTHING_OUT from the end of the list on. */
 femem_error femem_recovered_at(const femem *client, unsigned index, femem_recovered *recovered);
+
+/* ---- work queues ----
+
+   A queue of jobs that several programs put and take, in C or with the Python client's WorkQueue. A job is a value.
+   Each is given to one taker at a time until it is done; if its taker is away or says that it has failed, it is given
+   to another one, and one whose last attempt has failed is set aside. README.md says what this promises.
+
+   A queue uses a client, whose other calls may be used in between. Takers have a request out (femem_out) until the
+   queue is closed, so femem_bye comes after that. Queue calls may use femem_report. */
+
+/* A queue, opened by one client. */
+typedef struct femem_queue femem_queue;
+
+/* A job. `number` names it for ever. `attempt` counts from 1. */
+typedef struct femem_job {
+  uint64_t number;
+  uint64_t value;
+  uint32_t attempt;
+} femem_job;
+
+/* Opens the queue of that name (1 to 30 bytes) with room for `capacity` jobs (1 to 65,532), each of which is tried
+   `attempts` times (1 to 16). All programs must give the same numbers: FEMEM_BAD_CALL. A job whose taker is away is
+   given to another taker after `away_after` milliseconds, 5,000 if it is 0. FEMEM_BAD_CALL with the setting `resume`.
+   Takes memory. If it fails, *queue is NULL. */
+femem_error femem_queue_open(femem_queue **queue, femem *client, const char *name, uint32_t capacity,
+                             uint32_t attempts, int64_t away_after);
+
+/* Frees the queue, before its client is closed. It waits a second at most. Jobs that were taken and not ended are given
+   to others. NULL is allowed. */
+void femem_queue_close(femem_queue *queue);
+
+/* Puts a job. Waits for room, `within` milliseconds at most: FEMEM_WITHDRAWN. The value is below 2^64 - 1. With a key,
+   which needs a session file, it is put once, however often the program is restarted and calls this; femem_forget
+   forgets the key. `key` may be NULL. */
+femem_error femem_queue_put(femem_queue *queue, uint64_t value, const char *key, int64_t within);
+
+/* Takes a job. Waits for one, `within` milliseconds at most: FEMEM_WITHDRAWN; then nothing was taken. Takes memory. */
+femem_error femem_queue_take(femem_queue *queue, femem_job *job, int64_t within);
+
+/* The job is done. FEMEM_NOT_OWNER: it was ended by another attempt, since this client was away. */
+femem_error femem_queue_done(femem_queue *queue, const femem_job *job);
+
+/* The attempt has failed: the job is given to another taker, or set aside if this was its last attempt. */
+femem_error femem_queue_fail(femem_queue *queue, const femem_job *job);
+
+/* The jobs that are set aside, `most` at most; *count gets how many there are. `jobs` may be NULL if `most` is 0. */
+femem_error femem_queue_aside(femem_queue *queue, femem_job *jobs, size_t most, size_t *count);
+
+/* Ends a job that is set aside. FEMEM_NOT_OWNER: it has ended. */
+femem_error femem_queue_drop(femem_queue *queue, uint64_t number);
 
 /* ---- what a client knows about itself ---- */
 

@@ -6,6 +6,7 @@
 #include <fcntl.h>
 #include <limits.h>
 #include <poll.h>
+#include <pthread.h>
 #include <sys/socket.h>
 #include <time.h>
 #include <unistd.h>
@@ -17,7 +18,7 @@ void fe_close_line(femem *client, femem_error why) {
   client->broken = why;
   client->input_end = client->output_begin = client->output_end = 0;
   client->probes = 0;
-  if (client->report == COMING) client->report = ASKED;
+  if (client->report == REPORT_COMING) client->report = REPORT_ASKED;
   /* A request that was to move is sent again under its number. */
   client->moving = 0;
   for (slot *place = client->slots; place < client->slots + WINDOW; place++) {
@@ -56,7 +57,8 @@ static femem_error system_fault(femem *client, femem_error error) {
 
 /* The session file gets everything before it is sent. */
 static bool is_kept(femem *client) {
-  if (!client->file || session_file_sync(client->file, client->floor_told, client->next)) return true;
+  uint64_t floor = client->floor_told, asked = client->floor_asked;
+  if (!client->file || session_file_sync(client->file, floor, asked, client->next)) return true;
   system_fault(client, FEMEM_FILE_FAULT);
   return false;
 }
@@ -68,7 +70,9 @@ void fe_write_some(femem *client) {
     ssize_t count = send(client->descriptor, client->output + client->output_begin, size, MSG_NOSIGNAL);
     if (count < 0 && errno == EINTR) continue;
     if (count < 0 && (errno == EAGAIN || errno == EWOULDBLOCK)) return;
-    /* A server that is gone may have left replies. They are read first; the read then reports the end. */
+    /* The bytes are lost, so the connection must end, even if only the memory for them was missing (ENOBUFS). What the
+       server has replied is read first; the read then reports the end. */
+    if (count < 0) shutdown(client->descriptor, SHUT_RDWR);
     client->output_begin += count < 0 ? size : (size_t)count;
     FEMEM_POINT("sent");
   }
@@ -86,7 +90,17 @@ static femem_error read_some(femem *client) {
   return fe_digest(client);
 }
 
-bool fe_is_copy(const femem *client) { return client->owner != getpid(); }
+static unsigned forks;
+static void count_fork(void) { forks++; }
+static void watch_forks(void) { pthread_atfork(NULL, NULL, count_fork); }
+
+unsigned fe_forks(void) {
+  static pthread_once_t once = PTHREAD_ONCE_INIT;
+  pthread_once(&once, watch_forks);
+  return forks;
+}
+
+bool fe_is_copy(const femem *client) { return client->forks != forks; }
 
 /* Asks whether this connection still has the session. The server does not tell a waiting client: an earlier life's late
    attach, or another client, may have taken the session, and its answers then go there. */
@@ -118,13 +132,26 @@ static void nap(int64_t microseconds) {
   nanosleep(&time, NULL);
 }
 
+/* Whether what was missing may be there later. */
+static bool is_short(int error) { return error == EMFILE || error == ENFILE || error == ENOBUFS || error == ENOMEM; }
+
 static femem_error dial(femem *client) {
   int line = socket(AF_UNIX, SOCK_STREAM, 0);
-  if (line < 0) return system_fault(client, FEMEM_SYSTEM);
+  if (line < 0) return system_fault(client, is_short(errno) ? FEMEM_UNREACHABLE : FEMEM_SYSTEM);
   client->descriptor = line;
   if (fcntl(line, F_SETFD, FD_CLOEXEC) || fcntl(line, F_SETFL, O_NONBLOCK)) return system_fault(client, FEMEM_SYSTEM);
-  if (connect(line, (struct sockaddr *)&client->address, sizeof client->address) == 0) return FEMEM_OK;
-  return system_fault(client, FEMEM_UNREACHABLE);
+  if (connect(line, (struct sockaddr *)&client->address, sizeof client->address) != 0)
+    return system_fault(client, FEMEM_UNREACHABLE);
+  client->reached = true;
+  return FEMEM_OK;
+}
+
+/* Whether the path can't lead to a server's socket, as it is now. */
+static bool is_wrong_path(const femem *client) {
+  if (client->reached || client->settings.wait_for_server) return false;
+  int why = client->system;
+  return why == ENOENT || why == ENOTDIR || why == EACCES || why == EPERM || why == ELOOP || why == ENAMETOOLONG ||
+         why == EPROTOTYPE || why == ENOTSOCK;
 }
 
 static void put_attach(femem *client) {
@@ -164,7 +191,7 @@ femem_error fe_reach(femem *client, int64_t end, bool again) {
     if (client->opened || pause > 1000) nap(pause);
     femem_error error = attach(client, end);
     bool passing = error == FEMEM_UNREACHABLE || error == FEMEM_DISCONNECTED || error == FEMEM_REFUSED_CLOSING;
-    if (!passing || !again) return error;
+    if (!passing || !again || (error == FEMEM_UNREACHABLE && is_wrong_path(client))) return error;
     if (fe_is_past(end)) {
       fe_close_line(client, FEMEM_UNREACHABLE);
       return FEMEM_UNREACHABLE;
@@ -173,7 +200,7 @@ femem_error fe_reach(femem *client, int64_t end, bool again) {
 }
 
 femem_error fe_mend(femem *client, femem_error error, int64_t end) {
-  if (error != FEMEM_DISCONNECTED || client->settings.reconnect <= 0 || client->ended) return error;
+  if (error != FEMEM_DISCONNECTED || client->settings.reconnect == FEMEM_NEVER || client->ended) return error;
   int64_t last = fe_moment(client->settings.reconnect);
   bool earlier = end >= 0 && (last < 0 || end < last);
   error = fe_reach(client, earlier ? end : last, true);
@@ -182,8 +209,10 @@ femem_error fe_mend(femem *client, femem_error error, int64_t end) {
   return FEMEM_TIMEOUT;
 }
 
-femem_error fe_usable(femem *client) {
+femem_error fe_usable(femem *client) { return fe_usable_until(client, fe_moment(client->settings.wait)); }
+
+femem_error fe_usable_until(femem *client, int64_t end) {
   if (fe_is_copy(client)) return FEMEM_FORKED;
   if (client->ended || client->bye) return FEMEM_ENDED;
-  return client->phase == CLOSED ? fe_mend(client, client->broken, fe_moment(client->settings.wait)) : FEMEM_OK;
+  return client->phase == CLOSED ? fe_mend(client, client->broken, end) : FEMEM_OK;
 }

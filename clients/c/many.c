@@ -4,7 +4,7 @@
 
 #include <string.h>
 
-static bool is_key(const char *key) { return key && *key && strnlen(key, FEMEM_KEY + 1) <= FEMEM_KEY; }
+bool fe_is_key(const char *key) { return key && *key && strnlen(key, FEMEM_KEY + 1) <= FEMEM_KEY; }
 
 static bool is_same_request(const femem_request *one, const femem_request *other) {
   uint8_t spelled[2][LONGEST_REQUEST];
@@ -12,10 +12,14 @@ static bool is_same_request(const femem_request *one, const femem_request *other
   return fe_put_request(spelled[1], 0, other) == size && memcmp(spelled[0], spelled[1], size) == 0;
 }
 
+const kept_key *fe_find_key(const femem *client, const char *key) {
+  return session_find(client->file, key, strlen(key));
+}
+
 /* Makes a request under a key, unless that was done before. */
 static femem_error begin_once(femem *client, const char *key, const femem_request *request, uint64_t *number) {
-  const kept_key *kept = session_file_find(client->file, key);
-  if (!kept) return fe_send_request(client, request, key, number);
+  const kept_key *kept = fe_find_key(client, key);
+  if (!kept) return fe_send_request(client, request, key, 0, number);
   if (!is_same_request(&kept->request, request)) return FEMEM_OTHER_REQUEST;
   *number = kept->number;
   return FEMEM_OK;
@@ -28,29 +32,30 @@ static femem_error end_once(femem *client, const char *key, femem_answer *answer
   if (error == FEMEM_TIMEOUT && (error = fe_ask_back(client, number)) == FEMEM_OK)
     error = fe_wait_for(client, fe_is_answered, number, fe_moment(client->settings.wait));
   if (error) return error;
-  const kept_key *kept = session_file_find(client->file, key);
+  const kept_key *kept = fe_find_key(client, key);
   *answer = kept ? kept->answer : fe_end_of(client, number);
   return FEMEM_OK;
 }
 
 femem_error femem_once(femem *client, const char *key, const femem_request *request, femem_answer *answer) {
-  if (!client->file || !is_key(key) || !fe_is_spelled(request)) return FEMEM_BAD_CALL;
+  if (fe_is_copy(client)) return FEMEM_FORKED;
+  if (!client->file || !fe_is_key(key) || !fe_is_spelled(request)) return FEMEM_BAD_CALL;
   femem_error error = begin_once(client, key, request, &answer->number);
   if (error == FEMEM_OK) error = end_once(client, key, answer);
   return error ? error : answer->error;
 }
 
 femem_error femem_forget(femem *client, const char *key) {
-  if (!client->file || !is_key(key)) return FEMEM_BAD_CALL;
   if (fe_is_copy(client)) return FEMEM_FORKED;
-  const kept_key *kept = session_file_find(client->file, key);
+  if (!client->file || !fe_is_key(key)) return FEMEM_BAD_CALL;
+  const kept_key *kept = fe_find_key(client, key);
   if (!kept) return FEMEM_NOTHING_OUT;
   if (!kept->is_answered) return FEMEM_BAD_CALL;
-  session_file_forget(client->file, key);
-  return FEMEM_OK;
+  return session_file_forget(client->file, key) ? FEMEM_OK : FEMEM_MEMORY;
 }
 
 femem_error femem_recovered_at(const femem *client, unsigned index, femem_recovered *recovered) {
+  if (fe_is_copy(client)) return FEMEM_FORKED;
   if (!client->file) return FEMEM_BAD_CALL;
   if (index >= client->recovered_count) return FEMEM_NOTHING_OUT;
   *recovered = client->recovered[index];
@@ -59,6 +64,7 @@ femem_error femem_recovered_at(const femem *client, unsigned index, femem_recove
 
 /* A batch. `keys` may be NULL. */
 typedef struct batch {
+  unsigned how;
   const char *const *keys;
   const femem_request *requests;
   femem_answer *answers;
@@ -71,7 +77,7 @@ static femem_error send_more(femem *client, batch *many) {
     const femem_request *request = &many->requests[many->sent];
     femem_answer *answer = &many->answers[many->sent];
     femem_error error = many->keys ? begin_once(client, many->keys[many->sent], request, &answer->number)
-                                   : femem_send(client, request, &answer->number);
+                                   : fe_send_request(client, request, NULL, many->how, &answer->number);
     if (error) return error;
     answer->error = FEMEM_TIMEOUT;
     many->sent++;
@@ -91,8 +97,9 @@ static femem_error take_next(femem *client, batch *many) {
 }
 
 static femem_error run_batch(femem *client, batch many) {
+  if (fe_is_copy(client)) return FEMEM_FORKED;
   for (size_t i = 0; i < many.count; i++) {
-    if (!fe_is_spelled(&many.requests[i]) || (many.keys && !is_key(many.keys[i]))) return FEMEM_BAD_CALL;
+    if (!fe_is_spelled(&many.requests[i]) || (many.keys && !fe_is_key(many.keys[i]))) return FEMEM_BAD_CALL;
     many.answers[i] = (femem_answer){.error = FEMEM_NOTHING_OUT};
   }
   while (many.taken < many.count) {
@@ -106,12 +113,17 @@ static femem_error run_batch(femem *client, batch many) {
   return FEMEM_OK;
 }
 
+femem_error fe_batch(femem *client, unsigned how, const femem_request *requests, size_t count, femem_answer *answers) {
+  return run_batch(client, (batch){.how = how, .requests = requests, .answers = answers, .count = count});
+}
+
 femem_error femem_batch(femem *client, const femem_request *requests, size_t count, femem_answer *answers) {
-  return run_batch(client, (batch){.requests = requests, .answers = answers, .count = count});
+  return fe_batch(client, 0, requests, count, answers);
 }
 
 femem_error femem_batch_once(femem *client, const char *const *keys, const femem_request *requests, size_t count,
                              femem_answer *answers) {
+  if (fe_is_copy(client)) return FEMEM_FORKED;
   if (!client->file || !keys) return FEMEM_BAD_CALL;
   return run_batch(client, (batch){.keys = keys, .requests = requests, .answers = answers, .count = count});
 }

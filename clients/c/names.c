@@ -4,7 +4,8 @@
 
 #include <string.h>
 
-static femem_error named(femem_request *request, femem_operation operation, const char *name) {
+static femem_error named(const femem *client, femem_request *request, femem_operation operation, const char *name) {
+  if (fe_is_copy(client)) return FEMEM_FORKED;
   size_t length = strlen(name);
   if (length > sizeof request->name) return FEMEM_BAD_NAME;
   *request = (femem_request){.operation = operation, .name_length = (uint8_t)length};
@@ -15,7 +16,7 @@ static femem_error named(femem_request *request, femem_operation operation, cons
 femem_error femem_create(femem *client, const char *name, uint32_t length, bool full, uint64_t *array) {
   femem_request request;
   femem_answer answer = {0};
-  femem_error error = named(&request, FEMEM_CREATE, name);
+  femem_error error = named(client, &request, FEMEM_CREATE, name);
   if (error) return error;
   request.length = length;
   request.full = full;
@@ -27,7 +28,7 @@ femem_error femem_create(femem *client, const char *name, uint32_t length, bool 
 femem_error femem_find(femem *client, const char *name, uint64_t *array, uint32_t *length) {
   femem_request request;
   femem_answer answer = {0};
-  femem_error error = named(&request, FEMEM_FIND, name);
+  femem_error error = named(client, &request, FEMEM_FIND, name);
   if (error == FEMEM_OK) error = femem_call(client, &request, &answer);
   if (error == FEMEM_OK && array) *array = answer.array;
   if (error == FEMEM_OK && length) *length = answer.length;

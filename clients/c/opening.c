@@ -7,24 +7,42 @@
 #include <string.h>
 #include <unistd.h>
 
+/* Settings with no limit as FEMEM_FOREVER. Those of a newer version may have more fields, which must be 0. */
+static bool take_settings(femem_settings *taken, const femem_settings *given) {
+  *taken = (femem_settings)FEMEM_SETTINGS_DEFAULT;
+  if (!given) return true;
+  size_t size = given->size ? given->size : sizeof *taken;
+  for (size_t at = sizeof *taken; at < size; at++)
+    if (((const char *)given)[at]) return false;
+  *taken = (femem_settings){0};
+  memcpy(taken, given, size < sizeof *taken ? size : sizeof *taken);
+  if (taken->wait <= 0) taken->wait = FEMEM_FOREVER;
+  if (taken->reconnect == 0) taken->reconnect = FEMEM_FOREVER;
+  if (taken->reconnect < FEMEM_NEVER) taken->reconnect = FEMEM_NEVER;
+  return true;
+}
+
 /* A client that is not connected yet. */
 static femem_error make(femem **client, const char *path, uint64_t session, const femem_settings *settings) {
   struct sockaddr_un address = {.sun_family = AF_UNIX};
-  if (!path || strlen(path) >= sizeof address.sun_path) return FEMEM_BAD_CALL;
+  femem_settings taken;
+  if (!path || !*path || strlen(path) >= sizeof address.sun_path) return FEMEM_BAD_CALL;
+  if (!take_settings(&taken, settings)) return FEMEM_BAD_CALL;
   memcpy(address.sun_path, path, strlen(path));
   femem *made = *client = calloc(1, sizeof *made);
   if (!made) return FEMEM_MEMORY;
-  made->owner = getpid();
+  made->forks = fe_forks();
   made->descriptor = -1;
   made->address = address;
   made->session = session;
-  made->settings = settings ? *settings : (femem_settings){.wait = FEMEM_FOREVER};
+  made->settings = taken;
   return FEMEM_OK;
 }
 
 static femem_error reach_first(femem *client) {
-  bool again = client->settings.reconnect > 0;
-  return fe_reach(client, fe_moment(again ? client->settings.reconnect : client->settings.wait), again);
+  const femem_settings *settings = &client->settings;
+  return fe_reach(client, fe_moment(settings->reconnect > 0 ? settings->reconnect : settings->wait),
+                  settings->reconnect != FEMEM_NEVER);
 }
 
 femem_error femem_open(femem **client, const char *path, uint64_t session, const femem_settings *settings) {
@@ -33,8 +51,10 @@ femem_error femem_open(femem **client, const char *path, uint64_t session, const
   femem_error error = make(client, path, session, settings);
   if (error == FEMEM_OK) error = reach_first(*client);
   if (error == FEMEM_OK) return FEMEM_OK;
+  int why = *client ? (*client)->system : errno;
   femem_close(*client);
   *client = NULL;
+  errno = why;
   return error;
 }
 
@@ -55,11 +75,15 @@ static void recover(femem *client, uint64_t wire) {
   *place = (slot){.state = TAKEN}; /* ended; its answer is not known here */
   if (kept->wire != wire) return;
   *place = (slot){.state = OUT, .wire = wire, .request = kept->request, .answer.number = kept->number,
-                  .keyed = kept->key, .recovered = true};
+                  .keyed = kept->key, .recovered = true, .unwanted = kept->ends_with_process,
+                  .cancelled = kept->ends_with_process ? TO_END : NOT};
   client->out++;
+  if (place->unwanted) return;
   femem_recovered *listed = &client->recovered[client->recovered_count++];
   *listed = (femem_recovered){.number = kept->number, .request = kept->request};
-  if (kept->key) memcpy(listed->key, kept->key->key, sizeof listed->key);
+  if (!kept->key) return;
+  listed->key_length = kept->key->length;
+  memcpy(listed->key, kept->key->key, kept->key->length);
 }
 
 /* Restores the earlier life's state from the session file. How many of its settles and attaches are still under way is
@@ -70,14 +94,14 @@ static femem_error restore(femem *client) {
   if (!client->recovered) return FEMEM_MEMORY;
   client->session = file->session;
   if (file->next == 0) return FEMEM_OK;
-  client->opened = true;
+  client->opened = client->restored = true;
   client->settles = client->attaches = WINDOW;
   client->floor_told = file->floor;
   client->next = file->next;
-  client->low = file->next > file->floor + WINDOW ? file->next - WINDOW : file->floor;
+  client->low = file->asked;
   for (uint64_t wire = client->low; wire < client->next; wire++) recover(client, wire);
   fe_advance(client);
-  client->floor_asked = client->low;
+  client->floor_asked = file->asked;
   return FEMEM_OK;
 }
 
@@ -96,7 +120,7 @@ femem_error femem_open_file(femem **client, const char *path, const char *file, 
     *client = made;
     return FEMEM_OK;
   }
-  int why = error == FEMEM_FILE_FAULT && made->system ? made->system : errno;
+  int why = made && made->system ? made->system : errno;
   femem_close(made);
   errno = why;
   return error;
@@ -106,7 +130,7 @@ void femem_close(femem *client) {
   if (!client) return;
   /* Notes the answers taken since the last send. If this fails, the next life gets them once more. */
   if (client->file && client->opened && !fe_is_copy(client))
-    session_file_sync(client->file, client->floor_told, client->next);
+    session_file_sync(client->file, client->floor_told, client->floor_asked, client->next);
   fe_close_line(client, FEMEM_DISCONNECTED);
   session_file_close(client->file);
   free(client->recovered);

@@ -55,12 +55,14 @@ void fe_put_slot(femem *client, uint64_t number) {
 }
 
 void fe_put_again(femem *client) {
-  if (client->floor_asked > client->floor_told) fe_put_settle(client, client->floor_asked);
+  uint64_t floor = client->restored ? client->low : client->floor_asked;
+  client->restored = false;
+  if (floor > client->floor_told) fe_put_settle(client, floor);
   for (uint64_t number = client->low; number < client->next; number++) {
     if (fe_slot_of(client, number)->state != OUT) continue;
     fe_put_slot(client, number);
     if (fe_slot_of(client, number)->cancelled == TO_END) fe_put_cancel(client, number);
   }
-  if (client->report == ASKED) fe_put_bare(client, REPORT);
+  if (client->report == REPORT_ASKED) fe_put_bare(client, REPORT);
   if (client->bye) fe_put_bare(client, BYE);
 }

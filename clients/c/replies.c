@@ -4,8 +4,7 @@
 
 #include <string.h>
 
-/* Whether this is a possible answer to a request. */
-static bool fits(const femem_request *request, const reply *told) {
+bool fe_fits(const femem_request *request, const reply *told) {
   femem_operation operation = request->operation;
   if (operation == FEMEM_CREATE) {
     if (told->code == ANSWER_ARRAY) return told->value > 0 && told->length == request->length;
@@ -19,8 +18,15 @@ static bool fits(const femem_request *request, const reply *told) {
   if (operation == FEMEM_REMOVE) return told->code == ANSWER_DONE;
   if (told->code == FEMEM_BAD_INDEX) return true;
   if (told->code == FEMEM_NOT_NOW) return request->no_wait;
-  bool tells = operation <= FEMEM_READXX || operation == FEMEM_INT_FETCH_ADD;
-  return told->code == (tells ? ANSWER_VALUE : ANSWER_DONE);
+  return told->code == (fe_tells(operation) ? ANSWER_VALUE : ANSWER_DONE);
+}
+
+femem_answer fe_answer_of(const reply *told) {
+  femem_answer answer = {.length = told->length};
+  if (told->code > ANSWER_ARRAY) answer.error = (femem_error)told->code;
+  if (told->code == ANSWER_VALUE) answer.value = told->value;
+  if (told->code == ANSWER_ARRAY) answer.array = told->value;
+  return answer;
 }
 
 static bool is_same(const femem_answer *one, const femem_answer *other) {
@@ -35,12 +41,9 @@ static femem_error take_answer(femem *client, const reply *told) {
   if (told->number < client->floor_told || told->number >= end) return FEMEM_WRONG_NUMBER;
   if (!fe_is_known(client, told->number)) return FEMEM_OK;
   slot *place = fe_slot_of(client, told->number);
-  femem_answer answer = {.length = told->length};
-  if (told->code > ANSWER_ARRAY) answer.error = (femem_error)told->code;
-  if (told->code == ANSWER_VALUE) answer.value = told->value;
-  if (told->code == ANSWER_ARRAY) answer.array = told->value;
+  femem_answer answer = fe_answer_of(told);
   if (place->state != OUT) return is_same(&place->answer, &answer) ? FEMEM_OK : FEMEM_CHANGED_ANSWER;
-  if (!fits(&place->request, told)) return FEMEM_STRANGE_REPLY;
+  if (!fe_fits(&place->request, told)) return FEMEM_STRANGE_REPLY;
   FEMEM_POINT("answered");
   fe_answered(client, place, answer);
   return FEMEM_OK;
@@ -128,8 +131,8 @@ static femem_error take_opening_refusal(femem *client, const reply *told, femem_
 }
 
 static femem_error take_refused_report(femem *client, femem_error refusal) {
-  if (client->report != ASKED) return client->bye ? refusal : FEMEM_STRANGE_REPLY;
-  client->report = HERE;
+  if (client->report != REPORT_ASKED) return client->bye ? refusal : FEMEM_STRANGE_REPLY;
+  client->report = REPORT_HERE;
   client->report_error = refusal;
   return FEMEM_OK;
 }
@@ -173,8 +176,8 @@ static femem_error take_goodbye(femem *client, const reply *told) {
 }
 
 static femem_error take_report(femem *client, const reply *told) {
-  if (client->report != ASKED) return FEMEM_STRANGE_REPLY;
-  client->report = COMING;
+  if (client->report != REPORT_ASKED) return FEMEM_STRANGE_REPLY;
+  client->report = REPORT_COMING;
   client->report_error = FEMEM_OK;
   client->text_at = 0;
   client->text_length = told->length;
@@ -201,7 +204,7 @@ static size_t take_text(femem *client, const uint8_t *bytes, size_t count) {
   client->text_at += size;
   if (size == left) {
     client->text[client->text_length] = 0;
-    client->report = HERE;
+    client->report = REPORT_HERE;
   }
   return size;
 }
@@ -212,10 +215,10 @@ femem_error fe_digest(femem *client) {
   while (error == FEMEM_OK && at < client->input_end) {
     const uint8_t *bytes = client->input + at;
     size_t count = client->input_end - at;
-    if (client->report == COMING) {
+    if (client->report == REPORT_COMING) {
       at += take_text(client, bytes, count);
-      if (client->report != HERE || fe_is_text((uint8_t *)client->text, client->text_length)) continue;
-      client->report = ASKED;
+      if (client->report != REPORT_HERE || fe_is_text((uint8_t *)client->text, client->text_length)) continue;
+      client->report = REPORT_ASKED;
       error = FEMEM_BAD_FRAME;
       break;
     }

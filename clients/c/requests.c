@@ -65,7 +65,9 @@ static femem_error make_room(femem *client) {
 }
 
 /* `key` may be NULL. */
-femem_error fe_send_request(femem *client, const femem_request *request, const char *key, uint64_t *number) {
+femem_error fe_send_request(femem *client, const femem_request *request, const char *key, unsigned how,
+                            uint64_t *number) {
+  if (fe_is_copy(client)) return FEMEM_FORKED;
   if (!fe_is_spelled(request)) return FEMEM_BAD_CALL;
   /* The first request of a write has checked this for the others. */
   bool found = client->phase == SERVED && !client->bye && client->output_begin < client->output_end;
@@ -76,10 +78,12 @@ femem_error fe_send_request(femem *client, const femem_request *request, const c
   /* A settle goes in the same write as a request: after it, or before it if it must make room. */
   if (is_full(client)) fe_put_settle(client, client->low);
   uint64_t own = client->next;
-  if (client->file && !session_file_ask(client->file, own, own, request, key)) return FEMEM_MEMORY;
+  bool ends = how & SEND_ENDS;
+  if (client->file && !session_file_ask(client->file, own, own, request, key, ends)) return FEMEM_MEMORY;
   client->last = client->next++;
   *fe_slot_of(client, own) =
-      (slot){.state = OUT, .wire = own, .request = *request, .answer.number = own, .keyed = key != NULL};
+      (slot){.state = OUT, .wire = own, .request = *request, .answer.number = own, .keyed = key != NULL,
+             .unwanted = how & SEND_UNWANTED};
   client->out++;
   fe_put_slot(client, own);
   if (client->low - client->floor_asked >= SETTLE_AFTER) fe_put_settle(client, client->low);
@@ -88,7 +92,7 @@ femem_error fe_send_request(femem *client, const femem_request *request, const c
 }
 
 femem_error femem_send(femem *client, const femem_request *request, uint64_t *number) {
-  return fe_send_request(client, request, NULL, number);
+  return fe_send_request(client, request, NULL, 0, number);
 }
 
 femem_error femem_flush(femem *client) {
@@ -101,6 +105,7 @@ femem_error femem_flush(femem *client) {
 }
 
 femem_error femem_next(femem *client, femem_answer *answer, int64_t within) {
+  if (fe_is_copy(client)) return FEMEM_FORKED;
   if (client->ready == 0 && client->out == 0) return FEMEM_NOTHING_OUT;
   femem_error error = fe_wait_for(client, fe_any_answered, 0, fe_moment(within));
   if (error == FEMEM_OK) fe_hand_out(client, fe_slot_of(client, client->ready_numbers[client->first_ready]), answer);
@@ -115,6 +120,7 @@ femem_answer fe_end_of(const femem *client, uint64_t number) {
 }
 
 femem_error femem_wait(femem *client, uint64_t number, femem_answer *answer, int64_t within) {
+  if (fe_is_copy(client)) return FEMEM_FORKED;
   slot *place = fe_find(client, number);
   if (!place) return FEMEM_NOTHING_OUT;
   place->given_up = false;
@@ -142,7 +148,15 @@ femem_error fe_ask_back(femem *client, uint64_t number) {
   return FEMEM_OK;
 }
 
+void fe_abandon(femem *client, uint64_t number) {
+  slot *place = fe_find(client, number);
+  femem_answer dropped;
+  if (place && place->state == ANSWERED) fe_hand_out(client, place, &dropped);
+  else if (place) place->unwanted = true;
+}
+
 femem_error femem_cancel(femem *client, uint64_t number, femem_answer *answer) {
+  if (fe_is_copy(client)) return FEMEM_FORKED;
   if (!fe_find(client, number)) return FEMEM_NOTHING_OUT;
   femem_error error = fe_ask_back(client, number);
   if (error == FEMEM_OK) error = femem_wait(client, number, answer, client->settings.wait);

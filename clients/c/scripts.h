@@ -142,7 +142,7 @@ static inline pid_t begin_at(unsigned first, script run) {
   return begin(run);
 }
 
-static const femem_settings resuming = {.wait = 20000, .resume = true};
+static const femem_settings resuming = {.wait = 20000, .reconnect = FEMEM_NEVER, .resume = true};
 static const femem_settings returning = {.wait = 20000, .reconnect = 20000, .resume = true};
 
 static inline femem *opened(const femem_settings *settings) {

@@ -57,7 +57,7 @@ void fe_answered(femem *client, slot *place, femem_answer answer) {
   place->answer = answer;
   place->cancelled = NOT;
   client->out--;
-  bool wanted = !place->keyed && (!place->given_up || answer.error != FEMEM_WITHDRAWN);
+  bool wanted = !place->keyed && !place->unwanted && (!place->given_up || answer.error != FEMEM_WITHDRAWN);
   place->state = wanted ? ANSWERED : TAKEN;
   if (!wanted && client->file) session_file_end(client->file, place->wire, &answer);
   if (wanted) client->ready_numbers[(client->first_ready + client->ready++) % WINDOW] = place->wire;

@@ -1,12 +1,13 @@
-/* Tests of the session file: what it keeps, what damage does to it, and a client with one, against scripted servers. It
-   includes session_file.c, to see its internals. It ends by itself, and prints what failed. */
+/* Tests of a client with a session file, against scripted servers. It ends by itself, and prints what failed. */
 #define _DEFAULT_SOURCE
 #define _POSIX_C_SOURCE 200809L
-#include "session_file.c"
+#include "session_file.h"
 
 #include "scripts.h"
 
+#include <errno.h>
 #include <signal.h>
+#include <sys/stat.h>
 
 static char kept_at[100], kept_new[100]; /* the session file, and its name while it is rewritten */
 
@@ -29,225 +30,11 @@ static void fresh(void) {
   unlink(kept_new);
 }
 
-/* ---- the file alone ---- */
-
 static const femem_request add_one = {.operation = FEMEM_INT_FETCH_ADD, .array = 1, .operand = 1};
 static const femem_request read_one = {.operation = FEMEM_READFE, .array = 1};
 
-static session_file *file_opened(femem_error due, int line) {
-  session_file *kept = NULL;
-  is_error(session_file_open(&kept, kept_at), due, line);
-  check((kept != NULL) == (due == FEMEM_OK), "a file where there is no error", line);
-  if (!kept && due == FEMEM_OK) exit(1);
-  return kept;
-}
-#define OPEN_FILE(due) file_opened(due, __LINE__)
-
-/* Makes a file with records of each kind, in several groups. */
-static void fill(session_file *kept) {
-  CHECK(session_file_ask(kept, 33, 33, &add_one, "first"));
-  CHECK(session_file_ask(kept, 34, 34, &read_one, NULL));
-  CHECK(session_file_ask(kept, 35, 35, &read_one, "waits"));
-  CHECK(session_file_sync(kept, 33, 36));
-  session_file_end(kept, 33, &(femem_answer){.number = 33, .value = 41});
-  CHECK(session_file_ask(kept, 36, 36, &add_one, "gone"));
-  CHECK(session_file_sync(kept, 33, 37));
-  session_file_end(kept, 36, &(femem_answer){.number = 36, .error = FEMEM_WITHDRAWN});
-  session_file_move(kept, 34, 37);
-  CHECK(session_file_ask(kept, 38, 38, &add_one, "late"));
-  CHECK(session_file_sync(kept, 33, 39));
-  session_file_end(kept, 38, &(femem_answer){.number = 38, .error = FEMEM_BAD_INDEX});
-  CHECK(session_file_ask(kept, 39, 39, &add_one, NULL));
-  session_file_forget(kept, "late");
-  CHECK(session_file_sync(kept, 34, 40));
-}
-
-static void is_filled(session_file *kept) {
-  CHECK(kept->floor == 34 && kept->next == 40 && !kept->leaving);
-  CHECK(kept->requests[33 % 32].wire == 0 && kept->requests[34 % 32].wire == 0 && kept->requests[36 % 32].wire == 0);
-  CHECK(kept->requests[37 % 32].wire == 37 && kept->requests[37 % 32].number == 34);
-  CHECK(kept->requests[37 % 32].request.operation == FEMEM_READFE && !kept->requests[37 % 32].key);
-  CHECK(kept->requests[39 % 32].wire == 39 && kept->requests[39 % 32].request.operand == 1);
-  const kept_key *first = session_file_find(kept, "first"), *waits = session_file_find(kept, "waits");
-  CHECK(first && first->is_answered && first->answer.value == 41 && first->answer.number == 33);
-  CHECK(waits && !waits->is_answered && kept->requests[35 % 32].key == waits);
-  CHECK(!session_file_find(kept, "gone") && !session_file_find(kept, "late"));
-}
-
-static void keeps(void) {
-  test = "what a file keeps";
-  fresh();
-  session_file *kept = OPEN_FILE(FEMEM_OK);
-  uint64_t session = kept->session;
-  CHECK(session >> 63 == 1 && kept->next == 0);
-  CHECK(OPEN_FILE(FEMEM_FILE_IN_USE) == NULL); /* one client at a time, even within one process */
-  fill(kept);
-  is_filled(kept);
-  session_file_close(kept);
-  kept = OPEN_FILE(FEMEM_OK);
-  CHECK(kept->session == session);
-  is_filled(kept);
-  /* Once rewritten it has the same content. */
-  CHECK(write_anew(kept));
-  CHECK(OPEN_FILE(FEMEM_FILE_IN_USE) == NULL);
-  session_file_close(kept);
-  kept = OPEN_FILE(FEMEM_OK);
-  CHECK(kept->session == session);
-  is_filled(kept);
-  session_file_leave(kept);
-  CHECK(session_file_sync(kept, 34, 40));
-  session_file_close(kept);
-  kept = OPEN_FILE(FEMEM_OK);
-  CHECK(kept->leaving && session_file_begin(kept) && kept->session != session);
-  CHECK(!session_file_find(kept, "first"));
-  session_file_close(kept);
-  kept = OPEN_FILE(FEMEM_OK);
-  CHECK(!kept->leaving && kept->next == 0 && !session_file_find(kept, "first"));
-  session_file_close(kept);
-}
-
-/* Anything but a plain file is refused, and stays as it is. */
-static void no_plain_file(void) {
-  test = "no plain file";
-  fresh();
-  struct stat there;
-  CHECK(mkfifo(kept_at, 0600) == 0);
-  CHECK(OPEN_FILE(FEMEM_FILE_FAULT) == NULL && errno == EINVAL);
-  CHECK(stat(kept_at, &there) == 0 && S_ISFIFO(there.st_mode));
-  fresh();
-  CHECK(mkdir(kept_at, 0700) == 0);
-  CHECK(OPEN_FILE(FEMEM_FILE_FAULT) == NULL && errno == EISDIR);
-  CHECK(rmdir(kept_at) == 0);
-}
-
-/* A file does not grow with requests that have ended. */
-static void compaction(void) {
-  test = "a file that is written anew";
-  fresh();
-  session_file *kept = OPEN_FILE(FEMEM_OK);
-  size_t most = 0;
-  char key[20];
-  for (uint64_t wire = 33; wire < 333; wire++) {
-    snprintf(key, sizeof key, "key %u", (unsigned)(wire % 50));
-    if (session_file_find(kept, key)) session_file_forget(kept, key);
-    CHECK(session_file_ask(kept, wire, wire, &add_one, key) && session_file_sync(kept, wire, wire + 1));
-    session_file_end(kept, wire, &(femem_answer){.number = wire, .value = wire});
-    most = kept->size > most ? kept->size : most;
-  }
-  CHECK(session_file_sync(kept, 333, 333));
-  CHECK(most < 40000);
-  /* Nor with restarts. */
-  for (uint64_t life = 0; life < 40; life++) {
-    session_file_close(kept);
-    kept = OPEN_FILE(FEMEM_OK);
-    for (uint64_t wire = 333; wire < 349; wire++) {
-      CHECK(session_file_ask(kept, wire, wire, &add_one, "again"));
-      session_file_end(kept, wire, &(femem_answer){.number = wire});
-      session_file_forget(kept, "again");
-    }
-    CHECK(session_file_sync(kept, 333, 349));
-    most = kept->size > most ? kept->size : most;
-  }
-  CHECK(most < 40000);
-  session_file_close(kept);
-  kept = OPEN_FILE(FEMEM_OK);
-  for (uint64_t wire = 283; wire < 333; wire++) {
-    snprintf(key, sizeof key, "key %u", (unsigned)(wire % 50));
-    const kept_key *found = session_file_find(kept, key);
-    CHECK(found && found->is_answered && found->answer.value == wire);
-  }
-  session_file_close(kept);
-}
-
-static size_t read_kept(uint8_t *bytes, size_t most) {
-  FILE *from = fopen(kept_at, "rb");
-  size_t count = from ? fread(bytes, 1, most, from) : 0;
-  if (from) fclose(from);
-  return count;
-}
-
-static void write_kept(const uint8_t *bytes, size_t count) {
-  FILE *to = fopen(kept_at, "wb");
-  if (!to || fwrite(bytes, 1, count, to) != count || fclose(to) != 0) abort();
-}
-
-/* A file cut anywhere is as before the write that was cut; a byte changed before the last write is damage. */
-static void damage(void) {
-  test = "damage";
-  fresh();
-  static uint8_t bytes[8192], turned[8192];
-  session_file *kept = OPEN_FILE(FEMEM_OK);
-  size_t ends[5] = {0}, groups = 0;
-  fill(kept);
-  session_file_close(kept);
-  size_t count = read_kept(bytes, sizeof bytes);
-  kept = OPEN_FILE(FEMEM_OK);
-  for (size_t at = HEADER, whole; (whole = group_at(kept, bytes + at, count - at)) > 0; at += whole)
-    ends[groups++] = at + whole;
-  uint64_t session = kept->session;
-  session_file_close(kept);
-  CHECK(groups == 5 && ends[4] == count);
-  for (size_t cut = 1; cut < count; cut++) {
-    write_kept(bytes, cut);
-    kept = OPEN_FILE(cut < HEADER ? FEMEM_FILE_DAMAGED : FEMEM_OK);
-    if (!kept) continue;
-    size_t whole = 0;
-    while (whole < groups && ends[whole] <= cut) whole++;
-    CHECK(kept->session == session && kept->size == (whole ? ends[whole - 1] : HEADER));
-    session_file_close(kept);
-  }
-  for (size_t at = 0; at < count; at++) {
-    memcpy(turned, bytes, count);
-    turned[at] ^= 0x10;
-    write_kept(turned, count);
-    kept = OPEN_FILE(at < ends[3] ? FEMEM_FILE_DAMAGED : FEMEM_OK);
-    session_file_close(kept);
-  }
-  write_kept((const uint8_t *)"something else that stands in a file", 36);
-  CHECK(OPEN_FILE(FEMEM_FILE_DAMAGED) == NULL);
-}
-
-static uint64_t drawn = 0x9e3779b97f4a7c15;
-static uint64_t draw(void) {
-  drawn ^= drawn << 13;
-  drawn ^= drawn >> 7;
-  return drawn ^= drawn << 17;
-}
-
-/* With any records under a correct sum it opens or is damaged, without undefined behaviour. */
-static void any_records(void) {
-  test = "any records";
-  fresh();
-  static uint8_t bytes[8192], group[SESSION_GROUP];
-  session_file *kept = OPEN_FILE(FEMEM_OK);
-  fill(kept);
-  session_file_close(kept);
-  size_t count = read_kept(bytes, sizeof bytes);
-  unsigned damaged = 0;
-  for (int round = 0; round < 5000; round++) {
-    kept = calloc(1, sizeof *kept);
-    kept->descriptor = -1;
-    size_t whole;
-    bool right = true;
-    for (size_t at = HEADER; right && at < count; at += whole) {
-      whole = GROUP_HEAD + get(bytes + at, 4) + SUM;
-      memcpy(group, bytes + at, whole);
-      for (uint64_t turns = draw() % 3; turns > 0; turns--)
-        group[GROUP_HEAD + draw() % (whole - GROUP_HEAD)] = (uint8_t)draw();
-      uint8_t *exact = malloc(whole); /* the sanitizers report any byte read beyond them */
-      memcpy(exact, group, whole);
-      right = take_group(kept, exact, whole);
-      free(exact);
-    }
-    damaged += !right;
-    session_file_close(kept);
-  }
-  CHECK(damaged > 1000 && damaged < 5000);
-}
-
-/* ---- the client that has it ---- */
-
-static const femem_settings patient = {.wait = 20000}, going_on = {.wait = 20000, .reconnect = 20000};
+static const femem_settings patient = {.wait = 20000, .reconnect = FEMEM_NEVER};
+static const femem_settings going_on = {.wait = 20000, .reconnect = 20000};
 
 static femem *client_opened(const femem_settings *settings, femem_error due, int line) {
   femem *client;
@@ -271,7 +58,7 @@ static uint64_t welcome_any(int line, const char *floor) {
   memcpy(reply + 5, frame + 5, 8);
   bytes_of(floor, reply + 13);
   say_bytes(line, reply, sizeof reply);
-  return get(frame + 5, 8);
+  return session_get(frame + 5, 8);
 }
 
 static void meet_any(int line) {
@@ -402,7 +189,8 @@ static void many_keys(void) {
   }
   pid_t life = life_of(0);
   if (life == 0) {
-    femem *client = OPEN(&(femem_settings){.wait = 1000}, FEMEM_OK);
+    const femem_settings brief = {.wait = 1000, .reconnect = FEMEM_NEVER};
+    femem *client = OPEN(&brief, FEMEM_OK);
     last_send = 2; /* the batch, and the cancel of a request without an answer in time */
     femem_batch_once(client, names, requests, 40, answers);
     _exit(1);
@@ -480,6 +268,47 @@ static void earlier(void) {
   ERROR(femem_once(client, "four", &add_one, &answer), FEMEM_OK);
   CHECK(answer.value == 4 && answer.number == 36 && femem_out(client) == 0 && femem_ready(client) == 0);
   femem_close(client);
+  END(server);
+}
+
+static void passing_server(int listener) {
+  for (int life = 0; life < 2; life++) {
+    int line = take_line(listener);
+    welcome_any(line, "0000000000000021");
+    heard(line, read_of, 1);
+    heard(line, read_of, 2);
+    heard(line, cancel_of, 2);
+    if (life == 0) said(line, withdrawn_of, 2);
+    if (life == 1) said_all(line, value_of, 2, 2);
+    if (life == 1) said(line, not_waiting_of, 2);
+    said(line, value_of, 1);
+    hear_end(line);
+  }
+}
+
+/* A request that ends with its process: the next life takes it back, and nobody gets its answer. */
+static void ends_with_process(void) {
+  test = "a request that ends with its process";
+  pid_t server = begin_at(32, passing_server);
+  for (int life = 0; life < 2; life++) {
+    fresh();
+    session_file *kept = NULL;
+    femem_recovered recovered = {0};
+    femem_answer answer = {0};
+    ERROR(session_file_open(&kept, kept_at), FEMEM_OK);
+    CHECK(session_file_ask(kept, 33, 33, &read_one, NULL, false));
+    CHECK(session_file_ask(kept, 34, 34, &read_one, NULL, true));
+    CHECK(session_file_sync(kept, 33, 33, 35));
+    session_file_close(kept);
+    femem *client = OPEN(&patient, FEMEM_OK);
+    ERROR(femem_recovered_at(client, 0, &recovered), FEMEM_OK);
+    CHECK(recovered.number == 33);
+    ERROR(femem_recovered_at(client, 1, &recovered), FEMEM_NOTHING_OUT);
+    ERROR(femem_wait(client, 33, &answer, 20000), FEMEM_OK);
+    CHECK(answer.value == 1 && femem_out(client) == 0 && femem_ready(client) == 0);
+    ERROR(femem_next(client, &answer, 0), FEMEM_NOTHING_OUT);
+    femem_close(client);
+  }
   END(server);
 }
 
@@ -605,7 +434,7 @@ static void leaving_server(int listener) {
   say(line, SETTLED_AT("21"));
   hear(line, "00000001 08");
   uint8_t goodbye[13] = {0, 0, 0, 9, 69};
-  put(goodbye + 5, session, 8);
+  session_put(goodbye + 5, session, 8);
   say_bytes(line, goodbye, sizeof goodbye);
   hear_end(line);
   line = take_line(listener);
@@ -644,8 +473,8 @@ static void strange_server(int listener) {
   heard(line, add_of, 1);
   said(line, value_of, 1);
   hear_end(line);
-  static const char *const floors[] = {"0000000000000001", "0000000000000023"};
-  for (int i = 0; i < 2; i++) {
+  static const char *const floors[] = {"0000000000000001", "0000000000000022", "0000000000000023"};
+  for (int i = 0; i < 3; i++) {
     line = take_line(listener);
     welcome_any(line, floors[i]);
     hear_end(line);
@@ -661,8 +490,7 @@ static void strange_session(void) {
   uint64_t value = 0;
   ERROR(femem_int_fetch_add(client, 1, 0, 1, &value), FEMEM_OK);
   femem_close(client);
-  OPEN(&patient, FEMEM_SESSION_LOST);
-  OPEN(&patient, FEMEM_SESSION_LOST);
+  for (int i = 0; i < 3; i++) OPEN(&patient, FEMEM_SESSION_LOST);
   END(server);
 }
 
@@ -828,14 +656,13 @@ int main(void) {
   snprintf(path, sizeof path, "%s/socket", folder);
   snprintf(kept_at, sizeof kept_at, "%s/session", folder);
   snprintf(kept_new, sizeof kept_new, "%s/session.new", folder);
-  void (*const tests[])(void) = {keeps, no_plain_file, compaction, damage, any_records,
-                                 batch, many, many_keys, earlier, keys, file_fault,
+  void (*const tests[])(void) = {batch, many, many_keys, earlier, ends_with_process, keys, file_fault,
                                  leaving, strange_session, left_answers, crowded, copied,
                                  arguments};
   for (size_t i = 0; i < sizeof tests / sizeof *tests; i++) tests[i]();
   unlink(path);
   fresh();
   rmdir(folder);
-  printf("femem client, session file: %d checks, %d failed\n", checks, failures);
+  printf("femem client with a session file: %d checks, %d failed\n", checks, failures);
   return failures ? 1 : 0;
 }

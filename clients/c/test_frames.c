@@ -105,7 +105,7 @@ static size_t odd_reply(uint8_t *at) {
 /* A client in a random phase, with eight numbers out. */
 static void begin_any(femem *client) {
   char *text = client->text;
-  *client = (femem){.descriptor = -1, .session = 7, .text = text, .report = ASKED, .attaches = 2};
+  *client = (femem){.descriptor = -1, .session = 7, .text = text, .report = REPORT_ASKED, .attaches = 2};
   client->cancels = 3;
   client->moving = 2;
   client->phase = draw() % 8 == 0 ? OPENING : draw() % 8 == 0 ? RETURNING : SERVED;

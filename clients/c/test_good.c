@@ -83,7 +83,7 @@ static void opening_server(int listener) {
 static void opening(void) {
   test = "a session that another program had";
   pid_t server = begin(opening_server);
-  femem *client = opened(&(femem_settings){.wait = 20000});
+  femem *client = opened(&(femem_settings){.wait = 20000, .reconnect = FEMEM_NEVER});
   uint64_t value = 1;
   ERROR(femem_int_fetch_add(client, 1, 0, 1, &value), FEMEM_OK);
   CHECK(value == 0 && femem_number(client) == 37 && femem_floor(client) == 37);
@@ -117,7 +117,7 @@ static void twice_welcome(void) {
   test = "a session that another program attached just before";
   pid_t server = begin(twice_welcome_server);
   for (int i = 0; i < 2; i++) {
-    femem *client = opened(&(femem_settings){.wait = 20000});
+    femem *client = opened(&(femem_settings){.wait = 20000, .reconnect = FEMEM_NEVER});
     uint64_t value = 1;
     ERROR(femem_int_fetch_add(client, 1, 0, 1, &value), FEMEM_OK);
     CHECK(value == 0 && femem_floor(client) == 33);

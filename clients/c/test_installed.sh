@@ -6,7 +6,11 @@ folder=$(mktemp -d)
 trap 'rm -rf "$folder"' EXIT
 fail() { echo "femem client, installed: $*" >&2; exit 1; }
 
-make -s install DESTDIR="$folder/root" PREFIX=/usr
+make -s install DESTDIR="$folder/root" PREFIX=/usr LDCONFIG="touch $folder/staged"
+[ ! -e "$folder/staged" ] || fail "ldconfig runs where nothing is installed for this machine"
+make -s install PREFIX="$folder/own" LDCONFIG="touch $folder/told"
+[ -e "$folder/told" ] || fail "ldconfig does not run after an installation"
+make -s install PREFIX="$folder/own" LDCONFIG=false || fail "an installation ends where ldconfig fails"
 root=$folder/root/usr
 for file in include/femem.h lib/libfemem.a lib/libfemem.so.1.0.0 lib/pkgconfig/femem.pc share/man/man3/libfemem.3; do
   [ -f "$root/$file" ] || fail "$file is missing"
@@ -23,7 +27,7 @@ diff "$folder/declared" "$folder/shared" >&2 || fail "the shared library's names
 diff "$folder/declared" "$folder/static" >&2 || fail "the static library's names"
 objdump -p "$root/lib/libfemem.so.1" | grep -q 'SONAME *libfemem.so.1$' || fail "the soname"
 
-# The version is the same everywhere, and the page is up to date with the header.
+# The version is the same everywhere; the manual page has each function, and no name that the header has not.
 version=$(sed -n 's/^#define FEMEM_VERSION "\(.*\)"/\1/p' femem.h)
 grep -qx "Version: $version" "$root/lib/pkgconfig/femem.pc" || fail "the version of femem.pc"
 grep -qx "prefix=/usr" "$root/lib/pkgconfig/femem.pc" || fail "the prefix of femem.pc"
@@ -50,10 +54,10 @@ if command -v "${CXX:-c++}" > /dev/null; then
   ${CXX:-c++} -std=c++11 $flags -o "$folder/shared_cc" "$folder/program.cc" -L"$root/lib" -lfemem
   ran "$folder/shared_cc"
 fi
-if command -v python3 > /dev/null; then
-  python3 manual.py | diff - libfemem.3 >&2 || fail "libfemem.3 is not that of femem.h: make manual"
-fi
-while read -r name; do grep -q "$name" libfemem.3 || fail "libfemem.3 does not have $name"; done < "$folder/declared"
+head -n 1 libfemem.3 | grep -q "\"femem $version\"" || fail "the version of libfemem.3"
+while read -r name; do grep -qw "$name" libfemem.3 || fail "libfemem.3 does not have $name"; done < "$folder/declared"
+grep -ow 'femem_[a-z_]*\|FEMEM_[A-Z_]*' libfemem.3 | sort -u > "$folder/named"
+while read -r name; do grep -qw "$name" femem.h || fail "femem.h does not have $name"; done < "$folder/named"
 if command -v man > /dev/null; then
   said=$(LC_ALL=C.UTF-8 MANWIDTH=120 man --warnings -l libfemem.3 2>&1 > /dev/null) || fail "man: $said"
   [ -z "$said" ] || fail "man: $said"

@@ -185,7 +185,8 @@ static void silence(void) {
   femem *client;
   femem_answer answer;
   int64_t began = moment_now();
-  ERROR(femem_open(&client, path, 7, &(femem_settings){.wait = 200, .resume = true}), FEMEM_TIMEOUT);
+  static const femem_settings brief = {.wait = 200, .reconnect = FEMEM_NEVER, .resume = true};
+  ERROR(femem_open(&client, path, 7, &brief), FEMEM_TIMEOUT);
   CHECK(client == NULL);
   client = opened(&(femem_settings){.wait = 200, .reconnect = 20000, .resume = true});
   uint64_t value;
@@ -199,17 +200,18 @@ static void silence(void) {
   END(server);
 
   test = "no server";
+  static const femem_settings once = {.reconnect = FEMEM_NEVER};
   server = begin(closing_server);
-  ERROR(femem_open(&client, path, 7, NULL), FEMEM_DISCONNECTED);
-  ERROR(femem_open(&client, path, 7, NULL), FEMEM_DISCONNECTED);
-  ERROR(femem_open(&client, path, 7, NULL), FEMEM_DISCONNECTED);
+  ERROR(femem_open(&client, path, 7, &once), FEMEM_DISCONNECTED);
+  ERROR(femem_open(&client, path, 7, &once), FEMEM_DISCONNECTED);
+  ERROR(femem_open(&client, path, 7, &once), FEMEM_DISCONNECTED);
   END(server);
-  ERROR(femem_open(&client, path, 7, NULL), FEMEM_UNREACHABLE);
+  ERROR(femem_open(&client, path, 7, &once), FEMEM_UNREACHABLE);
   began = moment_now();
   ERROR(femem_open(&client, path, 7, &(femem_settings){.wait = 100, .reconnect = 200}), FEMEM_UNREACHABLE);
   CHECK(moment_now() - began >= 200000 && moment_now() - began < 15000000);
   unlink(path);
-  ERROR(femem_open(&client, path, 7, NULL), FEMEM_UNREACHABLE);
+  ERROR(femem_open(&client, path, 7, &once), FEMEM_UNREACHABLE);
   char longer[200];
   memset(longer, 'a', sizeof longer - 1);
   longer[sizeof longer - 1] = 0;

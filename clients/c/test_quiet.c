@@ -22,7 +22,7 @@ static void unwelcome_server(int listener) {
 static void attaches_again(void) {
   test = "an attach that is not answered";
   pid_t server = begin(unwelcome_server);
-  femem *client = opened(&(femem_settings){.wait = 20000, .resume = true});
+  femem *client = opened(&(femem_settings){.wait = 20000, .reconnect = FEMEM_NEVER, .resume = true});
   uint64_t value = 0;
   ERROR(femem_int_fetch_add(client, 1, 0, 1, &value), FEMEM_OK);
   CHECK(value == 5);
@@ -45,7 +45,7 @@ static void taking_server(int listener) {
 static void taken(void) {
   test = "a session that was taken from a client that waits";
   pid_t server = begin(taking_server);
-  femem *client = opened(&(femem_settings){.wait = FEMEM_FOREVER, .resume = true});
+  femem *client = opened(&(femem_settings){.wait = FEMEM_FOREVER, .reconnect = FEMEM_NEVER, .resume = true});
   uint64_t value = 0;
   ERROR(femem_readfe(client, 1, 0, &value), FEMEM_REFUSED_NOT_ATTACHED);
   CHECK(femem_out(client) == 1);

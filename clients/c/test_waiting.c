@@ -9,7 +9,7 @@ static void meet(int line) {
   say(line, SETTLED_AT("21"));
 }
 
-static const femem_settings patient = {.wait = 20000};
+static const femem_settings patient = {.wait = 20000, .reconnect = FEMEM_NEVER};
 static const femem_settings going_on = {.wait = 20000, .reconnect = 20000};
 
 /* ---- taking back ---- */

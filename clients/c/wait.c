@@ -22,7 +22,7 @@ bool fe_is_moved(femem *client, uint64_t wire) {
 
 bool fe_is_reported(femem *client, uint64_t unused) {
   (void)unused;
-  return client->report == HERE;
+  return client->report == REPORT_HERE;
 }
 
 bool fe_is_ended(femem *client, uint64_t unused) {

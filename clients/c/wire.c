@@ -23,6 +23,10 @@ bool fe_is_access(femem_operation operation) {
   return operation >= FEMEM_READFE && operation <= FEMEM_INT_FETCH_ADD;
 }
 
+bool fe_tells(femem_operation operation) {
+  return (operation >= FEMEM_READFE && operation <= FEMEM_READXX) || operation == FEMEM_INT_FETCH_ADD;
+}
+
 static bool has_operand(femem_operation operation) {
   return (operation >= FEMEM_WRITEEF && operation <= FEMEM_WRITEXF) || operation == FEMEM_INT_FETCH_ADD;
 }
@@ -60,6 +64,49 @@ size_t fe_put_request(uint8_t *at, uint64_t number, const femem_request *request
   }
   fe_put4(at, (uint32_t)(9 + size));
   return 13 + size;
+}
+
+/* The part of a create or a find behind its number. */
+static bool get_named(const uint8_t *body, size_t size, femem_request *request) {
+  size_t room = request->operation == FEMEM_CREATE ? size - 6 : size - 1;
+  if (body[0] > room) return false;
+  request->name_length = body[0];
+  memcpy(request->name, body + 1, body[0]);
+  if (request->operation == FEMEM_FIND) return true;
+  request->length = get4(body + 1 + room);
+  request->full = body[5 + room] == 1;
+  return true;
+}
+
+/* The size of a request's frame; 0 if the kind is no request's. */
+static size_t frame_size(uint8_t kind) {
+  static const uint8_t sizes[] = {[CREATE] = 35,     [FIND] = 30,        [REMOVE] = 21,   [ACCESS] = 34,
+                                  [ACCESS_NOW] = 34, [CREATE_LONG] = 51, [FIND_LONG] = 46};
+  return kind < sizeof sizes ? sizes[kind] : 0;
+}
+
+size_t fe_get_request(const uint8_t *frame, size_t count, femem_request *request) {
+  size_t size = count < 5 ? 0 : frame_size(frame[4]);
+  if (size == 0 || size > count) return 0;
+  uint8_t kind = frame[4];
+  const uint8_t *body = frame + 13;
+  *request = (femem_request){.operation = FEMEM_REMOVE, .no_wait = kind == ACCESS_NOW};
+  if (kind == CREATE || kind == CREATE_LONG) request->operation = FEMEM_CREATE;
+  if (kind == FIND || kind == FIND_LONG) request->operation = FEMEM_FIND;
+  if (kind == ACCESS || kind == ACCESS_NOW) {
+    request->operation = (femem_operation)body[0];
+    if (!fe_is_access(request->operation)) return 0;
+    request->array = get8(body + 1);
+    request->index = get4(body + 9);
+    request->operand = get8(body + 13);
+  } else if (kind == REMOVE) {
+    request->array = get8(body);
+  } else if (!get_named(body, size - 13, request)) {
+    return 0;
+  }
+  /* A request has one encoding. */
+  uint8_t spelled[LONGEST_REQUEST];
+  return fe_put_request(spelled, 0, request) == size && memcmp(spelled, frame, size) == 0 ? size : 0;
 }
 
 /* The length of a kind of reply (a report's is the least), and 0 for other kinds. */

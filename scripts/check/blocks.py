@@ -43,6 +43,7 @@ BLOCKS = {
         ("make ", HERE),
         ("femem *client;", HERE),
         ("femem_open_file(", HERE),
+        ("femem_queue_open(", HERE),
     ),
     "clients/python/README.md": (
         ("pip install", HERE),
@@ -68,7 +69,7 @@ def blocks_known(_place):
             missing.append(f"{name} has {len(found)} blocks, and {len(known)} are known")
         pairs = zip(found, known)
         missing += [f"{name}: an unknown block: {got.splitlines()[0]}" for got, (first, _) in pairs if not got.startswith(first)]
-    known = {*BLOCKS, "docs/store.md", "docs/formats.md"}
+    known = {*BLOCKS, "docs/store.md", "docs/formats.md", "docs/session-file.md"}
     missing += [f"{page}: its blocks are not known" for page in PAGES if page not in known and split(text_of(page))[1]]
     return told(missing, count, 30, "blocks")
 
@@ -162,10 +163,28 @@ SECOND
   femem_bye(client);
   femem_close(client);
 }
+static unsigned worked;
+static bool work_on(uint64_t value) { return value == 7 && ++worked > 1; }
+static void third(void) {
+  femem *client;
+  femem_queue *queue;
+  femem_job job;
+  femem_open(&client, "SOCKET", 9, NULL);
+  femem_queue_open(&queue, client, "jobs", 1000, 3, 0);
+  femem_queue_put(queue, 7, NULL, 1000);
+  femem_queue_close(queue);
+#undef FEMEM_FOREVER
+#define FEMEM_FOREVER 500
+THIRD
+  femem_queue_close(queue);
+  femem_bye(client);
+  femem_close(client);
+}
 int main(void) {
   uint64_t was = first();
   second();
-  printf("was %" PRIu64 ", then %" PRIu64 " more steps\\n", was, noted - 590);
+  third();
+  printf("was %" PRIu64 ", then %" PRIu64 " more steps, %u tries\\n", was, noted - 590, worked);
 }
 """
 
@@ -181,13 +200,15 @@ def page_of_c(place):
     example = block("clients/c/README.md", "femem *client;").replace("/run/femem/femem.socket", server.socket)
     second = block("clients/c/README.md", "femem_open_file(").replace("/run/femem/femem.socket", server.socket)
     second = second.replace("/var/lib/worker/session", place.path("session"))
-    place.write("c/program.c", PROGRAM.replace("FIRST", example).replace("SECOND", second).encode())
+    third = block("clients/c/README.md", "femem_queue_open(")
+    program = PROGRAM.replace("FIRST", example).replace("SECOND", second).replace("THIRD", third)
+    place.write("c/program.c", program.replace("SOCKET", server.socket).encode())
     make, install, cc = block("clients/c/README.md", "make ").splitlines()
     install = install.replace("/usr/local", place.path("usr"))
     cc = f"{cc} -o program && ./program"
     env = {"PKG_CONFIG_PATH": place.path("usr/lib/pkgconfig"), "LD_LIBRARY_PATH": place.path("usr/lib"), "MAKEFLAGS": "-j4"}
     said = shell(place, f"cd c\n{make}\n{install}\n{cc}\n", env=env)
-    same(said.splitlines()[-1], "was 0, then 10 more steps")
+    same(said.splitlines()[-1], "was 0, then 10 more steps, 2 tries")
     server.stop()
     holds("array 1 counter 1" in server.looks().splitlines(), "the example made its array")
 

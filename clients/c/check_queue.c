@@ -1,0 +1,272 @@
+/* A work queue with a real server: check_queue PROGRAM. First its calls, then four takers and two putters that are
+   killed again and again, in turns with their server: each job that was put is done once. It ends within ten minutes,
+   with status 0 if all is right. */
+#define _GNU_SOURCE
+#include "real.h"
+
+#include <fcntl.h>
+#include <sys/mman.h>
+
+enum { TAKERS = 4, PUTTERS = 2, EACH = 600, JOBS = PUTTERS * EACH, CAPACITY = 20, ATTEMPTS = 16, KILLS = 80 };
+
+/* A worker may begin while the server is restarted. */
+static const femem_settings any_time = {.wait = 60000, .reconnect = 60000, .wait_for_server = true};
+
+static femem_queue *queue_opened(femem *client, const char *name, uint32_t capacity, uint32_t attempts, int64_t away) {
+  femem_queue *queue;
+  femem_error error = femem_queue_open(&queue, client, name, capacity, attempts, away);
+  if (error) give_up(femem_error_text(error));
+  return queue;
+}
+
+/* ---- calls ---- */
+
+static void put(femem_queue *queue, uint64_t value) { ERROR(femem_queue_put(queue, value, NULL, 20000), FEMEM_OK); }
+
+static femem_job taken(femem_queue *queue, uint64_t value, uint32_t attempt) {
+  femem_job job = {0};
+  ERROR(femem_queue_take(queue, &job, 20000), FEMEM_OK);
+  CHECK(job.value == value && job.attempt == attempt && job.number > 0);
+  return job;
+}
+
+/* Jobs come in the order of their puts; a full queue waits for room, an empty one for a job. */
+static void orders(femem_queue *queue) {
+  femem_job job;
+  ERROR(femem_queue_take(queue, &job, 0), FEMEM_WITHDRAWN);
+  for (uint64_t round = 0; round < 3; round++) {
+    for (uint64_t i = 0; i < CAPACITY; i++) put(queue, 100 * round + i);
+    ERROR(femem_queue_put(queue, 99, NULL, 100), FEMEM_WITHDRAWN);
+    for (uint64_t i = 0; i < CAPACITY; i++) {
+      job = taken(queue, 100 * round + i, 1);
+      ERROR(femem_queue_done(queue, &job), FEMEM_OK);
+      ERROR(femem_queue_done(queue, &job), FEMEM_NOT_OWNER);
+    }
+    ERROR(femem_queue_take(queue, &job, 100), FEMEM_WITHDRAWN);
+  }
+}
+
+/* A job that fails is tried again, three times in all, and then set aside until it is dropped. */
+static void failures_of_jobs(femem_queue *queue) {
+  femem_job job = {0}, aside[2];
+  size_t count = 9;
+  put(queue, 7);
+  for (uint32_t attempt = 1; attempt <= 3; attempt++) {
+    job = taken(queue, 7, attempt);
+    ERROR(femem_queue_aside(queue, aside, 2, &count), FEMEM_OK);
+    CHECK(count == 0);
+    ERROR(femem_queue_fail(queue, &job), FEMEM_OK);
+  }
+  femem_job none;
+  ERROR(femem_queue_take(queue, &none, 1500), FEMEM_WITHDRAWN);
+  ERROR(femem_queue_aside(queue, aside, 2, &count), FEMEM_OK);
+  CHECK(count == 1 && aside[0].number == job.number && aside[0].value == 7 && aside[0].attempt == 3);
+  ERROR(femem_queue_drop(queue, job.number), FEMEM_OK);
+  ERROR(femem_queue_drop(queue, job.number), FEMEM_NOT_OWNER);
+  ERROR(femem_queue_done(queue, &job), FEMEM_NOT_OWNER);
+  ERROR(femem_queue_aside(queue, NULL, 0, &count), FEMEM_OK);
+  CHECK(count == 0);
+}
+
+/* A job whose taker is away is given to another one, and the first one learns that it was too late. */
+static void takers_away(femem_queue *queue) {
+  femem *other = opened(8, &usual);
+  femem_queue *second = queue_opened(other, "calls", CAPACITY, 3, 500);
+  femem_job job, again;
+  put(queue, 11);
+  job = taken(second, 11, 1);
+  ERROR(femem_queue_take(queue, &again, 1500), FEMEM_WITHDRAWN); /* its taker is there */
+  femem_queue_close(second);
+  again = taken(queue, 11, 2);
+  CHECK(again.number == job.number);
+  second = queue_opened(other, "calls", CAPACITY, 3, 500);
+  ERROR(femem_queue_done(queue, &again), FEMEM_OK);
+  ERROR(femem_queue_done(second, &job), FEMEM_NOT_OWNER);
+  femem_queue_close(second);
+  ERROR(femem_bye_within(other, 60000), FEMEM_OK);
+  femem_close(other);
+}
+
+static void arguments(femem *client) {
+  femem_queue *queue;
+  femem_job job;
+  ERROR(femem_queue_open(&queue, client, "calls", CAPACITY + 4, 3, 0), FEMEM_BAD_CALL);
+  ERROR(femem_queue_open(&queue, client, "calls", CAPACITY, 4, 0), FEMEM_BAD_CALL);
+  ERROR(femem_queue_open(&queue, client, "", CAPACITY, 3, 0), FEMEM_BAD_CALL);
+  ERROR(femem_queue_open(&queue, client, "a name of more than thirty bytes", CAPACITY, 3, 0), FEMEM_BAD_CALL);
+  ERROR(femem_queue_open(&queue, client, "calls", 0, 3, 0), FEMEM_BAD_CALL);
+  ERROR(femem_queue_open(&queue, client, "calls", 65533, 3, 0), FEMEM_BAD_CALL);
+  ERROR(femem_queue_open(&queue, client, "calls", CAPACITY, 17, 0), FEMEM_BAD_CALL);
+  CHECK(!queue);
+  femem_queue_close(queue);
+  queue = queue_opened(client, "calls", CAPACITY, 3, 0);
+  ERROR(femem_queue_put(queue, UINT64_MAX, NULL, 0), FEMEM_BAD_CALL);
+  ERROR(femem_queue_put(queue, 1, "key", 0), FEMEM_BAD_CALL); /* it has no session file */
+  fflush(stdout);
+  pid_t child = fork();
+  if (child == 0) {
+    size_t count;
+    bool told = femem_queue_put(queue, 1, NULL, 0) == FEMEM_FORKED &&
+                femem_queue_take(queue, &job, 0) == FEMEM_FORKED &&
+                femem_queue_drop(queue, 1) == FEMEM_FORKED && femem_queue_aside(queue, NULL, 0, &count) == FEMEM_FORKED;
+    femem_queue_close(queue);
+    femem_close(client);
+    _exit(told ? 0 : 1);
+  }
+  int status = 1;
+  waitpid(child, &status, 0);
+  CHECK(WIFEXITED(status) && WEXITSTATUS(status) == 0);
+  femem_queue_close(queue);
+}
+
+static void calls(void) {
+  femem *client = opened(7, &usual);
+  femem_queue *queue = queue_opened(client, "calls", CAPACITY, 3, 500);
+  orders(queue);
+  failures_of_jobs(queue);
+  takers_away(queue);
+  femem_queue_close(queue);
+  arguments(client);
+  ERROR(femem_bye_within(client, 60000), FEMEM_OK);
+  femem_close(client);
+}
+
+/* ---- kills ---- */
+
+/* What processes that are killed have told: how far each putter is, and how often each job was begun and done. */
+static struct told {
+  volatile uint32_t put[PUTTERS], begun[JOBS], done[JOBS], late[JOBS];
+  volatile int stop;
+} *told;
+
+/* Puts its jobs under keys, so that each is put once, whatever stops in between. */
+static void put_all(int putter) {
+  char session[100], key[32];
+  snprintf(session, sizeof session, "%s/putter%d", folder, putter);
+  femem *client;
+  if (femem_open_file(&client, path, session, &any_time)) _exit(1);
+  femem_queue *queue;
+  if (femem_queue_open(&queue, client, "kills", CAPACITY, ATTEMPTS, 500)) _exit(2);
+  while (told->put[putter] < EACH) {
+    uint32_t next = told->put[putter];
+    snprintf(key, sizeof key, "job %u", next);
+    if (femem_queue_put(queue, (uint64_t)putter * EACH + next, key, 60000)) _exit(3);
+    told->put[putter] = next + 1;
+    if (next > 0) snprintf(key, sizeof key, "job %u", next - 1);
+    if (next > 0 && femem_forget(client, key) == FEMEM_MEMORY) _exit(4);
+  }
+  femem_queue_close(queue);
+  femem_close(client);
+  _exit(0);
+}
+
+static void take_all(int taker) {
+  femem *client;
+  char session[100];
+  snprintf(session, sizeof session, "%s/taker%d", folder, taker);
+  femem_error opening = taker % 2 ? femem_open_file(&client, path, session, &any_time)
+                                  : femem_open(&client, path, 100 + (uint64_t)taker, &any_time);
+  if (opening) _exit(1);
+  femem_queue *queue;
+  if (femem_queue_open(&queue, client, "kills", CAPACITY, ATTEMPTS, 500)) _exit(2);
+  while (!told->stop) {
+    femem_job job;
+    femem_error error = femem_queue_take(queue, &job, 300);
+    if (error == FEMEM_WITHDRAWN) continue;
+    if (error || job.value >= JOBS) _exit(3);
+    if (job.number % 7 == job.attempt - 1) {
+      if (femem_queue_fail(queue, &job) != FEMEM_OK) _exit(4);
+      continue;
+    }
+    __atomic_add_fetch(&told->begun[job.value], 1, __ATOMIC_SEQ_CST);
+    error = femem_queue_done(queue, &job);
+    if (error == FEMEM_OK) __atomic_add_fetch(&told->done[job.value], 1, __ATOMIC_SEQ_CST);
+    else if (error == FEMEM_NOT_OWNER) __atomic_add_fetch(&told->late[job.value], 1, __ATOMIC_SEQ_CST);
+    else _exit(5);
+  }
+  femem_queue_close(queue);
+  femem_close(client);
+  _exit(0);
+}
+
+static pid_t begin_worker(int worker) {
+  fflush(stdout);
+  pid_t process = fork();
+  if (process != 0) return process;
+  alarm(300);
+  if (worker < TAKERS) take_all(worker);
+  put_all(worker - TAKERS);
+  return 0;
+}
+
+/* Waits for a worker's end. Returns whether it was killed, or ended well. */
+static bool ended_well(pid_t worker) {
+  int status = 0;
+  waitpid(worker, &status, 0);
+  if (WIFEXITED(status) && WEXITSTATUS(status)) printf("check_queue: a worker ended with %d\n", WEXITSTATUS(status));
+  return WIFSIGNALED(status) ? WTERMSIG(status) == SIGKILL : WEXITSTATUS(status) == 0;
+}
+
+/* How many jobs were told as done once, not done though nobody was killed in its done, and done more than once. */
+static void check_jobs(unsigned kills) {
+  unsigned once = 0, untold = 0, lost = 0, twice = 0, late = 0;
+  for (int job = 0; job < JOBS; job++) {
+    once += told->done[job] == 1;
+    twice += told->done[job] > 1;
+    untold += told->done[job] == 0 && told->begun[job] > told->late[job]; /* killed before it could tell */
+    lost += told->done[job] == 0 && told->begun[job] <= told->late[job];
+    late += told->late[job];
+  }
+  CHECK(twice == 0 && lost == 0 && once + untold == JOBS && untold <= kills);
+  printf("%d jobs, %u kills of clients: %u told as done, %u done and untold, %u twice, %u lost, %u late\n", JOBS, kills,
+         once, untold, twice, lost, late);
+}
+
+static void kills(void) {
+  pid_t workers[TAKERS + PUTTERS];
+  for (int i = 0; i < TAKERS + PUTTERS; i++) workers[i] = begin_worker(i);
+  unsigned count = 0;
+  for (unsigned drawn = 12345; count < KILLS; count++) {
+    drawn = drawn * 1103515245 + 12345;
+    unsigned worker = drawn / 65536 % (TAKERS + PUTTERS);
+    pause_for(20 + drawn / 65536 % 100);
+    kill(workers[worker], SIGKILL);
+    CHECK(ended_well(workers[worker]));
+    workers[worker] = begin_worker((int)worker);
+    if (count % 8 == 7) {
+      stop_server();
+      start_server();
+    }
+  }
+  for (int i = TAKERS; i < TAKERS + PUTTERS; i++) CHECK(ended_well(workers[i]));
+  femem *client = opened(7, &usual);
+  femem_queue *queue = queue_opened(client, "kills", CAPACITY, ATTEMPTS, 500);
+  pause_for(4000);
+  told->stop = 1;
+  for (int i = 0; i < TAKERS; i++) CHECK(ended_well(workers[i]));
+  /* What the takers left, if they were killed last. */
+  femem_job job;
+  while (femem_queue_take(queue, &job, 3000) == FEMEM_OK) {
+    told->begun[job.value]++;
+    if (femem_queue_done(queue, &job) == FEMEM_OK) told->done[job.value]++;
+  }
+  size_t aside = 1;
+  ERROR(femem_queue_aside(queue, NULL, 0, &aside), FEMEM_OK);
+  CHECK(aside == 0 && told->put[0] == EACH && told->put[1] == EACH);
+  check_jobs(count);
+  femem_queue_close(queue);
+  femem_close(client);
+  char name[100];
+  for (int i = 0; i < TAKERS + PUTTERS; i++) {
+    snprintf(name, sizeof name, "%s/%s%d", folder, i < TAKERS ? "taker" : "putter", i < TAKERS ? i : i - TAKERS);
+    unlink(name);
+  }
+}
+
+int main(int count, char **words_given) {
+  told = mmap(NULL, sizeof *told, PROT_READ | PROT_WRITE, MAP_SHARED | MAP_ANONYMOUS, -1, 0);
+  if (told == MAP_FAILED || !begin_real("check_queue", count, words_given)) return 2;
+  calls();
+  kills();
+  return end_real();
+}
