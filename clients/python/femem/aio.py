@@ -7,12 +7,13 @@
 
 `femem.Client` says under the same name what each operation returns, when it waits and which errors it has. A task that is
 cancelled while it awaits an operation takes it back and waits for the server's reply: if the operation had happened, the
-task gets its answer, and is not cancelled there. So `asyncio.wait_for` loses no value.
+task gets its answer, and is cancelled at its next operation or `await`. So `asyncio.wait_for` loses no value.
 """
 
 from __future__ import annotations
 
 import asyncio
+import logging
 import os
 import weakref
 from functools import partial
@@ -32,6 +33,8 @@ from .sides import Sides, numbers
 from .tickets import Ticket
 
 T = TypeVar("T")
+
+log = logging.getLogger("femem")
 
 
 class AsyncClient:
@@ -178,7 +181,7 @@ class AsyncClient:
         await self.close()
 
     async def _leave(self, at_any_rate: bool) -> None:
-        self._check_use()
+        self._check_use(in_any_case=True)
         ticket: Ticket[None] = Ticket(None)
         future = self._future(ticket)
         self._core.leave(self._now(), ticket, at_any_rate)
@@ -289,13 +292,16 @@ class AsyncClient:
     def _seconds(self, timeout: Timeout) -> Optional[float]:
         return self.timeout if timeout is DEFAULT else seconds_of(timeout)
 
-    def _check_use(self) -> None:
+    def _check_use(self, *, in_any_case: bool = False) -> None:
+        """Raises if the client can't be used, or if the task is to be cancelled here and this is no end of something."""
         if self._process != os.getpid():
             raise errors.Closed("a client is of the process that made it")
         if self._connecting is None:
             raise self.failure or RuntimeError("the client is not open: use `async with`, or await its `open`")
         if self._connecting.get_loop() is not asyncio.get_running_loop():
             raise RuntimeError("the client is of another event loop")
+        if _owed and not in_any_case and _is_owed(asyncio.current_task()):
+            raise asyncio.CancelledError
 
     def _submit(self, ticket: Ticket[T], timeout: Timeout) -> asyncio.Future[T]:
         seconds = self._seconds(timeout)
@@ -311,7 +317,7 @@ class AsyncClient:
 
     async def _run_job(self, job: Job[T]) -> T:
         """Runs an operation of several steps. A task that is cancelled takes it back, or gets the result if it is done."""
-        self._check_use()
+        self._check_use(in_any_case=job.gives_back)
         future = self._future(job)
         self._core.start(job, self._now())
         self._move()
@@ -335,6 +341,7 @@ class AsyncClient:
                 raise
             if all(isinstance(ticket.error, errors.Withdrawn) for ticket in tickets):
                 raise
+            _owe(asyncio.current_task())
             return future.result()
 
     def _take_back(self, tickets: Sequence[Ticket[Any]], is_abandoned: bool) -> None:
@@ -372,8 +379,7 @@ class AsyncClient:
             ended = self._core.take_ended()
             if not ended:
                 break
-            for ticket in ended:
-                ticket.finished()
+            self._finish(ended)
         if self._timer is not None:
             self._timer.cancel()
             self._timer = None
@@ -383,6 +389,19 @@ class AsyncClient:
         time = self._core.next_time()
         if time is not None and time != float("inf"):
             self._timer = asyncio.get_running_loop().call_at(time, self._tick)
+
+    def _finish(self, tickets: Sequence[Ticket[Any]]) -> None:
+        """Completes all of them, even if one raises, for example since its future was set by somebody else."""
+        interrupt: Optional[BaseException] = None
+        for ticket in tickets:
+            try:
+                ticket.finished()
+            except Exception:
+                log.exception("session %d: a request can't be completed", self.session)
+            except BaseException as error:  # from a signal handler
+                interrupt = error
+        if interrupt is not None:
+            raise interrupt
 
     def _flush(self) -> None:
         core = self._core
@@ -505,6 +524,31 @@ class AsyncClient:
         except asyncio.TimeoutError:
             pass
         self._changed.clear()
+
+
+# The tasks that were cancelled while their operation happened. They got its result, and are still to be cancelled.
+_owed: weakref.WeakSet[Any] = weakref.WeakSet()
+
+
+def _owe(task: Any) -> None:
+    """Cancels the task at its next operation, or at the next `await` that suspends it."""
+    _owed.add(task)
+    asyncio.get_running_loop().call_soon(_cancel_again, task)
+
+
+def _is_owed(task: Any) -> bool:
+    """Whether the task is still to be cancelled, from now on by the caller. `timeout` and `wait_for` take it back."""
+    if task not in _owed:
+        return False
+    _owed.discard(task)
+    return not hasattr(task, "cancelling") or task.cancelling() > 0
+
+
+def _cancel_again(task: Any) -> None:
+    if _is_owed(task):
+        if hasattr(task, "uncancel"):
+            task.uncancel()  # `cancel` counts it again
+        task.cancel()
 
 
 def _is_seen(future: asyncio.Future[Any]) -> None:

@@ -6,6 +6,7 @@ exception from a signal handler leaves nothing half done, wherever it comes.
 
 from __future__ import annotations
 
+import atexit
 import logging
 import math
 import os
@@ -599,9 +600,21 @@ class Client:
         self._flush()
         core = self._core
         while core.ended:
-            for ticket in core.take_ended():
-                ticket.finished()
+            self._finish(core.take_ended())
             self._flush()
+
+    def _finish(self, tickets: Sequence[Ticket[Any]]) -> None:
+        """Completes all of them, whatever a callback raises."""
+        interrupt: Optional[BaseException] = None
+        for ticket in tickets:
+            try:
+                ticket.finished()
+            except BaseException as error:
+                log.exception("session %d: a callback failed", self.session)
+                if get_ident() != self._own_thread and not isinstance(error, Exception):
+                    interrupt = error  # a caller does this after the thread's end, and a signal interrupts it
+        if interrupt is not None:
+            raise interrupt
 
     def _flush(self) -> None:
         """Sends what the socket accepts now. The session file is written before that."""
@@ -622,7 +635,11 @@ class Client:
         except BlockingIOError:
             pass
         except OSError:
-            core.to_send.clear()  # the next read fails too
+            core.to_send.clear()
+            try:
+                self._socket.shutdown(socket.SHUT_RDWR)  # the next read ends, and the client reconnects
+            except OSError:
+                pass
 
     def _move_waits(self) -> None:
         """Passes requests that have to wait to further sessions."""
@@ -783,9 +800,8 @@ class Client:
         core = self._core
         seconds = min(_LINGER, self._look_at - self._now)
         self._is_at_bell = True
-        for ticket in core.take_ended():
-            ticket.finished()
-        if seconds > 0.0 and not self._asked and not core.ended and not core.is_urgent:
+        self._finish(core.take_ended())
+        if seconds > 0.0 and not (self._asked or core.ended or core.to_send or core.is_urgent):
             self._bell.acquire(timeout=seconds)
         self._is_at_bell = False
 
@@ -912,3 +928,24 @@ def _in_child() -> None:
 
 
 os.register_at_fork(after_in_child=_in_child)
+
+
+def _at_exit() -> None:
+    """Ends the clients that are still open, within a second each: their threads stop with the interpreter."""
+    for client in list(_clients):
+        if client._process != os.getpid() or client._is_over:
+            continue
+        if client._is_temporary:
+            client._is_temporary = False
+            ticket: Ticket[None] = Ticket(None)
+            future = client._future(ticket)
+            client._ask(partial(client._core.leave, ticket=ticket, at_any_rate=True))
+            try:
+                future.result(1.0)
+            except Exception:
+                pass
+        client._ask(lambda now: client._core.close())
+        client._thread.join(1.0)
+
+
+atexit.register(_at_exit)

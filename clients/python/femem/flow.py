@@ -13,7 +13,7 @@ from .sessionfile import Asked, SessionFile
 from .tickets import Ticket
 from .window import Window
 
-# How long a request waits before it may be moved to make room in the window, in seconds.
+# How long requests that wait keep their numbers while there are more of them than numbers, in seconds.
 PATIENCE = 0.05
 
 _OF_CALL = (frames.BELOW_FLOOR, frames.BEYOND_WINDOW, frames.NUMBER_USED, frames.NO_MEMORY, frames.SPENT)
@@ -141,10 +141,12 @@ class Flow:
             self._settle(floor, now)
             self._send_queue(window, now)
             floor = window.next_floor()
-        if self._queue:
-            for ticket in self.in_the_way():
-                if ticket.sent_at + PATIENCE <= now:
-                    self._cancel(ticket, now)
+        # What waits gets new numbers before the room is used up, so that no other request waits for that.
+        for ticket in self.in_the_way():
+            if ticket.sent_at + PATIENCE <= now or self._has_new():
+                self._cancel(ticket, now)
+        for ticket in window.holding():
+            self._cancel(ticket, now)
 
     def _send_queue(self, window: Window[Ticket[Any]], now: float) -> None:
         queue = self._queue
@@ -158,6 +160,10 @@ class Flow:
                 asked = Asked(ticket.request.frame, ticket.key, ticket.ends_with_process)
                 self._file.asked(ticket.number, asked)
             self._send(ticket, now)
+
+    def _has_new(self) -> bool:
+        """Whether the queue has a request that was not sent yet. The others are known to wait."""
+        return any(not ticket.has_moved for ticket in self._queue)
 
     def in_the_way(self) -> List[Ticket[Any]]:
         """The requests that hold up the queue: those that wait under the window's lowest numbers.
@@ -265,6 +271,7 @@ class Flow:
             self._end(ticket, error=ticket.taken_back)
         else:
             ticket.number = None
+            ticket.has_moved = True
             self._queue.append(ticket)
 
     def _end_number(self, window: Window[Ticket[Any]], number: int) -> Ticket[Any]:

@@ -59,6 +59,7 @@ class SessionFile:
         self.ended: List[int] = []
         self.keyed: Dict[bytes, Tuple[bytes, frames.Answer]] = {}
         self.must_sync = False
+        self._is_broken = False
         self._asked: Dict[int, Asked] = {}
         self._pending = bytearray()
         try:
@@ -92,7 +93,7 @@ class SessionFile:
         """Writes what is not yet written, and releases the file to other clients."""
         if self._file >= 0:
             try:
-                if self._pending:
+                if self._pending and not self._is_broken:
                     self._write(self._file, self._block(bytes(self._pending)))
             except OSError:
                 pass  # unwritten answers, which the server gives again
@@ -298,7 +299,7 @@ class SessionFile:
             self._write(self._file, block)
             os.fsync(self._file)
         except OSError as error:
-            self._pending.clear()  # its client ends, and nothing that is noted may be sent
+            self._is_broken = True  # its client ends, and nothing that is noted may be sent or written
             raise SessionFileError(f"{self.path}: {error}") from error
         self._size += len(block)
         self._pending.clear()

@@ -41,6 +41,8 @@ class Ticket(Generic[T]):
     # The key under which the session file keeps its answer, and tickets asked under that key meanwhile.
     key: Optional[bytes] = None
     followers: Optional[List[Ticket[T]]] = None
+    # Whether it was taken back to make room, and is to be sent again.
+    has_moved = False
     # Whether it is first asked without waiting. If it would wait, another session asks it again.
     asks_first = False
 

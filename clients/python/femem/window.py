@@ -23,6 +23,12 @@ _LONGEST_STEP = frames.WINDOW - 1
 
 _WINDOW = frames.WINDOW
 
+# Once the lowest number without an answer is this far behind the next one, those that wait get new numbers. So the window
+# has room for other requests all the time. Not those among the last few numbers, nor if more than half of the window waits.
+_HELD_BACK = 12
+_RECENT = 8
+_MOST_HOLDING = _WINDOW // 2
+
 _SETTLED_OTHERWISE = "no answer is due"
 
 
@@ -99,6 +105,16 @@ class Window(Generic[T]):
     def is_stuck(self) -> bool:
         """Whether there is no room until the request of the lowest number ends."""
         return not self.room() and self.asked == self.floor == self.lowest()
+
+    def holding(self) -> List[T]:
+        """The requests that wait under old numbers while others come and go, once they keep the floor from rising.
+
+        The server answers in order, so a request below an answered number waits.
+        """
+        if len(self.unanswered) > _MOST_HOLDING or self._next - self.lowest() < _HELD_BACK:
+            return []
+        low = min(self._next - _RECENT, max(self._answers, default=0))
+        return [item for number, item in self.unanswered.items() if number < low]
 
     def lower_half(self) -> List[T]:
         """The unanswered requests in the lower half of the window's numbers."""

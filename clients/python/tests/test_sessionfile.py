@@ -448,6 +448,41 @@ class Files(WithFolder):
             self.assertEqual(client.readff(word, 0), 0)
         self.assertEqual(server.model.stored.arrays[word.id][1][0][0], 0)
 
+    def test_nothing_is_written_behind_half_a_block(self):
+        """The disk is full in the middle of a write. Then there is room again, and what is noted later stays out."""
+        self.server()
+
+        def break_off(client):
+            file, write = client._core.file, SessionFile._write
+
+            def half(number, content):
+                file._write = write
+                os.write(number, content[: len(content) // 2])
+                raise OSError(28, "no space is left")
+
+            file._write = half
+
+        with Client(self.path, session_file=self.file) as client:
+            word = client.create("word", 1, full=True)
+            client.once("kept", requests.int_fetch_add(word, 0, 1))
+            break_off(client)
+            with self.assertRaises(femem.SessionFileError):
+                client.int_fetch_add(word, 0, 1)
+            client.forget("kept")
+        with Client(self.path, session_file=self.file) as client:
+            self.assertEqual(client.once("kept", requests.int_fetch_add(word, 0, 1)), 0)
+
+        async def main():
+            async with AsyncClient(self.path, session_file=self.file) as client:
+                break_off(client)
+                with self.assertRaises(femem.SessionFileError):
+                    await client.int_fetch_add(word, 0, 1)
+                client.forget("kept")
+            async with AsyncClient(self.path, session_file=self.file) as client:
+                self.assertEqual(await client.once("kept", requests.int_fetch_add(word, 0, 1)), 0)
+
+        asyncio.run(main())
+
     def test_a_file_that_cannot_be_written_stops_the_client_before_it_sends(self):
         server = self.server()
         with Client(self.path, session_file=self.file) as client:
