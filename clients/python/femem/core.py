@@ -29,8 +29,8 @@ T = TypeVar("T")
 
 log = logging.getLogger("femem")
 
-# How often a client with a session file attaches again after another connection took its session: a late attach of its
-# former process may take it.
+# How often a client whose session is nobody else's attaches again after another connection took it: a late attach of a
+# former client may take it.
 _FIGHTS = 20
 
 # About how long a client waits before it again attaches a session that it could not get, in seconds.
@@ -68,6 +68,7 @@ class Core:
         file: Optional[SessionFile] = None,
         clock: Callable[[], float] = time.monotonic,
         moves_waits: bool = False,
+        is_own: bool = False,
     ) -> None:
         self.session = number_of_bits(session, 64, "session")
         self.phase = _DOWN
@@ -76,7 +77,12 @@ class Core:
         # Why the last attempt to connect failed, if it did. The client sets it.
         self.trouble = ""
         self.file = file
+        # Whether nobody else is given this session: then another connection that has it is a late one of a former client.
+        self._is_own = is_own or file is not None
         self.clock = clock
+        # Once the client has failed: whether the server had ended the session, and whether requests could be sent.
+        self.has_left = False
+        self.was_ready = False
         # The sessions that patterns want taken from their owners. The client does it.
         self.fences: List[Tuple[int, Ticket[None]]] = []
         # What this client's patterns hold: the generation of each lock, by the id of its array.
@@ -97,6 +103,7 @@ class Core:
         self._reports: Deque[Ticket[reports.Report]] = deque()
         self._pauses: Set[Ticket[None]] = set()
         self._leaving: Optional[Ticket[None]] = None
+        self._leave_by: Optional[float] = None
         self._opening: Optional[Ticket[None]] = None
         self._timeouts = Timeouts()
         # What a former process with the same session file had no answer for.
@@ -188,6 +195,14 @@ class Core:
             self._pump(now)
         return asked
 
+    def depart(self, now: float, seconds: float) -> None:
+        """Ends the session, whatever waits, and the client with it: after `seconds` even if the session is not ended."""
+        if self.failure is None:
+            self._leave_by = now + seconds
+            self.is_urgent = True
+            if self._leaving is None:
+                self.leave(now, at_any_rate=True)
+
     def close_file(self) -> None:
         """At the end of the client: closes the file, or removes it if the session was ended."""
         if self.file is not None:
@@ -214,6 +229,7 @@ class Core:
             self._elsewhere[ticket](ticket.taken_back)
         else:
             self._flow.withdraw(ticket, now, self.phase is _READY)
+            self._pump(now)
 
     def withdraw_all(self, tickets: Sequence[Ticket[Any]], now: float) -> None:
         """Takes these back. Some of them may not have been asked yet."""
@@ -231,6 +247,7 @@ class Core:
         self.failure = failure
         if not isinstance(failure, errors.Closed):
             log.error("session %d: %s: %s", self.session, type(failure).__name__, failure)
+        self.was_ready = self.phase is _READY
         self.phase = _ENDED
         self._start_over()
         tickets: List[Ticket[Any]] = [*self._flow.take_all(), *self._reports]
@@ -311,7 +328,7 @@ class Core:
         """When `tick` has something to do, if nothing happens before."""
         if self.phase is _ENDED:
             return None
-        times = [self._timeouts.first(), self._attach_at, self._probe_at()]
+        times = [self._timeouts.first(), self._attach_at, self._probe_at(), self._leave_by]
         if self.is_busy():
             times.append(self._give_up_at())
         if self.phase is _READY:
@@ -330,6 +347,9 @@ class Core:
                 self._end(ticket)
             else:
                 self.withdraw(ticket, now, errors.TimedOut(ticket.request.what))
+        if self._leave_by is not None and self._leave_by <= now:
+            self.fail(errors.Closed("the client is closed, and its session was not ended in time"))
+            return
         if self.is_busy() and self._give_up_at() <= now:
             self._give_up()
             return
@@ -654,6 +674,7 @@ class Core:
 
     def _has_left(self) -> None:
         assert self._leaving is not None
+        self.has_left = True
         self._end(self._leaving)
         self.fail(errors.Closed("the session is ended"))
 
@@ -695,7 +716,7 @@ class Core:
         If this client has asked nothing yet, that may be a late attach of a former process: it attaches again.
         """
         if self._flow.window is not None:
-            if self.file is None or self._fights >= _FIGHTS:
+            if not self._is_own or self._fights >= _FIGHTS:
                 raise errors.TakenOver(f"another connection has session {self.session}")
             if self.phase is _READY or number == self._probe:
                 self._fights += 1

@@ -219,10 +219,14 @@ class Flow:
         self._ended.append(ticket)
         if ticket.key is not None and self._keys.get(ticket.key) is ticket:
             del self._keys[ticket.key]
-        if ticket.followers is not None:
-            for follower in ticket.followers:
-                if not follower.done:
-                    self._end(follower, result, None if error is None else type(error)(*error.args))
+        followers = [follower for follower in ticket.followers or () if not follower.done]
+        if followers and isinstance(error, errors.Withdrawn):
+            # It did not happen, and the others still wait for it: the first of them asks in its place.
+            first, *first.followers = followers
+            self.add((first,))
+            return
+        for follower in followers:
+            self._end(follower, result, None if error is None else type(error)(*error.args))
 
     def _end_by(self, ticket: Ticket[Any], answer: frames.Answer) -> None:
         """Ends the ticket by its answer. `ProtocolError` is raised too."""

@@ -2,16 +2,21 @@
 
 import asyncio
 import errno
+import gc
 import os
 import pathlib
+import signal
 import subprocess
 import sys
 import threading
+import time
+import warnings
 
 import paths
 from serving import WithFolder
 
-from femem import Client, requests
+import femem
+from femem import Client, registry, requests
 from femem.aio import AsyncClient
 from femem.patterns import Lock
 
@@ -43,8 +48,7 @@ class Callbacks(WithFolder):
         threads = [threading.Thread(target=wait, daemon=True) for _ in range(count)]
         for thread in threads:
             thread.start()
-        while len(client.report().waiters) < count + 1:
-            pass
+        self.assertTrue(until(lambda: len(client.report().waiters) > count))
         return threads, outcomes
 
     def join(self, threads):
@@ -126,7 +130,7 @@ class Sends(WithFolder):
             with Client(self.path, 7, reconnect_timeout=LONG) as client:
                 word = client.create(f"w{failure}", 1, full=True)
                 for ask in (requests.int_fetch_add(word, 0, 1), requests.readff(word, 0)):
-                    client._socket = Unwilling(client._socket, [failure])
+                    client._worker._socket = Unwilling(client._worker._socket, [failure])
                     self.assertEqual(client.submit(ask).result(LONG), 0 if "add" in ask.what else 1)
                 self.assertEqual(client.readxx(word, 0, timeout=LONG), 1)
 
@@ -135,7 +139,7 @@ class Sends(WithFolder):
         with Client(self.path, 7, probe_interval=100.0) as client:
             lock = Lock(client, "lock")
             slept = []
-            inner = client._bell
+            inner = client._worker._bell
 
             class Bell:
                 def acquire(self, *words, **more):
@@ -145,15 +149,257 @@ class Sends(WithFolder):
                 def release(self):
                     inner.release()
 
-            client._bell = Bell()
+            client._worker._bell = Bell()
             client.create("word", 1)
             for _ in range(50):
                 with lock:
                     pass
-            client._bell = inner
-            client._ring()
+            client._worker._bell = inner
+            client._worker.ring()
             self.assertGreater(len(slept), 0)
             self.assertEqual(sum(slept), 0)
+
+
+def until(condition):
+    """Waits until the condition holds. Returns whether it did."""
+    end = time.monotonic() + LONG
+    while not condition():
+        if time.monotonic() > end:
+            return False
+        time.sleep(0.002)
+    return True
+
+
+def threads_of_clients():
+    return {thread for thread in threading.enumerate() if thread.name.startswith("femem session")}
+
+
+class Closes(WithFolder):
+    def ends(self, work):
+        """Does the work in a thread, which must end."""
+        outcomes = []
+
+        def run():
+            try:
+                outcomes.append(work())
+            except BaseException as error:
+                outcomes.append(error)
+
+        thread = threading.Thread(target=run, daemon=True)
+        thread.start()
+        thread.join(LONG)
+        self.assertEqual(len(outcomes), 1, "it does not end")
+        return outcomes[0]
+
+    def test_close_does_not_wait_for_a_server_that_is_away(self):
+        for more in ({}, {"session": 7}, {"session": 7, "sessions": 4}, {"sessions": 3}):
+            with self.subTest(**more):
+                server = self.server()
+                client = Client(self.path, reconnect_timeout=None, **more)
+                server.kill()
+                self.assertIsNone(self.ends(client.close))
+                self.assertIsInstance(client.failure, femem.Closed)
+
+    def test_close_does_not_wait_for_a_server_that_is_silent(self):
+        server = self.server()
+        client = Client(self.path, reconnect_timeout=None)
+        server.posts = False
+        self.assertIsNone(self.ends(client.close))
+
+    def test_close_does_not_wait_in_asyncio(self):
+        for more in ({}, {"session": 7, "sessions": 4}):
+            server = self.server()
+
+            async def main():
+                client = AsyncClient(self.path, reconnect_timeout=None, **more)
+                await client.open()
+                await asyncio.get_running_loop().run_in_executor(None, server.kill)
+                await client.close()
+                return client.failure
+
+            self.assertIsInstance(self.ends(lambda: asyncio.run(main())), femem.Closed)
+
+    def test_a_callback_that_closes_ends_the_session(self):
+        server = self.server()
+        client = Client(self.path)
+        word = client.create("word", 1, full=True)
+        client.submit(requests.readff(word, 0)).add_done_callback(lambda _: client.close())
+        self.assertTrue(until(lambda: client.failure is not None))
+        self.assertEqual(server.model.stored.sessions, {})
+
+    def test_a_client_that_nobody_refers_to_is_closed(self):
+        server = self.server()
+        gc.collect()
+        files, others = len(os.listdir("/proc/self/fd")), threads_of_clients()
+        for session in (None, 7):
+            with self.subTest(session=session):
+                client = Client(self.path, session, sessions=2)
+                client.submit(requests.readfe(client.create(f"w{session or 0}", 1), 0))
+                with warnings.catch_warnings(record=True) as told:
+                    warnings.simplefilter("always")
+                    del client
+                    gc.collect()
+                self.assertIn(ResourceWarning, [each.category for each in told])
+                self.assertTrue(until(lambda: threads_of_clients() <= others))
+                self.assertEqual(list(server.model.stored.sessions), [7] if session else [])
+        self.assertTrue(until(lambda: len(os.listdir("/proc/self/fd")) <= files))
+
+    def test_a_loop_that_tries_again_leaves_one_session(self):
+        """The server is slow: each client gives up, and its attach is carried out all the same."""
+        server = self.server()
+        server.posts = False
+        for _ in range(8):
+            with self.assertRaises(femem.ServerUnreachable):
+                Client(self.path, reconnect_timeout=0.05)
+
+        async def main():
+            async with AsyncClient(self.path, reconnect_timeout=0.05):
+                pass
+
+        for _ in range(8):
+            with self.assertRaises(femem.ServerUnreachable):
+                asyncio.run(main())
+        self.assertTrue(until(lambda: len(server.model.state.sessions) == 1))
+        server.posts = True
+        with Client(self.path):
+            self.assertEqual(len(server.model.stored.sessions), 1)
+        self.assertEqual(len(server.model.stored.sessions), 0)
+
+    def test_a_path_that_can_not_be_is_told_at_once(self):
+        folder = os.path.dirname(self.path)
+        file = os.path.join(folder, "file")
+        open(file, "w").close()
+        for path in (self.path, "/" + 300 * "x", os.path.join(file, "socket")):
+            with self.subTest(path=path[-10:]):
+                error = self.ends(lambda: Client(path, reconnect_timeout=None))
+                self.assertIsInstance(error, femem.ServerUnreachable)
+
+                async def main():
+                    async with AsyncClient(path, reconnect_timeout=None):
+                        pass
+
+                self.assertIsInstance(self.ends(lambda: asyncio.run(main())), femem.ServerUnreachable)
+        error = self.ends(lambda: Client("/" + 300 * "x", reconnect_timeout=None, wait_for_server=True))
+        self.assertIsInstance(error, femem.ServerUnreachable)
+        self.assertFalse(registry._left.get(self.path))
+
+    def test_a_client_may_wait_for_its_server_to_start(self):
+        made = []
+
+        async def main():
+            async with AsyncClient(self.path, 8, reconnect_timeout=None, wait_for_server=True) as client:
+                made.append(client.failure)
+
+        threads = [
+            threading.Thread(target=lambda: made.append(Client(self.path, 7, reconnect_timeout=None, wait_for_server=True))),
+            threading.Thread(target=lambda: asyncio.run(main())),
+        ]
+        for thread in threads:
+            thread.start()
+        time.sleep(0.1)
+        self.assertEqual(made, [])
+        self.server()
+        for thread in threads:
+            thread.join(LONG)
+        self.assertEqual(len(made), 2)
+        for client in made:
+            if client is not None:
+                client.close()
+
+
+class Killed(WithFolder):
+    def setUp(self):
+        super().setUp()
+        self.folder = registry.folder_of(self.path)
+
+    def kill_one(self, **more):
+        """A client in a child, which is killed once it is attached."""
+        reader, writer = os.pipe()
+        child = os.fork()
+        if child == 0:
+            try:
+                client = Client(self.path, **more)
+                os.write(writer, b"%d" % client.session)
+                time.sleep(1000)
+            finally:
+                os._exit(1)
+        os.close(writer)
+        session = int(os.read(reader, 100))
+        os.close(reader)
+        os.kill(child, signal.SIGKILL)
+        os.waitpid(child, 0)
+        return session
+
+    def test_the_next_client_ends_the_sessions_of_killed_ones(self):
+        server = self.server()
+        os.mkdir(self.folder)
+        for more in ({}, {"sessions": 3}):
+            for _ in range(3):
+                self.kill_one(**more)
+        with Client(self.path) as client:
+            self.assertEqual(list(server.model.stored.sessions), [client.session])
+            self.assertEqual(os.listdir(self.folder), [str(client.session)])
+        self.assertEqual((server.model.stored.sessions, os.listdir(self.folder)), ({}, []))
+
+    def test_seventy_killed_clients_lock_nobody_out(self):
+        server = self.server()
+        os.mkdir(self.folder)
+        for _ in range(70):
+            self.kill_one()
+        with Client(self.path):
+            self.assertEqual(len(server.model.stored.sessions), 1)
+
+        async def main():
+            async with AsyncClient(self.path):
+                self.assertEqual(len(server.model.stored.sessions), 1)
+
+        self.kill_one()
+        asyncio.run(main())
+        self.assertEqual((server.model.stored.sessions, os.listdir(self.folder)), ({}, []))
+
+    def test_the_sessions_of_others_stay(self):
+        """Those of living clients, of clients that name theirs, and those of a folder's other files."""
+        server = self.server()
+        os.mkdir(self.folder)
+        for name in ("README", "-1", str(2**64), "9"):
+            os.mkdir(os.path.join(self.folder, name))
+        named = self.kill_one(session=9)
+        with Client(self.path) as living:
+            self.kill_one()
+            with Client(self.path) as client:
+                self.assertEqual(set(server.model.stored.sessions), {named, living.session, client.session})
+            living.create("word", 1)
+
+    def test_a_child_holds_no_file_of_its_parent(self):
+        server = self.server()
+        os.mkdir(self.folder)
+        session = self.kill_one()
+        client = Client(self.path)
+        self.assertNotIn(session, server.model.stored.sessions)
+        ready, (reader, writer) = os.pipe(), os.pipe()
+        child = os.fork()
+        if child == 0:
+            os.close(writer)
+            os.close(ready[1])  # the client's file was closed before
+            os.read(reader, 1)
+            os._exit(0)
+        os.close(reader)
+        os.close(ready[1])
+        self.addCleanup(os.waitpid, child, 0)
+        self.addCleanup(os.close, writer)
+        os.read(ready[0], 1)
+        os.close(ready[0])
+        client._worker.entry.release()  # as if only the parent were killed
+        with Client(self.path) as other:
+            self.assertEqual(list(server.model.stored.sessions), [other.session])
+        client.close()
+
+    def test_without_the_folder_a_killed_client_leaves_its_session(self):
+        server = self.server()
+        session = self.kill_one()
+        with Client(self.path) as client:
+            self.assertEqual(set(server.model.stored.sessions), {session, client.session})
+        self.assertFalse(os.path.exists(self.folder))
 
 
 class Exits(WithFolder):
@@ -175,6 +421,19 @@ class Exits(WithFolder):
             with self.subTest(end=end):
                 self.run_program(f"client = Client(S)\nclient.create('w{len(end)}', 1)\n{end}", fails=bool(end))
                 self.assertEqual(self.sessions(server), [])
+
+    def test_a_program_of_asyncio_that_ends_without_close_leaves_no_session(self):
+        server = self.server()
+        head = "import asyncio\nfrom femem.aio import AsyncClient\n"
+        main = "async def main():\n    global client\n    client = AsyncClient(S)\n    await client.open()\n"
+        for name, run in (
+            ("run", "asyncio.run(main())"),
+            ("stop", "asyncio.new_event_loop().run_until_complete(main())"),
+            ("fail", "asyncio.run(main())\n1/0"),
+        ):
+            with self.subTest(run=name):
+                self.run_program(f"{head}{main}{run}\n", fails=name == "fail")
+                self.assertTrue(until(lambda: self.sessions(server) == []))
 
     def test_a_program_that_ends_while_a_thread_waits(self):
         server = self.server()

@@ -1,6 +1,7 @@
 """At most once over the client's own restarts: a client with a session file is killed at each point, and continues."""
 
 import asyncio
+import enum
 import itertools
 import os
 import random
@@ -18,15 +19,17 @@ from test_unspoilt import interrupted
 import femem
 from femem import Client, aio, frames, requests, sessionfile
 from femem.aio import AsyncClient
+from femem.client import key_bytes
 from femem.core import Core
 from femem.sessionfile import Asked, SessionFile
+from femem.worker import Worker
 
 POINTS = {
     "before the write": (SessionFile, "commit", "before"),
     "within the write": (SessionFile, "_write", "torn"),
     "after the write": (SessionFile, "commit", "after"),
-    "before the send": (Client, "_flush", "before"),
-    "after the send": (Client, "_flush", "after"),
+    "before the send": (Worker, "_flush", "before"),
+    "after the send": (Worker, "_flush", "after"),
     "before the answer is taken": (Core, "received", "before"),
     "after the answer is taken": (Core, "received", "after"),
     "before the compaction": (SessionFile, "compact", "before"),
@@ -219,6 +222,35 @@ class Files(WithFolder):
                 client.once("a", add)
             with self.assertRaises(ValueError):
                 client.forget("a")
+
+    def test_whoever_asks_a_key_without_a_limit_gets_its_answer(self):
+        """Several ask under a key. The first one's time runs out, and the others go on waiting."""
+        self.server()
+        with Client(self.path, session_file=self.file) as client, Client(self.path, 8) as other:
+            word = client.create("word", 1)
+            take = requests.readfe(word, 0)
+            first = client.submit(take, key="job", timeout=0.05)
+            others = [client.submit(take, key="job"), client.submit(take, key="job", timeout=0.2), client.submit(take, key="job")]
+            self.assertIsInstance(first.exception(60), femem.TimedOut)
+            self.assertIsInstance(others[1].exception(60), femem.TimedOut)
+            client.withdraw(others[0])
+            self.assertIsInstance(others[0].exception(60), femem.Withdrawn)
+            other.writeef(word, 0, 7)
+            self.assertEqual(others[2].result(60), 7)
+            self.assertEqual(client.once("job", take), 7)
+            self.assertEqual(other.readxx(word, 0), 7)
+
+    def test_a_key_is_its_value(self):
+        """Not what its class prints, which differs between versions of Python."""
+        step = enum.IntEnum("Step", {"PAY": 1})
+        name = enum.Enum("Name", {"PAY": "pay"}, type=str)
+
+        class Odd(bytes):
+            def __bytes__(self):
+                return b"odd"
+
+        keys = [key_bytes(key) for key in (step.PAY, 1, "1", b"1", name.PAY, Odd(b"x"), -5)]
+        self.assertEqual(keys, [b"1", b"1", b"1", b"1", b"pay", b"x", b"-5"])
 
     def test_two_that_ask_a_key_at_once_ask_it_once(self):
         self.server()
