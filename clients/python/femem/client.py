@@ -447,14 +447,24 @@ class Client:
     def _call(self, request: Request[T], timeout: Timeout) -> T:
         ticket: Ticket[T] = Ticket(request)
         seconds = self.timeout if timeout is DEFAULT else self._seconds(timeout)
-        if get_ident() == self._worker.own_thread:
-            self._check_thread()
         try:
             gate = _new_gate()
             gate.acquire()
             ticket.finished = gate.release
-            self._ask(partial(self._core.take, (ticket,), seconds))
-            gate.acquire()
+            worker = self._worker
+            lease = worker.lease
+            if lease is not None and not worker.is_led():
+                # No interruption comes between the lock's taking and the block.
+                with worker.lead:
+                    is_done = worker.lease is lease and lease.call(ticket)
+                if is_done:
+                    return _result(ticket)
+            elif get_ident() == worker.own_thread:
+                self._check_thread()
+            self._ask(partial(self._core.take_on, ticket, seconds))
+            worker.wait_at(gate)
+        except errors.FememError:
+            raise
         except BaseException:
             self._ask(lambda now: self._core.withdraw(ticket, now))
             raise
@@ -470,7 +480,7 @@ class Client:
             gate.acquire()
             job.finished = gate.release
             self._ask(partial(self._core.start, job))
-            gate.acquire()
+            self._worker.wait_at(gate)
             return _result(job)
         except errors.FememError:
             raise
@@ -500,7 +510,7 @@ class Client:
 
             next(left).finished = finished
             self._ask(ask)
-            gate.acquire()
+            self._worker.wait_at(gate)
         except BaseException:
             self._ask(lambda now: self._core.withdraw_all(tickets, now))
             raise

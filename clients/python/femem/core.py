@@ -171,6 +171,39 @@ class Core:
         self._flow.add(admitted)
         self._pump(now)
 
+    # Numbers that callers use themselves.
+
+    def lends(self) -> Tuple[int, int]:
+        """The numbers that may be lent: from the first to before the second. None while something is asked."""
+        window = self._flow.window
+        if window is None or self.file is not None or self.phase is not _READY or not self.is_idle or self._leaving is not None:
+            return 0, 0
+        return window.next_number(), window.next_number() + window.room()
+
+    def takes_back(self, tickets: Sequence[Optional[Ticket[Any]]], now: float) -> None:
+        """Notes that lent numbers were used for these. The last one may have no answer yet; then it is asked here."""
+        window = self._flow.window
+        assert window is not None
+        window.lent([ticket if ticket is not None and not ticket.done else None for ticket in tickets])
+        for number, ticket in zip(window.unanswered, [*window.unanswered.values()]):
+            if ticket.number is None:
+                ticket.number = number
+                ticket.taken = True
+                ticket.sent_at = now
+                assert ticket.request is not None
+                ticket.asks_first = ticket.request.may_wait  # as it was sent
+                self._asked_at = now
+                self.is_idle = False
+        if tickets:
+            self._heard(now)
+
+    def take_on(self, ticket: Ticket[Any], timeout: Optional[float], now: float) -> None:
+        """As `take`, for a ticket that may have been taken back from a caller."""
+        if ticket.taken and not ticket.done and timeout is not None:
+            self.is_urgent = True
+            self._timeouts.add(now + timeout, ticket)
+        self.take((ticket,), timeout, now)
+
     def report(self, now: float, ticket: Optional[Ticket[reports.Report]] = None) -> Ticket[reports.Report]:
         asked: Ticket[reports.Report] = ticket or Ticket(None)
         if self._admit((asked,), now):

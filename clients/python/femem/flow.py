@@ -258,12 +258,14 @@ class Flow:
         return True
 
     def _has_to_wait(self, ticket: Ticket[Any]) -> None:
-        assert self._moved is not None
+        ticket.number = None
         if ticket.taken_back is not None:
             self._end(ticket, error=ticket.taken_back)
-        else:
-            ticket.number = None
+        elif self._moved is not None:
             self._moved.append(ticket)
+        else:
+            ticket.asks_first = False
+            self._queue.append(ticket)
 
     def withdrawn(self, number: int) -> None:
         window = self.window

@@ -7,7 +7,7 @@ others' answers until the server has dropped them, since an answer may come agai
 
 from __future__ import annotations
 
-from typing import Dict, Generic, Iterable, List, Optional, TypeVar, Union
+from typing import Dict, Generic, Iterable, List, Optional, Sequence, TypeVar, Union
 
 from . import frames
 from .errors import ProtocolError, SessionLost, TakenOver
@@ -72,6 +72,19 @@ class Window(Generic[T]):
         self._next += 1
         self.unanswered[number] = item
         return number
+
+    def lent(self, tickets: Sequence[Optional[T]]) -> None:
+        """Notes that the next numbers were used for these. `None`: its answer was read elsewhere."""
+        for item in tickets:
+            if item is None:
+                self._answers[self._next] = _SETTLED_OTHERWISE
+            else:
+                self.unanswered[self._next] = item
+            self._next += 1
+
+    def next_number(self) -> int:
+        """The number that the next request gets."""
+        return self._next
 
     def lowest(self) -> int:
         """The lowest number without an answer, or the next number if there is none."""

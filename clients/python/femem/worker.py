@@ -12,16 +12,18 @@ import math
 import os
 import select
 import socket
+import struct
 import threading
 import time
 import weakref
 from collections import deque
 from functools import partial
 from threading import get_ident
-from typing import TYPE_CHECKING, Any, Callable, Deque, Optional, Sequence
+from typing import TYPE_CHECKING, Any, Callable, Deque, Optional, Sequence, Set
 
 from . import errors, registry
 from .core import Core, Phase
+from .lease import READ_TIME, Lease
 from .sides import Sides
 from .tickets import Ticket
 
@@ -42,6 +44,8 @@ _CONNECT_TIME = 1.0
 
 _READ_BYTES = 65536
 
+_TIMEVAL = struct.Struct("@ll")
+
 # How long the thread waits at its bell after the last answer, in seconds, before it looks at the connection again. The bell
 # is a lock, the cheapest way to wake a thread, and a caller that just got an answer often calls again soon.
 _LINGER = 0.01
@@ -52,6 +56,8 @@ _LOOK_AFTER = 0.02
 
 # What says at the first attempt to connect that no server is there.
 _NOT_THERE = (errno.ENOENT, errno.ENOTDIR, errno.EACCES, errno.EPERM, errno.ELOOP)
+
+_NOT_HERE = "a client is of the process that made it"
 
 _READY = Phase.READY
 _IN_AND_OUT = select.POLLIN | select.POLLOUT
@@ -90,6 +96,12 @@ class Worker:
         self._bell = threading.Lock()
         self._bell.acquire()
         self.is_over = False
+        # Numbers that callers use themselves while the thread is at its bell, and whose turn it is.
+        self.lease: Optional[Lease] = None
+        self.lead = threading.Lock()
+        # The locks at which callers wait for their answers, for a child to open them, and whether this is the child.
+        self._gates: Set[threading.Lock] = set()
+        self._is_forked = False
         # The thread's number while it runs.
         self.own_thread = 0
         # The time as the thread last read it, and when it next checks what is due.
@@ -123,6 +135,17 @@ class Worker:
             with self._ending:
                 self._do_what_is_asked()
 
+    def wait_at(self, gate: threading.Lock) -> None:
+        """Waits until the gate is opened. `Closed` in a child whose parent waited, as its signal handler forked."""
+        self._gates.add(gate)
+        try:
+            if not self._is_forked:
+                gate.acquire()
+            if self._is_forked:
+                raise errors.Closed(_NOT_HERE)
+        finally:
+            self._gates.discard(gate)
+
     def ring(self) -> None:
         try:
             self._bell.release()
@@ -154,6 +177,10 @@ class Worker:
 
     def _close(self, now: float) -> None:
         self.core.close()
+
+    def is_led(self) -> bool:
+        """Whether a caller must ask the thread: others have asked before, or one uses the connection now."""
+        return bool(self._asked) or self.lead.locked()
 
     def is_own_thread(self) -> bool:
         return get_ident() == self.own_thread
@@ -213,7 +240,7 @@ class Worker:
         if self._socket is None or not core.to_send:
             return
         try:
-            del core.to_send[: self._socket.send(core.to_send)]
+            del core.to_send[: self._socket.send(core.to_send, socket.MSG_DONTWAIT)]
         except BlockingIOError:
             pass
         except OSError:
@@ -318,7 +345,9 @@ class Worker:
             connection = socket.socket(socket.AF_UNIX, socket.SOCK_STREAM)
             connection.settimeout(_CONNECT_TIME)
             connection.connect(self.path)
-            connection.setblocking(False)
+            # Blocking, since callers read too; the thread itself never waits here.
+            connection.settimeout(None)
+            connection.setsockopt(socket.SOL_SOCKET, socket.SO_RCVTIMEO, _TIMEVAL.pack(0, int(1e6 * READ_TIME)))
         except OSError as error:
             self.core.trouble = trouble_of(self.path, error)
             if connection is not None:
@@ -403,8 +432,46 @@ class Worker:
         self._is_at_bell = True
         self._finish(core.take_ended())
         if seconds > 0.0 and not (self._asked or core.ended or core.to_send or core.is_urgent):
-            self._bell.acquire(timeout=seconds)
+            lease = self._lend()
+            if lease is None:
+                self._bell.acquire(timeout=seconds)
+            else:
+                self._await_bell(lease, seconds)
+                self._take_back(lease)
         self._is_at_bell = False
+
+    def _lend(self) -> Optional[Lease]:
+        """Lets callers ask over the connection themselves, from now on."""
+        first, end = self.core.lends()
+        if first < end and self._socket is not None:
+            self.lease = Lease(self._socket, first, end)
+        return self.lease
+
+    def _await_bell(self, lease: Lease, seconds: float) -> None:
+        """Sleeps until a caller rings, or the lease was not used for a while, or something is due."""
+        used = -1
+        while used < len(lease.tickets) and not self._asked and lease.unfinished() is None:
+            used = len(lease.tickets)
+            if self._bell.acquire(timeout=seconds) or time.monotonic() >= self._look_at:
+                break
+
+    def _take_back(self, lease: Lease) -> None:
+        """Ends the lease, and goes on with what its last caller left."""
+        self.lease = None
+        is_free = self.lead.acquire(timeout=2 * READ_TIME)
+        if not is_free:
+            # Its caller is held up, perhaps within a signal handler that waits for this thread. What it does later is in vain.
+            self.lead = threading.Lock()
+            lease.is_known = False
+        core = self.core
+        self._now = now = time.monotonic()
+        if lease.unfinished() is not None and not lease.is_known:
+            self._give_up_connection(lease.connection)
+        core.takes_back(list(lease.tickets), now)
+        if is_free:
+            self.lead.release()
+        if lease.rest:
+            core.received(bytes(lease.rest), now)
 
     def _drain(self) -> None:
         try:
@@ -415,7 +482,7 @@ class Worker:
     def _read(self, connection: socket.socket) -> bool:
         """Reads what came. Returns whether the connection is still up."""
         try:
-            piece = connection.recv(_READ_BYTES)
+            piece = connection.recv(_READ_BYTES, socket.MSG_DONTWAIT)
         except BlockingIOError:
             return True
         except OSError:
@@ -435,13 +502,19 @@ class Worker:
     def forked(self) -> None:
         """In a child of the process: closes what it inherited, which is the parent's, without sending anything."""
         core = self.core
-        core.failure = errors.Closed("a client is of the process that made it")
+        core.failure = errors.Closed(_NOT_HERE)
         core.phase = Phase.ENDED
         core.to_send = bytearray()  # the thread may have been sending from the old one
         self.is_over = True
         self.own_thread = 0
         self._ending = threading.RLock()
+        self.lease = None
+        self.lead = threading.Lock()  # a caller may have held the other one
         self._asked.clear()
+        self._is_forked = True
+        for gate in list(self._gates):
+            if gate.locked():
+                gate.release()
         for inherited in (self._socket, self._waker, self._woken):
             if inherited is not None:
                 inherited.close()

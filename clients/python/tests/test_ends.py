@@ -230,11 +230,12 @@ class Closes(WithFolder):
     def test_a_client_that_nobody_refers_to_is_closed(self):
         server = self.server()
         gc.collect()
-        files, others = len(os.listdir("/proc/self/fd")), threads_of_clients()
+        others = threads_of_clients()
         for session in (None, 7):
             with self.subTest(session=session):
                 client = Client(self.path, session, sessions=2)
                 client.submit(requests.readfe(client.create(f"w{session or 0}", 1), 0))
+                worker = client._worker
                 with warnings.catch_warnings(record=True) as told:
                     warnings.simplefilter("always")
                     del client
@@ -242,7 +243,7 @@ class Closes(WithFolder):
                 self.assertIn(ResourceWarning, [each.category for each in told])
                 self.assertTrue(until(lambda: threads_of_clients() <= others))
                 self.assertEqual(list(server.model.stored.sessions), [7] if session else [])
-        self.assertTrue(until(lambda: len(os.listdir("/proc/self/fd")) <= files))
+                self.assertEqual((worker._socket, worker._waker.fileno(), worker._woken.fileno()), (None, -1, -1))
 
     def test_a_loop_that_tries_again_leaves_one_session(self):
         """The server is slow: each client gives up, and its attach is carried out all the same."""

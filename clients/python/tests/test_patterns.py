@@ -300,8 +300,8 @@ class Patterns(WithFolder):
             inner, sent = client._worker._socket, []
 
             class Counting:
-                def send(self, content):
-                    sent.append(inner.send(content))
+                def send(self, content, *flags):
+                    sent.append(inner.send(content, *flags))
                     return sent[-1]
 
             client._worker._socket = Counting()
