@@ -9,7 +9,8 @@ from . import errors, frames
 from .errors import AnswerError, ProtocolError
 from .frames import append_under
 from .requests import of_frame
-from .sessionfile import Asked, SessionFile
+from .sessionfile import SessionFile
+from .sessionstate import Asked, Contradiction
 from .tickets import Ticket
 from .window import Window
 
@@ -68,7 +69,7 @@ class Flow:
             if asked.ends_with_process:
                 ticket.taken_back = errors.Withdrawn("its process ended")
             tickets[number] = ticket
-        self.window = Window.of_file(file.floor, file.asked_floor, file.next, tickets, file.answers, file.ended)
+        self.window = Window.of_file(file.floor, file.asked_floor, file.next, tickets, file.answers)
         return [ticket for ticket in tickets.values() if ticket.taken_back is None]
 
     def add(self, tickets: Sequence[Ticket[Any]]) -> None:
@@ -179,8 +180,8 @@ class Flow:
         """Sends the settle that is due, every unanswered request under its old number, and the cancels."""
         window = self.window
         assert window is not None
-        if window.asked != window.floor:
-            self._settle(window.asked, now)
+        for floor in window.floors():
+            self._settle(floor, now)
         for ticket in window.unanswered.values():
             self._send(ticket, now)
         for ticket in window.unanswered.values():
@@ -250,7 +251,10 @@ class Flow:
         if ticket is None:
             return False
         if self._file is not None:
-            self._file.answered(answer)
+            try:
+                self._file.answered(answer)
+            except Contradiction as wrong:
+                raise ProtocolError(str(wrong)) from None
         if ticket.asks_first and answer.code == frames.NOT_NOW:
             self._has_to_wait(ticket)
         else:

@@ -7,7 +7,7 @@ others' answers until the server has dropped them, since an answer may come agai
 
 from __future__ import annotations
 
-from typing import Dict, Generic, Iterable, List, Optional, Sequence, TypeVar, Union
+from typing import Dict, Generic, List, Optional, Sequence, TypeVar, Union
 
 from . import frames
 from .errors import ProtocolError, SessionLost, TakenOver
@@ -31,6 +31,9 @@ _MOST_HOLDING = _WINDOW // 2
 
 _SETTLED_OTHERWISE = "no answer is due"
 
+# Of numbers that a former process used: an answer may come once more, and it is not known which.
+_NOT_KEPT = "not kept"
+
 
 class Window(Generic[T]):
     """`floor` is the current floor, and `asked` the one that is asked for: the same, or up to 31 above."""
@@ -41,6 +44,8 @@ class Window(Generic[T]):
         self.unanswered: Dict[int, T] = {}  # ascending, since numbers are given in order
         self._next = floor
         self._answers: Dict[int, Union[frames.Answer, str]] = {}
+        # Whether floors between the current one and the one asked for may be reported.
+        self._several = False
 
     @classmethod
     def of_file(
@@ -50,16 +55,16 @@ class Window(Generic[T]):
         next: int,
         unanswered: Dict[int, T],
         answers: Dict[int, frames.Answer],
-        ended: Iterable[int],
     ) -> Window[T]:
-        """The window as a former process left it."""
+        """The window as a former process left it. That may have asked for several floors, one after the other."""
         window: Window[T] = cls(floor)
         window.asked = asked
         window._next = next
+        window._several = asked > floor
         window.unanswered = unanswered
-        window._answers.update(answers)
-        for number in ended:
-            window._answers[number] = _SETTLED_OTHERWISE
+        for number in range(floor, next):
+            if number not in unanswered:
+                window._answers[number] = answers.get(number, _NOT_KEPT)
         return window
 
     def room(self) -> int:
@@ -96,7 +101,8 @@ class Window(Generic[T]):
         if number in self.unanswered:
             self._answers[number] = answer
             return self.unanswered.pop(number)
-        if self._answers.get(number) != answer:
+        kept = self._answers.get(number)
+        if kept != answer and kept is not _NOT_KEPT:
             raise ProtocolError(f"an answer to number {number} that is not due")
         return None
 
@@ -114,6 +120,10 @@ class Window(Generic[T]):
             return None
         self.asked = floor
         return floor
+
+    def floors(self) -> List[int]:
+        """The floors to ask for again over a new connection: up to the one asked for, each at most a window above the last."""
+        return [*range(self.floor + _WINDOW, self.asked, _WINDOW), self.asked] if self.asked != self.floor else []
 
     def is_stuck(self) -> bool:
         """Whether there is no room until the request of the lowest number ends."""
@@ -138,9 +148,10 @@ class Window(Generic[T]):
         """The server reports that this is the floor."""
         if floor == self.floor:
             return
-        if floor != self.asked:
+        if floor != self.asked and not (self._several and self.floor < floor < self.asked):
             raise ProtocolError(f"floor {floor}, where {self.floor} stands and {self.asked} is asked for")
         self.floor = floor
+        self._several = self._several and floor != self.asked
         for number in [number for number in self._answers if number < floor]:
             del self._answers[number]
 
@@ -151,6 +162,6 @@ class Window(Generic[T]):
         """
         if floor < self.floor:
             raise SessionLost(f"the floor was {self.floor} and is {floor}")
-        if floor not in (self.floor, self.asked):
+        if floor not in (self.floor, self.asked) and not (self._several and floor < self.asked):
             raise TakenOver(f"the floor was {self.floor} and is {floor}")
         self.settled(floor)

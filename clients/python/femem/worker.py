@@ -139,9 +139,12 @@ class Worker:
         """Waits until the gate is opened. `Closed` in a child whose parent waited, as its signal handler forked."""
         self._gates.add(gate)
         try:
-            if not self._is_forked:
-                gate.acquire()
             if self._is_forked:
+                is_answered = gate.acquire(blocking=False)  # what is asked in a child is done at once
+            else:
+                gate.acquire()
+                is_answered = not self._is_forked
+            if not is_answered:
                 raise errors.Closed(_NOT_HERE)
         finally:
             self._gates.discard(gate)

@@ -173,7 +173,7 @@ class Windows(unittest.TestCase):
         self.assertEqual([t.result for t in waiting], list(range(40)))
 
     def test_calls_beside_what_waits_need_no_time(self):
-        """Beside requests that wait, a thousand calls are answered while the clock stands still."""
+        """Beside requests that wait, three hundred calls are answered while the clock stands still."""
         for waiters in (1, 2, 11, 12, 16, 17, 20, 31, 32, 40):
             with self.subTest(waiters=waiters):
                 world = World(waiters)
@@ -183,13 +183,13 @@ class Windows(unittest.TestCase):
                 waiting = [core.submit(requests.readfe(words, index), world.now) for index in range(waiters)]
                 exchange(world, core, 6)
                 turns = 0
-                for value in range(1000):
+                for value in range(300):
                     ticket = core.submit(requests.int_fetch_add(count, 0, 1), world.now)
-                    while not ticket.done and turns < 8000:
+                    while not ticket.done and turns < 2400:
                         exchange(world, core, 1)
                         turns += 1
                     self.assertEqual(ticket.result, value)
-                self.assertTrue(waiters > 16 or turns == 1000, turns)
+                self.assertTrue(waiters > 16 or turns == 300, turns)
                 for index in range(waiters):
                     run_beside(world, core, requests.writeef(words, index, index))
                 world.settle_down([core])

@@ -21,7 +21,8 @@ from femem import Client, aio, frames, requests, sessionfile
 from femem.aio import AsyncClient
 from femem.client import key_bytes
 from femem.core import Core
-from femem.sessionfile import Asked, SessionFile
+from femem.sessionfile import SessionFile
+from femem.sessionstate import Asked
 from femem.worker import Worker
 
 POINTS = {
@@ -186,6 +187,15 @@ class Killed(WithFolder):
             self.assertEqual(watcher.readff(word, 0), 30)
 
 
+def blocks_of(content):
+    """Where the blocks of a session file begin."""
+    at, places = 20, []
+    while at < len(content):
+        places.append(at)
+        at += 32 + struct.unpack_from(">I", content, at)[0]
+    return places
+
+
 class Files(WithFolder):
     def setUp(self):
         super().setUp()
@@ -197,6 +207,14 @@ class Files(WithFolder):
         client._core.file = None
         client._core._flow._file = None
         client.close()
+
+    @staticmethod
+    def begin_to_leave(client):
+        """Notes in the file, in the client's own thread, that the session is being ended."""
+        noted = threading.Event()
+        file = client._core.file
+        client._ask(lambda now: (file.ending(), file.commit(), noted.set()))
+        noted.wait(60)
 
     def test_a_key_is_asked_once(self):
         self.server()
@@ -317,7 +335,7 @@ class Files(WithFolder):
 
     def test_another_file_is_refused_and_not_touched(self):
         self.server()
-        for content in (b"what a user wrote\n", b"femempy2" + bytes(40)):
+        for content in (b"what a user wrote\n", b"femempy2" + bytes(40), b"FEMEMSF1" + bytes(40), b"FEMEMSF2", b"F"):
             with open(self.file, "wb") as file:
                 file.write(content)
             with self.assertRaises(femem.SessionFileError):
@@ -337,7 +355,7 @@ class Files(WithFolder):
             with open(self.file, "wb") as file:
                 file.write(whole[:cut])
             SessionFile(self.file).abandon()
-        first = 8 + struct.unpack(">I", whole[8:12])[0] + 8
+        first = blocks_of(whole)[1]
         with open(self.file, "wb") as file:
             file.write(whole[: first + 12] + b"\xff" + whole[first + 13 :])
         with self.assertRaises(femem.SessionFileError):
@@ -351,9 +369,7 @@ class Files(WithFolder):
                 client.int_fetch_add(word, 0, 1)
         with open(self.file, "rb") as file:
             whole = file.read()
-        last = at = 8
-        while at < len(whole):
-            last, at = at, at + 8 + struct.unpack_from(">I", whole, at)[0]
+        last = blocks_of(whole)[-1]
         self.assertGreater(last, 200)
         for at, bit in itertools.product(range(last), (0x01, 0x10, 0x80)):
             damaged = whole[:at] + bytes([whole[at] ^ bit]) + whole[at + 1 :]
@@ -370,7 +386,8 @@ class Files(WithFolder):
         if drawn < 0.35 and file.next < file.asked_floor + 32:
             number, key = file.next, chance.choice([None, b"one", b"two", b"three"])
             taken = {file.unanswered[each].key for each in out} | set(file.keyed)
-            file.asked(number, Asked(b"frame %d" % number, None if key in taken else key, drawn < 0.05))
+            frame = requests.int_fetch_add(1, number, number).frame
+            file.asked(number, Asked(frame, None if key in taken else key, drawn < 0.05))
             out.append(number)
         elif drawn < 0.6 and out:
             number = out.pop(chance.randrange(len(out)))
@@ -391,7 +408,7 @@ class Files(WithFolder):
     def says(file):
         keyed = {key: (frame, answer._replace(number=0)) for key, (frame, answer) in file.keyed.items()}
         numbers = (file.session, file.floor, file.asked_floor, file.next)
-        return numbers, file.unanswered, file.answers, sorted(file.ended), keyed
+        return numbers, file.unanswered, keyed
 
     def test_what_is_read_is_what_was_kept(self):
         """Whatever happens to a session, and however often the file is rewritten, the next process reads it."""
@@ -588,8 +605,7 @@ class Files(WithFolder):
         client = Client(self.path, session_file=self.file)
         client.create("word", 1)
         first = client.session
-        client._core.file.ending()
-        client._core.file.commit()
+        self.begin_to_leave(client)
         self.abandon(client)
         with Client(self.path, session_file=self.file) as client:
             self.assertNotEqual(client.session, first)
@@ -611,8 +627,7 @@ class Files(WithFolder):
         word = former.create("word", 1)
         former.submit(requests.readfe(word, 0))
         former.readxx(word, 0)  # then its thread has nothing more to do
-        former._core.file.ending()
-        former._core.file.commit()
+        self.begin_to_leave(former)
         self.abandon(former)
 
         async def main():
