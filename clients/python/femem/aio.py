@@ -28,6 +28,7 @@ from .client import choose_session, end_session, key_bytes, pause_of, request_of
 from .core import Core, Phase
 from .jobs import Job
 from .errors import FememError
+from .events import OnEvent
 from .reports import Report
 from .requests import Array, ArrayLike, Request
 from .sessionfile import SessionFile
@@ -57,6 +58,7 @@ class AsyncClient:
         reconnect_timeout: Optional[float] = 30.0,
         probe_interval: float = 5.0,
         wait_for_server: bool = False,
+        on_event: Optional[OnEvent] = None,
     ) -> None:
         self.timeout = seconds_of(timeout)
         patience = seconds_of(reconnect_timeout, "reconnect_timeout")
@@ -74,8 +76,9 @@ class AsyncClient:
         self._process = os.getpid()
         self._pause = pause
         self._core = Core(
-            choice.session, patience, pause, choice.file, self._now, choice.sessions > 1, choice.is_temporary
+            choice.session, patience, pause, choice.file, self._now, choice.sessions > 1, choice.is_temporary, on_event
         )
+        self._on_event = on_event
         self._count = choice.sessions
         self._sides: Sides[AsyncClient] = Sides(())
         self._transport: Optional[asyncio.Transport] = None
@@ -155,7 +158,12 @@ class AsyncClient:
     async def _open_sides(self) -> None:
         sides = [
             AsyncClient(
-                self.path, number, reconnect_timeout=self._patience, probe_interval=self._pause, wait_for_server=True
+                self.path,
+                number,
+                reconnect_timeout=self._patience,
+                probe_interval=self._pause,
+                wait_for_server=True,
+                on_event=self._on_event,
             )
             for number in numbers(self.session, self._count)
         ]

@@ -12,16 +12,17 @@ from concurrent.futures import Future
 from functools import partial
 from threading import get_ident
 from types import TracebackType
-from typing import TYPE_CHECKING, Any, Callable, Iterable, List, NamedTuple, Optional, Sequence, Type, TypeVar, Union
+from typing import Any, Callable, Iterable, Iterator, List, NamedTuple, Optional, Sequence, Type, TypeVar, Union
 
 from . import errors, registry, requests, worker
 from .core import Core
+from .events import OnEvent
 from .jobs import Job
 from .reports import Report
 from .requests import Array, ArrayLike, Request
 from .sessionfile import SessionFile
 from .sides import Sides, count_of, numbers
-from .tickets import Ticket
+from .tickets import Ticket, nobody
 from .worker import Worker
 
 T = TypeVar("T")
@@ -138,7 +139,7 @@ def end_session(path: str, session: int, sessions: int) -> None:
     """Ends the sessions of a client that was killed."""
     for number in [session, *numbers(session, sessions)]:
         try:
-            with Client(path, number, reconnect_timeout=worker.FAREWELL) as client:
+            with Client(path, number, reconnect_timeout=worker.SWEEP_PATIENCE) as client:
                 client.bye()
         except errors.SessionLimit:
             pass  # it is not kept
@@ -156,6 +157,8 @@ class Client:
     `timeout`, in seconds, is for operations that name none: one that still waits then is taken back. `reconnect_timeout`
     is how long the server may be unreachable, or owe a reply, while something is asked of it; `None` means no limit.
 
+    `on_event(kind, session, seconds)` is called at what `femem.events` lists, in the client's or the caller's thread.
+
     With `sessions=N` it has N sessions: requests that wait are made over the further ones, 32 over each, and so hold up
     nothing else. They end with the client. Their numbers follow from that of its own session.
     """
@@ -171,6 +174,7 @@ class Client:
         reconnect_timeout: Optional[float] = 30.0,
         probe_interval: float = 5.0,
         wait_for_server: bool = False,
+        on_event: Optional[OnEvent] = None,
     ) -> None:
         """Connects and attaches. If nothing is at the path, `wait_for_server` waits for it, up to `reconnect_timeout`.
 
@@ -186,19 +190,32 @@ class Client:
             if choice.file is not None and choice.file.is_ending:
                 self._end_session(choice.file, patience)
                 choice = choice._replace(session=choice.file.session)
-            self._begin(choice, patience, pause, wait_for_server)
-            self._open_sides(choice.sessions, patience, pause)
+            self._begin(choice, patience, pause, wait_for_server, on_event)
+            self._open_sides(choice.sessions, patience, pause, on_event)
         except BaseException:
             if choice.file is not None:
                 choice.file.close()
             raise
 
-    def _begin(self, choice: SessionChoice, patience: Optional[float], pause: float, wait_for_server: bool) -> None:
+    def _begin(
+        self,
+        choice: SessionChoice,
+        patience: Optional[float],
+        pause: float,
+        wait_for_server: bool,
+        on_event: Optional[OnEvent],
+    ) -> None:
         """Starts the thread, and waits until the session is attached."""
         self.session = choice.session
         moves_waits = choice.sessions > 1
         self._core = core = Core(
-            self.session, patience, pause, choice.file, moves_waits=moves_waits, is_own=choice.is_temporary
+            self.session,
+            patience,
+            pause,
+            choice.file,
+            moves_waits=moves_waits,
+            is_own=choice.is_temporary,
+            on_event=on_event,
         )
         self._worker = worker = Worker(self.path, core, pause, choice.is_temporary, wait_for_server)
         self._ask = worker.ask
@@ -219,12 +236,21 @@ class Client:
             self.close()
             raise
 
-    def _open_sides(self, count: int, patience: Optional[float], pause: float) -> None:
+    def _open_sides(
+        self, count: int, patience: Optional[float], pause: float, on_event: Optional[OnEvent]
+    ) -> None:
         sides: List[Client] = []
         try:
             for number in numbers(self.session, count):
                 sides.append(
-                    Client(self.path, number, reconnect_timeout=patience, probe_interval=pause, wait_for_server=True)
+                    Client(
+                        self.path,
+                        number,
+                        reconnect_timeout=patience,
+                        probe_interval=pause,
+                        wait_for_server=True,
+                        on_event=on_event,
+                    )
                 )
                 sides[-1]._worker.is_temporary = True
             self._worker.sides = Sides(sides)
@@ -455,22 +481,25 @@ class Client:
             lease = worker.lease
             if lease is not None and not worker.is_led():
                 # No interruption comes between the lock's taking and the block.
+                events = self._core.events
+                begun = 0.0 if events is None else time.monotonic()
                 with worker.lead:
                     is_done = worker.lease is lease and lease.call(ticket)
                 if is_done:
+                    if events is not None:
+                        events.emit("answered", time.monotonic() - begun)
                     return _result(ticket)
             elif get_ident() == worker.own_thread:
                 self._check_thread()
             self._ask(partial(self._core.take_on, ticket, seconds))
             worker.wait_at(gate)
+            return _result(ticket)
         except errors.FememError:
+            del ticket  # the error's traceback has this frame
             raise
         except BaseException:
-            self._ask(lambda now: self._core.withdraw(ticket, now))
+            self._ask(partial(self._core.withdraw, ticket))
             raise
-        if ticket.error is not None:
-            raise ticket.error
-        return ticket.result  # type: ignore[return-value]
 
     def _run_job(self, job: Job[T]) -> T:
         """Runs an operation of several steps. If this thread is interrupted, it is taken back and undone."""
@@ -499,16 +528,7 @@ class Client:
             gate = threading.Lock()
             gate.acquire()
             left = iter(tickets)
-
-            def finished() -> None:
-                """Passes this callback on to the next ticket that is not done."""
-                for ticket in left:
-                    if not ticket.done:
-                        ticket.finished = finished
-                        return
-                gate.release()
-
-            next(left).finished = finished
+            next(left).finished = _Last(left, gate)
             self._ask(ask)
             self._worker.wait_at(gate)
         except BaseException:
@@ -525,6 +545,7 @@ class Client:
                 future.set_exception(ticket.error)
             else:
                 future.set_result(ticket.result)
+            ticket.finished = nobody  # nothing holds itself
 
         ticket.finished = finished
         future.asked = (self._core, ticket)  # type: ignore[attr-defined]
@@ -554,9 +575,49 @@ class Pipeline:
         self._requests.append(request_of(request))
         return self
 
-    if TYPE_CHECKING:
+    def create(self, name: Union[str, bytes], length: int, full: bool = False) -> Pipeline:
+        self._requests.append(requests.create(name, length, full))
+        return self
 
-        def __getattr__(self, name: str) -> Callable[..., Pipeline]: ...
+    def find(self, name: Union[str, bytes]) -> Pipeline:
+        self._requests.append(requests.find(name))
+        return self
+
+    def remove(self, array: ArrayLike) -> Pipeline:
+        self._requests.append(requests.remove(array))
+        return self
+
+    def readfe(self, array: ArrayLike, index: int, nowait: bool = False) -> Pipeline:
+        self._requests.append(requests.readfe(array, index, nowait))
+        return self
+
+    def readff(self, array: ArrayLike, index: int, nowait: bool = False) -> Pipeline:
+        self._requests.append(requests.readff(array, index, nowait))
+        return self
+
+    def readxx(self, array: ArrayLike, index: int) -> Pipeline:
+        self._requests.append(requests.readxx(array, index))
+        return self
+
+    def writeef(self, array: ArrayLike, index: int, value: int, nowait: bool = False) -> Pipeline:
+        self._requests.append(requests.writeef(array, index, value, nowait))
+        return self
+
+    def writeff(self, array: ArrayLike, index: int, value: int, nowait: bool = False) -> Pipeline:
+        self._requests.append(requests.writeff(array, index, value, nowait))
+        return self
+
+    def writexf(self, array: ArrayLike, index: int, value: int) -> Pipeline:
+        self._requests.append(requests.writexf(array, index, value))
+        return self
+
+    def purge(self, array: ArrayLike, index: int) -> Pipeline:
+        self._requests.append(requests.purge(array, index))
+        return self
+
+    def int_fetch_add(self, array: ArrayLike, index: int, value: int, nowait: bool = False) -> Pipeline:
+        self._requests.append(requests.int_fetch_add(array, index, value, nowait))
+        return self
 
     def run(self, *, timeout: Timeout = DEFAULT) -> List[Any]:
         """Asks what was added since the last time. Returns the answers."""
@@ -577,27 +638,35 @@ class Pipeline:
             self.run()
 
 
-def _adder(make: Callable[..., Request[Any]]) -> Callable[..., Pipeline]:
-    def add(pipeline: Pipeline, *words: Any, **more: Any) -> Pipeline:
-        pipeline._requests.append(make(*words, **more))
-        return pipeline
-
-    return add
-
-
-# A pipeline has a method for each function that makes a request.
-for _name in ("create", "find", "remove", *(what for what, _, _ in requests.OPERATIONS.values())):
-    setattr(Pipeline, _name, _adder(getattr(requests, _name)))
-
-
 # Makes the lock at which a caller waits for its answer.
 _new_gate = threading.Lock
 
 
 def _result(ticket: Ticket[T]) -> T:
-    if ticket.error is not None:
-        raise ticket.error
-    return ticket.result  # type: ignore[return-value]
+    error = ticket.error
+    if error is None:
+        return ticket.result  # type: ignore[return-value]
+    try:
+        raise error
+    finally:
+        del ticket, error  # the error's traceback would hold it
+
+
+class _Last:
+    """Called as a ticket is done. It goes on to the next one that is not, and opens the gate behind the last one."""
+
+    __slots__ = ("_left", "_gate")
+
+    def __init__(self, left: Iterator[Ticket[Any]], gate: threading.Lock) -> None:
+        self._left = left
+        self._gate = gate
+
+    def __call__(self) -> None:
+        for ticket in self._left:
+            if not ticket.done:
+                ticket.finished = self
+                return
+        self._gate.release()
 
 
 os.register_at_fork(after_in_child=worker.in_child)

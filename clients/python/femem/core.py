@@ -17,6 +17,7 @@ from typing import Any, Callable, Deque, Dict, List, Optional, Sequence, Set, Tu
 
 from . import errors, frames, reports
 from .errors import ProtocolError
+from .events import Events, OnEvent
 from .frames import Answer
 from .flow import PATIENCE, Flow
 from .jobs import Batch, Fence, Job, Look, Pause, Present, Step, Wait
@@ -69,6 +70,7 @@ class Core:
         clock: Callable[[], float] = time.monotonic,
         moves_waits: bool = False,
         is_own: bool = False,
+        on_event: Optional[OnEvent] = None,
     ) -> None:
         self.session = number_of_bits(session, 64, "session")
         self.phase = _DOWN
@@ -97,7 +99,10 @@ class Core:
         self.ended: List[Ticket[Any]] = []
         # The requests that have to wait, for `take_moved`.
         self.moved: List[Ticket[Any]] = []
-        self._flow = Flow(self.to_send, self.ended, file, self.moved if moves_waits else None)
+        # What its program wants to know of, and since when it has been as it is: connecting, or attached.
+        self.events = None if on_event is None else Events(on_event, session)
+        self._changed_at = 0.0 if self.events is None else self.events.now()
+        self._flow = Flow(self.to_send, self.ended, file, self.moved if moves_waits else None, self.events)
         # The requests made over another session, and how that takes each back.
         self._elsewhere: Dict[Ticket[Any], Callable[[errors.Withdrawn], object]] = {}
         self._reports: Deque[Ticket[reports.Report]] = deque()
@@ -150,7 +155,7 @@ class Core:
         """Before it is opened: takes the file's new session, which has no requests yet."""
         assert self.file is not None
         self.session = self.file.session
-        self._flow = Flow(self.to_send, self.ended, self.file)
+        self._flow = Flow(self.to_send, self.ended, self.file, None, self.events)
         self.recovered = []
         self._was_away = False
 
@@ -190,6 +195,7 @@ class Core:
                 ticket.number = number
                 ticket.taken = True
                 ticket.sent_at = now
+                ticket.asked_at = 0.0 if self.events is None else self.events.now()
                 assert ticket.request is not None
                 ticket.asks_first = ticket.request.may_wait  # as it was sent
                 self._asked_at = now
@@ -279,6 +285,8 @@ class Core:
             return
         self.failure = failure
         if not isinstance(failure, errors.Closed):
+            if self.events is not None:
+                self.events.emit("failed", 0.0)
             log.error("session %d: %s: %s", self.session, type(failure).__name__, failure)
         self.was_ready = self.phase is _READY
         self.phase = _ENDED
@@ -334,6 +342,7 @@ class Core:
         if self._in_contact:
             self._in_contact = False
             self._lost_at = now
+            self._changed("lost")
 
     def received(self, piece: bytes, now: float) -> None:
         if self.phase is _DOWN or self.phase is _ENDED:
@@ -671,8 +680,14 @@ class Core:
 
     def _is_open(self) -> None:
         log.info("session %d: attached", self.session)
+        self._changed("attached")
         if self._opening is not None and not self._opening.done:
             self._end(self._opening)
+
+    def _changed(self, kind: str) -> None:
+        if self.events is not None:
+            self.events.since(kind, self._changed_at)
+            self._changed_at = self.events.now()
 
     def _take_settled(self, floor: int) -> None:
         window = self._flow.window

@@ -7,6 +7,7 @@ from typing import Any, Deque, Dict, List, Optional, Sequence, Set
 
 from . import errors, frames
 from .errors import AnswerError, ProtocolError
+from .events import Events
 from .frames import append_under
 from .requests import of_frame
 from .sessionfile import SessionFile
@@ -33,8 +34,10 @@ class Flow:
         ended: List[Ticket[Any]],
         file: Optional[SessionFile] = None,
         moved: Optional[List[Ticket[Any]]] = None,
+        events: Optional[Events] = None,
     ) -> None:
         self._moved = moved
+        self._events = events
         self.window: Optional[Window[Ticket[Any]]] = None
         self._file = file
         # Requests under keys that have no answer yet.
@@ -64,6 +67,7 @@ class Flow:
             ticket.number = number
             ticket.taken = True
             ticket.key = asked.key
+            ticket.asked_at = 0.0 if self._events is None else self._events.now()
             if asked.key is not None:
                 self._keys[asked.key] = ticket
             if asked.ends_with_process:
@@ -73,6 +77,10 @@ class Flow:
         return [ticket for ticket in tickets.values() if ticket.taken_back is None]
 
     def add(self, tickets: Sequence[Ticket[Any]]) -> None:
+        if self._events is not None:
+            now = self._events.now()
+            for ticket in tickets:
+                ticket.asked_at = ticket.asked_at or now
         for ticket in tickets:
             if ticket.key is None or not self._is_known(ticket, ticket.key):
                 if self._moved is not None:
@@ -184,6 +192,7 @@ class Flow:
             self._settle(floor, now)
         for ticket in window.unanswered.values():
             self._send(ticket, now)
+            self._tell("sent_again", ticket)
         for ticket in window.unanswered.values():
             if ticket.taken_back is not None:
                 self._cancel(ticket, now)
@@ -235,7 +244,8 @@ class Flow:
         try:
             result = ticket.request.result(answer)
         except AnswerError as error:
-            self._end(ticket, error=error)
+            # (a traceback would hold the ticket, and so itself)
+            self._end(ticket, error=error.with_traceback(None))
         except ProtocolError as error:
             self._end(ticket, error=error)
             raise
@@ -259,13 +269,19 @@ class Flow:
             self._has_to_wait(ticket)
         else:
             self._end_by(ticket, answer)
+            self._tell("answered", ticket)
         return True
+
+    def _tell(self, kind: str, ticket: Ticket[Any]) -> None:
+        if self._events is not None and not ticket.is_presence:
+            self._events.since(kind, ticket.asked_at)
 
     def _has_to_wait(self, ticket: Ticket[Any]) -> None:
         ticket.number = None
         if ticket.taken_back is not None:
             self._end(ticket, error=ticket.taken_back)
         elif self._moved is not None:
+            self._tell("moved", ticket)
             self._moved.append(ticket)
         else:
             ticket.asks_first = False
@@ -282,6 +298,7 @@ class Flow:
         else:
             ticket.number = None
             ticket.has_moved = True
+            self._tell("moved", ticket)
             self._queue.append(ticket)
 
     def _end_number(self, window: Window[Ticket[Any]], number: int) -> Ticket[Any]:

@@ -31,7 +31,7 @@ class Lease:
     def __init__(self, connection: socket.socket, first: int, end: int) -> None:
         self.connection = connection
         self.first = first
-        # Those whose numbers were used, in order. `None`: the request has to wait, and was not carried out.
+        # Those whose numbers were used, in order. `None`: its answer was read.
         self.tickets: List[Optional[Ticket[Any]]] = []
         # What came and was no answer to a caller.
         self.rest = bytearray()
@@ -97,11 +97,12 @@ class Lease:
         request = ticket.request
         assert request is not None
         if request.may_wait and answer.code == NOT_NOW:
-            self.tickets[-1] = None
+            self.tickets[-1] = None  # it has to wait, and the thread asks it again
             return False
         try:
             ticket.result = request.result(answer)
         except AnswerError as error:
-            ticket.error = error
+            ticket.error = error.with_traceback(None)
         ticket.done = True
+        self.tickets[-1] = None
         return True

@@ -39,6 +39,9 @@ LONGEST_PAUSE = 0.25
 # How long the end of a temporary session may take when its client is closed, in seconds.
 FAREWELL = 1.0
 
+# How long a client waits for its server to end the session of a killed one, in seconds.
+SWEEP_PATIENCE = 5.0
+
 # How long an attempt to connect may take, in seconds.
 _CONNECT_TIME = 1.0
 
