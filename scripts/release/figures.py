@@ -101,6 +101,8 @@ def gate():
         f" crates, {of_kind('tests') / 60:.0f} for tests, {of_kind('edits') / 60:.0f} for must-fail edits"
     )
     yield ""
+    yield "A cell without a figure: nothing is there, or an earlier run on that machine did it, and it was kept."
+    yield ""
     yield row(("crate", "proofs, in processor minutes", "tests", "edits"))
     yield "|---|---|---|---|"
     for crate in crates():

@@ -36,6 +36,10 @@ async def _run(client: AsyncClient, work: Steps[T], undo: Optional[Callable[[T],
     return await client._run_job(Job(work, undo))
 
 
+async def _give_back(client: AsyncClient, work: Steps[None]) -> None:
+    await client._run_job(Job(work, gives_back=True))
+
+
 class Lock:
     """As `patterns.Lock`, with `async with`."""
 
@@ -52,7 +56,7 @@ class Lock:
         return await _run(self._client, self._steps.acquire(None, True, None), self._steps.release_if_got)
 
     async def release(self) -> None:
-        await _run(self._client, self._steps.release())
+        await _give_back(self._client, self._steps.release())
 
     @property
     def generation(self) -> Optional[int]:
@@ -100,7 +104,7 @@ class Semaphore:
         return await _run(self._client, self._steps.acquire(None, True), self._steps.release_if_got)
 
     async def release(self, holder: Optional[int] = None) -> None:
-        await _run(self._client, self._steps.release(holder))
+        await _give_back(self._client, self._steps.release(holder))
 
     async def holders(self) -> List[int]:
         return await _run(self._client, self._steps.holders())

@@ -7,31 +7,38 @@
 
 `femem.Client` says under the same name what each operation returns, when it waits and which errors it has. A task that is
 cancelled while it awaits an operation takes it back and waits for the server's reply: if the operation had happened, the
-task gets its answer, and is not cancelled there. So `asyncio.wait_for` loses no value.
+task gets its answer, and is cancelled at its next operation or `await`. So `asyncio.wait_for` loses no value.
 """
 
 from __future__ import annotations
 
 import asyncio
+import atexit
+import logging
 import os
+import warnings
 import weakref
 from functools import partial
 from types import TracebackType
 from typing import Any, Awaitable, Iterable, List, Optional, Sequence, Type, TypeVar, Union, cast
 
-from . import errors, requests
-from .client import DEFAULT, FIRST_PAUSE, LONGEST_PAUSE, Key, Path, Recovered, Timeout
-from .client import choose_session, key_bytes, pause_of, request_of, seconds_of, ticket_of
+from . import errors, frames, registry, requests
+from .client import DEFAULT, Key, Path, Recovered, Timeout
+from .client import choose_session, end_session, key_bytes, pause_of, request_of, seconds_of, ticket_of
 from .core import Core, Phase
 from .jobs import Job
 from .errors import FememError
+from .events import OnEvent
 from .reports import Report
 from .requests import Array, ArrayLike, Request
 from .sessionfile import SessionFile
 from .sides import Sides, numbers
 from .tickets import Ticket
+from .worker import FAREWELL, FIRST_PAUSE, LONGEST_PAUSE, is_hopeless, trouble_of
 
 T = TypeVar("T")
+
+log = logging.getLogger("femem")
 
 
 class AsyncClient:
@@ -50,18 +57,28 @@ class AsyncClient:
         timeout: Optional[float] = None,
         reconnect_timeout: Optional[float] = 30.0,
         probe_interval: float = 5.0,
+        wait_for_server: bool = False,
+        on_event: Optional[OnEvent] = None,
     ) -> None:
         self.timeout = seconds_of(timeout)
         patience = seconds_of(reconnect_timeout, "reconnect_timeout")
         pause = pause_of(probe_interval)
         choice = choose_session(path, session, session_file, sessions)
-        self.path = os.fsdecode(path)
+        self.path = choice.path
         self.session = choice.session
         self._is_temporary = choice.is_temporary
+        # Whether this process chose the session's number.
+        self._is_chosen = choice.is_temporary
+        self._entry: Optional[registry.Entry] = None
+        self._waits_for_server = wait_for_server
+        self._has_connected = False
         self._patience = patience
         self._process = os.getpid()
         self._pause = pause
-        self._core = Core(choice.session, patience, pause, choice.file, self._now, choice.sessions > 1)
+        self._core = Core(
+            choice.session, patience, pause, choice.file, self._now, choice.sessions > 1, choice.is_temporary, on_event
+        )
+        self._on_event = on_event
         self._count = choice.sessions
         self._sides: Sides[AsyncClient] = Sides(())
         self._transport: Optional[asyncio.Transport] = None
@@ -77,11 +94,25 @@ class AsyncClient:
         more = f" and {len(self._sides)} more" if self._sides else ""
         return f"<femem asyncio client of session {self.session}{more} at {self.path}: {how}>"
 
+    def __del__(self) -> None:
+        if getattr(self, "_connecting", None) is not None and self._core.failure is None and self._process == os.getpid():
+            warnings.warn(f"unclosed {self!r}", ResourceWarning, source=self)
+            self._abandon()
+
+    def _abandon(self) -> None:
+        """Ends a temporary session whose event loop no longer runs."""
+        if self._transport is not None and self._is_temporary and self._core.phase is Phase.READY:
+            try:
+                os.write(self._transport.get_extra_info("socket").fileno(), frames.bye())
+            except OSError:
+                pass
+
     async def open(self) -> None:
         """Connects and attaches. The errors are those of `Client`."""
         if self._connecting is not None and self.failure is None:
             raise RuntimeError("the client was opened before")
         self._changed = asyncio.Event()
+        self._departed = asyncio.Event()
         file = self._core.file
         if file is not None and file.is_ending:
             try:
@@ -89,6 +120,8 @@ class AsyncClient:
             except BaseException:
                 file.abandon()
                 raise
+        if self._is_chosen:
+            await self._enter()
         opening = self._future(self._core.open(self._now()))
         self.recovered = [
             Recovered(ticket.request.what, ticket.key, self._future(ticket))
@@ -100,7 +133,6 @@ class AsyncClient:
         try:
             await opening
         except BaseException:
-            self._is_temporary = False
             await self.close()
             raise
         try:
@@ -108,6 +140,12 @@ class AsyncClient:
         except BaseException:
             await self.close()
             raise
+
+    async def _enter(self) -> None:
+        loop = asyncio.get_running_loop()
+        if os.path.isdir(registry.folder_of(self.path)):
+            await loop.run_in_executor(None, registry.sweep, self.path, partial(end_session, self.path))
+            self._entry = registry.enter(self.path, self.session, self._count)
 
     async def _end_session(self, file: SessionFile) -> None:
         """Ends the session, as the file's former process was about to. The file then begins with another one."""
@@ -119,7 +157,14 @@ class AsyncClient:
 
     async def _open_sides(self) -> None:
         sides = [
-            AsyncClient(self.path, number, reconnect_timeout=self._patience, probe_interval=self._pause)
+            AsyncClient(
+                self.path,
+                number,
+                reconnect_timeout=self._patience,
+                probe_interval=self._pause,
+                wait_for_server=True,
+                on_event=self._on_event,
+            )
             for number in numbers(self.session, self._count)
         ]
         opened: List[AsyncClient] = []
@@ -156,12 +201,7 @@ class AsyncClient:
     async def close(self) -> None:
         """As `Client.close`."""
         try:
-            if self._is_temporary and self._connecting is not None:
-                self._is_temporary = False
-                try:
-                    await self._leave(True)
-                except FememError:
-                    pass
+            await self._depart()
         finally:
             self._core.close()
             try:
@@ -171,19 +211,23 @@ class AsyncClient:
             finally:
                 self._core.close_file()
 
+    async def _depart(self) -> None:
+        """Ends the session if it is temporary, within a second."""
+        if self._is_temporary and self._connecting is not None and self._core.failure is None:
+            self._core.depart(self._now(), FAREWELL)
+            self._move()
+            while self._core.failure is None:
+                await self._departed.wait()
+
     async def bye(self) -> None:
         """As `Client.bye`."""
-        await self._leave(False)
-        self._is_temporary = False
-        await self.close()
-
-    async def _leave(self, at_any_rate: bool) -> None:
-        self._check_use()
+        self._check_use(in_any_case=True)
         ticket: Ticket[None] = Ticket(None)
         future = self._future(ticket)
-        self._core.leave(self._now(), ticket, at_any_rate)
+        self._core.leave(self._now(), ticket)
         self._move()
         await future
+        await self.close()
 
     # The operations, as in `Client`.
 
@@ -247,7 +291,7 @@ class AsyncClient:
 
     def withdraw(self, future: asyncio.Future[Any]) -> None:
         """As `Client.withdraw`: the future of `submit` ends with `Withdrawn`, or with its answer."""
-        self._take_back((ticket_of(future, self),), False)
+        self._take_back((ticket_of(future, self._core),), False)
 
     async def submit_many(self, asked: Iterable[Request[Any]], *, timeout: Timeout = DEFAULT) -> List[Any]:
         """As `Client.submit_many`. A task that is cancelled takes all of them back, and gets the answers if one of
@@ -289,13 +333,16 @@ class AsyncClient:
     def _seconds(self, timeout: Timeout) -> Optional[float]:
         return self.timeout if timeout is DEFAULT else seconds_of(timeout)
 
-    def _check_use(self) -> None:
+    def _check_use(self, *, in_any_case: bool = False) -> None:
+        """Raises if the client can't be used, or if the task is to be cancelled here and this is no end of something."""
         if self._process != os.getpid():
             raise errors.Closed("a client is of the process that made it")
         if self._connecting is None:
             raise self.failure or RuntimeError("the client is not open: use `async with`, or await its `open`")
         if self._connecting.get_loop() is not asyncio.get_running_loop():
             raise RuntimeError("the client is of another event loop")
+        if _owed and not in_any_case and _is_owed(asyncio.current_task()):
+            raise asyncio.CancelledError
 
     def _submit(self, ticket: Ticket[T], timeout: Timeout) -> asyncio.Future[T]:
         seconds = self._seconds(timeout)
@@ -311,7 +358,7 @@ class AsyncClient:
 
     async def _run_job(self, job: Job[T]) -> T:
         """Runs an operation of several steps. A task that is cancelled takes it back, or gets the result if it is done."""
-        self._check_use()
+        self._check_use(in_any_case=job.gives_back)
         future = self._future(job)
         self._core.start(job, self._now())
         self._move()
@@ -335,6 +382,7 @@ class AsyncClient:
                 raise
             if all(isinstance(ticket.error, errors.Withdrawn) for ticket in tickets):
                 raise
+            _owe(asyncio.current_task())
             return future.result()
 
     def _take_back(self, tickets: Sequence[Ticket[Any]], is_abandoned: bool) -> None:
@@ -362,7 +410,7 @@ class AsyncClient:
 
         ticket.finished = finished
         future.add_done_callback(cancelled)
-        future.asked = (self, ticket)  # type: ignore[attr-defined]
+        future.asked = (self._core, ticket)  # type: ignore[attr-defined]
         return future
 
     def _move(self) -> None:
@@ -372,17 +420,30 @@ class AsyncClient:
             ended = self._core.take_ended()
             if not ended:
                 break
-            for ticket in ended:
-                ticket.finished()
+            self._finish(ended)
         if self._timer is not None:
             self._timer.cancel()
             self._timer = None
         if self._core.failure is not None:
             self._changed.set()
+            self._departed.set()
             return
         time = self._core.next_time()
         if time is not None and time != float("inf"):
             self._timer = asyncio.get_running_loop().call_at(time, self._tick)
+
+    def _finish(self, tickets: Sequence[Ticket[Any]]) -> None:
+        """Completes all of them, even if one raises, for example since its future was set by somebody else."""
+        interrupt: Optional[BaseException] = None
+        for ticket in tickets:
+            try:
+                ticket.finished()
+            except Exception:
+                log.exception("session %d: a request can't be completed", self.session)
+            except BaseException as error:  # from a signal handler
+                interrupt = error
+        if interrupt is not None:
+            raise interrupt
 
     def _flush(self) -> None:
         core = self._core
@@ -425,16 +486,17 @@ class AsyncClient:
 
     async def _close_sides(self) -> None:
         """As of `Client`."""
-        is_there = isinstance(self._core.failure, errors.Closed)
+        core = self._core
+        is_there = isinstance(core.failure, errors.Closed) and (core.has_left or core.was_ready and not self._is_temporary)
         for side in self._sides:
             side._is_temporary = is_there
             await side.close()
-            is_there = is_there and isinstance(side.failure, errors.Closed)
+            is_there = side._core.has_left
 
     async def _fence(self, session: int, ticket: Ticket[None]) -> None:
         failed: Optional[BaseException] = None
         try:
-            async with AsyncClient(self.path, session):
+            async with AsyncClient(self.path, session, wait_for_server=True):
                 pass
         except errors.FememError as error:
             failed = error
@@ -446,7 +508,9 @@ class AsyncClient:
         """In a child of the process: as in `Client`. The loop is the parent's too, so only the socket is closed."""
         self._core.failure = errors.Closed("a client is of the process that made it")
         self._core.phase = Phase.ENDED
-        self._is_temporary = False
+        self._is_temporary = self._is_chosen = False
+        if self._entry is not None:
+            self._entry.release()
         if self._transport is not None:
             inherited = getattr(self._transport.get_extra_info("socket"), "_sock", None)
             if inherited is not None:
@@ -468,8 +532,18 @@ class AsyncClient:
             self._move()
             self._core.close_file()
             raise
+        finally:
+            self._sign_off()
         self._move()
         await self._close_sides()
+
+    def _sign_off(self) -> None:
+        """As of `Worker`."""
+        has_left = self._core.has_left
+        if self._entry is not None:
+            (self._entry.remove if has_left else self._entry.release)()
+        if self._is_chosen and self._has_connected and not has_left:
+            registry.leave(self.path, self.session)
 
     async def _connect_on(self) -> None:
         pause = FIRST_PAUSE
@@ -479,9 +553,15 @@ class AsyncClient:
                 await asyncio.wait_for(
                     asyncio.get_running_loop().create_unix_connection(lambda: connection, self.path), 1.0
                 )
-            except (OSError, asyncio.TimeoutError) as error:
-                self._core.trouble = f"{self.path}: {error}"
+            except asyncio.TimeoutError as error:
+                self._core.trouble = f"{self.path}: {error!r}"
+            except OSError as error:
+                self._core.trouble = trouble_of(self.path, error)
+                if not self._has_connected and is_hopeless(error, self._waits_for_server):
+                    self._core.fail(errors.ServerUnreachable(self._core.trouble))
+                    return
             else:
+                self._has_connected = True
                 await self._until_lost(connection)
             if connection.was_ready:
                 pause = FIRST_PAUSE
@@ -489,13 +569,24 @@ class AsyncClient:
             pause = min(2 * pause, LONGEST_PAUSE)
 
     async def _until_lost(self, connection: _Connection) -> None:
+        is_cancelled = False
         try:
             while self._core.failure is None and not connection.is_lost:
-                await self._changed.wait()
+                try:
+                    await self._changed.wait()
+                except asyncio.CancelledError:
+                    # The event loop ends. A temporary session is ended before.
+                    if is_cancelled or not self._is_temporary:
+                        raise
+                    is_cancelled = True
+                    self._core.depart(self._now(), FAREWELL)
+                    self._move()
                 self._changed.clear()
         finally:
             self._transport = None
             connection.close()
+        if is_cancelled:
+            raise asyncio.CancelledError
         self._core.disconnected(self._now())
         self._move()
 
@@ -505,6 +596,31 @@ class AsyncClient:
         except asyncio.TimeoutError:
             pass
         self._changed.clear()
+
+
+# The tasks that were cancelled while their operation happened. They got its result, and are still to be cancelled.
+_owed: weakref.WeakSet[Any] = weakref.WeakSet()
+
+
+def _owe(task: Any) -> None:
+    """Cancels the task at its next operation, or at the next `await` that suspends it."""
+    _owed.add(task)
+    asyncio.get_running_loop().call_soon(_cancel_again, task)
+
+
+def _is_owed(task: Any) -> bool:
+    """Whether the task is still to be cancelled, from now on by the caller. `timeout` and `wait_for` take it back."""
+    if task not in _owed:
+        return False
+    _owed.discard(task)
+    return not hasattr(task, "cancelling") or task.cancelling() > 0
+
+
+def _cancel_again(task: Any) -> None:
+    if _is_owed(task):
+        if hasattr(task, "uncancel"):
+            task.uncancel()  # `cancel` counts it again
+        task.cancel()
 
 
 def _is_seen(future: asyncio.Future[Any]) -> None:
@@ -553,7 +669,14 @@ def _in_child() -> None:
         client._forked()
 
 
+def _at_exit() -> None:
+    for client in list(_clients):
+        if client._process == os.getpid() and client._core.failure is None:
+            client._abandon()
+
+
 os.register_at_fork(after_in_child=_in_child)
+atexit.register(_at_exit)
 
 from ._aiopatterns import (  # noqa: E402
     Barrier,

@@ -1,60 +1,34 @@
-"""The client for threads.
-
-The client's own thread has the connection and the core. A caller only appends to a list, in one step, and waits: so an
-exception from a signal handler leaves nothing half done, wherever it comes.
-"""
+"""The client for threads: what callers see. `worker.py` has the client's own thread, its connection and its core."""
 
 from __future__ import annotations
 
-import logging
+import atexit
 import math
 import os
-import secrets
-import select
-import socket
 import threading
 import time
-import weakref
-from collections import deque
+import warnings
 from concurrent.futures import Future
 from functools import partial
 from threading import get_ident
 from types import TracebackType
-from typing import TYPE_CHECKING, Any, Callable, Deque, Iterable, List, NamedTuple, Optional, Sequence, Type, TypeVar, Union
+from typing import Any, Callable, Iterable, Iterator, List, NamedTuple, Optional, Sequence, Type, TypeVar, Union
 
-from . import errors, requests
-from .core import Core, Phase
+from . import errors, registry, requests, worker
+from .core import Core
+from .events import OnEvent
 from .jobs import Job
 from .reports import Report
 from .requests import Array, ArrayLike, Request
 from .sessionfile import SessionFile
 from .sides import Sides, count_of, numbers
-from .tickets import Ticket
+from .tickets import Ticket, nobody
+from .worker import Worker
 
 T = TypeVar("T")
 
-log = logging.getLogger("femem")
-
-# How long the thread waits between attempts to connect, in seconds: at first, and at most.
-FIRST_PAUSE = 0.01
-LONGEST_PAUSE = 0.25
-
-# How long an attempt to connect may take, in seconds.
-_CONNECT_TIME = 1.0
-
-_READ_BYTES = 65536
-
 # How long a client sleeps at most, in seconds.
 _LONGEST_SLEEP = 3600.0
-
-# How long the thread waits at its bell after the last answer, in seconds, before it looks at the connection again. The bell
-# is a lock, the cheapest way to wake a thread, and a caller that just got an answer often calls again soon.
-_LINGER = 0.01
-
-# How long after an event the thread checks what is due by the clock, in seconds: sooner than anything that the event can
-# make due, except what the core calls urgent.
-_LOOK_AFTER = 0.02
-
 
 class _Default:
     """Means "the client's own timeout"."""
@@ -109,7 +83,11 @@ def key_bytes(key: Key) -> bytes:
     """A key as in the session file. Keys that are equal as text are the same key."""
     if isinstance(key, bool) or not isinstance(key, (str, bytes, int)):
         raise TypeError(f"a key is a str, bytes or an int: {key!r}")
-    spelled = key if isinstance(key, bytes) else str(key).encode("utf-8")
+    # The value's own spelling, whatever a subclass prints: that of an `IntEnum` differs between versions of Python.
+    if isinstance(key, bytes):
+        spelled = bytes(memoryview(key))
+    else:
+        spelled = (int.__repr__(key) if isinstance(key, int) else str.__str__(key)).encode("utf-8")
     if not 1 <= len(spelled) <= 1024:
         raise ValueError(f"a key has 1 to 1024 bytes: {key!r}")
     return spelled
@@ -121,12 +99,12 @@ def request_of(request: object) -> Request[Any]:
     return request
 
 
-def ticket_of(future: object, client: object) -> Ticket[Any]:
-    """The ticket of this future, which the client made."""
+def ticket_of(future: object, core: Core) -> Ticket[Any]:
+    """The ticket of this future, which the core's client made."""
     owner, ticket = getattr(future, "asked", (None, None))
     if not isinstance(ticket, Ticket):
         raise TypeError(f"not a future of submit: {future!r}")
-    if owner is not client:
+    if owner is not core:
         raise ValueError(f"a future of another client: {future!r}")
     return ticket
 
@@ -134,6 +112,7 @@ def ticket_of(future: object, client: object) -> Ticket[Any]:
 class SessionChoice(NamedTuple):
     """Which session a client has: its number, the file that holds it, and whether it ends with the client."""
 
+    path: str
     session: int
     file: Optional[SessionFile]
     is_temporary: bool
@@ -146,13 +125,24 @@ def choose_session(path: Path, session: Optional[int], session_file: Optional[Pa
         raise TypeError(f"the path of a socket is a str: {path!r}")
     number = None if session is None else requests.number_of_bits(session, 64, "session")
     count = count_of(sessions, session_file is not None)
+    place = os.fsdecode(path)
     if session_file is None:
-        return SessionChoice(secrets.randbits(63) if number is None else number, None, number is None, count)
+        return SessionChoice(place, registry.temporary(place) if number is None else number, None, number is None, count)
     file = SessionFile(os.fsdecode(session_file))
     if number is not None and number != file.session:
         file.abandon()
         raise ValueError(f"{file.path} is of session {file.session}, not {number}")
-    return SessionChoice(file.session, file, False, count)
+    return SessionChoice(place, file.session, file, False, count)
+
+
+def end_session(path: str, session: int, sessions: int) -> None:
+    """Ends the sessions of a client that was killed."""
+    for number in [session, *numbers(session, sessions)]:
+        try:
+            with Client(path, number, reconnect_timeout=worker.SWEEP_PATIENCE) as client:
+                client.bye()
+        except errors.SessionLimit:
+            pass  # it is not kept
 
 
 class Client:
@@ -166,6 +156,8 @@ class Client:
 
     `timeout`, in seconds, is for operations that name none: one that still waits then is taken back. `reconnect_timeout`
     is how long the server may be unreachable, or owe a reply, while something is asked of it; `None` means no limit.
+
+    `on_event(kind, session, seconds)` is called at what `femem.events` lists, in the client's or the caller's thread.
 
     With `sessions=N` it has N sessions: requests that wait are made over the further ones, 32 over each, and so hold up
     nothing else. They end with the client. Their numbers follow from that of its own session.
@@ -181,8 +173,10 @@ class Client:
         timeout: Optional[float] = None,
         reconnect_timeout: Optional[float] = 30.0,
         probe_interval: float = 5.0,
+        wait_for_server: bool = False,
+        on_event: Optional[OnEvent] = None,
     ) -> None:
-        """Connects and attaches.
+        """Connects and attaches. If nothing is at the path, `wait_for_server` waits for it, up to `reconnect_timeout`.
 
         Errors: `ServerUnreachable`, `SessionLimit`, `Closing`, `Spent`, `ProtocolError`; with a file also
         `SessionInUse`, `SessionFileError`.
@@ -192,75 +186,76 @@ class Client:
         pause = pause_of(probe_interval)
         choice = choose_session(path, session, session_file, sessions)
         try:
-            self.path = os.fsdecode(path)
+            self.path = choice.path
             if choice.file is not None and choice.file.is_ending:
                 self._end_session(choice.file, patience)
                 choice = choice._replace(session=choice.file.session)
-            self._prepare(choice, patience, pause)
-            self._begin()
-            self._open_sides(choice.sessions, patience, pause)
+            self._begin(choice, patience, pause, wait_for_server, on_event)
+            self._open_sides(choice.sessions, patience, pause, on_event)
         except BaseException:
             if choice.file is not None:
                 choice.file.close()
             raise
 
-    def _prepare(self, choice: SessionChoice, patience: Optional[float], pause: float) -> None:
-        self.session = choice.session
-        self._is_temporary = choice.is_temporary
-        self._core = Core(choice.session, patience, pause, choice.file, moves_waits=choice.sessions > 1)
-        self._sides: Sides[Client] = Sides(())
-        self._process = os.getpid()
-        self._longest_sleep = pause
-        # What callers ask, in order: the thread calls each with the time.
-        self._asked: Deque[Callable[[float], object]] = deque()
-        # Where the thread sleeps, so that a caller knows how to wake it.
-        self._is_asleep = False
-        self._is_at_bell = False
-        self._bell = threading.Lock()
-        self._bell.acquire()
-        self._is_over = False
-        # The thread's number while it runs.
-        self._own_thread = 0
-        # The time as the thread last read it, and when it next checks what is due.
-        self._now = time.monotonic()
-        self._look_at = 0.0
-        # Once the thread has ended, callers do its work in its place, one at a time.
-        self._ending = threading.RLock()
-        self._socket: Optional[socket.socket] = None
-        self._waker, self._woken = socket.socketpair()
-        self._waker.setblocking(False)
-        self._woken.setblocking(False)
-        self._woken_number = self._woken.fileno()
-        self._poll = select.poll()
-        self._thread = threading.Thread(target=self._run, name=f"femem session {self.session}", daemon=True)
-
-    def _begin(self) -> None:
+    def _begin(
+        self,
+        choice: SessionChoice,
+        patience: Optional[float],
+        pause: float,
+        wait_for_server: bool,
+        on_event: Optional[OnEvent],
+    ) -> None:
         """Starts the thread, and waits until the session is attached."""
-        opening = self._future(self._core.open(time.monotonic()))
+        self.session = choice.session
+        moves_waits = choice.sessions > 1
+        self._core = core = Core(
+            self.session,
+            patience,
+            pause,
+            choice.file,
+            moves_waits=moves_waits,
+            is_own=choice.is_temporary,
+            on_event=on_event,
+        )
+        self._worker = worker = Worker(self.path, core, pause, choice.is_temporary, wait_for_server)
+        self._ask = worker.ask
+        if choice.is_temporary:
+            registry.sweep(self.path, partial(end_session, self.path))
+            worker.entry = registry.enter(self.path, self.session, choice.sessions)
+        opening = self._future(core.open(time.monotonic()))
         # What the former process with this session file had no answer for.
         self.recovered: List[Recovered] = [
             Recovered(ticket.request.what, ticket.key, self._future(ticket))
-            for ticket in self._core.recovered
+            for ticket in core.recovered
             if ticket.request is not None
         ]
         try:
-            _clients.add(self)
-            self._thread.start()
+            worker.start()
             opening.result()
         except BaseException:
-            self._is_temporary = False
             self.close()
             raise
 
-    def _open_sides(self, count: int, patience: Optional[float], pause: float) -> None:
+    def _open_sides(
+        self, count: int, patience: Optional[float], pause: float, on_event: Optional[OnEvent]
+    ) -> None:
         sides: List[Client] = []
         try:
             for number in numbers(self.session, count):
-                sides.append(Client(self.path, number, reconnect_timeout=patience, probe_interval=pause))
-                sides[-1]._is_temporary = True
-            self._sides = Sides(sides)
+                sides.append(
+                    Client(
+                        self.path,
+                        number,
+                        reconnect_timeout=patience,
+                        probe_interval=pause,
+                        wait_for_server=True,
+                        on_event=on_event,
+                    )
+                )
+                sides[-1]._worker.is_temporary = True
+            self._worker.sides = Sides(sides)
         except BaseException:
-            self._sides = Sides(sides)
+            self._worker.sides = Sides(sides)
             self.close()
             raise
 
@@ -269,6 +264,13 @@ class Client:
         with Client(self.path, file.session, reconnect_timeout=patience) as former:
             former.bye()
         file.start_over()
+
+    def __del__(self) -> None:
+        """A client that nobody refers to any more is closed, without waiting for that."""
+        worker = getattr(self, "_worker", None)
+        if worker is not None and not worker.is_over and worker.core.failure is None:
+            warnings.warn(f"unclosed {self!r}", ResourceWarning, source=self)
+            worker.end_soon()
 
     def __repr__(self) -> str:
         failure = self.failure
@@ -293,6 +295,10 @@ class Client:
         return [self.session, *(side.session for side in self._sides)]
 
     @property
+    def _sides(self) -> Sides[Client]:
+        return self._worker.sides
+
+    @property
     def failure(self) -> Optional[errors.FememError]:
         """Why this client can't be used any more, or `None`. Each operation then raises this error."""
         return self._core.failure
@@ -301,33 +307,22 @@ class Client:
         """Closes the connection. The server keeps the session, unless the client chose it itself; what waits is
         withdrawn there.
 
-        What has no answer ends with `Closed`: it happened once or not at all.
+        What has no answer ends with `Closed`: it happened once or not at all. It waits for a server that is away for a
+        second at most.
         """
-        if self._is_temporary and not self._is_over and threading.current_thread() is not self._thread:
-            self._is_temporary = False
-            try:
-                self._leave(True)
-            except errors.FememError:
-                pass
-        self._ask(lambda now: self._core.close())
-        if self._thread.is_alive() and threading.current_thread() is not self._thread and self._process == os.getpid():
-            self._thread.join()
+        self._worker.end()
 
     def bye(self) -> None:
         """Ends the session and closes the client. `StillWaiting` if a request has no answer yet.
 
         The server then keeps nothing of the session. After a stop of the server the client sends it again until it is done.
         """
-        self._leave(False)
-        self._is_temporary = False
-        self.close()
-
-    def _leave(self, at_any_rate: bool) -> None:
         self._check_thread()
         ticket: Ticket[None] = Ticket(None)
         future = self._future(ticket)
-        self._ask(lambda now: self._core.leave(now, ticket, at_any_rate))
+        self._ask(lambda now: self._core.leave(now, ticket))
         future.result()
+        self.close()
 
     # Arrays.
 
@@ -427,7 +422,7 @@ class Client:
 
     def withdraw(self, future: Future[Any]) -> None:
         """Takes a waiting request back. Its future ends with `Withdrawn`, or with its answer if it has happened."""
-        ticket = ticket_of(future, self)
+        ticket = ticket_of(future, self._core)
         self._ask(lambda now: self._core.withdraw(ticket, now))
 
     def report(self) -> Report:
@@ -469,7 +464,7 @@ class Client:
 
     def _check_thread(self) -> None:
         """Raises if this is the client's own thread, which runs the futures' callbacks: it would wait for itself."""
-        if get_ident() == self._own_thread:
+        if self._worker.is_own_thread():
             raise RuntimeError("a callback can't wait for its own client: use submit")
 
     def _seconds(self, timeout: Timeout) -> Optional[float]:
@@ -478,20 +473,33 @@ class Client:
     def _call(self, request: Request[T], timeout: Timeout) -> T:
         ticket: Ticket[T] = Ticket(request)
         seconds = self.timeout if timeout is DEFAULT else self._seconds(timeout)
-        if get_ident() == self._own_thread:
-            self._check_thread()
         try:
             gate = _new_gate()
             gate.acquire()
             ticket.finished = gate.release
-            self._ask(partial(self._core.take, (ticket,), seconds))
-            gate.acquire()
-        except BaseException:
-            self._ask(lambda now: self._core.withdraw(ticket, now))
+            worker = self._worker
+            lease = worker.lease
+            if lease is not None and not worker.is_led():
+                # No interruption comes between the lock's taking and the block.
+                events = self._core.events
+                begun = 0.0 if events is None else time.monotonic()
+                with worker.lead:
+                    is_done = worker.lease is lease and lease.call(ticket)
+                if is_done:
+                    if events is not None:
+                        events.emit("answered", time.monotonic() - begun)
+                    return _result(ticket)
+            elif get_ident() == worker.own_thread:
+                self._check_thread()
+            self._ask(partial(self._core.take_on, ticket, seconds))
+            worker.wait_at(gate)
+            return _result(ticket)
+        except errors.FememError:
+            del ticket  # the error's traceback has this frame
             raise
-        if ticket.error is not None:
-            raise ticket.error
-        return ticket.result  # type: ignore[return-value]
+        except BaseException:
+            self._ask(partial(self._core.withdraw, ticket))
+            raise
 
     def _run_job(self, job: Job[T]) -> T:
         """Runs an operation of several steps. If this thread is interrupted, it is taken back and undone."""
@@ -501,7 +509,7 @@ class Client:
             gate.acquire()
             job.finished = gate.release
             self._ask(partial(self._core.start, job))
-            gate.acquire()
+            self._worker.wait_at(gate)
             return _result(job)
         except errors.FememError:
             raise
@@ -520,33 +528,12 @@ class Client:
             gate = threading.Lock()
             gate.acquire()
             left = iter(tickets)
-
-            def finished() -> None:
-                """Passes this callback on to the next ticket that is not done."""
-                for ticket in left:
-                    if not ticket.done:
-                        ticket.finished = finished
-                        return
-                gate.release()
-
-            next(left).finished = finished
+            next(left).finished = _Last(left, gate)
             self._ask(ask)
-            gate.acquire()
+            self._worker.wait_at(gate)
         except BaseException:
             self._ask(lambda now: self._core.withdraw_all(tickets, now))
             raise
-
-    def _ask(self, what: Callable[[float], object]) -> None:
-        """Makes the thread do something. The step that counts is the append."""
-        self._asked.append(what)
-        # Only the thread says where it sleeps, and it checks the list before that: an interruption here loses no call.
-        if self._is_at_bell:
-            self._ring()
-        elif self._is_asleep:
-            self._wake()
-        if self._is_over:
-            with self._ending:
-                self._do_what_is_asked()
 
     def _future(self, ticket: Ticket[T]) -> Future[T]:
         """The future of a ticket."""
@@ -558,279 +545,14 @@ class Client:
                 future.set_exception(ticket.error)
             else:
                 future.set_result(ticket.result)
+            ticket.finished = nobody  # nothing holds itself
 
         ticket.finished = finished
-        future.asked = (self, ticket)  # type: ignore[attr-defined]
+        future.asked = (self._core, ticket)  # type: ignore[attr-defined]
         return future
-
-    def _ring(self) -> None:
-        try:
-            self._bell.release()
-        except RuntimeError:
-            pass  # another caller has rung
-
-    def _wake(self) -> None:
-        try:
-            self._waker.send(b"w")
-        except OSError:
-            pass  # it is awake, or has ended
-
-    # The thread: it does what callers ask, connects, reads, and looks at the clock.
-
-    def _do_what_is_asked(self) -> None:
-        asked = self._asked
-        self._something_happens()
-        while asked:
-            try:
-                what = asked.popleft()
-            except IndexError:
-                break
-            what(self._now)
-        self._move()
-
-    def _something_happens(self) -> None:
-        """Notes the time, and that what is due must be checked soon."""
-        self._now = now = time.monotonic()
-        if now + _LOOK_AFTER < self._look_at:
-            self._look_at = now + _LOOK_AFTER
-
-    def _move(self) -> None:
-        """Sends what is to be sent, and completes the ended tickets, which may ask for more."""
-        self._flush()
-        core = self._core
-        while core.ended:
-            for ticket in core.take_ended():
-                ticket.finished()
-            self._flush()
-
-    def _flush(self) -> None:
-        """Sends what the socket accepts now. The session file is written before that."""
-        core = self._core
-        if core.file is not None and core.file.must_sync and core.failure is None:
-            try:
-                core.file.commit()
-            except errors.SessionFileError as error:
-                core.fail(error)
-        if core.fences:
-            self._fence_all()
-        if core.moved:
-            self._move_waits()
-        if self._socket is None or not core.to_send:
-            return
-        try:
-            del core.to_send[: self._socket.send(core.to_send)]
-        except BlockingIOError:
-            pass
-        except OSError:
-            core.to_send.clear()  # the next read fails too
-
-    def _move_waits(self) -> None:
-        """Passes requests that have to wait to further sessions."""
-        for ticket in self._core.take_moved():
-            side = self._sides.choose()
-            asked: Ticket[Any] = Ticket(ticket.request)
-            back = partial(self._has_come_back, side, ticket, asked)
-            asked.finished = partial(self._ask, back)
-            self._core.moved_to(ticket, partial(side._take_back, asked))
-            side._ask(partial(side._core.take, (asked,), None))
 
     def _take_back(self, ticket: Ticket[Any], why: errors.Withdrawn) -> None:
         self._ask(lambda now: self._core.withdraw(ticket, now, why))
-
-    def _has_come_back(self, side: Client, ticket: Ticket[Any], asked: Ticket[Any], now: float) -> None:
-        """A further session has finished the request. If that session failed, the client ends."""
-        self._sides.give_back(side)
-        self._core.has_come_back(ticket, asked)
-        if side.failure is not None:
-            self._core.fail(type(side.failure)(*side.failure.args))
-
-    def _close_sides(self) -> None:
-        """Ends the further sessions, if the server is there; what waits over them is withdrawn in any case."""
-        is_there = isinstance(self._core.failure, errors.Closed)
-        for side in self._sides:
-            side._is_temporary = is_there
-            side.close()
-            is_there = is_there and isinstance(side.failure, errors.Closed)
-
-    def _fence_all(self) -> None:
-        """Attaches the sessions again, each in its own thread, since that waits for the server."""
-        fences, self._core.fences = self._core.fences, []
-        for session, ticket in fences:
-            threading.Thread(target=self._fence, args=(session, ticket), daemon=True).start()
-
-    def _fence(self, session: int, ticket: Ticket[None]) -> None:
-        failed: Optional[BaseException] = None
-        try:
-            Client(self.path, session).close()
-        except (errors.FememError, OSError) as error:
-            failed = error
-        self._ask(lambda now: self._core.fenced(ticket, failed))
-
-    def _run(self) -> None:
-        self._own_thread = get_ident()
-        pause = FIRST_PAUSE
-        try:
-            self._poll.register(self._woken, select.POLLIN)
-            while self._core.failure is None:
-                connection = self._connect()
-                if connection is not None:
-                    with connection:
-                        if self._serve(connection):
-                            pause = FIRST_PAUSE
-                            continue
-                self._sleep(pause)
-                pause = min(2 * pause, LONGEST_PAUSE)
-        except Exception:
-            log.exception("session %d: a fault of the client", self.session)
-        finally:
-            self._end()
-
-    def _end(self) -> None:
-        self._core.fail(errors.Closed("the client's thread ended"))
-        if self._core.file is not None:
-            self._core.close_file()
-        with self._ending:
-            self._is_over = True
-            self._own_thread = 0
-            self._do_what_is_asked()
-        self._close_sides()
-        self._waker.close()
-        self._woken.close()
-
-    def _connect(self) -> Optional[socket.socket]:
-        connection: Optional[socket.socket] = None
-        try:
-            connection = socket.socket(socket.AF_UNIX, socket.SOCK_STREAM)
-            connection.settimeout(_CONNECT_TIME)
-            connection.connect(self.path)
-            connection.setblocking(False)
-        except OSError as error:
-            self._core.trouble = f"{self.path}: {error.strerror or error}"
-            if connection is not None:
-                connection.close()
-            return None
-        return connection
-
-    def _sleep(self, seconds: float) -> None:
-        """Waits without a connection, until the next attempt."""
-        end = time.monotonic() + seconds
-        while self._tick() and time.monotonic() < end:
-            self._select(end)
-
-    def _serve(self, connection: socket.socket) -> bool:
-        """Serves until the connection breaks or the client ends. Returns whether the session was attached."""
-        core = self._core
-        core.connected(time.monotonic())
-        core.is_urgent = True
-        self._socket = connection
-        was_ready = False
-        stands = True
-        events = select.POLLIN
-        self._poll.register(connection, events)
-        while stands and self._tick():
-            wanted = _IN_AND_OUT if core.to_send else select.POLLIN
-            if wanted != events:
-                events = wanted
-                self._poll.modify(connection, events)
-            if self._select(math.inf):
-                stands = self._read(connection)
-                was_ready = was_ready or core.phase is _READY
-        self._poll.unregister(connection)
-        self._socket = None
-        core.disconnected(time.monotonic())
-        core.is_urgent = True
-        return was_ready
-
-    def _tick(self) -> bool:
-        """Does what callers ask and what is due. Returns whether the client goes on."""
-        core = self._core
-        if self._asked:
-            self._do_what_is_asked()
-        else:
-            self._now = time.monotonic()
-            if core.to_send:
-                self._move()
-        if core.is_urgent or self._now >= self._look_at:
-            core.is_urgent = False
-            core.tick(self._now)
-            self._move()
-            due = core.next_time()
-            longest = self._now + self._longest_sleep
-            self._look_at = longest if due is None else min(due, longest)
-        return core.failure is None
-
-    def _select(self, end: float) -> bool:
-        """Sleeps until something is due or comes, or until the end. Returns whether the connection has something."""
-        self._is_asleep = True
-        seconds = 0.0
-        if not self._asked and not self._core.is_urgent:
-            seconds = min(end, self._look_at) - self._now
-        came = False
-        for file, _ in self._poll.poll(1000.0 * seconds if seconds > 0.0 else 0.0):
-            if file == self._woken_number:
-                self._drain()
-            else:
-                came = True
-        self._is_asleep = False
-        return came
-
-    def _linger(self) -> None:
-        """With nothing left to do: completes the ended tickets, and sleeps at the bell for a moment.
-
-        It completes them just before it sleeps, since their caller wants the interpreter's lock at once. No caller
-        waits for what comes over the connection meanwhile.
-        """
-        core = self._core
-        seconds = min(_LINGER, self._look_at - self._now)
-        self._is_at_bell = True
-        for ticket in core.take_ended():
-            ticket.finished()
-        if seconds > 0.0 and not self._asked and not core.ended and not core.is_urgent:
-            self._bell.acquire(timeout=seconds)
-        self._is_at_bell = False
-
-    def _drain(self) -> None:
-        try:
-            self._woken.recv(4096)
-        except OSError:
-            pass
-
-    def _read(self, connection: socket.socket) -> bool:
-        """Reads what came. Returns whether the connection is still up."""
-        try:
-            piece = connection.recv(_READ_BYTES)
-        except BlockingIOError:
-            return True
-        except OSError:
-            return False
-        if not piece:
-            return False
-        self._something_happens()
-        core = self._core
-        core.received(piece, self._now)
-        self._flush()
-        if core.ended and core.is_idle and not core.to_send:
-            self._linger()
-        if core.ended:
-            self._move()
-        return True
-
-    def _forked(self) -> None:
-        """In a child of the process: closes what it inherited, which is the parent's, without sending anything."""
-        self._core.failure = errors.Closed("a client is of the process that made it")
-        self._core.phase = Phase.ENDED
-        self._core.to_send = bytearray()  # the thread may have been sending from the old one
-        self._is_over = True
-        self._own_thread = 0
-        self._ending = threading.RLock()
-        self._is_temporary = False
-        self._asked.clear()
-        for inherited in (self._socket, self._waker, self._woken):
-            if inherited is not None:
-                inherited.close()
-        self._socket = None
-        if self._core.file is not None:
-            self._core.file.abandon()
 
 
 class Pipeline:
@@ -853,9 +575,49 @@ class Pipeline:
         self._requests.append(request_of(request))
         return self
 
-    if TYPE_CHECKING:
+    def create(self, name: Union[str, bytes], length: int, full: bool = False) -> Pipeline:
+        self._requests.append(requests.create(name, length, full))
+        return self
 
-        def __getattr__(self, name: str) -> Callable[..., Pipeline]: ...
+    def find(self, name: Union[str, bytes]) -> Pipeline:
+        self._requests.append(requests.find(name))
+        return self
+
+    def remove(self, array: ArrayLike) -> Pipeline:
+        self._requests.append(requests.remove(array))
+        return self
+
+    def readfe(self, array: ArrayLike, index: int, nowait: bool = False) -> Pipeline:
+        self._requests.append(requests.readfe(array, index, nowait))
+        return self
+
+    def readff(self, array: ArrayLike, index: int, nowait: bool = False) -> Pipeline:
+        self._requests.append(requests.readff(array, index, nowait))
+        return self
+
+    def readxx(self, array: ArrayLike, index: int) -> Pipeline:
+        self._requests.append(requests.readxx(array, index))
+        return self
+
+    def writeef(self, array: ArrayLike, index: int, value: int, nowait: bool = False) -> Pipeline:
+        self._requests.append(requests.writeef(array, index, value, nowait))
+        return self
+
+    def writeff(self, array: ArrayLike, index: int, value: int, nowait: bool = False) -> Pipeline:
+        self._requests.append(requests.writeff(array, index, value, nowait))
+        return self
+
+    def writexf(self, array: ArrayLike, index: int, value: int) -> Pipeline:
+        self._requests.append(requests.writexf(array, index, value))
+        return self
+
+    def purge(self, array: ArrayLike, index: int) -> Pipeline:
+        self._requests.append(requests.purge(array, index))
+        return self
+
+    def int_fetch_add(self, array: ArrayLike, index: int, value: int, nowait: bool = False) -> Pipeline:
+        self._requests.append(requests.int_fetch_add(array, index, value, nowait))
+        return self
 
     def run(self, *, timeout: Timeout = DEFAULT) -> List[Any]:
         """Asks what was added since the last time. Returns the answers."""
@@ -876,39 +638,36 @@ class Pipeline:
             self.run()
 
 
-def _adder(make: Callable[..., Request[Any]]) -> Callable[..., Pipeline]:
-    def add(pipeline: Pipeline, *words: Any, **more: Any) -> Pipeline:
-        pipeline._requests.append(make(*words, **more))
-        return pipeline
-
-    return add
-
-
-# A pipeline has a method for each function that makes a request.
-for _name in ("create", "find", "remove", *(what for what, _, _ in requests.OPERATIONS.values())):
-    setattr(Pipeline, _name, _adder(getattr(requests, _name)))
-
-
 # Makes the lock at which a caller waits for its answer.
 _new_gate = threading.Lock
 
-_READY = Phase.READY
-_IN_AND_OUT = select.POLLIN | select.POLLOUT
-
 
 def _result(ticket: Ticket[T]) -> T:
-    if ticket.error is not None:
-        raise ticket.error
-    return ticket.result  # type: ignore[return-value]
+    error = ticket.error
+    if error is None:
+        return ticket.result  # type: ignore[return-value]
+    try:
+        raise error
+    finally:
+        del ticket, error  # the error's traceback would hold it
 
 
-# The clients of this process. Its children close the ones that they inherit.
-_clients: weakref.WeakSet[Client] = weakref.WeakSet()
+class _Last:
+    """Called as a ticket is done. It goes on to the next one that is not, and opens the gate behind the last one."""
+
+    __slots__ = ("_left", "_gate")
+
+    def __init__(self, left: Iterator[Ticket[Any]], gate: threading.Lock) -> None:
+        self._left = left
+        self._gate = gate
+
+    def __call__(self) -> None:
+        for ticket in self._left:
+            if not ticket.done:
+                ticket.finished = self
+                return
+        self._gate.release()
 
 
-def _in_child() -> None:
-    for client in list(_clients):
-        client._forked()
-
-
-os.register_at_fork(after_in_child=_in_child)
+os.register_at_fork(after_in_child=worker.in_child)
+atexit.register(worker.at_exit)

@@ -17,6 +17,7 @@ from typing import Any, Callable, Deque, Dict, List, Optional, Sequence, Set, Tu
 
 from . import errors, frames, reports
 from .errors import ProtocolError
+from .events import Events, OnEvent
 from .frames import Answer
 from .flow import PATIENCE, Flow
 from .jobs import Batch, Fence, Job, Look, Pause, Present, Step, Wait
@@ -29,8 +30,8 @@ T = TypeVar("T")
 
 log = logging.getLogger("femem")
 
-# How often a client with a session file attaches again after another connection took its session: a late attach of its
-# former process may take it.
+# How often a client whose session is nobody else's attaches again after another connection took it: a late attach of a
+# former client may take it.
 _FIGHTS = 20
 
 # About how long a client waits before it again attaches a session that it could not get, in seconds.
@@ -68,6 +69,8 @@ class Core:
         file: Optional[SessionFile] = None,
         clock: Callable[[], float] = time.monotonic,
         moves_waits: bool = False,
+        is_own: bool = False,
+        on_event: Optional[OnEvent] = None,
     ) -> None:
         self.session = number_of_bits(session, 64, "session")
         self.phase = _DOWN
@@ -76,7 +79,12 @@ class Core:
         # Why the last attempt to connect failed, if it did. The client sets it.
         self.trouble = ""
         self.file = file
+        # Whether nobody else is given this session: then another connection that has it is a late one of a former client.
+        self._is_own = is_own or file is not None
         self.clock = clock
+        # Once the client has failed: whether the server had ended the session, and whether requests could be sent.
+        self.has_left = False
+        self.was_ready = False
         # The sessions that patterns want taken from their owners. The client does it.
         self.fences: List[Tuple[int, Ticket[None]]] = []
         # What this client's patterns hold: the generation of each lock, by the id of its array.
@@ -91,12 +99,16 @@ class Core:
         self.ended: List[Ticket[Any]] = []
         # The requests that have to wait, for `take_moved`.
         self.moved: List[Ticket[Any]] = []
-        self._flow = Flow(self.to_send, self.ended, file, self.moved if moves_waits else None)
+        # What its program wants to know of, and since when it has been as it is: connecting, or attached.
+        self.events = None if on_event is None else Events(on_event, session)
+        self._changed_at = 0.0 if self.events is None else self.events.now()
+        self._flow = Flow(self.to_send, self.ended, file, self.moved if moves_waits else None, self.events)
         # The requests made over another session, and how that takes each back.
         self._elsewhere: Dict[Ticket[Any], Callable[[errors.Withdrawn], object]] = {}
         self._reports: Deque[Ticket[reports.Report]] = deque()
         self._pauses: Set[Ticket[None]] = set()
         self._leaving: Optional[Ticket[None]] = None
+        self._leave_by: Optional[float] = None
         self._opening: Optional[Ticket[None]] = None
         self._timeouts = Timeouts()
         # What a former process with the same session file had no answer for.
@@ -143,7 +155,7 @@ class Core:
         """Before it is opened: takes the file's new session, which has no requests yet."""
         assert self.file is not None
         self.session = self.file.session
-        self._flow = Flow(self.to_send, self.ended, self.file)
+        self._flow = Flow(self.to_send, self.ended, self.file, None, self.events)
         self.recovered = []
         self._was_away = False
 
@@ -163,6 +175,40 @@ class Core:
                 self._timeouts.add(now + timeout, ticket)
         self._flow.add(admitted)
         self._pump(now)
+
+    # Numbers that callers use themselves.
+
+    def lends(self) -> Tuple[int, int]:
+        """The numbers that may be lent: from the first to before the second. None while something is asked."""
+        window = self._flow.window
+        if window is None or self.file is not None or self.phase is not _READY or not self.is_idle or self._leaving is not None:
+            return 0, 0
+        return window.next_number(), window.next_number() + window.room()
+
+    def takes_back(self, tickets: Sequence[Optional[Ticket[Any]]], now: float) -> None:
+        """Notes that lent numbers were used for these. The last one may have no answer yet; then it is asked here."""
+        window = self._flow.window
+        assert window is not None
+        window.lent([ticket if ticket is not None and not ticket.done else None for ticket in tickets])
+        for number, ticket in zip(window.unanswered, [*window.unanswered.values()]):
+            if ticket.number is None:
+                ticket.number = number
+                ticket.taken = True
+                ticket.sent_at = now
+                ticket.asked_at = 0.0 if self.events is None else self.events.now()
+                assert ticket.request is not None
+                ticket.asks_first = ticket.request.may_wait  # as it was sent
+                self._asked_at = now
+                self.is_idle = False
+        if tickets:
+            self._heard(now)
+
+    def take_on(self, ticket: Ticket[Any], timeout: Optional[float], now: float) -> None:
+        """As `take`, for a ticket that may have been taken back from a caller."""
+        if ticket.taken and not ticket.done and timeout is not None:
+            self.is_urgent = True
+            self._timeouts.add(now + timeout, ticket)
+        self.take((ticket,), timeout, now)
 
     def report(self, now: float, ticket: Optional[Ticket[reports.Report]] = None) -> Ticket[reports.Report]:
         asked: Ticket[reports.Report] = ticket or Ticket(None)
@@ -187,6 +233,14 @@ class Core:
                 self.file.ending()
             self._pump(now)
         return asked
+
+    def depart(self, now: float, seconds: float) -> None:
+        """Ends the session, whatever waits, and the client with it: after `seconds` even if the session is not ended."""
+        if self.failure is None:
+            self._leave_by = now + seconds
+            self.is_urgent = True
+            if self._leaving is None:
+                self.leave(now, at_any_rate=True)
 
     def close_file(self) -> None:
         """At the end of the client: closes the file, or removes it if the session was ended."""
@@ -214,6 +268,7 @@ class Core:
             self._elsewhere[ticket](ticket.taken_back)
         else:
             self._flow.withdraw(ticket, now, self.phase is _READY)
+            self._pump(now)
 
     def withdraw_all(self, tickets: Sequence[Ticket[Any]], now: float) -> None:
         """Takes these back. Some of them may not have been asked yet."""
@@ -230,7 +285,10 @@ class Core:
             return
         self.failure = failure
         if not isinstance(failure, errors.Closed):
+            if self.events is not None:
+                self.events.emit("failed", 0.0)
             log.error("session %d: %s: %s", self.session, type(failure).__name__, failure)
+        self.was_ready = self.phase is _READY
         self.phase = _ENDED
         self._start_over()
         tickets: List[Ticket[Any]] = [*self._flow.take_all(), *self._reports]
@@ -284,6 +342,7 @@ class Core:
         if self._in_contact:
             self._in_contact = False
             self._lost_at = now
+            self._changed("lost")
 
     def received(self, piece: bytes, now: float) -> None:
         if self.phase is _DOWN or self.phase is _ENDED:
@@ -311,7 +370,7 @@ class Core:
         """When `tick` has something to do, if nothing happens before."""
         if self.phase is _ENDED:
             return None
-        times = [self._timeouts.first(), self._attach_at, self._probe_at()]
+        times = [self._timeouts.first(), self._attach_at, self._probe_at(), self._leave_by]
         if self.is_busy():
             times.append(self._give_up_at())
         if self.phase is _READY:
@@ -330,6 +389,9 @@ class Core:
                 self._end(ticket)
             else:
                 self.withdraw(ticket, now, errors.TimedOut(ticket.request.what))
+        if self._leave_by is not None and self._leave_by <= now:
+            self.fail(errors.Closed("the client is closed, and its session was not ended in time"))
+            return
         if self.is_busy() and self._give_up_at() <= now:
             self._give_up()
             return
@@ -618,8 +680,14 @@ class Core:
 
     def _is_open(self) -> None:
         log.info("session %d: attached", self.session)
+        self._changed("attached")
         if self._opening is not None and not self._opening.done:
             self._end(self._opening)
+
+    def _changed(self, kind: str) -> None:
+        if self.events is not None:
+            self.events.since(kind, self._changed_at)
+            self._changed_at = self.events.now()
 
     def _take_settled(self, floor: int) -> None:
         window = self._flow.window
@@ -654,6 +722,7 @@ class Core:
 
     def _has_left(self) -> None:
         assert self._leaving is not None
+        self.has_left = True
         self._end(self._leaving)
         self.fail(errors.Closed("the session is ended"))
 
@@ -695,7 +764,7 @@ class Core:
         If this client has asked nothing yet, that may be a late attach of a former process: it attaches again.
         """
         if self._flow.window is not None:
-            if self.file is None or self._fights >= _FIGHTS:
+            if not self._is_own or self._fights >= _FIGHTS:
                 raise errors.TakenOver(f"another connection has session {self.session}")
             if self.phase is _READY or number == self._probe:
                 self._fights += 1

@@ -7,13 +7,15 @@ from typing import Any, Deque, Dict, List, Optional, Sequence, Set
 
 from . import errors, frames
 from .errors import AnswerError, ProtocolError
+from .events import Events
 from .frames import append_under
 from .requests import of_frame
-from .sessionfile import Asked, SessionFile
+from .sessionfile import SessionFile
+from .sessionstate import Asked, Contradiction
 from .tickets import Ticket
 from .window import Window
 
-# How long a request waits before it may be moved to make room in the window, in seconds.
+# How long requests that wait keep their numbers while there are more of them than numbers, in seconds.
 PATIENCE = 0.05
 
 _OF_CALL = (frames.BELOW_FLOOR, frames.BEYOND_WINDOW, frames.NUMBER_USED, frames.NO_MEMORY, frames.SPENT)
@@ -32,8 +34,10 @@ class Flow:
         ended: List[Ticket[Any]],
         file: Optional[SessionFile] = None,
         moved: Optional[List[Ticket[Any]]] = None,
+        events: Optional[Events] = None,
     ) -> None:
         self._moved = moved
+        self._events = events
         self.window: Optional[Window[Ticket[Any]]] = None
         self._file = file
         # Requests under keys that have no answer yet.
@@ -63,15 +67,20 @@ class Flow:
             ticket.number = number
             ticket.taken = True
             ticket.key = asked.key
+            ticket.asked_at = 0.0 if self._events is None else self._events.now()
             if asked.key is not None:
                 self._keys[asked.key] = ticket
             if asked.ends_with_process:
                 ticket.taken_back = errors.Withdrawn("its process ended")
             tickets[number] = ticket
-        self.window = Window.of_file(file.floor, file.asked_floor, file.next, tickets, file.answers, file.ended)
+        self.window = Window.of_file(file.floor, file.asked_floor, file.next, tickets, file.answers)
         return [ticket for ticket in tickets.values() if ticket.taken_back is None]
 
     def add(self, tickets: Sequence[Ticket[Any]]) -> None:
+        if self._events is not None:
+            now = self._events.now()
+            for ticket in tickets:
+                ticket.asked_at = ticket.asked_at or now
         for ticket in tickets:
             if ticket.key is None or not self._is_known(ticket, ticket.key):
                 if self._moved is not None:
@@ -141,10 +150,12 @@ class Flow:
             self._settle(floor, now)
             self._send_queue(window, now)
             floor = window.next_floor()
-        if self._queue:
-            for ticket in self.in_the_way():
-                if ticket.sent_at + PATIENCE <= now:
-                    self._cancel(ticket, now)
+        # What waits gets new numbers before the room is used up, so that no other request waits for that.
+        for ticket in self.in_the_way():
+            if ticket.sent_at + PATIENCE <= now or self._has_new():
+                self._cancel(ticket, now)
+        for ticket in window.holding():
+            self._cancel(ticket, now)
 
     def _send_queue(self, window: Window[Ticket[Any]], now: float) -> None:
         queue = self._queue
@@ -158,6 +169,10 @@ class Flow:
                 asked = Asked(ticket.request.frame, ticket.key, ticket.ends_with_process)
                 self._file.asked(ticket.number, asked)
             self._send(ticket, now)
+
+    def _has_new(self) -> bool:
+        """Whether the queue has a request that was not sent yet. The others are known to wait."""
+        return any(not ticket.has_moved for ticket in self._queue)
 
     def in_the_way(self) -> List[Ticket[Any]]:
         """The requests that hold up the queue: those that wait under the window's lowest numbers.
@@ -173,10 +188,11 @@ class Flow:
         """Sends the settle that is due, every unanswered request under its old number, and the cancels."""
         window = self.window
         assert window is not None
-        if window.asked != window.floor:
-            self._settle(window.asked, now)
+        for floor in window.floors():
+            self._settle(floor, now)
         for ticket in window.unanswered.values():
             self._send(ticket, now)
+            self._tell("sent_again", ticket)
         for ticket in window.unanswered.values():
             if ticket.taken_back is not None:
                 self._cancel(ticket, now)
@@ -213,10 +229,14 @@ class Flow:
         self._ended.append(ticket)
         if ticket.key is not None and self._keys.get(ticket.key) is ticket:
             del self._keys[ticket.key]
-        if ticket.followers is not None:
-            for follower in ticket.followers:
-                if not follower.done:
-                    self._end(follower, result, None if error is None else type(error)(*error.args))
+        followers = [follower for follower in ticket.followers or () if not follower.done]
+        if followers and isinstance(error, errors.Withdrawn):
+            # It did not happen, and the others still wait for it: the first of them asks in its place.
+            first, *first.followers = followers
+            self.add((first,))
+            return
+        for follower in followers:
+            self._end(follower, result, None if error is None else type(error)(*error.args))
 
     def _end_by(self, ticket: Ticket[Any], answer: frames.Answer) -> None:
         """Ends the ticket by its answer. `ProtocolError` is raised too."""
@@ -224,7 +244,8 @@ class Flow:
         try:
             result = ticket.request.result(answer)
         except AnswerError as error:
-            self._end(ticket, error=error)
+            # (a traceback would hold the ticket, and so itself)
+            self._end(ticket, error=error.with_traceback(None))
         except ProtocolError as error:
             self._end(ticket, error=error)
             raise
@@ -240,20 +261,31 @@ class Flow:
         if ticket is None:
             return False
         if self._file is not None:
-            self._file.answered(answer)
+            try:
+                self._file.answered(answer)
+            except Contradiction as wrong:
+                raise ProtocolError(str(wrong)) from None
         if ticket.asks_first and answer.code == frames.NOT_NOW:
             self._has_to_wait(ticket)
         else:
             self._end_by(ticket, answer)
+            self._tell("answered", ticket)
         return True
 
+    def _tell(self, kind: str, ticket: Ticket[Any]) -> None:
+        if self._events is not None and not ticket.is_presence:
+            self._events.since(kind, ticket.asked_at)
+
     def _has_to_wait(self, ticket: Ticket[Any]) -> None:
-        assert self._moved is not None
+        ticket.number = None
         if ticket.taken_back is not None:
             self._end(ticket, error=ticket.taken_back)
-        else:
-            ticket.number = None
+        elif self._moved is not None:
+            self._tell("moved", ticket)
             self._moved.append(ticket)
+        else:
+            ticket.asks_first = False
+            self._queue.append(ticket)
 
     def withdrawn(self, number: int) -> None:
         window = self.window
@@ -265,6 +297,8 @@ class Flow:
             self._end(ticket, error=ticket.taken_back)
         else:
             ticket.number = None
+            ticket.has_moved = True
+            self._tell("moved", ticket)
             self._queue.append(ticket)
 
     def _end_number(self, window: Window[Ticket[Any]], number: int) -> Ticket[Any]:

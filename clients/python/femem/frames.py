@@ -57,7 +57,7 @@ def access(number: int, code: int, array: int, index: int, operand: int, nowait:
     return pack_access(30, 11 if nowait else 5, number, code, array, index, operand)
 
 
-_NUMBER = struct.Struct(">Q")
+pack_number = struct.Struct(">Q").pack_into
 
 
 def append_under(stream: bytearray, frame: bytes, number: int, nowait: bool = False) -> None:
@@ -67,7 +67,7 @@ def append_under(stream: bytearray, frame: bytes, number: int, nowait: bool = Fa
     """
     at = len(stream) + 5
     stream += frame
-    _NUMBER.pack_into(stream, at, number)
+    pack_number(stream, at, number)
     if nowait:
         stream[at - 1] = 11
 
@@ -132,7 +132,7 @@ _REPORT = 71
 
 # An answer: length, kind, number, code, value and length of an array.
 _new_tuple = tuple.__new__
-_unpack_answer = struct.Struct(">IBQBQI").unpack_from
+unpack_answer = struct.Struct(">IBQBQI").unpack_from
 
 
 def _read_plain_answers(stream: Union[bytes, bytearray], at: int, replies: List[Reply]) -> int:
@@ -142,7 +142,7 @@ def _read_plain_answers(stream: Union[bytes, bytearray], at: int, replies: List[
     """
     end = at + (len(stream) - at) // 26 * 26
     for here in range(at, end, 26):
-        size, kind, number, code, value, length = _unpack_answer(stream, here)
+        size, kind, number, code, value, length = unpack_answer(stream, here)
         if size != 22 or kind != 66 or length or code != VALUE and (code != DONE or value):
             return here
         replies.append(_new_tuple(Answer, (number, code, value, 0)))

@@ -64,9 +64,13 @@ Steps = Generator[Step, Any, T]
 class Job(Ticket[T]):
     """An operation of several steps."""
 
-    def __init__(self, steps: Steps[T], undo: Optional[Callable[[T], Steps[Any]]] = None) -> None:
+    def __init__(
+        self, steps: Steps[T], undo: Optional[Callable[[T], Steps[Any]]] = None, gives_back: bool = False
+    ) -> None:
         super().__init__(None)
         self.steps = steps
+        # Whether it gives something back: then it is done even for a task that is to be cancelled.
+        self.gives_back = gives_back
         # The tickets of the current step.
         self.asked: List[Ticket[Any]] = []
         self.is_interrupted = False

@@ -1,9 +1,9 @@
 """The session file: what a client must know about its session when its own process is restarted.
 
 It holds the session's number, its floor, the next number, each request without an answer, and the answers to requests
-under keys. README.md, "The session file", has its format.
+under keys. docs/session-file.md has its format, which the C client has too.
 
-An entry is written and synced before the message that it is about is sent. So the file has everything that the server may
+A record is written and synced before the message that it is about is sent. So the file has everything that the server may
 have seen, and a request in the file without an answer may be sent again: it is carried out once.
 """
 
@@ -15,30 +15,31 @@ import secrets
 import stat
 import struct
 import zlib
-from typing import Dict, List, NamedTuple, Optional, Tuple
+from typing import Dict, Optional, Tuple
 
-from . import frames
+from . import sessionfile1
 from .errors import SessionFileError, SessionInUse
+from .frames import Answer
+from .sessionstate import ANSWER, Asked, Contradiction, State, piece, text
 
-MAGIC = b"femempy1"
+MAGIC = b"FEMEMSF2"
 
 # The file is rewritten once it has `_SHORT` bytes, and `_GROWTH` times what it must hold.
 _SHORT = 65536
 _GROWTH = 4
 
-_HEAD = struct.Struct(">II")
-_ANSWER = struct.Struct(">BQI")
+_NUMBER = struct.Struct(">Q")
+_PAIR = struct.Struct(">QQ")
+_NUMBERS = struct.Struct(">IQQQ")
+_SUM = struct.Struct(">I")
+_ASKED = struct.Struct(">QQB")
+
+_HEADER = len(MAGIC) + _NUMBER.size + _SUM.size
 
 _ENDS_WITH_PROCESS = 1
-_HAS_KEY = 2
 
-
-class Asked(NamedTuple):
-    """A request in the file: its frame under number 0, its key if any, and whether it ends with its process."""
-
-    frame: bytes
-    key: Optional[bytes]
-    ends_with_process: bool
+# The kinds of records.
+_ASKED_KIND, _ENDED_KIND, _ANSWERED_KIND, _MOVED_KIND, _FORGOTTEN_KIND, _KEPT_KIND, _LEAVING_KIND = range(1, 8)
 
 
 class SessionFile:
@@ -49,27 +50,55 @@ class SessionFile:
         # Absolute, since the program may change its folder, and a link's target, since a rename would replace the link.
         self.path = os.path.realpath(path)
         self._file = -1
-        self.session = 0
-        self.floor: Optional[int] = None
-        self.asked_floor = 0
-        self.next = 0
-        self.is_ending = False
-        self.unanswered: Dict[int, Asked] = {}
-        self.answers: Dict[int, frames.Answer] = {}
-        self.ended: List[int] = []
-        self.keyed: Dict[bytes, Tuple[bytes, frames.Answer]] = {}
+        self._state = State(0)
         self.must_sync = False
-        self._asked: Dict[int, Asked] = {}
+        # Whether a write failed. What is behind it in the file is not known, so nothing more is written.
+        self._is_broken = False
         self._pending = bytearray()
+        # The numbers that the last block has.
+        self._noted = (0, 0, 0)
         try:
             self._open()
             self._read()
-        except OSError as error:
-            self.close()
+        except (OSError, Contradiction) as error:
+            self.abandon()
             raise SessionFileError(f"{path}: {error}") from error
         except BaseException:
-            self.close()
+            self.abandon()
             raise
+
+    @property
+    def session(self) -> int:
+        return self._state.session
+
+    @property
+    def floor(self) -> Optional[int]:
+        return self._state.floor or None
+
+    @property
+    def asked_floor(self) -> int:
+        return self._state.asked_floor
+
+    @property
+    def next(self) -> int:
+        return self._state.next
+
+    @property
+    def is_ending(self) -> bool:
+        return self._state.is_ending
+
+    @property
+    def unanswered(self) -> Dict[int, Asked]:
+        return self._state.unanswered
+
+    @property
+    def answers(self) -> Dict[int, Answer]:
+        """The answers of numbers from the floor on, as far as the file has them."""
+        return self._state.answers
+
+    @property
+    def keyed(self) -> Dict[bytes, Tuple[bytes, Answer]]:
+        return self._state.keyed
 
     def _open(self) -> None:
         """Opens and locks it. Tries again if another file took its path in between."""
@@ -92,7 +121,7 @@ class SessionFile:
         """Writes what is not yet written, and releases the file to other clients."""
         if self._file >= 0:
             try:
-                if self._pending:
+                if (self._pending or self._noted != self._numbers()) and not self._is_broken:
                     self._write(self._file, self._block(bytes(self._pending)))
             except OSError:
                 pass  # unwritten answers, which the server gives again
@@ -121,15 +150,7 @@ class SessionFile:
 
     def start_over(self) -> None:
         """Begins with another session, after the end of this one."""
-        self.floor = None
-        self.is_ending = False
-        self.unanswered.clear()
-        self.answers.clear()
-        self.keyed.clear()
-        self._asked.clear()
-        self.ended.clear()
-        self._pending.clear()
-        self.session = secrets.randbits(63)
+        self._state = State(secrets.randbits(63) | 2**63)
         self.compact()
 
     # Reading.
@@ -137,180 +158,166 @@ class SessionFile:
     def _read(self) -> None:
         content = b""
         while True:
-            piece = os.read(self._file, 1 << 20)
-            if not piece:
+            more = os.read(self._file, 1 << 20)
+            if not more:
                 break
-            content += piece
-        if not content.startswith(MAGIC) or len(content) == len(MAGIC):
-            if content and not MAGIC.startswith(content):
-                raise SessionFileError(f"{self.path} is no session file")
+            content += more
+        if not content:
             self.start_over()
             return
+        if content.startswith(sessionfile1.MAGIC):
+            self._state = sessionfile1.read(content)
+            self.compact()
+            return
+        session = _session_of(content)
+        self._state = State(session)
         end = self._take_blocks(content)
-        if not self.session:
-            raise SessionFileError(f"{self.path} is damaged: it names no session")
         if end < len(content):
             os.ftruncate(self._file, end)
+        os.fsync(self._file)  # a process may have ended without a sync of its last block
         os.lseek(self._file, end, os.SEEK_SET)
+        self._noted = self._numbers()
         self._size = end
         self._limit = max(_SHORT, _GROWTH * len(self._snapshot()))
 
     def _take_blocks(self, content: bytes) -> int:
         """Where the whole blocks end. What follows was being written when a process ended, and nothing of it was sent."""
-        at = len(MAGIC)
+        session = _NUMBER.pack(self.session)
+        at = _HEADER
         while True:
-            end = block_end(content, at)
+            end = block_end(content, at, session)
             if end is None:
                 break
-            self._take_entries(content[at + _HEAD.size : end])
+            self._take_block(content, at, end)
             at = end
         # A whole block after one that is not whole means damage.
-        for behind in range(at + 1, len(content) - _HEAD.size):
-            if block_end(content, behind) is not None:
-                raise SessionFileError(f"{self.path} is damaged at byte {at}")
+        for behind in range(at + 1, len(content) - _NUMBERS.size - _SUM.size + 1):
+            if block_end(content, behind, session) is not None:
+                raise Contradiction(f"damaged at byte {at}")
         return at
 
-    def _take_entries(self, payload: bytes) -> None:
+    def _take_block(self, content: bytes, begin: int, end: int) -> None:
+        payload = content[begin + _NUMBERS.size : end - _SUM.size]
         at = 0
         try:
             while at < len(payload):
-                at = self._take_entry(payload, at)
-        except (struct.error, KeyError, IndexError) as error:
-            raise SessionFileError(f"{self.path} is damaged: {error!r}") from None
+                at = self._take_record(payload, at + 1, payload[at])
+        except (struct.error, IndexError):
+            raise Contradiction(f"a record that does not end in the block at byte {begin}") from None
+        _, floor, asked, next = _NUMBERS.unpack_from(content, begin)
+        self._state.numbers(floor, asked, next)
 
-    def _take_entry(self, payload: bytes, at: int) -> int:
-        kind = payload[at : at + 1]
-        at += 1
-        if kind == b"A":
+    def _take_record(self, payload: bytes, at: int, kind: int) -> int:
+        """Takes the record whose fields begin at `at`. Returns where it ends."""
+        state = self._state
+        if kind == _ASKED_KIND:
             return self._take_asked(payload, at)
-        if kind == b"R":
-            (number,) = struct.unpack_from(">Q", payload, at)
-            code, value, length = _ANSWER.unpack_from(payload, at + 8)
-            self._note_answer(frames.Answer(number, code, value, length))
-            return at + 8 + _ANSWER.size
-        if kind in (b"K", b"X"):
-            key, at = _text(payload, at)
-            if kind == b"X":
-                self.keyed.pop(key, None)
-                return at
-            frame, at = _text(payload, at)
-            self.keyed[key] = (frame, frames.Answer(0, *_ANSWER.unpack_from(payload, at)))
-            return at + _ANSWER.size
-        if kind == b"Z":
-            self.is_ending = True
+        if kind == _ENDED_KIND:
+            state.ended(*_NUMBER.unpack_from(payload, at))
+            return at + _NUMBER.size
+        if kind == _ANSWERED_KIND:
+            (number,) = _NUMBER.unpack_from(payload, at)
+            state.answered(number, Answer(number, *ANSWER.unpack_from(payload, at + _NUMBER.size)))
+            return at + _NUMBER.size + ANSWER.size
+        if kind == _MOVED_KIND:
+            state.moved(*_PAIR.unpack_from(payload, at))
+            return at + _PAIR.size
+        if kind == _FORGOTTEN_KIND:
+            key, at = _key(payload, at)
+            state.forgotten(key)
             return at
-        (number,) = struct.unpack_from(">Q", payload, at)
-        if kind == b"S":
-            self.session = number
-        elif kind == b"B":
-            self.floor = self.asked_floor = self.next = number
-        elif kind == b"N":
-            self.next = number
-        elif kind == b"E":
-            self._note_end(number)
-        elif kind == b"F":
-            self.asked_floor = number
-        elif kind == b"G":
-            self._note_floor(number)
-        else:
-            raise SessionFileError(f"{self.path} is damaged: an entry {kind!r}")
-        return at + 8
-
-    def _take_asked(self, payload: bytes, at: int) -> int:
-        number, flags = struct.unpack_from(">QB", payload, at)
-        key, at = _text(payload, at + 9)
-        frame, at = _text(payload, at)
-        self._note_asked(number, Asked(frame, key if flags & _HAS_KEY else None, bool(flags & _ENDS_WITH_PROCESS)))
+        if kind == _KEPT_KIND:
+            key, at = _key(payload, at + _NUMBER.size)
+            frame, at = _frame(payload, at)
+            state.kept(key, frame, Answer(0, *ANSWER.unpack_from(payload, at)))
+            return at + ANSWER.size
+        if kind != _LEAVING_KIND:
+            raise Contradiction(f"a record of kind {kind}")
+        state.leaving()
         return at
 
-    # What an entry means.
-
-    def _note_asked(self, number: int, asked: Asked) -> None:
-        self.unanswered[number] = self._asked[number] = asked
-        self.next = max(self.next, number + 1)
-
-    def _note_answer(self, answer: frames.Answer) -> None:
-        asked = self._asked[answer.number]
-        self.unanswered.pop(answer.number, None)
-        self.answers[answer.number] = answer
-        if asked.key is not None:
-            self.keyed[asked.key] = (asked.frame, answer)
-
-    def _note_end(self, number: int) -> None:
-        self.unanswered.pop(number, None)
-        self.ended.append(number)
-
-    def _note_floor(self, floor: int) -> None:
-        self.floor = floor
-        self.asked_floor = max(floor, self.asked_floor)
-        self.answers = {number: answer for number, answer in self.answers.items() if number >= floor}
-        self._asked = {number: asked for number, asked in self._asked.items() if number >= floor}
-        self.ended = [number for number in self.ended if number >= floor]
+    def _take_asked(self, payload: bytes, at: int) -> int:
+        number, caller, flags = _ASKED.unpack_from(payload, at)
+        if flags > _ENDS_WITH_PROCESS or not 1 <= caller <= number:
+            raise Contradiction(f"number {number} with flags {flags} and the caller's number {caller}")
+        key, at = text(payload, at + _ASKED.size)
+        if len(key) > 1024:
+            raise Contradiction(f"a key of {len(key)} bytes")
+        frame, at = _frame(payload, at)
+        self._state.asked(number, Asked(frame, key or None, bool(flags)))
+        return at
 
     # Writing: what happens is noted at once, and is in the file after the next `commit`.
 
     def begin(self, floor: int) -> None:
-        self.floor = self.asked_floor = self.next = floor
-        self._pending += b"B" + struct.pack(">Q", floor)
+        self._state.numbers(floor, floor, floor)
 
     def asked(self, number: int, asked: Asked) -> None:
-        self._note_asked(number, asked)
-        self._pending += _asked_entry(number, asked)
+        self._state.asked(number, asked)
+        self._state.next = number + 1
+        self._pending += _asked_record(number, asked)
         self.must_sync = True
 
     def settling(self, floor: int) -> None:
         """Notes that the floor is asked for. The file gets the answers below it first, since the server then drops them."""
-        self.asked_floor = floor
-        self._pending += b"F" + struct.pack(">Q", floor)
+        self._state.asked_floor = floor
         self.must_sync = True
 
-    def answered(self, answer: frames.Answer) -> None:
-        self._note_answer(answer)
-        self._pending += _answer_entry(answer)
+    def answered(self, answer: Answer) -> None:
+        self._state.answered(answer.number, answer)
+        self._pending += _record(_ANSWERED_KIND, _NUMBER.pack(answer.number), _answer_bytes(answer))
 
     def has_ended(self, number: int) -> None:
         """Notes that the request was withdrawn or refused: nothing of it happened."""
-        self._note_end(number)
+        self._state.ended(number)
         self.must_sync = True  # its caller learns this, and the next process must not ask it again
-        self._pending += b"E" + struct.pack(">Q", number)
+        self._pending += _record(_ENDED_KIND, _NUMBER.pack(number))
 
     def settled(self, floor: int) -> None:
-        if floor != self.floor:
-            self._note_floor(floor)
-            self._pending += b"G" + struct.pack(">Q", floor)
+        self._state.floor = floor
+        self._state.asked_floor = max(floor, self._state.asked_floor)
+        self._state.answers = {number: answer for number, answer in self._state.answers.items() if number >= floor}
 
     def forget(self, key: bytes) -> None:
-        if self.keyed.pop(key, None) is not None:
-            self._pending += b"X" + _spelled(key)
+        if key in self._state.keyed:
+            self._state.forgotten(key)
+            self._pending += _record(_FORGOTTEN_KIND, _text(key))
 
     def ending(self) -> None:
-        self.is_ending = True
-        self._pending += b"Z"
+        self._state.leaving()
+        self._pending += _record(_LEAVING_KIND)
         self.must_sync = True
 
     def commit(self) -> None:
         """Writes and syncs everything noted so far. `SessionFileError` if it can't: then nothing may be sent."""
+        if self._is_broken:
+            raise SessionFileError(f"{self.path} could not be written")
         try:
             if self._size + len(self._pending) > self._limit:
                 self.compact()
                 return
             block = self._block(bytes(self._pending))
             self._write(self._file, block)
-            os.fsync(self._file)
+            os.fdatasync(self._file)
         except OSError as error:
-            self._pending.clear()  # its client ends, and nothing that is noted may be sent
+            self._is_broken = True  # its client ends, and nothing that is noted may be sent or written
             raise SessionFileError(f"{self.path}: {error}") from error
         self._size += len(block)
+        self._noted = self._numbers()
         self._pending.clear()
         self.must_sync = False
 
     def compact(self) -> None:
         """Writes what must be kept into a new file, and replaces the old one with it."""
         new = f"{self.path}.new"
-        file = os.open(new, os.O_RDWR | os.O_CREAT | os.O_TRUNC | os.O_CLOEXEC, 0o600)
+        try:
+            os.unlink(new)
+        except FileNotFoundError:
+            pass
+        file = os.open(new, os.O_RDWR | os.O_CREAT | os.O_EXCL | os.O_NOFOLLOW | os.O_CLOEXEC, 0o600)
         try:
             fcntl.flock(file, fcntl.LOCK_EX | fcntl.LOCK_NB)
-            content = MAGIC + self._block(self._snapshot())
+            content = self._snapshot()
             self._write(file, content)
             os.fsync(file)
             self.replace(new)
@@ -321,43 +328,38 @@ class SessionFile:
         self._file = file
         self._size = len(content)
         self._limit = max(_SHORT, _GROWTH * len(content))
+        self._noted = self._numbers()
         self._pending.clear()
         self.must_sync = False
 
     def replace(self, new: str) -> None:
         os.rename(new, self.path)
-        folder = os.open(os.path.dirname(os.path.abspath(self.path)), os.O_RDONLY)
+        folder = os.open(os.path.dirname(os.path.abspath(self.path)), os.O_RDONLY | os.O_CLOEXEC)
         try:
             os.fsync(folder)
         finally:
             os.close(folder)
 
-    def _snapshot(self) -> bytes:
-        out = bytearray(b"S" + struct.pack(">Q", self.session))
-        if self.floor is not None:
-            out += b"B" + struct.pack(">Q", self.floor)
-            out += b"F" + struct.pack(">Q", self.asked_floor)
-            out += b"N" + struct.pack(">Q", self.next)
-        if self.is_ending:
-            out += b"Z"
-        for key, (frame, answer) in self.keyed.items():
-            out += b"K" + _spelled(key) + _spelled(frame)
-            out += _ANSWER.pack(answer.code, answer.value, answer.length)
-        for number, asked in sorted(self._asked.items()):
-            out += _asked_entry(number, asked)
-        for number, answer in self.answers.items():
-            # A forgotten key stays forgotten.
-            forgotten = self._asked[number].key
-            out += _answer_entry(answer)
-            if forgotten is not None and forgotten not in self.keyed:
-                out += b"X" + _spelled(forgotten)
-        for number in self.ended:
-            out += b"E" + struct.pack(">Q", number)
-        return bytes(out)
+    def _numbers(self) -> Tuple[int, int, int]:
+        return self._state.floor, self._state.asked_floor, self._state.next
 
-    @staticmethod
-    def _block(payload: bytes) -> bytes:
-        return _HEAD.pack(len(payload), zlib.crc32(payload)) + payload
+    def _snapshot(self) -> bytes:
+        """The shortest file that holds what this one does."""
+        state = self._state
+        head = MAGIC + _NUMBER.pack(state.session)
+        records = bytearray()
+        for key, (frame, answer) in state.keyed.items():
+            records += _record(_KEPT_KIND, _NUMBER.pack(0), _text(key), frame, _answer_bytes(answer))
+        for number, asked in sorted(state.unanswered.items()):
+            records += _asked_record(number, asked)
+        if state.is_ending:
+            records += _record(_LEAVING_KIND)
+        return head + _SUM.pack(zlib.crc32(head)) + self._block(bytes(records))
+
+    def _block(self, payload: bytes) -> bytes:
+        state = self._state
+        block = _NUMBERS.pack(len(payload), *self._numbers()) + payload
+        return block + _SUM.pack(zlib.crc32(block, zlib.crc32(_NUMBER.pack(state.session))))
 
     @staticmethod
     def _write(file: int, content: bytes) -> None:
@@ -365,31 +367,56 @@ class SessionFile:
             content = content[os.write(file, content) :]
 
 
-def block_end(content: bytes, at: int) -> Optional[int]:
-    """Where the block at `at` ends, if it is whole."""
-    if len(content) - at < _HEAD.size:
+def block_end(content: bytes, at: int, session: bytes) -> Optional[int]:
+    """Where the block at `at` ends, if it is whole. `session`: the bytes of its session's number."""
+    if len(content) - at < _NUMBERS.size + _SUM.size:
         return None
-    length, checksum = _HEAD.unpack_from(content, at)
-    end: int = at + _HEAD.size + length
-    whole = length > 0 and end <= len(content) and zlib.crc32(content[at + _HEAD.size : end]) == checksum
-    return end if whole else None
+    (length,) = _SUM.unpack_from(content, at)
+    end: int = at + _NUMBERS.size + length
+    if end + _SUM.size > len(content):
+        return None
+    (checksum,) = _SUM.unpack_from(content, end)
+    return end + _SUM.size if zlib.crc32(content[at:end], zlib.crc32(session)) == checksum else None
 
 
-def _asked_entry(number: int, asked: Asked) -> bytes:
-    flags = (_ENDS_WITH_PROCESS if asked.ends_with_process else 0) | (_HAS_KEY if asked.key is not None else 0)
-    return b"A" + struct.pack(">QB", number, flags) + _spelled(asked.key or b"") + _spelled(asked.frame)
+def _session_of(content: bytes) -> int:
+    """The session of a file, by its header."""
+    if not content.startswith(MAGIC):
+        if content[:7] == MAGIC[:7]:
+            raise Contradiction(f"a file of the C client's version {content[7:8]!r}: open it with that client first")
+        raise Contradiction("it is no session file")
+    if len(content) < _HEADER:
+        raise Contradiction("it is damaged: its header is not whole")
+    session, checksum = _NUMBER.unpack_from(content, len(MAGIC))[0], _SUM.unpack_from(content, _HEADER - _SUM.size)[0]
+    if zlib.crc32(content[: _HEADER - _SUM.size]) != checksum:
+        raise Contradiction("it is damaged in its header")
+    return int(session)
 
 
-def _answer_entry(answer: frames.Answer) -> bytes:
-    return b"R" + struct.pack(">Q", answer.number) + _ANSWER.pack(answer.code, answer.value, answer.length)
+def _record(kind: int, *fields: bytes) -> bytes:
+    return bytes((kind,)) + b"".join(fields)
 
 
-def _spelled(text: bytes) -> bytes:
-    return struct.pack(">H", len(text)) + text
+def _asked_record(number: int, asked: Asked) -> bytes:
+    flags = _ENDS_WITH_PROCESS if asked.ends_with_process else 0
+    return _record(_ASKED_KIND, _ASKED.pack(number, number, flags), _text(asked.key or b""), asked.frame)
 
 
-def _text(payload: bytes, at: int) -> Tuple[bytes, int]:
-    (length,) = struct.unpack_from(">H", payload, at)
-    if at + 2 + length > len(payload):
-        raise IndexError(at)
-    return payload[at + 2 : at + 2 + length], at + 2 + length
+def _answer_bytes(answer: Answer) -> bytes:
+    return ANSWER.pack(answer.code, answer.value, answer.length)
+
+
+def _text(content: bytes) -> bytes:
+    return struct.pack(">H", len(content)) + content
+
+
+def _key(payload: bytes, at: int) -> Tuple[bytes, int]:
+    key, at = text(payload, at)
+    if not 1 <= len(key) <= 1024:
+        raise Contradiction(f"a key of {len(key)} bytes")
+    return key, at
+
+
+def _frame(payload: bytes, at: int) -> Tuple[bytes, int]:
+    (length,) = _SUM.unpack_from(payload, at)
+    return piece(payload, at, _SUM.size + length)

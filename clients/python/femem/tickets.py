@@ -12,7 +12,7 @@ from .requests import Request
 T = TypeVar("T")
 
 
-def _nobody() -> None:
+def nobody() -> None:
     """Called if no caller waits."""
 
 
@@ -25,6 +25,8 @@ class Ticket(Generic[T]):
 
     number: Optional[int] = None
     sent_at = 0.0
+    # When it was asked, if events are wanted.
+    asked_at = 0.0
     # Whether the core has it.
     taken = False
     done = False
@@ -41,10 +43,12 @@ class Ticket(Generic[T]):
     # The key under which the session file keeps its answer, and tickets asked under that key meanwhile.
     key: Optional[bytes] = None
     followers: Optional[List[Ticket[T]]] = None
+    # Whether it was taken back to make room, and is to be sent again.
+    has_moved = False
     # Whether it is first asked without waiting. If it would wait, another session asks it again.
     asks_first = False
 
-    def __init__(self, request: Optional[Request[T]], finished: Callable[[], None] = _nobody) -> None:
+    def __init__(self, request: Optional[Request[T]], finished: Callable[[], None] = nobody) -> None:
         self.request = request
         # Called once it is done.
         self.finished = finished

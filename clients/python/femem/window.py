@@ -7,7 +7,7 @@ others' answers until the server has dropped them, since an answer may come agai
 
 from __future__ import annotations
 
-from typing import Dict, Generic, Iterable, List, Optional, TypeVar, Union
+from typing import Dict, Generic, List, Optional, Sequence, TypeVar, Union
 
 from . import frames
 from .errors import ProtocolError, SessionLost, TakenOver
@@ -23,7 +23,16 @@ _LONGEST_STEP = frames.WINDOW - 1
 
 _WINDOW = frames.WINDOW
 
+# Once the lowest number without an answer is this far behind the next one, those that wait get new numbers. So the window
+# has room for other requests all the time. Not those among the last few numbers, nor if more than half of the window waits.
+_HELD_BACK = 12
+_RECENT = 8
+_MOST_HOLDING = _WINDOW // 2
+
 _SETTLED_OTHERWISE = "no answer is due"
+
+# Of numbers that a former process used: an answer may come once more, and it is not known which.
+_NOT_KEPT = "not kept"
 
 
 class Window(Generic[T]):
@@ -35,6 +44,8 @@ class Window(Generic[T]):
         self.unanswered: Dict[int, T] = {}  # ascending, since numbers are given in order
         self._next = floor
         self._answers: Dict[int, Union[frames.Answer, str]] = {}
+        # Whether floors between the current one and the one asked for may be reported.
+        self._several = False
 
     @classmethod
     def of_file(
@@ -44,16 +55,16 @@ class Window(Generic[T]):
         next: int,
         unanswered: Dict[int, T],
         answers: Dict[int, frames.Answer],
-        ended: Iterable[int],
     ) -> Window[T]:
-        """The window as a former process left it."""
+        """The window as a former process left it. That may have asked for several floors, one after the other."""
         window: Window[T] = cls(floor)
         window.asked = asked
         window._next = next
+        window._several = asked > floor
         window.unanswered = unanswered
-        window._answers.update(answers)
-        for number in ended:
-            window._answers[number] = _SETTLED_OTHERWISE
+        for number in range(floor, next):
+            if number not in unanswered:
+                window._answers[number] = answers.get(number, _NOT_KEPT)
         return window
 
     def room(self) -> int:
@@ -67,6 +78,19 @@ class Window(Generic[T]):
         self.unanswered[number] = item
         return number
 
+    def lent(self, tickets: Sequence[Optional[T]]) -> None:
+        """Notes that the next numbers were used for these. `None`: its answer was read elsewhere."""
+        for item in tickets:
+            if item is None:
+                self._answers[self._next] = _SETTLED_OTHERWISE
+            else:
+                self.unanswered[self._next] = item
+            self._next += 1
+
+    def next_number(self) -> int:
+        """The number that the next request gets."""
+        return self._next
+
     def lowest(self) -> int:
         """The lowest number without an answer, or the next number if there is none."""
         return next(iter(self.unanswered), self._next)
@@ -77,7 +101,8 @@ class Window(Generic[T]):
         if number in self.unanswered:
             self._answers[number] = answer
             return self.unanswered.pop(number)
-        if self._answers.get(number) != answer:
+        kept = self._answers.get(number)
+        if kept != answer and kept is not _NOT_KEPT:
             raise ProtocolError(f"an answer to number {number} that is not due")
         return None
 
@@ -96,9 +121,23 @@ class Window(Generic[T]):
         self.asked = floor
         return floor
 
+    def floors(self) -> List[int]:
+        """The floors to ask for again over a new connection: up to the one asked for, each at most a window above the last."""
+        return [*range(self.floor + _WINDOW, self.asked, _WINDOW), self.asked] if self.asked != self.floor else []
+
     def is_stuck(self) -> bool:
         """Whether there is no room until the request of the lowest number ends."""
         return not self.room() and self.asked == self.floor == self.lowest()
+
+    def holding(self) -> List[T]:
+        """The requests that wait under old numbers while others come and go, once they keep the floor from rising.
+
+        The server answers in order, so a request below an answered number waits.
+        """
+        if len(self.unanswered) > _MOST_HOLDING or self._next - self.lowest() < _HELD_BACK:
+            return []
+        low = min(self._next - _RECENT, max(self._answers, default=0))
+        return [item for number, item in self.unanswered.items() if number < low]
 
     def lower_half(self) -> List[T]:
         """The unanswered requests in the lower half of the window's numbers."""
@@ -109,9 +148,10 @@ class Window(Generic[T]):
         """The server reports that this is the floor."""
         if floor == self.floor:
             return
-        if floor != self.asked:
+        if floor != self.asked and not (self._several and self.floor < floor < self.asked):
             raise ProtocolError(f"floor {floor}, where {self.floor} stands and {self.asked} is asked for")
         self.floor = floor
+        self._several = self._several and floor != self.asked
         for number in [number for number in self._answers if number < floor]:
             del self._answers[number]
 
@@ -122,6 +162,6 @@ class Window(Generic[T]):
         """
         if floor < self.floor:
             raise SessionLost(f"the floor was {self.floor} and is {floor}")
-        if floor not in (self.floor, self.asked):
+        if floor not in (self.floor, self.asked) and not (self._several and floor < self.asked):
             raise TakenOver(f"the floor was {self.floor} and is {floor}")
         self.settled(floor)

@@ -3,13 +3,13 @@
 import asyncio
 import gc
 import time
+import unittest
 
 import paths  # noqa: F401
 from serving import WithFolder
 
 import femem
-from femem import Client, requests
-from femem import aio
+from femem import Client, aio, patterns, requests
 from femem.aio import AsyncClient
 
 
@@ -253,6 +253,124 @@ class Asyncio(WithFolder):
     def test_no_server(self):
         with self.assertRaises(femem.ServerUnreachable):
             self.run_with(None, reconnect_timeout=0.3)
+
+
+def cancel_when_answered(client, task):
+    """Cancels the task in the moment in which something that the client asked is answered."""
+    take_ended = client._core.take_ended
+
+    def then_cancel():
+        ended = take_ended()
+        if ended:
+            client._core.take_ended = take_ended
+            asyncio.get_running_loop().call_soon(task.cancel)
+        return ended
+
+    client._core.take_ended = then_cancel
+
+
+class Cancels(WithFolder):
+    """A cancel that meets the answer of an operation: the task gets the answer, and then the cancel."""
+
+    def run_and_cancel(self, work):
+        """Runs `work(client, word, got)` as a task, and cancels it as its first answer comes, which is 1."""
+        self.server()
+        got = []
+
+        async def main():
+            async with AsyncClient(self.path, 7) as client, AsyncClient(self.path, 8) as other:
+                word = await client.create("word", 1)
+                task = asyncio.ensure_future(work(client, word, got))
+                while not (await other.report()).waiters:
+                    pass
+                cancel_when_answered(client, task)
+                await other.writeef(word, 0, 1)
+                await asyncio.wait([task], timeout=60)
+                self.assertTrue(task.done())
+                return task
+
+        return asyncio.run(main()), got
+
+    def test_it_arrives_at_the_next_operation(self):
+        async def work(client, word, got):
+            got.append(await client.readff(word, 0))
+            got.append(await client.readff(word, 0))
+
+        task, got = self.run_and_cancel(work)
+        self.assertEqual((task.cancelled(), got), (True, [1]))
+
+    def test_it_arrives_at_the_next_await(self):
+        async def work(client, word, got):
+            got.append(await client.readff(word, 0))
+            await asyncio.sleep(1000)
+
+        task, got = self.run_and_cancel(work)
+        self.assertEqual((task.cancelled(), got), (True, [1]))
+
+    def test_it_arrives_once(self):
+        async def work(client, word, got):
+            got.append(await client.readff(word, 0))
+            try:
+                await client.readff(word, 0)
+            except asyncio.CancelledError:
+                got.append("cancelled")
+            for _ in range(3):
+                await asyncio.sleep(0)
+                got.append(await client.readff(word, 0))
+            return "done"
+
+        task, got = self.run_and_cancel(work)
+        self.assertEqual((task.result(), got), ("done", [1, "cancelled", 1, 1, 1]))
+
+    def test_what_was_taken_is_given_back_before_it_arrives(self):
+        async def work(client, word, got):
+            lock = aio.Lock(client, "lock")
+            await lock.owner()
+            async with lock:
+                got.append(await client.readff(word, 0))
+            await client.readff(word, 0)
+
+        task, got = self.run_and_cancel(work)
+        self.assertEqual((task.cancelled(), got), (True, [1]))
+        with Client(self.path, 9) as client:
+            self.assertFalse(patterns.Lock(client, "lock").locked())
+
+    def run_beside_full_words(self, work):
+        """Runs `work(take_on)`, which must end; `take_on` reads a full word without end."""
+        self.server()
+
+        async def main():
+            async with AsyncClient(self.path, 7) as client:
+                word = await client.create("word", 1, full=True)
+
+                async def take_on():
+                    while True:
+                        await client.readff(word, 0)
+
+                task = asyncio.ensure_future(work(take_on))
+                await asyncio.wait([task], timeout=60)
+                self.assertTrue(task.done())
+                return task
+
+        return asyncio.run(main())
+
+    @unittest.skipUnless(hasattr(asyncio, "timeout"), "this version of Python has no asyncio.timeout")
+    def test_a_timeout_ends_a_task_whose_words_are_full(self):
+        async def work(take_on):
+            async with asyncio.timeout(0.1):
+                await take_on()
+
+        self.assertIsInstance(self.run_beside_full_words(work).exception(), TimeoutError)
+
+    @unittest.skipUnless(hasattr(asyncio, "TaskGroup"), "this version of Python has no task groups")
+    def test_a_task_group_ends_its_other_tasks(self):
+        async def work(take_on):
+            async with asyncio.TaskGroup() as tasks:
+                tasks.create_task(take_on())
+                await asyncio.sleep(0.1)
+                raise KeyError("on purpose")
+
+        self.assertIn("KeyError", repr(self.run_beside_full_words(work).exception()))
 
 
 class Patterns(WithFolder):

@@ -137,18 +137,18 @@ class Operations(WithFolder):
         with Client(self.path, 7, probe_interval=100.0) as client:
             word = client.create("word", 1, full=True)
             sent = []
-            inner = client._socket
+            inner = client._worker._socket
 
             class Counting:
-                def send(self, content):
-                    sent.append(inner.send(content))
+                def send(self, content, *flags):
+                    sent.append(inner.send(content, *flags))
                     return sent[-1]
 
-            client._socket = Counting()
+            client._worker._socket = Counting()
             add = requests.int_fetch_add(word, 0, 1)
             self.assertEqual(client.submit_many([add] * 10), list(range(10)))
             self.assertEqual(sent, [10 * len(add.frame)])
-            client._socket = inner
+            client._worker._socket = inner
 
     def test_what_waits_keeps_nobody_from_being_sent(self):
         self.server()

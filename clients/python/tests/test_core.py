@@ -145,6 +145,22 @@ class Schedules(unittest.TestCase):
                 self.assertLessEqual(end, len(values) + len(unknown))
 
 
+def exchange(world, core, rounds):
+    """Moves everything to the server and back, while the clock stands still."""
+    for _ in range(rounds):
+        core.tick(world.now)
+        there = world.links[core][1]
+        there += core.to_send
+        core.to_send.clear()
+        world.feed(world.links[core][0], there, len(there))
+        world.model.post()
+        world.collect(core)
+        back = world.links[core][2]
+        piece = bytes(back)
+        back.clear()
+        core.received(piece, world.now)
+
+
 class Windows(unittest.TestCase):
     def test_requests_that_wait_keep_nobody_from_being_sent(self):
         world = World(1)
@@ -155,6 +171,60 @@ class Windows(unittest.TestCase):
             run_beside(world, core, requests.writeef(array, index, index))
         world.settle_down([core])
         self.assertEqual([t.result for t in waiting], list(range(40)))
+
+    def test_calls_beside_what_waits_need_no_time(self):
+        """Beside requests that wait, three hundred calls are answered while the clock stands still."""
+        for waiters in (1, 2, 11, 12, 16, 17, 20, 31, 32, 40):
+            with self.subTest(waiters=waiters):
+                world = World(waiters)
+                core = world.core(7)
+                words = run(world, core, requests.create("words", 40))
+                count = run(world, core, requests.create("count", 1, True))
+                waiting = [core.submit(requests.readfe(words, index), world.now) for index in range(waiters)]
+                exchange(world, core, 6)
+                turns = 0
+                for value in range(300):
+                    ticket = core.submit(requests.int_fetch_add(count, 0, 1), world.now)
+                    while not ticket.done and turns < 2400:
+                        exchange(world, core, 1)
+                        turns += 1
+                    self.assertEqual(ticket.result, value)
+                self.assertTrue(waiters > 16 or turns == 300, turns)
+                for index in range(waiters):
+                    run_beside(world, core, requests.writeef(words, index, index))
+                world.settle_down([core])
+                self.assertEqual([ticket.result for ticket in waiting], list(range(waiters)))
+
+    def test_what_waits_moves_only_beside_other_requests(self):
+        """More requests wait than there are numbers. They take turns, and meanwhile the client sends nothing."""
+        world = World(1)
+        core = world.core(7)
+        words = run(world, core, requests.create("words", 40))
+        for index in range(40):
+            core.submit(requests.readfe(words, index), world.now)
+        exchange(world, core, 20)
+        for _ in range(10):
+            sent = 0
+            for _ in range(50):
+                sent += len(core.to_send)
+                exchange(world, core, 1)
+            self.assertLess(sent, 40 * 64)
+            self.assertEqual(len(core.to_send), 0)
+            self.assertGreater(core.next_time(), world.now)
+            world.now += 0.06
+
+    def test_a_batch_is_not_taken_back(self):
+        """Only what is known to wait is moved: not requests whose answers are on their way."""
+        for size in range(1, 17):
+            world = World(size)
+            core = world.core(7)
+            word = run(world, core, requests.create("words", 1, True))
+            for _ in range(20):
+                tickets = [core.submit(requests.int_fetch_add(word, 0, 1), world.now) for _ in range(size)]
+                self.assertFalse(core._flow._cancelled)
+                exchange(world, core, 1)
+                self.assertFalse(core._flow._cancelled)
+                self.assertTrue(all(ticket.done for ticket in tickets))
 
     def test_a_full_window_of_answers_moves(self):
         world = World(2)

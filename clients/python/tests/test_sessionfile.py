@@ -1,6 +1,7 @@
 """At most once over the client's own restarts: a client with a session file is killed at each point, and continues."""
 
 import asyncio
+import enum
 import itertools
 import os
 import random
@@ -18,15 +19,18 @@ from test_unspoilt import interrupted
 import femem
 from femem import Client, aio, frames, requests, sessionfile
 from femem.aio import AsyncClient
+from femem.client import key_bytes
 from femem.core import Core
-from femem.sessionfile import Asked, SessionFile
+from femem.sessionfile import SessionFile
+from femem.sessionstate import Asked
+from femem.worker import Worker
 
 POINTS = {
     "before the write": (SessionFile, "commit", "before"),
     "within the write": (SessionFile, "_write", "torn"),
     "after the write": (SessionFile, "commit", "after"),
-    "before the send": (Client, "_flush", "before"),
-    "after the send": (Client, "_flush", "after"),
+    "before the send": (Worker, "_flush", "before"),
+    "after the send": (Worker, "_flush", "after"),
     "before the answer is taken": (Core, "received", "before"),
     "after the answer is taken": (Core, "received", "after"),
     "before the compaction": (SessionFile, "compact", "before"),
@@ -183,6 +187,15 @@ class Killed(WithFolder):
             self.assertEqual(watcher.readff(word, 0), 30)
 
 
+def blocks_of(content):
+    """Where the blocks of a session file begin."""
+    at, places = 20, []
+    while at < len(content):
+        places.append(at)
+        at += 32 + struct.unpack_from(">I", content, at)[0]
+    return places
+
+
 class Files(WithFolder):
     def setUp(self):
         super().setUp()
@@ -194,6 +207,14 @@ class Files(WithFolder):
         client._core.file = None
         client._core._flow._file = None
         client.close()
+
+    @staticmethod
+    def begin_to_leave(client):
+        """Notes in the file, in the client's own thread, that the session is being ended."""
+        noted = threading.Event()
+        file = client._core.file
+        client._ask(lambda now: (file.ending(), file.commit(), noted.set()))
+        noted.wait(60)
 
     def test_a_key_is_asked_once(self):
         self.server()
@@ -219,6 +240,35 @@ class Files(WithFolder):
                 client.once("a", add)
             with self.assertRaises(ValueError):
                 client.forget("a")
+
+    def test_whoever_asks_a_key_without_a_limit_gets_its_answer(self):
+        """Several ask under a key. The first one's time runs out, and the others go on waiting."""
+        self.server()
+        with Client(self.path, session_file=self.file) as client, Client(self.path, 8) as other:
+            word = client.create("word", 1)
+            take = requests.readfe(word, 0)
+            first = client.submit(take, key="job", timeout=0.05)
+            others = [client.submit(take, key="job"), client.submit(take, key="job", timeout=0.2), client.submit(take, key="job")]
+            self.assertIsInstance(first.exception(60), femem.TimedOut)
+            self.assertIsInstance(others[1].exception(60), femem.TimedOut)
+            client.withdraw(others[0])
+            self.assertIsInstance(others[0].exception(60), femem.Withdrawn)
+            other.writeef(word, 0, 7)
+            self.assertEqual(others[2].result(60), 7)
+            self.assertEqual(client.once("job", take), 7)
+            self.assertEqual(other.readxx(word, 0), 7)
+
+    def test_a_key_is_its_value(self):
+        """Not what its class prints, which differs between versions of Python."""
+        step = enum.IntEnum("Step", {"PAY": 1})
+        name = enum.Enum("Name", {"PAY": "pay"}, type=str)
+
+        class Odd(bytes):
+            def __bytes__(self):
+                return b"odd"
+
+        keys = [key_bytes(key) for key in (step.PAY, 1, "1", b"1", name.PAY, Odd(b"x"), -5)]
+        self.assertEqual(keys, [b"1", b"1", b"1", b"1", b"pay", b"x", b"-5"])
 
     def test_two_that_ask_a_key_at_once_ask_it_once(self):
         self.server()
@@ -285,7 +335,7 @@ class Files(WithFolder):
 
     def test_another_file_is_refused_and_not_touched(self):
         self.server()
-        for content in (b"what a user wrote\n", b"femempy2" + bytes(40)):
+        for content in (b"what a user wrote\n", b"femempy2" + bytes(40), b"FEMEMSF1" + bytes(40), b"FEMEMSF2", b"F"):
             with open(self.file, "wb") as file:
                 file.write(content)
             with self.assertRaises(femem.SessionFileError):
@@ -305,7 +355,7 @@ class Files(WithFolder):
             with open(self.file, "wb") as file:
                 file.write(whole[:cut])
             SessionFile(self.file).abandon()
-        first = 8 + struct.unpack(">I", whole[8:12])[0] + 8
+        first = blocks_of(whole)[1]
         with open(self.file, "wb") as file:
             file.write(whole[: first + 12] + b"\xff" + whole[first + 13 :])
         with self.assertRaises(femem.SessionFileError):
@@ -319,9 +369,7 @@ class Files(WithFolder):
                 client.int_fetch_add(word, 0, 1)
         with open(self.file, "rb") as file:
             whole = file.read()
-        last = at = 8
-        while at < len(whole):
-            last, at = at, at + 8 + struct.unpack_from(">I", whole, at)[0]
+        last = blocks_of(whole)[-1]
         self.assertGreater(last, 200)
         for at, bit in itertools.product(range(last), (0x01, 0x10, 0x80)):
             damaged = whole[:at] + bytes([whole[at] ^ bit]) + whole[at + 1 :]
@@ -338,7 +386,8 @@ class Files(WithFolder):
         if drawn < 0.35 and file.next < file.asked_floor + 32:
             number, key = file.next, chance.choice([None, b"one", b"two", b"three"])
             taken = {file.unanswered[each].key for each in out} | set(file.keyed)
-            file.asked(number, Asked(b"frame %d" % number, None if key in taken else key, drawn < 0.05))
+            frame = requests.int_fetch_add(1, number, number).frame
+            file.asked(number, Asked(frame, None if key in taken else key, drawn < 0.05))
             out.append(number)
         elif drawn < 0.6 and out:
             number = out.pop(chance.randrange(len(out)))
@@ -359,7 +408,7 @@ class Files(WithFolder):
     def says(file):
         keyed = {key: (frame, answer._replace(number=0)) for key, (frame, answer) in file.keyed.items()}
         numbers = (file.session, file.floor, file.asked_floor, file.next)
-        return numbers, file.unanswered, file.answers, sorted(file.ended), keyed
+        return numbers, file.unanswered, keyed
 
     def test_what_is_read_is_what_was_kept(self):
         """Whatever happens to a session, and however often the file is rewritten, the next process reads it."""
@@ -448,6 +497,41 @@ class Files(WithFolder):
             self.assertEqual(client.readff(word, 0), 0)
         self.assertEqual(server.model.stored.arrays[word.id][1][0][0], 0)
 
+    def test_nothing_is_written_behind_half_a_block(self):
+        """The disk is full in the middle of a write. Then there is room again, and what is noted later stays out."""
+        self.server()
+
+        def break_off(client):
+            file, write = client._core.file, SessionFile._write
+
+            def half(number, content):
+                file._write = write
+                os.write(number, content[: len(content) // 2])
+                raise OSError(28, "no space is left")
+
+            file._write = half
+
+        with Client(self.path, session_file=self.file) as client:
+            word = client.create("word", 1, full=True)
+            client.once("kept", requests.int_fetch_add(word, 0, 1))
+            break_off(client)
+            with self.assertRaises(femem.SessionFileError):
+                client.int_fetch_add(word, 0, 1)
+            client.forget("kept")
+        with Client(self.path, session_file=self.file) as client:
+            self.assertEqual(client.once("kept", requests.int_fetch_add(word, 0, 1)), 0)
+
+        async def main():
+            async with AsyncClient(self.path, session_file=self.file) as client:
+                break_off(client)
+                with self.assertRaises(femem.SessionFileError):
+                    await client.int_fetch_add(word, 0, 1)
+                client.forget("kept")
+            async with AsyncClient(self.path, session_file=self.file) as client:
+                self.assertEqual(await client.once("kept", requests.int_fetch_add(word, 0, 1)), 0)
+
+        asyncio.run(main())
+
     def test_a_file_that_cannot_be_written_stops_the_client_before_it_sends(self):
         server = self.server()
         with Client(self.path, session_file=self.file) as client:
@@ -521,8 +605,7 @@ class Files(WithFolder):
         client = Client(self.path, session_file=self.file)
         client.create("word", 1)
         first = client.session
-        client._core.file.ending()
-        client._core.file.commit()
+        self.begin_to_leave(client)
         self.abandon(client)
         with Client(self.path, session_file=self.file) as client:
             self.assertNotEqual(client.session, first)
@@ -544,8 +627,7 @@ class Files(WithFolder):
         word = former.create("word", 1)
         former.submit(requests.readfe(word, 0))
         former.readxx(word, 0)  # then its thread has nothing more to do
-        former._core.file.ending()
-        former._core.file.commit()
+        self.begin_to_leave(former)
         self.abandon(former)
 
         async def main():

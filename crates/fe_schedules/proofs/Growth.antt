@@ -9,7 +9,8 @@ use Rattle.fe_desk.specs.declared.step.Step.TheVariants as step
 use Rattle.fe_desk.specs.Mails.{emptied_box}
 use Rattle.fe_desk.specs.Standing.{Client, Standing, unwritten, all_told, emptied, discharged}
 use Rattle.fe_desk.specs.Steps.{find, on_client, with_left, with_decoder, new_client, clients_with, unmade, Connects, gone, TakesPiece, TakesFrom, TakesBytes, after_frame, Acts, DeskStep, DeskRun}
-use Rattle.fe_desk.proofs.Outputs.{stored_clients, posted_clients, unmade_clients, takes_clients}
+use Rattle.fe_desk.proofs.Outputs.{stored_clients, posted_clients, unmade_clients}
+use Rattle.fe_desk.proofs.Reading.{takes_all-keeps}
 use Rattle.fe_desk.specs.Quiet.{AreWritten}
 
 -- Each client is written what it was written before and perhaps more, no reply waits, and new clients come after.
@@ -86,7 +87,7 @@ framed false s conn w = itself s.clients w
 piece_taken : (s : Standing) (conn : ℕ) (before : Decoding) (piece : List ℕ) (t : Standing) → AreWritten s.clients → TakesPiece s conn before piece t → Extends s.clients t.clients
 piece_taken s conn before piece t w p =
     let d : Extends s.clients (with_decoder s conn p.decoder).clients = changed conn (λ c. record c { decoder = p.decoder }) (λ c. (refl, refl)) s.clients w in
-    let last : p.last.clients ≡ (with_decoder s conn p.decoder).clients = takes_clients p.more (with_decoder s conn p.decoder) conn p.last p.takes in
+    let last : p.last.clients ≡ (with_decoder s conn p.decoder).clients = takes_all-keeps (with_decoder s conn p.decoder) conn p.more p.last p.takes in
     let here : Extends s.clients p.last.clients = subst (λ (xs : List Client). Extends s.clients xs) (sym last) d in
     let after : Extends p.last.clients t.clients =
     subst (λ (u : Standing). Extends p.last.clients u.clients) (sym p.after) (framed p.decoder.is_bad p.last conn (extended s.clients p.last.clients here)) in
@@ -95,7 +96,7 @@ piece_taken s conn before piece t w p =
 taken_from : (s : Standing) (conn : ℕ) (left : List ClientMessage) (before : Decoding) (piece : List ℕ) (t : Standing) → AreWritten s.clients → TakesFrom s conn left before piece t → Extends s.clients t.clients
 taken_from s conn left before piece t w p =
     let d : Extends s.clients (with_left s conn []).clients = changed conn (λ c. record c { left = [] }) (λ c. (refl, refl)) s.clients w in
-    let mid : p.mid.clients ≡ (with_left s conn []).clients = takes_clients left (with_left s conn []) conn p.mid p.leftovers in
+    let mid : p.mid.clients ≡ (with_left s conn []).clients = takes_all-keeps (with_left s conn []) conn left p.mid p.leftovers in
     let here : Extends s.clients p.mid.clients = subst (λ (xs : List Client). Extends s.clients xs) (sym mid) d in
     both s.clients p.mid.clients t.clients here (by (is_connected p.mid.front conn) (extended s.clients p.mid.clients here) p.reading)
   where

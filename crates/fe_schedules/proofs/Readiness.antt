@@ -1,5 +1,5 @@
 -- A desk stays ready for the next step.
-use Rattle.std.proofs.Common.{◌≡◌, ◌≢◌, None, ℕ, ◌≤◌, false, List, take, take_all, length, refl, zero, sym, ap, ◌∙◌, ◌⊎◌, inl, inr, subst, arith, Some, Option, suc, ◌<◌, ◌↔◌}
+use Rattle.std.proofs.Common.{◌≡◌, ◌≢◌, None, Err, ℕ, ◌≤◌, false, List, take, take_all, length, refl, zero, sym, ap, ◌∙◌, ◌⊎◌, inl, inr, subst, arith, Some, Option, suc, ◌<◌, ◌↔◌}
 use Rattle.fe_disk.specs.Memory.{MemoryState, IsHonest, LeavesNow, LeavesSince}
 use Rattle.fe_state.specs.State.{ServerState}
 use Rattle.fe_state.specs.History.{after_groups}
@@ -18,6 +18,7 @@ use Rattle.fe_desk.specs.declared.fault.DeskFault.TheVariants as desk
 use Rattle.std.proofs.lemmas.Option.{none-some}
 use Rattle.fe_disk.specs.Disk.{Rises}
 use Rattle.fe_desk.specs.Crash.{TellsStep}
+use Rattle.fe_desk.specs.Taken.{Ends}
 use Rattle.fe_schedules.specs.Fault.{of_desk, TellsDisk}
 use Rattle.fe_schedules.specs.declared.fault.MachineFault.{MachineFault}
 use Rattle.fe_schedules.specs.declared.fault.MachineFault.TheVariants as machine
@@ -125,6 +126,12 @@ store_of other = Some 0
 
 no_device : (f : DeskFault) → f ≡ desk.NoMemory false → f ≡ desk.Store store.Device → ⊥
 no_device f e d = none-some 0 (ap store_of (sym e ∙ d))
+
+-- what a step that was at fault tells of the disk
+pub tells_of : {D : Type 0} (failures : D → ℕ) (old : DeskState D) (x : Step) (new : DeskState D) (f : DeskFault) → Ends failures old x (Err f) new → TellsStep failures old new f
+tells_of failures old x new (desk.Store cause) e = (e.0, e.1.failed)
+tells_of failures old x new (desk.NoMemory fed) e = e.sound.fine
+tells_of failures old x new desk.Unwritten e = e.sound.fine
 
 pub step_tells : (old new : DeskState MemoryState) (f : DeskFault) (r : MachineFault) → (disk_of old).failures ≡ 0 → of_desk f ≡ Some r → TellsStep (λ (disk : MemoryState). disk.failures) old new f → TellsDisk (disk_of new) r
 step_tells old new (desk.Store cause) r calm is t = device_tells (desk.Store cause) r (disk_of new) (ap (λ c. desk.Store c) t.0) is (rose (disk_of old).failures (disk_of new).failures calm t.1.rises)

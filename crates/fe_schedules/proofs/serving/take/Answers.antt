@@ -1,8 +1,8 @@
-use Rattle.std.proofs.Common.{Ok, refl}
+use Rattle.std.proofs.Common.{Ok, Err, refl}
 use Rattle.fe_disk.specs.Memory.{MemoryState}
 use Rattle.fe_desk.specs.Taken.{Ends}
-use Rattle.fe_desk.proofs.Stepping.{ends_of, tells_of}
-use Rattle.fe_schedules.proofs.Readiness.{ready_after, step_tells}
+use Rattle.fe_desk.proofs.Stepping.{ends_of}
+use Rattle.fe_schedules.proofs.Readiness.{ready_after, step_tells, tells_of}
 use Rattle.fe_schedules.proofs.serving.take.Goals as goal
 
 pub returns-in-Ok-clause-ready : goal.returns-in-Ok-clause-ready
@@ -21,4 +21,5 @@ returns-in-Ok-clause-moved c =
 pub returns-in-Err-clause-fault : goal.returns-in-Err-clause-fault
 returns-in-Err-clause-fault c =
     step_tells c.args.desk.now c.step.new.self c.in-Err.fault c.of_desk.result c.requires.calm c.of_desk.ensures
-    (tells_of (λ (disk : MemoryState). disk.failures) c.args.desk.now c.args.step.now c.step.new.self c.in-Err.fault c.requires.works c.in-Err.ensures.is_step)
+    (tells_of (λ (disk : MemoryState). disk.failures) c.args.desk.now c.args.step.now c.step.new.self c.in-Err.fault
+    (ends_of (λ (disk : MemoryState). disk.failures) c.args.desk.now c.args.step.now c.step.new.self (Err c.in-Err.fault) c.requires.works c.in-Err.ensures.is_step))

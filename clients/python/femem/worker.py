@@ -1,0 +1,551 @@
+"""The thread of a client: it has the connection and the core.
+
+It does not refer to the client, so a client that nobody refers to any more is closed. Callers only append to a list, in one
+step: an exception from a signal handler leaves nothing half done, wherever it comes.
+"""
+
+from __future__ import annotations
+
+import errno
+import logging
+import math
+import os
+import select
+import socket
+import struct
+import threading
+import time
+import weakref
+from collections import deque
+from functools import partial
+from threading import get_ident
+from typing import TYPE_CHECKING, Any, Callable, Deque, Optional, Sequence, Set
+
+from . import errors, registry
+from .core import Core, Phase
+from .lease import READ_TIME, Lease
+from .sides import Sides
+from .tickets import Ticket
+
+if TYPE_CHECKING:
+    from .client import Client
+
+log = logging.getLogger("femem")
+
+# How long the thread waits between attempts to connect, in seconds: at first, and at most.
+FIRST_PAUSE = 0.01
+LONGEST_PAUSE = 0.25
+
+# How long the end of a temporary session may take when its client is closed, in seconds.
+FAREWELL = 1.0
+
+# How long a client waits for its server to end the session of a killed one, in seconds.
+SWEEP_PATIENCE = 5.0
+
+# How long an attempt to connect may take, in seconds.
+_CONNECT_TIME = 1.0
+
+_READ_BYTES = 65536
+
+_TIMEVAL = struct.Struct("@ll")
+
+# How long the thread waits at its bell after the last answer, in seconds, before it looks at the connection again. The bell
+# is a lock, the cheapest way to wake a thread, and a caller that just got an answer often calls again soon.
+_LINGER = 0.01
+
+# How long after an event the thread checks what is due by the clock, in seconds: sooner than anything that the event can
+# make due, except what the core calls urgent.
+_LOOK_AFTER = 0.02
+
+# What says at the first attempt to connect that no server is there.
+_NOT_THERE = (errno.ENOENT, errno.ENOTDIR, errno.EACCES, errno.EPERM, errno.ELOOP)
+
+_NOT_HERE = "a client is of the process that made it"
+
+_READY = Phase.READY
+_IN_AND_OUT = select.POLLIN | select.POLLOUT
+
+
+def trouble_of(path: str, error: OSError) -> str:
+    return f"{path}: {error.strerror or error}"
+
+
+def is_hopeless(error: OSError, waits: bool) -> bool:
+    """Whether the first attempt to connect shows that there is no server. `waits`: whether it may be started later."""
+    # (a path that is too long has no error number)
+    return error.errno is None or error.errno == errno.ENAMETOOLONG or error.errno in _NOT_THERE and not waits
+
+
+class Worker:
+    """A core, its thread and its connection. `is_temporary`: its session ends with it."""
+
+    def __init__(self, path: str, core: Core, longest_sleep: float, is_temporary: bool, waits_for_server: bool) -> None:
+        self.path = path
+        self.core = core
+        self.is_temporary = is_temporary
+        # Whether this process chose the session's number.
+        self._is_chosen = is_temporary
+        self.entry: Optional[registry.Entry] = None
+        self.sides: Sides[Client] = Sides(())
+        self.process = os.getpid()
+        self._longest_sleep = longest_sleep
+        self._waits_for_server = waits_for_server
+        self._has_connected = False
+        # What callers ask, in order: the thread calls each with the time.
+        self._asked: Deque[Callable[[float], object]] = deque()
+        # Where the thread sleeps, so that a caller knows how to wake it.
+        self._is_asleep = False
+        self._is_at_bell = False
+        self._bell = threading.Lock()
+        self._bell.acquire()
+        self.is_over = False
+        # Numbers that callers use themselves while the thread is at its bell, and whose turn it is.
+        self.lease: Optional[Lease] = None
+        self.lead = threading.Lock()
+        # The locks at which callers wait for their answers, for a child to open them, and whether this is the child.
+        self._gates: Set[threading.Lock] = set()
+        self._is_forked = False
+        # The thread's number while it runs.
+        self.own_thread = 0
+        # The time as the thread last read it, and when it next checks what is due.
+        self._now = time.monotonic()
+        self._look_at = 0.0
+        # Once the thread has ended, callers do its work in its place, one at a time.
+        self._ending = threading.RLock()
+        self._socket: Optional[socket.socket] = None
+        self._waker, self._woken = socket.socketpair()
+        self._waker.setblocking(False)
+        self._woken.setblocking(False)
+        self._woken_number = self._woken.fileno()
+        self._poll = select.poll()
+        self._thread = threading.Thread(target=self._run, name=f"femem session {core.session}", daemon=True)
+
+    # What callers use.
+
+    def start(self) -> None:
+        _workers.add(self)
+        self._thread.start()
+
+    def ask(self, what: Callable[[float], object]) -> None:
+        """Makes the thread do something. The step that counts is the append."""
+        self._asked.append(what)
+        # Only the thread says where it sleeps, and it checks the list before that: an interruption here loses no call.
+        if self._is_at_bell:
+            self.ring()
+        elif self._is_asleep:
+            self._wake()
+        if self.is_over:
+            with self._ending:
+                self._do_what_is_asked()
+
+    def wait_at(self, gate: threading.Lock) -> None:
+        """Waits until the gate is opened. `Closed` in a child whose parent waited, as its signal handler forked."""
+        self._gates.add(gate)
+        try:
+            if self._is_forked:
+                is_answered = gate.acquire(blocking=False)  # what is asked in a child is done at once
+            else:
+                gate.acquire()
+                is_answered = not self._is_forked
+            if not is_answered:
+                raise errors.Closed(_NOT_HERE)
+        finally:
+            self._gates.discard(gate)
+
+    def ring(self) -> None:
+        try:
+            self._bell.release()
+        except RuntimeError:
+            pass  # another caller has rung
+
+    def _wake(self) -> None:
+        try:
+            self._waker.send(b"w")
+        except OSError:
+            pass  # it is awake, or has ended
+
+    def end_soon(self) -> None:
+        """Ends it without waiting: a temporary session too, if the server is there within a second."""
+        self.ask(self._depart if self.is_temporary else self._close)
+
+    def end(self) -> None:
+        """Ends it, and waits for that: about a second at most."""
+        if self.process != os.getpid():
+            return
+        self.end_soon()
+        if self._thread.ident is None:
+            self._end()  # it was never started
+        elif threading.current_thread() is not self._thread:
+            self._thread.join()
+
+    def _depart(self, now: float) -> None:
+        self.core.depart(now, FAREWELL)
+
+    def _close(self, now: float) -> None:
+        self.core.close()
+
+    def is_led(self) -> bool:
+        """Whether a caller must ask the thread: others have asked before, or one uses the connection now."""
+        return bool(self._asked) or self.lead.locked()
+
+    def is_own_thread(self) -> bool:
+        return get_ident() == self.own_thread
+
+    # The thread: it does what callers ask, connects, reads, and looks at the clock.
+
+    def _do_what_is_asked(self) -> None:
+        asked = self._asked
+        self._something_happens()
+        while asked:
+            try:
+                what = asked.popleft()
+            except IndexError:
+                break
+            what(self._now)
+        self._move()
+
+    def _something_happens(self) -> None:
+        """Notes the time, and that what is due must be checked soon."""
+        self._now = now = time.monotonic()
+        if now + _LOOK_AFTER < self._look_at:
+            self._look_at = now + _LOOK_AFTER
+
+    def _move(self) -> None:
+        """Sends what is to be sent, and completes the ended tickets, which may ask for more."""
+        self._flush()
+        core = self.core
+        while core.ended:
+            self._finish(core.take_ended())
+            self._flush()
+
+    def _finish(self, tickets: Sequence[Ticket[Any]]) -> None:
+        """Completes all of them, whatever a callback raises."""
+        interrupt: Optional[BaseException] = None
+        for ticket in tickets:
+            try:
+                ticket.finished()
+            except BaseException as error:
+                log.exception("session %d: a callback failed", self.core.session)
+                if get_ident() != self.own_thread and not isinstance(error, Exception):
+                    interrupt = error  # a caller does this after the thread's end, and a signal interrupts it
+        if interrupt is not None:
+            raise interrupt
+
+    def _flush(self) -> None:
+        """Sends what the socket accepts now. The session file is written before that."""
+        core = self.core
+        if core.file is not None and core.file.must_sync and core.failure is None:
+            try:
+                core.file.commit()
+            except errors.SessionFileError as error:
+                core.fail(error)
+        if core.fences:
+            self._fence_all()
+        if core.moved:
+            self._move_waits()
+        if self._socket is None or not core.to_send:
+            return
+        try:
+            del core.to_send[: self._socket.send(core.to_send, socket.MSG_DONTWAIT)]
+        except BlockingIOError:
+            pass
+        except OSError:
+            core.to_send.clear()
+            self._give_up_connection(self._socket)
+
+    def _give_up_connection(self, connection: socket.socket) -> None:
+        """The next read ends, the thread reconnects, and all is sent again: what was sent is not known."""
+        try:
+            connection.shutdown(socket.SHUT_RDWR)
+        except OSError:
+            pass
+
+    def _move_waits(self) -> None:
+        """Passes requests that have to wait to further sessions."""
+        for ticket in self.core.take_moved():
+            side = self.sides.choose()
+            asked: Ticket[Any] = Ticket(ticket.request)
+            back = partial(self._has_come_back, side, ticket, asked)
+            asked.finished = partial(self.ask, back)
+            self.core.moved_to(ticket, partial(side._take_back, asked))
+            side._ask(partial(side._core.take, (asked,), None))
+
+    def _has_come_back(self, side: Client, ticket: Ticket[Any], asked: Ticket[Any], now: float) -> None:
+        """A further session has finished the request. If that session failed, the client ends."""
+        self.sides.give_back(side)
+        self.core.has_come_back(ticket, asked)
+        if side.failure is not None:
+            self.core.fail(type(side.failure)(*side.failure.args))
+
+    def _close_sides(self) -> None:
+        """Ends the further sessions, if the server is there; what waits over them is withdrawn in any case."""
+        core = self.core
+        is_there = isinstance(core.failure, errors.Closed) and (core.has_left or core.was_ready and not self.is_temporary)
+        for side in self.sides:
+            side._worker.is_temporary = is_there
+            side.close()
+            is_there = side._core.has_left
+
+    def _fence_all(self) -> None:
+        """Attaches the sessions again, each in its own thread, since that waits for the server."""
+        fences, self.core.fences = self.core.fences, []
+        for session, ticket in fences:
+            threading.Thread(target=self._fence, args=(session, ticket), daemon=True).start()
+
+    def _fence(self, session: int, ticket: Ticket[None]) -> None:
+        from .client import Client
+
+        failed: Optional[BaseException] = None
+        try:
+            Client(self.path, session, wait_for_server=True).close()
+        except (errors.FememError, OSError) as error:
+            failed = error
+        self.ask(lambda now: self.core.fenced(ticket, failed))
+
+    def _run(self) -> None:
+        self.own_thread = get_ident()
+        pause = FIRST_PAUSE
+        try:
+            self._poll.register(self._woken, select.POLLIN)
+            while self.core.failure is None:
+                connection = self._connect()
+                if connection is not None:
+                    with connection:
+                        if self._serve(connection):
+                            pause = FIRST_PAUSE
+                            continue
+                self._sleep(pause)
+                pause = min(2 * pause, LONGEST_PAUSE)
+        except Exception:
+            log.exception("session %d: a fault of the client", self.core.session)
+        finally:
+            self._end()
+
+    def _end(self) -> None:
+        core = self.core
+        core.fail(errors.Closed("the client's thread ended"))
+        if core.file is not None:
+            core.close_file()
+        self._sign_off()
+        with self._ending:
+            self.is_over = True
+            self.own_thread = 0
+            self._do_what_is_asked()
+        self._close_sides()
+        self._waker.close()
+        self._woken.close()
+
+    def _sign_off(self) -> None:
+        """Says whether the temporary session is left behind."""
+        if self.entry is not None:
+            if self.core.has_left:
+                self.entry.remove()
+            else:
+                self.entry.release()
+        if self._is_chosen and self._has_connected and not self.core.has_left:
+            registry.leave(self.path, self.core.session)
+
+    def _connect(self) -> Optional[socket.socket]:
+        connection: Optional[socket.socket] = None
+        try:
+            connection = socket.socket(socket.AF_UNIX, socket.SOCK_STREAM)
+            connection.settimeout(_CONNECT_TIME)
+            connection.connect(self.path)
+            # Blocking, since callers read too; the thread itself never waits here.
+            connection.settimeout(None)
+            connection.setsockopt(socket.SOL_SOCKET, socket.SO_RCVTIMEO, _TIMEVAL.pack(0, int(1e6 * READ_TIME)))
+        except OSError as error:
+            self.core.trouble = trouble_of(self.path, error)
+            if connection is not None:
+                connection.close()
+                if not self._has_connected and is_hopeless(error, self._waits_for_server):
+                    self.core.fail(errors.ServerUnreachable(self.core.trouble))
+            return None
+        self._has_connected = True
+        return connection
+
+    def _sleep(self, seconds: float) -> None:
+        """Waits without a connection, until the next attempt."""
+        end = time.monotonic() + seconds
+        while self._tick() and time.monotonic() < end:
+            self._select(end)
+
+    def _serve(self, connection: socket.socket) -> bool:
+        """Serves until the connection breaks or the client ends. Returns whether the session was attached."""
+        core = self.core
+        core.connected(time.monotonic())
+        core.is_urgent = True
+        self._socket = connection
+        was_ready = False
+        stands = True
+        events = select.POLLIN
+        self._poll.register(connection, events)
+        while stands and self._tick():
+            wanted = _IN_AND_OUT if core.to_send else select.POLLIN
+            if wanted != events:
+                events = wanted
+                self._poll.modify(connection, events)
+            if self._select(math.inf):
+                stands = self._read(connection)
+                was_ready = was_ready or core.phase is _READY
+        self._poll.unregister(connection)
+        self._socket = None
+        core.disconnected(time.monotonic())
+        core.is_urgent = True
+        return was_ready
+
+    def _tick(self) -> bool:
+        """Does what callers ask and what is due. Returns whether the client goes on."""
+        core = self.core
+        if self._asked:
+            self._do_what_is_asked()
+        else:
+            self._now = time.monotonic()
+            if core.to_send:
+                self._move()
+        if core.is_urgent or self._now >= self._look_at:
+            core.is_urgent = False
+            core.tick(self._now)
+            self._move()
+            due = core.next_time()
+            longest = self._now + self._longest_sleep
+            self._look_at = longest if due is None else min(due, longest)
+        return core.failure is None
+
+    def _select(self, end: float) -> bool:
+        """Sleeps until something is due or comes, or until the end. Returns whether the connection has something."""
+        self._is_asleep = True
+        seconds = 0.0
+        if not self._asked and not self.core.is_urgent:
+            seconds = min(end, self._look_at) - self._now
+        came = False
+        for file, _ in self._poll.poll(1000.0 * seconds if seconds > 0.0 else 0.0):
+            if file == self._woken_number:
+                self._drain()
+            else:
+                came = True
+        self._is_asleep = False
+        return came
+
+    def _linger(self) -> None:
+        """With nothing left to do: completes the ended tickets, and sleeps at the bell for a moment.
+
+        It completes them just before it sleeps, since their caller wants the interpreter's lock at once. No caller
+        waits for what comes over the connection meanwhile.
+        """
+        core = self.core
+        seconds = min(_LINGER, self._look_at - self._now)
+        self._is_at_bell = True
+        self._finish(core.take_ended())
+        if seconds > 0.0 and not (self._asked or core.ended or core.to_send or core.is_urgent):
+            lease = self._lend()
+            if lease is None:
+                self._bell.acquire(timeout=seconds)
+            else:
+                self._await_bell(lease, seconds)
+                self._take_back(lease)
+        self._is_at_bell = False
+
+    def _lend(self) -> Optional[Lease]:
+        """Lets callers ask over the connection themselves, from now on."""
+        first, end = self.core.lends()
+        if first < end and self._socket is not None:
+            self.lease = Lease(self._socket, first, end)
+        return self.lease
+
+    def _await_bell(self, lease: Lease, seconds: float) -> None:
+        """Sleeps until a caller rings, or the lease was not used for a while, or something is due."""
+        used = -1
+        while used < len(lease.tickets) and not self._asked and lease.unfinished() is None:
+            used = len(lease.tickets)
+            if self._bell.acquire(timeout=seconds) or time.monotonic() >= self._look_at:
+                break
+
+    def _take_back(self, lease: Lease) -> None:
+        """Ends the lease, and goes on with what its last caller left."""
+        self.lease = None
+        is_free = self.lead.acquire(timeout=2 * READ_TIME)
+        if not is_free:
+            # Its caller is held up, perhaps within a signal handler that waits for this thread. What it does later is in vain.
+            self.lead = threading.Lock()
+            lease.is_known = False
+        core = self.core
+        self._now = now = time.monotonic()
+        if lease.unfinished() is not None and not lease.is_known:
+            self._give_up_connection(lease.connection)
+        core.takes_back(list(lease.tickets), now)
+        if is_free:
+            self.lead.release()
+        if lease.rest:
+            core.received(bytes(lease.rest), now)
+
+    def _drain(self) -> None:
+        try:
+            self._woken.recv(4096)
+        except OSError:
+            pass
+
+    def _read(self, connection: socket.socket) -> bool:
+        """Reads what came. Returns whether the connection is still up."""
+        try:
+            piece = connection.recv(_READ_BYTES, socket.MSG_DONTWAIT)
+        except BlockingIOError:
+            return True
+        except OSError:
+            return False
+        if not piece:
+            return False
+        self._something_happens()
+        core = self.core
+        core.received(piece, self._now)
+        self._flush()
+        if core.ended and core.is_idle and not core.to_send:
+            self._linger()
+        if core.ended:
+            self._move()
+        return True
+
+    def forked(self) -> None:
+        """In a child of the process: closes what it inherited, which is the parent's, without sending anything."""
+        core = self.core
+        core.failure = errors.Closed(_NOT_HERE)
+        core.phase = Phase.ENDED
+        core.to_send = bytearray()  # the thread may have been sending from the old one
+        self.is_over = True
+        self.own_thread = 0
+        self._ending = threading.RLock()
+        self.lease = None
+        self.lead = threading.Lock()  # a caller may have held the other one
+        self._asked.clear()
+        self._is_forked = True
+        for gate in list(self._gates):
+            if gate.locked():
+                gate.release()
+        for inherited in (self._socket, self._waker, self._woken):
+            if inherited is not None:
+                inherited.close()
+        self._socket = None
+        if core.file is not None:
+            core.file.abandon()
+        if self.entry is not None:
+            self.entry.release()
+
+
+# The workers of this process. Its children close the ones that they inherit.
+_workers: weakref.WeakSet[Worker] = weakref.WeakSet()
+
+
+def in_child() -> None:
+    registry.forget_all()
+    for worker in list(_workers):
+        worker.forked()
+
+
+def at_exit() -> None:
+    """Ends those that still run, all at once, within about a second: their threads stop with the interpreter."""
+    running = [worker for worker in list(_workers) if not worker.is_over and worker.process == os.getpid()]
+    for worker in running:
+        worker.end_soon()
+    end = time.monotonic() + 2 * FAREWELL
+    for worker in running:
+        worker._thread.join(max(0.0, end - time.monotonic()))

@@ -1,0 +1,364 @@
+"""Calls that the caller itself sends and reads, over numbers that the client's thread lent: each hazard, and its outcome."""
+
+import itertools
+import os
+import random
+import signal
+import socket
+import threading
+import time
+
+import paths  # noqa: F401
+from model import frame
+from serving import BadServer, WithFolder
+from test_malice import FIRST, attached
+from test_unspoilt import Stop, interrupted
+
+import femem
+from femem import Client, lease, requests
+from femem.patterns import Lock
+
+LONG = 60
+
+
+def count_asks(client):
+    """Counts what the client's thread is asked from now on."""
+    asked = []
+    ask = client._ask
+    client._ask = lambda what: (asked.append(what), ask(what))
+    return asked
+
+
+class Direct(WithFolder):
+    def warm(self, client, word):
+        """Calls until the client's thread lends numbers. Returns how many calls it took."""
+        for count in range(1, 2000):
+            client.readxx(word, 0)
+            if client._worker.lease is not None:
+                return count
+        self.fail("the thread lends no number")
+
+    def test_most_calls_do_not_need_the_thread(self):
+        self.server()
+        with Client(self.path, 7, probe_interval=100.0) as client:
+            word = client.create("word", 1, full=True)
+            for prepare in (lambda: None, lambda: Lock(client, "lock").locked(), lambda: self.use(client)):
+                prepare()
+                self.warm(client, word)
+                asked = count_asks(client)
+                first = client.readff(word, 0)
+                self.assertEqual([client.int_fetch_add(word, 0, 1) for _ in range(1000)], list(range(first, first + 1000)))
+                # (a thread that is not scheduled for a while takes its numbers back)
+                self.assertLess(len(asked), 600)
+                del client._ask
+                client._ask = client._worker.ask
+
+    def use(self, client):
+        """A lock, which leaves the client's presence waiting."""
+        with Lock(client, "lock"):
+            pass
+
+    def test_each_bytecode(self):
+        self.server()
+        with Client(self.path, 7) as client, Client(self.path, 8) as other:
+            word = client.create("word", 1, full=True)
+            lent = 0
+            for at in itertools.count(1):
+                self.warm(client, word)
+                lent += client._worker.lease is not None
+                before = other.readff(word, 0)
+                was = interrupted(lambda: client.int_fetch_add(word, 0, 1), at)
+                client.int_fetch_add(word, 0, 1, timeout=LONG)
+                added = other.readff(word, 0) - before - 1
+                self.assertIsNone(client.failure)
+                self.assertIn(added, (0, 1) if was else (1,), at)
+                if not was:
+                    break
+            self.assertGreater(at, 100)
+            self.assertGreater(lent, at // 2)
+
+    def test_signals(self):
+        self.server()
+
+        def boom(*_):
+            raise Stop
+
+        before = signal.signal(signal.SIGALRM, boom)
+        self.addCleanup(signal.signal, signal.SIGALRM, before)
+        self.addCleanup(signal.setitimer, signal.ITIMER_REAL, 0)
+        chance = random.Random(1)
+        answered = stops = 0
+        with Client(self.path, 7) as client:
+            word = client.create("word", 1, full=True)
+            while stops < 300:
+                try:
+                    signal.setitimer(signal.ITIMER_REAL, chance.random() * 2e-3 + 1e-6)
+                    while True:
+                        client.int_fetch_add(word, 0, 1)
+                        answered += 1
+                except Stop:
+                    stops += 1
+                signal.setitimer(signal.ITIMER_REAL, 0)
+            self.assertIsNone(client.failure)
+            end = client.readff(word, 0, timeout=LONG)
+            self.assertTrue(answered <= end <= answered + stops, (answered, end, stops))
+
+    def test_stops_of_the_server(self):
+        for count in (1, 4):
+            with self.subTest(threads=count):
+                server = self.server()
+                with Client(self.path, 7) as client:
+                    word = client.create(f"w{count}", 1, full=True)
+                    added, ends = [0] * count, False
+
+                    def add(at):
+                        while not ends:
+                            client.int_fetch_add(word, 0, 1)
+                            added[at] += 1
+
+                    threads = [threading.Thread(target=add, args=(at,)) for at in range(count)]
+                    for thread in threads:
+                        thread.start()
+                    for _ in range(10):
+                        time.sleep(0.03)
+                        server.kill()
+                        server.start()
+                    ends = True
+                    for thread in threads:
+                        thread.join(LONG)
+                    self.assertEqual(client.readff(word, 0, timeout=LONG), sum(added))
+                server.kill()
+
+    def test_one_that_has_to_wait(self):
+        self.server()
+        with Client(self.path, 7) as client, Client(self.path, 8) as other:
+            word = client.create("word", 2, full=True)
+            for turn in range(20):
+                client.purge(word, 1)
+                self.warm(client, word)
+                with self.assertRaises(femem.TimedOut):
+                    client.readfe(word, 1, timeout=0.01)
+                with self.assertRaises(femem.NotNow):
+                    client.readfe(word, 1, nowait=True)
+                self.warm(client, word)
+                giver = threading.Timer(0.005, other.writeef, (word, 1, turn))
+                giver.start()
+                self.assertEqual(client.readfe(word, 1, timeout=LONG), turn)
+                giver.join()
+
+    def test_errors_are_those_of_any_call(self):
+        self.server()
+        with Client(self.path, 7) as client:
+            word = client.create("word", 1, full=True)
+            self.warm(client, word)
+            for _ in range(40):
+                self.assertRaises(femem.BadIndex, client.readff, word, 1)
+                self.assertRaises(femem.NoArray, client.find, "nothing")
+                self.assertRaises(femem.NameTaken, client.create, "word", 1)
+                self.assertEqual(client.find("word"), word)
+
+    def test_a_fork(self):
+        """In the caller's thread, and in another one while callers use lent numbers."""
+        self.server()
+        with Client(self.path, 7) as client:
+            word = client.create("word", 1, full=True)
+            added, ends = 0, False
+
+            def add():
+                nonlocal added
+                while not ends:
+                    client.int_fetch_add(word, 0, 1)
+                    added += 1
+
+            for busy in (False, True):
+                thread = threading.Thread(target=add)
+                if busy:
+                    thread.start()
+                else:
+                    self.warm(client, word)
+                for _ in range(30):
+                    child = os.fork()
+                    if child == 0:
+                        signal.alarm(LONG)
+                        try:
+                            client.readxx(word, 0)
+                        except femem.Closed:
+                            os._exit(0)
+                        finally:
+                            os._exit(1)
+                    self.assertEqual(os.waitpid(child, 0)[1], 0)
+                ends = True
+                if busy:
+                    thread.join(LONG)
+            self.assertEqual(client.readff(word, 0), added)
+
+    def test_a_fork_by_a_signal_handler_within_a_call(self):
+        self.server()
+        outcomes = []
+
+        def fork(*_):
+            child = os.fork()
+            if child == 0:
+                signal.alarm(LONG)
+                is_child.append(True)
+            else:
+                outcomes.append(os.waitpid(child, 0)[1])
+
+        is_child = []
+        before = signal.signal(signal.SIGALRM, fork)
+        self.addCleanup(signal.signal, signal.SIGALRM, before)
+        chance = random.Random(2)
+        with Client(self.path, 7) as client:
+            word = client.create("word", 1, full=True)
+            for turn in range(30):
+                signal.setitimer(signal.ITIMER_REAL, chance.random() * 1e-3 + 1e-6)
+                try:
+                    while len(outcomes) <= turn:
+                        client.readxx(word, 0)
+                except femem.Closed:
+                    os._exit(0 if is_child else 1)
+                finally:
+                    if is_child:
+                        os._exit(1)
+            self.assertEqual(outcomes, [0] * 30)
+            self.assertEqual(client.readxx(word, 0, timeout=LONG), 0)
+
+    def test_close_within_a_call(self):
+        """By another thread, and by a signal handler of the caller's thread."""
+        self.server()
+        for turn in range(20):
+            client = Client(self.path)
+            word = client.create(f"w{turn}", 1, full=True)
+            ended = []
+
+            def call():
+                try:
+                    while True:
+                        client.readxx(word, 0)
+                except femem.Closed as error:
+                    ended.append(error)
+
+            thread = threading.Thread(target=call)
+            thread.start()
+            time.sleep(0.003)
+            client.close()
+            thread.join(LONG)
+            self.assertEqual(len(ended) + (not thread.is_alive()), 2)
+
+    def test_a_handler_that_uses_or_closes_the_client(self):
+        self.server()
+        before = signal.getsignal(signal.SIGALRM)
+        self.addCleanup(signal.signal, signal.SIGALRM, before)
+        self.addCleanup(signal.setitimer, signal.ITIMER_REAL, 0)
+        chance = random.Random(3)
+        with Client(self.path, 7) as client:
+            word = client.create("word", 2, full=True)
+            seen = []
+            signal.signal(signal.SIGALRM, lambda *_: seen.append(client.int_fetch_add(word, 1, 1)))
+            done = 0
+            while len(seen) < 40:
+                left = len(seen)
+                signal.setitimer(signal.ITIMER_REAL, chance.random() * 1e-3 + 1e-6)
+                while len(seen) == left:
+                    client.int_fetch_add(word, 0, 1)
+                    done += 1
+            self.assertEqual((client.readff(word, 0), client.readff(word, 1)), (done, len(seen)))
+            self.assertEqual(seen, list(range(len(seen))))
+            signal.signal(signal.SIGALRM, lambda *_: client.close())
+            signal.setitimer(signal.ITIMER_REAL, 0.001)
+            with self.assertRaises(femem.Closed):
+                while True:
+                    client.int_fetch_add(word, 0, 1)
+
+    def test_a_client_with_a_session_file_lends_nothing(self):
+        """Each of its requests must be in the file before it is sent."""
+        self.server()
+        with Client(self.path, session_file=self.path + ".session") as client:
+            word = client.create("word", 1, full=True)
+            for _ in range(100):
+                client.readxx(word, 0)
+                self.assertIsNone(client._worker.lease)
+
+
+class Replies(WithFolder):
+    """What a server may send to a caller that reads by itself."""
+
+    def client(self, then):
+        server = BadServer(self.path, attached(then))
+        self.addCleanup(server.close)
+        client = Client(self.path, 7, reconnect_timeout=LONG, probe_interval=100.0)
+        self.addCleanup(client.close)
+        return client
+
+    def test_pieces_and_delays(self):
+        """An answer in pieces, late, or behind other replies, is the call's answer."""
+        numbers = itertools.count(FIRST)
+
+        def answers(piece, count):
+            if piece[4] != 11 and piece[4] != 5:
+                return b""
+            whole = frame(66, next(numbers), 1, count, 0)
+            how = count % 6
+            if how == 1:
+                return (part for part in self.slowly(whole, 1))
+            if how == 2:
+                return (part for part in self.slowly(whole, 25))
+            if how == 3 and count < 12:
+                return (part for part in self.slowly(whole, 13, lease.READ_TIME * 1.5))
+            return whole
+
+        client = self.client(answers)
+        for count in range(14):
+            self.assertEqual(client.readff(1, 0), count)
+        self.assertIsNone(client.failure)
+
+    def slowly(self, whole, size, pause=0.001):
+        for at in range(0, len(whole), size):
+            time.sleep(pause)
+            yield whole[at : at + size]
+
+    def test_a_wrong_answer_ends_the_client(self):
+        numbers = itertools.count(FIRST)
+
+        def answers(piece, count):
+            number = next(numbers)
+            if count < 4:
+                return frame(66, number, 1, count, 0)
+            return frame(66, number, wrong[0], *wrong[1:])
+
+        for wrong in ((2, 0, 0), (3, 1, 1), (1, 5, 1), (4, 1, 0), (12, 0, 0)):
+            with self.subTest(wrong=wrong):
+                numbers = itertools.count(FIRST)
+                self.path += "w"
+                client = self.client(answers)
+                with self.assertRaises(femem.ProtocolError):
+                    for _ in range(10):
+                        client.readff(1, 0)
+                self.assertIsInstance(client.failure, femem.ProtocolError)
+                client.close()
+
+    def test_a_lease_hands_over_what_it_does_not_know(self):
+        here, there = socket.socketpair()
+        with here, there:
+            for reply in (frame(66, 41, 1, 5, 0), frame(66, 40, 1, 5, 0) + b"x", frame(67, 40), frame(70, 40, 8), b"\0"):
+                lent = lease.Lease(here, 40, 50)
+                ticket = femem.tickets.Ticket(requests.readff(1, 0))
+                there.sendall(reply)
+                self.assertFalse(lent.call(ticket))
+                self.assertEqual((bytes(lent.rest), lent.is_known), (reply, True))
+                self.assertIs(lent.unfinished(), ticket)
+                self.assertFalse(lent.call(ticket))
+                self.assertEqual(len(lent.tickets), 1)
+                there.recv(100)
+            lent = lease.Lease(here, 40, 41)
+            there.sendall(frame(68, 40) + frame(66, 40, 1, 5, 0))
+            ticket = femem.tickets.Ticket(requests.readff(1, 0))
+            self.assertTrue(lent.call(ticket))
+            self.assertEqual((ticket.result, bytes(lent.rest)), (5, frame(68, 40)))
+            self.assertFalse(lent.call(femem.tickets.Ticket(requests.readff(1, 0))))
+
+
+if __name__ == "__main__":
+    import unittest
+
+    unittest.main()
