@@ -7,6 +7,7 @@ import re
 import struct
 
 from . import calls, store, tables, wire
+from .crowds import TALK
 from .harness import holds, preload, same
 from .model import LIMITS, TOP_FLOOR, TOP_PLACE
 from .tables import number, rows, said, text
@@ -23,6 +24,25 @@ def exchange(_place):
     asked, answered = (bytes.fromhex(it.replace(" ", "")) for it in found.groups())
     same(asked, wire.call(5, ("access", wire.OPS[b"readfe"], 1, 0, 0, True)))
     same(wire.reply_of(answered[4:]), ("answer", 5, ("not-now",)))
+
+
+def kinds(_place):
+    """each kind of frame that the tables spell has the bytes of the conversation that is written by hand (crowds.py)"""
+    access = lambda number, op, operand=0, nowait=False: wire.call(number, ("access", wire.OPS[op], 1, 0, operand, nowait))
+    long_name = b"seventeen_letters"
+    spelled = [
+        wire.attach(7), wire.call(1, ("create", b"cells", 2, 0)), access(2, b"writeef", 42), access(3, b"readfe"), access(4, b"readxx"),
+        access(5, b"readfe", nowait=True), access(7, b"readfe"), wire.cancel(7), wire.cancel(5), wire.settle(5), wire.call(6, ("find", b"cells")),
+        wire.call(8, ("remove", 1)), wire.call(9, ("create", long_name, 1, 1)), wire.call(10, ("find", long_name)), wire.report(), wire.bye(),
+    ]
+    same(spelled, [frame for frame, _ in TALK])
+    meant = [
+        ("welcome", 7, 1), ("answer", 1, ("array", 1, 2)), ("answer", 2, ("done",)), ("answer", 3, ("value", 42)), ("answer", 4, ("value", 42)),
+        ("answer", 5, ("not-now",)), ("withdrawn", 7), ("refused", 5, "not-waiting"), ("settled", 5), ("answer", 6, ("array", 1, 2)),
+        ("answer", 8, ("done",)), ("answer", 9, ("array", 2, 1)), ("answer", 10, ("array", 2, 1)), ("report", "waiting 0\n"), ("goodbye", 7),
+    ]
+    same([wire.reply_of(reply[4:]) for _, reply in TALK if reply], meant)
+    return f"{len(spelled)} frames, {len(meant)} replies"
 
 
 def examples(_place):
@@ -185,4 +205,4 @@ def unit(_place):
     holds("`RequiresMountsFor=`" in page and "`MALLOC_ARENA_MAX=1`" in page and lines["Environment"] == "MALLOC_ARENA_MAX=1", "the page names them")
 
 
-CHECKS = (exchange, examples, lengths, offsets, limits, definitions, settings, statuses, unit)
+CHECKS = (exchange, kinds, examples, lengths, offsets, limits, definitions, settings, statuses, unit)

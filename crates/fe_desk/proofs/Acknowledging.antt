@@ -1,6 +1,7 @@
 -- At every point of a run, the mails in boxes and those that were written are on the groups that were stored.
 use Rattle.std.proofs.Common.{◌≡◌, inl, inr, ℕ, ◌+◌, ◌<◌, ◌≤◌, Bool, true, false, true≢false, List, [], ◌∷◌, ◌++◌, append-nil, append_assoc, length, Option, Some, None, refl, sym, ap, subst, ◌∙◌, arith}
-use Rattle.std.specs.Prelude.{nat_eq, is_some, if◌then◌else◌, ◌||◌, Contains, MatchBool, IfSome}
+use Rattle.std.proofs.lemmas.List.Elements.{Contains-append_left}
+use Rattle.std.specs.Prelude.{Contains, nat_eq, is_some, if◌then◌else◌, ◌||◌, MatchBool, IfSome}
 use Rattle.std.specs.List.{AllByRecursion}
 use Rattle.std.specs.Option.{option_map, option_map_or}
 use Rattle.std.specs.Ordering.{nat_cmp}
@@ -39,11 +40,11 @@ use Rattle.fe_desk.specs.Standing.{Client, Standing, IsFirstStanding}
 use Rattle.fe_desk.specs.Storing.{handed_after, cut, stored, stored_from, posted, posted_from, cleared, committed, made, is_making, with_room, begun_room, roomy}
 use Rattle.fe_desk.specs.Steps.{find, on_client, new_client, clients_with, with_left, with_decoder, Connects, gone, after_frame, TakesPiece, TakesFrom, TakesBytes, Reads, Acts}
 use Rattle.fe_desk.specs.Taking.{TakesOne, TakesAll}
-use Rattle.fe_desk.specs.Acknowledged.{IsAmong, StandsOn, IsLast, IsOnItsWay, AsksFor, entries_of, cut_entries, made_entries}
+use Rattle.fe_desk.specs.Acknowledged.{StandsOn, IsLast, IsOnItsWay, AsksFor, entries_of, cut_entries, made_entries}
 use Rattle.fe_desk.specs.Stopping.{MayBegin, StopsMaking, TakesFirst, StopsBefore, StopsUnread, StopsBehind}
 use Rattle.fe_desk.specs.Messages.{left_of, read_by}
 use Rattle.fe_desk.proofs.Emptying.{same_number}
-use Rattle.fe_desk.proofs.Answered.{among_more, posts_stand}
+use Rattle.fe_desk.proofs.Answered.{posts_stand}
 use Rattle.fe_desk.proofs.Messaging.{Makes, KeptStand, StandsTo, message_made, message_stands}
 use Rattle.fe_desk.proofs.Seated.{HasOnly, has_lost, times_lose, connected_loses, dropped_loses, posted_loses, posted_entry_loses, message_has, first_has, none_some, some_same}
 use Rattle.fe_desk.proofs.Holding.{Tells, AllTell, Holds, HoldsAt, Remains, way_remains, remains_hold, first_of}
@@ -64,7 +65,7 @@ none_out false b e = refl
 abbrev handed_out : FrontState → FrontState
 handed_out f = record f { service = record f.service { pending = [] }; out = Some (record { first = f.durable; length = length f.service.pending }) }
 
-cut_holds : (begun : ServerState) (asked : ℕ → List ℕ) (s : Standing) → HoldsAt begun asked s → HoldsAt begun asked (cut s)
+cut_holds : (begun : ServerState) (asked : ℕ → ℕ → Bool) (s : Standing) → HoldsAt begun asked s → HoldsAt begun asked (cut s)
 cut_holds begun asked s h = by (has_no_cut s.front) refl
   where
     f : FrontState
@@ -99,11 +100,11 @@ pub entries-append : (front groups : List (List Entry)) → entries_of (front ++
 entries-append front groups = flat_map-append (λ (g : List Entry). g) front groups
 
 -- it stands where more groups come after
-pub stands_behind : (begun : ServerState) (groups more : List (List Entry)) (mine : List ℕ) (m : Mail) → StandsOn begun groups mine m → StandsOn begun (groups ++ more) mine m
+pub stands_behind : (begun : ServerState) (groups more : List (List Entry)) (mine : ℕ → Bool) (m : Mail) → StandsOn begun groups mine m → StandsOn begun (groups ++ more) mine m
 stands_behind begun groups more mine m is = by m is
   where
-    here : (e : Entry) → IsAmong (entries_of groups) e → IsAmong (entries_of (groups ++ more)) e
-    here e is = subst (λ (es : List Entry). IsAmong es e) (sym (entries-append groups more)) (among_more (entries_of groups) (entries_of more) e is)
+    here : (e : Entry) → Contains (entries_of groups) e → Contains (entries_of (groups ++ more)) e
+    here e is = subst (λ (es : List Entry). Contains es e) (sym (entries-append groups more)) (Contains-append_left (entries_of groups) (entries_of more) e is)
 
     by : (m : Mail) → StandsOn begun groups mine m → StandsOn begun (groups ++ more) mine m
     by (mail.Welcome session floor) (may, is) = (may, here (Attached session floor) is)
@@ -119,7 +120,7 @@ stands_behind begun groups more mine m is = by m is
           (finished_more begun (entries_of groups) (entries_of more) session number answer place is)),
     )
 
-tells_behind : (begun : ServerState) (asked : ℕ → List ℕ) (groups more : List (List Entry)) (c : Client) → Tells begun groups asked c → Tells begun (groups ++ more) asked c
+tells_behind : (begun : ServerState) (asked : ℕ → ℕ → Bool) (groups more : List (List Entry)) (c : Client) → Tells begun groups asked c → Tells begun (groups ++ more) asked c
 tells_behind begun asked groups more c t = (
   record {
     waits = later c.reply t.0.waits;
@@ -134,7 +135,7 @@ tells_behind begun asked groups more c t = (
     later None waits = tt
     later (Some r) (m, is, stands) = (m, is, stands_behind begun groups more (asked c.conn) m stands)
 
-stored_holds : (begun : ServerState) (asked : ℕ → List ℕ) (s : Standing) → HoldsAt begun asked s → HoldsAt begun asked (stored s)
+stored_holds : (begun : ServerState) (asked : ℕ → ℕ → Bool) (s : Standing) → HoldsAt begun asked s → HoldsAt begun asked (stored s)
 stored_holds begun asked s h = by s.handed h
   where
     by : (x : Handed) → Holds begun asked s.front s.clients x s.groups → HoldsAt begun asked (stored_from x (record s { handed = x }))
@@ -169,7 +170,7 @@ ends_with begun groups f batch last =
     ap (λ (gs : List (List Entry)). entries_of gs) last.groups_are ∙ sym (flat_map_more (λ (g : List Entry). g) [] last.before batch.entries)
     ∙ ap (λ (es : List Entry). entries_of last.before ++ es) (sym (append-nil batch.entries))
 
-posted_front : (begun : ServerState) (asked : ℕ → List ℕ) (f : FrontState) (cs : List Client) (batch : Batch) (groups : List (List Entry)) → Holds begun asked f cs (Stored batch) groups → Holds begun asked (posting.posted f batch) cs Nothing groups
+posted_front : (begun : ServerState) (asked : ℕ → ℕ → Bool) (f : FrontState) (cs : List Client) (batch : Batch) (groups : List (List Entry)) → Holds begun asked f cs (Stored batch) groups → Holds begun asked (posting.posted f batch) cs Nothing groups
 posted_front begun asked f cs batch groups h =
     let last = h.way.0 in
     let g : FrontState = posting.posted f batch in
@@ -180,14 +181,14 @@ posted_front begun asked f cs batch groups h =
       state = keeps.state ∙ h.state ∙ ap (λ (es : List Entry). after_all begun es) same;
       answered = subst (λ (es : List Entry). AreAnswered begun es) same h.answered;
       way = mark_moves begun groups f batch last;
-      boxes = boxes-posted_all (StandsTo begun groups asked) (λ conn session. Contains (asked conn) session) (HasOnly asked) (λ f has. λ session conn is. has.holders session conn is)
+      boxes = boxes-posted_all (StandsTo begun groups asked) (λ conn session. asked conn session ≡ true) (HasOnly asked) (λ f has. λ session conn is. has.holders session conn is)
           (λ f e place has. has_lost asked f (posting.posted_entry f e place) (posted_entry_loses f e place) has) f batch.entries batch.first
           (posts_stand begun asked groups (entries_of last.before) batch.entries [] batch.first answered (ends_with begun groups f batch last) (last.first ∙ last.mark)) h.has h.boxes;
       tell = h.tell;
       has = has_lost asked f g (posted_loses f batch) h.has;
     }
 
-posted_holds : (begun : ServerState) (asked : ℕ → List ℕ) (s : Standing) → HoldsAt begun asked s → HoldsAt begun asked (posted s)
+posted_holds : (begun : ServerState) (asked : ℕ → ℕ → Bool) (s : Standing) → HoldsAt begun asked s → HoldsAt begun asked (posted s)
 posted_holds begun asked s h = by s.handed h
   where
     by : (x : Handed) → Holds begun asked s.front s.clients x s.groups → HoldsAt begun asked (posted_from x (record s { handed = x }))
@@ -197,32 +198,32 @@ posted_holds begun asked s h = by s.handed h
 
 -- ---- room is made
 
-cleared_holds : (begun : ServerState) (asked : ℕ → List ℕ) (s : Standing) → HoldsAt begun asked s → HoldsAt begun asked (cleared s)
+cleared_holds : (begun : ServerState) (asked : ℕ → ℕ → Bool) (s : Standing) → HoldsAt begun asked s → HoldsAt begun asked (cleared s)
 cleared_holds begun asked s h = posted_holds begun asked (stored s) (stored_holds begun asked s h)
 
-committed_holds : (begun : ServerState) (asked : ℕ → List ℕ) (s : Standing) → HoldsAt begun asked s → HoldsAt begun asked (committed s)
+committed_holds : (begun : ServerState) (asked : ℕ → ℕ → Bool) (s : Standing) → HoldsAt begun asked s → HoldsAt begun asked (committed s)
 committed_holds begun asked s h = cleared_holds begun asked (cut s) (cut_holds begun asked s h)
 
-with_room_holds : (begun : ServerState) (asked : ℕ → List ℕ) (s : Standing) → HoldsAt begun asked s → HoldsAt begun asked (with_room s)
+with_room_holds : (begun : ServerState) (asked : ℕ → ℕ → Bool) (s : Standing) → HoldsAt begun asked s → HoldsAt begun asked (with_room s)
 with_room_holds begun asked s h = by (has_room s.front)
   where
     by : (b : Bool) → HoldsAt begun asked (if b then s else made (committed (cleared s)))
     by true = h
     by false = committed_holds begun asked (cleared s) (cleared_holds begun asked s h)
 
-begun_room_holds : (begun : ServerState) (asked : ℕ → List ℕ) (s : Standing) (conn : ℕ) → HoldsAt begun asked s → HoldsAt begun asked (begun_room s conn)
+begun_room_holds : (begun : ServerState) (asked : ℕ → ℕ → Bool) (s : Standing) (conn : ℕ) → HoldsAt begun asked s → HoldsAt begun asked (begun_room s conn)
 begun_room_holds begun asked s conn h = by (is_making s conn)
   where
     by : (b : Bool) → HoldsAt begun asked (if b then made (cleared s) else s)
     by true = cleared_holds begun asked s h
     by false = h
 
-roomy_holds : (begun : ServerState) (asked : ℕ → List ℕ) (s : Standing) (conn : ℕ) → HoldsAt begun asked s → HoldsAt begun asked (roomy s conn)
+roomy_holds : (begun : ServerState) (asked : ℕ → ℕ → Bool) (s : Standing) (conn : ℕ) → HoldsAt begun asked s → HoldsAt begun asked (roomy s conn)
 roomy_holds begun asked s conn h = with_room_holds begun asked (begun_room s conn) (begun_room_holds begun asked s conn h)
 
 -- ---- clients change
 
-changed_tell : (begun : ServerState) (asked : ℕ → List ℕ) (groups : List (List Entry)) (conn : ℕ) (change : Client → Client)
+changed_tell : (begun : ServerState) (asked : ℕ → ℕ → Bool) (groups : List (List Entry)) (conn : ℕ) (change : Client → Client)
     → ((c : Client) → c.conn ≡ conn → Tells begun groups asked c → Tells begun groups asked (change c)) → (cs : List Client) → AllTell begun groups asked cs → AllTell begun groups asked (on_client conn change cs)
 changed_tell begun asked groups conn change keeps [] tell = tt
 changed_tell begun asked groups conn change keeps (c ∷ cs) tell = by (nat_eq c.conn conn) refl (changed_tell begun asked groups conn change keeps cs tell.1)
@@ -241,7 +242,7 @@ found_one P conn (x ∷ xs) c is all = by (nat_eq x.conn conn) refl is (λ (e : 
     by false other e rest = rest e
 
 -- the messages that are left of a connection ask for its sessions alone
-left_asks : (begun : ServerState) (asked : ℕ → List ℕ) (groups : List (List Entry)) (s : Standing) (conn : ℕ) → AllTell begun groups asked s.clients → AllByRecursion (AsksFor (asked conn)) (left_of s conn)
+left_asks : (begun : ServerState) (asked : ℕ → ℕ → Bool) (groups : List (List Entry)) (s : Standing) (conn : ℕ) → AllTell begun groups asked s.clients → AllByRecursion (AsksFor (asked conn)) (left_of s conn)
 left_asks begun asked groups s conn tell = by (find conn s.clients) refl
   where
     by : (o : Option Client) → find conn s.clients ≡ o → AllByRecursion (AsksFor (asked conn)) (option_map_or (λ (c : Client). c.left) o [])
@@ -253,17 +254,17 @@ left_asks begun asked groups s conn tell = by (find conn s.clients) refl
 same_front : (f : FrontState) → Remains f f
 same_front f = record { state = refl; pending = refl; out = refl; durable = refl }
 
-with_left_holds : (begun : ServerState) (asked : ℕ → List ℕ) (s : Standing) (conn : ℕ) (left : List ClientMessage) → AllByRecursion (AsksFor (asked conn)) left → HoldsAt begun asked s → HoldsAt begun asked (with_left s conn left)
+with_left_holds : (begun : ServerState) (asked : ℕ → ℕ → Bool) (s : Standing) (conn : ℕ) (left : List ClientMessage) → AllByRecursion (AsksFor (asked conn)) left → HoldsAt begun asked s → HoldsAt begun asked (with_left s conn left)
 with_left_holds begun asked s conn left asks h =
     remains_hold begun asked s.front s.front s.clients (with_left s conn left).clients s.handed s.groups (same_front s.front) (times_lose 0 s.front conn) h.boxes
     (changed_tell begun asked s.groups conn (λ c. record c { left = left }) (λ c is t. (t.0, subst (λ (n : ℕ). AllByRecursion (AsksFor (asked n)) left) (sym is) asks)) s.clients h.tell) h
 
-with_decoder_holds : (begun : ServerState) (asked : ℕ → List ℕ) (s : Standing) (conn : ℕ) (d : Decoding) → HoldsAt begun asked s → HoldsAt begun asked (with_decoder s conn d)
+with_decoder_holds : (begun : ServerState) (asked : ℕ → ℕ → Bool) (s : Standing) (conn : ℕ) (d : Decoding) → HoldsAt begun asked s → HoldsAt begun asked (with_decoder s conn d)
 with_decoder_holds begun asked s conn d h =
     remains_hold begun asked s.front s.front s.clients (with_decoder s conn d).clients s.handed s.groups (same_front s.front) (times_lose 0 s.front conn) h.boxes
     (changed_tell begun asked s.groups conn (λ c. record c { decoder = d }) (λ c is t. (t.0, t.1)) s.clients h.tell) h
 
-clients_with_tell : (begun : ServerState) (asked : ℕ → List ℕ) (groups : List (List Entry)) (cs : List Client) (conn : ℕ) (d : Decoding) → AllTell begun groups asked cs → AllTell begun groups asked (clients_with cs conn d)
+clients_with_tell : (begun : ServerState) (asked : ℕ → ℕ → Bool) (groups : List (List Entry)) (cs : List Client) (conn : ℕ) (d : Decoding) → AllTell begun groups asked cs → AllTell begun groups asked (clients_with cs conn d)
 clients_with_tell begun asked groups cs conn d tell = by (is_some (find conn cs))
   where
     first : Tells begun groups asked (new_client conn d)
@@ -275,7 +276,7 @@ clients_with_tell begun asked groups cs conn d tell = by (is_some (find conn cs)
 
 -- ---- connections come and go
 
-connects_holds : (begun : ServerState) (asked : ℕ → List ℕ) (s : Standing) (conn : ℕ) (t : Standing) → Connects s conn t → HoldsAt begun asked s → HoldsAt begun asked t
+connects_holds : (begun : ServerState) (asked : ℕ → ℕ → Bool) (s : Standing) (conn : ℕ) (t : Standing) → Connects s conn t → HoldsAt begun asked s → HoldsAt begun asked t
 connects_holds begun asked s conn t c h = subst (λ (x : Standing). HoldsAt begun asked x) (sym c.after) (by (is_making s conn))
   where
     joins : Holds begun asked (front.connected s.front conn) (clients_with s.clients conn c.decoder) s.handed s.groups
@@ -287,7 +288,7 @@ connects_holds begun asked s conn t c h = subst (λ (x : Standing). HoldsAt begu
     by true = joins
     by false = joins
 
-gone_holds : (begun : ServerState) (asked : ℕ → List ℕ) (s : Standing) (conn : ℕ) → HoldsAt begun asked s → HoldsAt begun asked (gone s conn)
+gone_holds : (begun : ServerState) (asked : ℕ → ℕ → Bool) (s : Standing) (conn : ℕ) → HoldsAt begun asked s → HoldsAt begun asked (gone s conn)
 gone_holds begun asked s conn h = by (is_making s conn)
   where
     leaves : Holds begun asked (front.dropped s.front conn) (on_client conn (λ c. record c { left = [] }) s.clients) s.handed s.groups
@@ -303,7 +304,7 @@ gone_holds begun asked s conn h = by (is_making s conn)
 
 -- ---- messages are taken
 
-module _ (begun : ServerState) (asked : ℕ → List ℕ) (below : KeepsBelow begun) where
+module _ (begun : ServerState) (asked : ℕ → ℕ → Bool) (below : KeepsBelow begun) where
   mark_within : (groups : List (List Entry)) (f : FrontState) (handed : Handed) → IsOnItsWay begun groups f handed → f.durable ≤ begun.place + length (entries_of groups)
   mark_within groups f Nothing way = omega (arith, way)
   mark_within groups f (Cut batch) way = let mark = way.0 in omega (arith, mark)
@@ -442,7 +443,7 @@ module _ (begun : ServerState) (asked : ℕ → List ℕ) (below : KeepsBelow be
 
 -- ---- a run from the first standing on
 
-pub first_holds : (begun : ServerState) (asked : ℕ → List ℕ) (s : Standing) → IsFirstStanding begun s → HoldsAt begun asked s
+pub first_holds : (begun : ServerState) (asked : ℕ → ℕ → Bool) (s : Standing) → IsFirstStanding begun s → HoldsAt begun asked s
 first_holds begun asked s first =
     let f : FrontState = s.front in
     let none : made_entries s.groups s.handed f ≡ [] =

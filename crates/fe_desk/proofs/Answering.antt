@@ -6,11 +6,13 @@ use Rattle.std.proofs.Math.Seq.{take-append_seam}
 use Rattle.fe_state.specs.State.{ServerState}
 use Rattle.fe_state.specs.declared.entry.Entry.{Entry}
 use Rattle.fe_keeper.specs.declared.fault.Fault.TheVariants as keeper
+use Rattle.fe_wire.specs.declared.client_message.ClientMessage.{ClientMessage}
+use Rattle.fe_wire.specs.declared.client_message.ClientMessage.TheVariants as message
 use Rattle.fe_desk.specs.declared.fault.DeskFault.{DeskFault}
 use Rattle.fe_desk.specs.declared.fault.DeskFault.TheVariants.{Store, NoMemory, Unwritten}
 use Rattle.fe_desk.specs.declared.step.Step.{Step}
 use Rattle.fe_desk.specs.declared.step.Step.TheVariants as step
-use Rattle.fe_desk.specs.Acknowledged.{IsWritten, AsksFor, StepAsksFor, IsAcknowledged, AreStepsFor, AcknowledgedStand, stored_groups}
+use Rattle.fe_desk.specs.Acknowledged.{IsWritten, AsksFor, StepAsksFor, IsAcknowledged, AnySessionMayBeAsked, AreStepsFor, AcknowledgedStand, stored_groups}
 use Rattle.fe_desk.specs.Crash.{DeskState}
 use Rattle.fe_desk.specs.Ends.{Tears, BreaksOff, Lacks, Breaks, discharged_desk}
 use Rattle.fe_desk.specs.Standing.{Client, Standing, IsFirstStanding, emptied, discharged}
@@ -21,14 +23,14 @@ use Rattle.fe_desk.proofs.Acknowledging.{StepAsks, acts_hold, before_holds, unre
 use Rattle.fe_messages.proofs.Boxes.{all_weaker}
 use Rattle.fe_desk.proofs.Feeding.{discharged_reads}
 
-all_written : (begun : ServerState) (groups : List (List Entry)) (asked : ℕ → List ℕ) (cs : List Client) → AllTell begun groups asked cs → AllByRecursion (IsWritten begun groups asked) cs
+all_written : (begun : ServerState) (groups : List (List Entry)) (asked : ℕ → ℕ → Bool) (cs : List Client) → AllTell begun groups asked cs → AllByRecursion (IsWritten begun groups asked) cs
 all_written begun groups asked cs =
     all_weaker (Tells begun groups asked) (IsWritten begun groups asked) (λ c t. record { mails = t.0.mails; stand = t.0.stand; written = t.0.spelling; waits = t.0.waits }) cs
 
-all_left : (begun : ServerState) (groups : List (List Entry)) (asked : ℕ → List ℕ) (cs : List Client) → AllTell begun groups asked cs → AllByRecursion (λ (c : Client). AllByRecursion (AsksFor (asked c.conn)) c.left) cs
+all_left : (begun : ServerState) (groups : List (List Entry)) (asked : ℕ → ℕ → Bool) (cs : List Client) → AllTell begun groups asked cs → AllByRecursion (λ (c : Client). AllByRecursion (AsksFor (asked c.conn)) c.left) cs
 all_left begun groups asked cs = all_weaker (Tells begun groups asked) (λ (c : Client). AllByRecursion (AsksFor (asked c.conn)) c.left) (λ c t. t.1) cs
 
-all_told_back : (begun : ServerState) (groups : List (List Entry)) (asked : ℕ → List ℕ) (cs : List Client) → AllByRecursion (IsWritten begun groups asked) cs
+all_told_back : (begun : ServerState) (groups : List (List Entry)) (asked : ℕ → ℕ → Bool) (cs : List Client) → AllByRecursion (IsWritten begun groups asked) cs
     → AllByRecursion (λ (c : Client). AllByRecursion (AsksFor (asked c.conn)) c.left) cs → AllTell begun groups asked cs
 all_told_back begun groups asked [] written left = tt
 all_told_back begun groups asked (c ∷ cs) written left =
@@ -42,13 +44,14 @@ discharged_groups s = by s.owes
     by true = refl
     by false = refl
 
-module _ {D : Type 0} (begun : ServerState) (asked : ℕ → List ℕ) where
+module _ {D : Type 0} (begun : ServerState) (asked : ℕ → ℕ → Bool) where
   abbrev HoldsIn : DeskState D → List (List Entry) → Type 0
   HoldsIn d groups = Holds begun asked d.standing.front d.standing.clients d.standing.handed groups
 
   from_holds_in : (d : DeskState D) → HoldsIn d (stored_groups d) → (d.keeper.store.has_failed ≡ false → d.synced ≡ length d.standing.groups) → IsAcknowledged begun asked d
   from_holds_in d h all = record {
-    answers = record { boxed = h.boxes; written = all_written begun (stored_groups d) asked d.standing.clients h.tell };
+    answers = all_written begun (stored_groups d) asked d.standing.clients h.tell;
+    boxed = h.boxes;
     left = all_left begun (stored_groups d) asked d.standing.clients h.tell;
     holders = h.has.holders;
     sessions = h.has.sessions;
@@ -71,8 +74,8 @@ module _ {D : Type 0} (begun : ServerState) (asked : ℕ → List ℕ) where
         state = is.state;
         answered = is.answered;
         way = is.way;
-        boxes = is.answers.boxed;
-        tell = all_told_back begun (stored_groups d) asked d.standing.clients is.answers.written is.left;
+        boxes = is.boxed;
+        tell = all_told_back begun (stored_groups d) asked d.standing.clients is.answers is.left;
         has = record { holders = is.holders; sessions = is.sessions };
       } in
       subst (λ (gs : List (List Entry)). HoldsIn d gs) (whole_groups d all) h
@@ -187,3 +190,28 @@ module _ {D : Type 0} (begun : ServerState) (asked : ℕ → List ℕ) where
 pub acknowledged_stand : {D : Type 0} (failures : D → ℕ) → AcknowledgedStand failures
 acknowledged_stand failures begun asked first last steps limits begins none taken =
     steps_acknowledged begun asked (keeps_below begun limits) failures first last steps taken (first_acknowledged begun asked first begins none)
+
+-- ---- nothing is asked of a step
+
+any_message : (m : ClientMessage) → AsksFor (λ session. true) m
+any_message (message.Attach session) = refl
+any_message (message.Call number request) = tt
+any_message (message.Cancel number) = tt
+any_message (message.Settle floor) = tt
+any_message message.Bye = tt
+any_message message.Report = tt
+
+any_messages : (ms : List ClientMessage) → AllByRecursion (AsksFor (λ session. true)) ms
+any_messages [] = tt
+any_messages (m ∷ ms) = (any_message m, any_messages ms)
+
+pub any_session : {D : Type 0} → AnySessionMayBeAsked D
+any_session d (step.Bytes conn piece) = λ before after more is reads. any_messages more
+any_session d (step.Connect conn) = tt
+any_session d (step.Gone conn) = tt
+any_session d step.Cut = tt
+any_session d step.Append = tt
+any_session d step.Post = tt
+any_session d step.CheckBegin = tt
+any_session d step.CheckStep = tt
+any_session d step.CheckFinish = tt

@@ -29,20 +29,20 @@ use Rattle.fe_desk.proofs.Seated.{Loses, HasOnly, has_lost, both_lose, times_los
 -- ---- what holds
 
 -- what was written is the spelling of mails that are on the groups, and so does that of a reply that waits
-pub record TellsCall (begun : ServerState) (groups : List (List Entry)) (mine : List ℕ) (reply : Option ServerMessage) (written : List ℕ) : Type 0 where
+pub record TellsCall (begun : ServerState) (groups : List (List Entry)) (mine : ℕ → Bool) (reply : Option ServerMessage) (written : List ℕ) : Type 0 where
   pub waits : IfSome reply (λ r. (m : Mail) × (r ≡ reply_of m) × StandsOn begun groups mine m)
   pub mails : List Mail
   pub stand : AllByRecursion (StandsOn begun groups mine) mails
   pub spelling : written ≡ spelled mails
 
 -- so is it for each client, and the messages that are left of it ask for no other session
-abbrev pub Tells : ServerState → List (List Entry) → (ℕ → List ℕ) → Client → Type 0
+abbrev pub Tells : ServerState → List (List Entry) → (ℕ → ℕ → Bool) → Client → Type 0
 Tells begun groups asked c = TellsCall begun groups (asked c.conn) c.reply c.written × AllByRecursion (AsksFor (asked c.conn)) c.left
 
-abbrev pub AllTell : ServerState → List (List Entry) → (ℕ → List ℕ) → List Client → Type 0
+abbrev pub AllTell : ServerState → List (List Entry) → (ℕ → ℕ → Bool) → List Client → Type 0
 AllTell begun groups asked clients = AllByRecursion (Tells begun groups asked) clients
 
-pub record Holds (begun : ServerState) (asked : ℕ → List ℕ) (f : FrontState) (clients : List Client) (handed : Handed) (groups : List (List Entry)) : Type 0 where
+pub record Holds (begun : ServerState) (asked : ℕ → ℕ → Bool) (f : FrontState) (clients : List Client) (handed : Handed) (groups : List (List Entry)) : Type 0 where
   pub state : f.service.state ≡ after_all begun (made_entries groups handed f)
   pub answered : AreAnswered begun (made_entries groups handed f)
   pub way : IsOnItsWay begun groups f handed
@@ -50,7 +50,7 @@ pub record Holds (begun : ServerState) (asked : ℕ → List ℕ) (f : FrontStat
   pub tell : AllTell begun groups asked clients
   pub has : HasOnly asked f
 
-abbrev pub HoldsAt : ServerState → (ℕ → List ℕ) → Standing → Type 0
+abbrev pub HoldsAt : ServerState → (ℕ → ℕ → Bool) → Standing → Type 0
 HoldsAt begun asked s = Holds begun asked s.front s.clients s.handed s.groups
 
 -- ---- what stays
@@ -68,7 +68,7 @@ way_remains begun groups f g (Cut batch) out durable way = (durable ∙ way.0, a
 way_remains begun groups f g (Stored batch) out durable way =
     (record { before = way.0.before; groups_are = way.0.groups_are; first = way.0.first ∙ sym durable; mark = durable ∙ way.0.mark }, ap is_some out ∙ way.1)
 
-pub remains_hold : (begun : ServerState) (asked : ℕ → List ℕ) (f g : FrontState) (cs ds : List Client) (handed : Handed) (groups : List (List Entry)) → Remains f g → Loses f g → AllIn (StandsTo begun groups asked) g.connections
+pub remains_hold : (begun : ServerState) (asked : ℕ → ℕ → Bool) (f g : FrontState) (cs ds : List Client) (handed : Handed) (groups : List (List Entry)) → Remains f g → Loses f g → AllIn (StandsTo begun groups asked) g.connections
     → AllTell begun groups asked ds → Holds begun asked f cs handed groups → Holds begun asked g ds handed groups
 remains_hold begun asked f g cs ds handed groups same loses boxes tell h =
     let pending : made_entries groups handed f ≡ made_entries groups handed g = ap (λ (es : List Entry). entries_of groups ++ (cut_entries handed ++ es)) (sym same.pending) in
@@ -94,7 +94,7 @@ pub first_of : {X : Type 0} (P : X → Type 0) (xs ys : List X) → AllByRecursi
 first_of P [] ys all = (tt, all)
 first_of P (x ∷ xs) ys all = let rest = first_of P xs ys all.1 in ((all.0, rest.0), rest.1)
 
-module _ (begun : ServerState) (groups : List (List Entry)) (asked : ℕ → List ℕ) where
+module _ (begun : ServerState) (groups : List (List Entry)) (asked : ℕ → ℕ → Bool) where
   abbrev Stand : FrontState → Type 0
   Stand f = AllIn (StandsTo begun groups asked) f.connections
 
@@ -167,14 +167,14 @@ module _ (begun : ServerState) (groups : List (List Entry)) (asked : ℕ → Lis
         tells = subst (λ (x : Client). Tells begun groups asked x) (sym at.client) here;
       }
 
-pub emptied_holds : (begun : ServerState) (asked : ℕ → List ℕ) (s : Standing) → HoldsAt begun asked s → HoldsAt begun asked (emptied s)
+pub emptied_holds : (begun : ServerState) (asked : ℕ → ℕ → Bool) (s : Standing) → HoldsAt begun asked s → HoldsAt begun asked (emptied s)
 emptied_holds begun asked s h =
     let keeps = all_emptied-keeps s.front s.clients in
     remains_hold begun asked s.front (all_emptied s.front s.clients) s.clients (all_told s.front s.clients) s.handed s.groups
     (record { state = keeps.state; pending = keeps.pending; out = keeps.out; durable = keeps.durable }) (all_emptied_loses s.front s.clients)
     (all_stand begun s.groups asked s.front s.clients h.boxes) (all_tell begun s.groups asked s.front s.clients h.boxes h.tell) h
 
-pub some_holds : (begun : ServerState) (asked : ℕ → List ℕ) (s t : Standing) → WritesSome s t → HoldsAt begun asked s → HoldsAt begun asked t
+pub some_holds : (begun : ServerState) (asked : ℕ → ℕ → Bool) (s t : Standing) → WritesSome s t → HoldsAt begun asked s → HoldsAt begun asked t
 some_holds begun asked s t some h =
     let w = some.writes in
     let f : FrontState = all_emptied s.front w.before in
@@ -189,7 +189,7 @@ some_holds begun asked s t some h =
     (both_lose s.front f some.front (all_emptied_loses s.front w.before) stops.loses)
     stops.stand (subst (λ (cs : List Client). AllTell begun s.groups asked cs) (sym w.now) told) h)
 
-pub discharged_holds : (begun : ServerState) (asked : ℕ → List ℕ) (s : Standing) → HoldsAt begun asked s → HoldsAt begun asked (discharged s)
+pub discharged_holds : (begun : ServerState) (asked : ℕ → ℕ → Bool) (s : Standing) → HoldsAt begun asked s → HoldsAt begun asked (discharged s)
 discharged_holds begun asked s h = by s.owes
   where
     by : (b : Bool) → HoldsAt begun asked (if b then emptied s else s)

@@ -1,6 +1,7 @@
 -- What stands after any number of stops: one history, on which all answers that were written stand.
 use Rattle.std.proofs.Common.{◌≡◌, ◌⊎◌, inl, inr, ℕ, zero, suc, ◌+◌, ◌≤◌, List, [], ◌∷◌, ◌++◌, append_assoc, length, take, drop, refl, sym, ap, subst, ◌∙◌, arith}
-use Rattle.std.specs.Prelude.{map, Option, None, Some, IfSome}
+use Rattle.std.proofs.lemmas.List.Elements.{Contains-append_right}
+use Rattle.std.specs.Prelude.{Contains, map, Option, None, Some, IfSome, Bool, true}
 use Rattle.std.specs.List.{AllByRecursion}
 use Rattle.std.proofs.lemmas.List.{length-append, length-take-le, take-append-drop}
 use Rattle.fe_state.specs.State.{ServerState, reply, after, after_all}
@@ -21,13 +22,12 @@ use Rattle.fe_messages.proofs.Answers.{KeepsBelow, finished_at, finished_more, k
 use Rattle.fe_messages.proofs.Boxes.{all_weaker}
 use Rattle.fe_wire.specs.declared.server_message.ServerMessage.{ServerMessage}
 use Rattle.fe_keeper.specs.Laws.{StandsForOne}
-use Rattle.fe_desk.specs.Acknowledged.{IsAmong, StandsOn, IsWritten, IsAcknowledged, entries_of, stored_groups}
+use Rattle.fe_desk.specs.Acknowledged.{AnswersStand, StandsOn, IsWritten, IsAcknowledged, entries_of, stored_groups}
 use Rattle.fe_desk.specs.Crash.{DeskState}
 use Rattle.fe_desk.specs.Laws.{Life, AreLives, kept_groups}
-use Rattle.fe_desk.specs.Lives.{Stop, all_groups, handed_by, stored_by, IsStopOf, AreStops, FinishOnceIn, WrittenStand, AreOneStore, StopsAreLives}
+use Rattle.fe_desk.specs.Lives.{Stop, all_groups, handed_by, stored_by, IsStopOf, AreStops, FinishOnceIn, AreOneStore, StopsAreLives}
 use Rattle.fe_desk.specs.Standing.{Standing}
 use Rattle.fe_desk.proofs.Acknowledging.{entries-append, stands_behind}
-use Rattle.fe_desk.proofs.Answered.{among_behind}
 use Rattle.fe_desk.proofs.Lives.{lives_join}
 
 -- ---- groups and their entries
@@ -95,10 +95,10 @@ module _ (begun : ServerState) (below : KeepsBelow begun) (front : List (List En
             (finished_more begun (entries_of front) (entries_of groups) session number answer place (finished_at begun (entries_of front) r.before r.behind session number is.request answer place all r.entries r.at)))
       ]
 
-  among_after : (groups : List (List Entry)) (e : Entry) → IsAmong (entries_of groups) e → IsAmong (entries_of (front ++ groups)) e
-  among_after groups e is = subst (λ (es : List Entry). IsAmong es e) (sym (entries-append front groups)) (among_behind (entries_of front) (entries_of groups) e is)
+  among_after : (groups : List (List Entry)) (e : Entry) → Contains (entries_of groups) e → Contains (entries_of (front ++ groups)) e
+  among_after groups e is = subst (λ (es : List Entry). Contains es e) (sym (entries-append front groups)) (Contains-append_right (entries_of front) (entries_of groups) e is)
 
-  stands_after : (groups : List (List Entry)) (mine : List ℕ) (m : Mail) → StandsOn (after_groups begun front) groups mine m → StandsOn begun (front ++ groups) mine m
+  stands_after : (groups : List (List Entry)) (mine : ℕ → Bool) (m : Mail) → StandsOn (after_groups begun front) groups mine m → StandsOn begun (front ++ groups) mine m
   stands_after groups mine (mail.Welcome session floor) (may, is) = (may, among_after groups (Attached session floor) is)
   stands_after groups mine (mail.Refused number refusal) is = tt
   stands_after groups mine (mail.Withdrawn number) is = tt
@@ -114,8 +114,8 @@ waits_weaker : (P Q : Mail → Type 0) → ((m : Mail) → P m → Q m) → (o :
 waits_weaker P Q weaker None waits = tt
 waits_weaker P Q weaker (Some r) (m, is, such) = (m, is, weaker m such)
 
-written_weaker : (begun other : ServerState) (groups more : List (List Entry)) (asked : ℕ → List ℕ) → ((mine : List ℕ) (m : Mail) → StandsOn begun groups mine m → StandsOn other more mine m) → (s : Standing)
-    → WrittenStand begun groups asked s → WrittenStand other more asked s
+written_weaker : (begun other : ServerState) (groups more : List (List Entry)) (asked : ℕ → ℕ → Bool) → ((mine : ℕ → Bool) (m : Mail) → StandsOn begun groups mine m → StandsOn other more mine m) → (s : Standing)
+    → AnswersStand begun groups asked s → AnswersStand other more asked s
 written_weaker begun other groups more asked weaker s written =
     all_weaker (IsWritten begun groups asked) (IsWritten other more asked)
     (λ c w. record {
@@ -133,11 +133,11 @@ once_in s groups history before between behind session number first second one o
     finishes_once s before between behind session number first second one other (subst (λ (es : List Entry). AreLegal s es) is (legal-flat s groups history))
 
 abbrev Later : Type 0 → ServerState → ServerState → List (List Entry) → Type 0
-Later D begun s front = (asked : ℕ → List ℕ) (d : DeskState D) → IsAcknowledged s asked d → WrittenStand begun (front ++ stored_groups d) asked d.standing
+Later D begun s front = (asked : ℕ → ℕ → Bool) (d : DeskState D) → IsAcknowledged s asked d → AnswersStand begun (front ++ stored_groups d) asked d.standing
 
 module _ {D : Type 0} where
   lived : (begun s : ServerState) (stops : List (Stop D)) (lives : List Life) → map handed_by lives ≡ map stored_by stops → AreLives begun lives s
-      → AllByRecursion (λ (x : Stop D). WrittenStand begun (kept_groups lives) x.asked x.last.standing) stops → Later D begun s (kept_groups lives) → AreOneStore begun stops s
+      → AllByRecursion (λ (x : Stop D). AnswersStand begun (kept_groups lives) x.asked x.last.standing) stops → Later D begun s (kept_groups lives) → AreOneStore begun stops s
   lived begun s stops lives same are answers later = record {
     lives = lives;
     same = same;
@@ -161,23 +161,23 @@ module _ {D : Type 0} where
       let past = take_within x.last.synced x.last.standing.groups x.under_way kept is.few (omega (arith, stored, least)) in
       let whole : first ++ (past.0 ++ kept_groups rest.lives) ≡ front ++ kept_groups rest.lives =
       sym (append_assoc first past.0 (kept_groups rest.lives)) ∙ ap (λ (gs : List (List Entry)). gs ++ kept_groups rest.lives) (sym past.1) in
-      let own : WrittenStand begun (front ++ kept_groups rest.lives) x.asked x.last.standing =
-      subst (λ (gs : List (List Entry)). WrittenStand begun gs x.asked x.last.standing) whole
-      (written_weaker begun begun first (first ++ (past.0 ++ kept_groups rest.lives)) x.asked (stands_behind begun first (past.0 ++ kept_groups rest.lives)) x.last.standing is.lived.answers.written) in
+      let own : AnswersStand begun (front ++ kept_groups rest.lives) x.asked x.last.standing =
+      subst (λ (gs : List (List Entry)). AnswersStand begun gs x.asked x.last.standing) whole
+      (written_weaker begun begun first (first ++ (past.0 ++ kept_groups rest.lives)) x.asked (stands_behind begun first (past.0 ++ kept_groups rest.lives)) x.last.standing is.lived.answers) in
       lived begun s (x ∷ xs) (life ∷ rest.lives) (ap (λ (ls : List (List (List Entry) × ℕ)). (all_groups x, x.synced) ∷ ls) rest.same) (is.history, least, most, rest.are) (
         own,
-        all_weaker (λ (y : Stop D). WrittenStand (after_groups begun front) (kept_groups rest.lives) y.asked y.last.standing) (λ (y : Stop D). WrittenStand begun (front ++ kept_groups rest.lives) y.asked y.last.standing)
+        all_weaker (λ (y : Stop D). AnswersStand (after_groups begun front) (kept_groups rest.lives) y.asked y.last.standing) (λ (y : Stop D). AnswersStand begun (front ++ kept_groups rest.lives) y.asked y.last.standing)
             (λ y w. written_weaker (after_groups begun front) begun (kept_groups rest.lives) (front ++ kept_groups rest.lives) y.asked (stands_after begun below front all (kept_groups rest.lives)) y.last.standing w) xs rest.answers,
       )
       (λ asked d now.
-      subst (λ (gs : List (List Entry)). WrittenStand begun gs asked d.standing) (sym (append_assoc front (kept_groups rest.lives) (stored_groups d)))
+      subst (λ (gs : List (List Entry)). AnswersStand begun gs asked d.standing) (sym (append_assoc front (kept_groups rest.lives) (stored_groups d)))
       (written_weaker (after_groups begun front) begun (kept_groups rest.lives ++ stored_groups d) (front ++ (kept_groups rest.lives ++ stored_groups d)) asked (stands_after begun below front all (kept_groups rest.lives ++ stored_groups d)) d.standing
       (rest.later asked d now)))
 
   module _ (for_one : StandsForOne) where
     stops_lived : (begun s : ServerState) (stops : List (Stop D)) → KeepsBelow begun → AreStops begun stops s → AreOneStore begun stops s
     stops_lived begun s [] below is =
-        lived begun s [] [] refl is tt (λ asked d now. (subst (λ (z : ServerState). IsAcknowledged z asked d) is now).answers.written)
+        lived begun s [] [] refl is tt (λ asked d now. (subst (λ (z : ServerState). IsAcknowledged z asked d) is now).answers)
     stops_lived begun s (x ∷ xs) below is =
         let stop : IsStopOf begun x = is.0 in
         let opened : ServerState = is.1.0 in

@@ -1,7 +1,7 @@
 -- What a message of a connection leaves of a front, whether its entries are legal or not: they are answered, lead to the state
 -- now, and are pending after the others; and its mails are on the groups that were stored.
 use Rattle.std.proofs.Common.{◌≡◌, ◌⊎◌, inl, inr, ℕ, ◌<◌, Bool, true, false, List, [], ◌∷◌, ◌++◌, append-nil, Option, Some, None, refl, sym, ap, subst, ◌∙◌}
-use Rattle.std.specs.Prelude.{nat_lt, if◌then◌else◌, Contains}
+use Rattle.std.specs.Prelude.{nat_lt, if◌then◌else◌}
 use Rattle.std.specs.Option.{option_map_or}
 use Rattle.std.specs.FinMap.{get}
 use Rattle.std.proofs.lemmas.Bool.{ltb-true}
@@ -162,7 +162,7 @@ message_made f g conn message.Report es (inr refused) = mailed_made f g es conn 
 
 -- ---- the mails of messages
 
-module _ (begun : ServerState) (groups : List (List Entry)) (asked : ℕ → List ℕ) where
+module _ (begun : ServerState) (groups : List (List Entry)) (asked : ℕ → ℕ → Bool) where
   abbrev pub StandsTo : ℕ → Mail → Type 0
   StandsTo conn m = StandsOn begun groups (asked conn) m
 

@@ -1,6 +1,6 @@
 -- Sessions and connections let go of each other, and come together only where a connection asks for a session.
 use Rattle.std.proofs.Common.{◌≡◌, ◌⊎◌, inl, inr, ℕ, ◌+◌, Bool, true, false, List, [], ◌∷◌, length, zero, suc, drop, Option, Some, None, refl, sym, ap, subst, ◌∙◌}
-use Rattle.std.specs.Prelude.{nat_lt, is_some, if◌then◌else◌, option_and_then, Contains, Ok, Err}
+use Rattle.std.specs.Prelude.{nat_lt, is_some, if◌then◌else◌, option_and_then, Ok, Err}
 use Rattle.std.specs.Option.{option_map, option_map_or}
 use Rattle.std.specs.Ordering.{nat_cmp}
 use Rattle.std.specs.FinMap.{FinMap, empty, get, get-empty, insert, remove}
@@ -212,11 +212,11 @@ no_session : (m : FinMap nat_cmp Connection) → m ≡ empty → (conn : ℕ) �
 no_session m is conn = ap (λ m. session_on m conn) is ∙ ap (option_and_then (λ (c : Connection). c.session)) (get-empty nat_cmp conn)
 
 -- a connection has a session, and is had by one, only where its number asked for it
-pub record HasOnly (asked : ℕ → List ℕ) (f : FrontState) : Type 0 where
-  pub holders : (session conn : ℕ) → holder_of f.service.seats session ≡ Some conn → Contains (asked conn) session
-  pub sessions : (conn session : ℕ) → session_on f.connections conn ≡ Some session → Contains (asked conn) session
+pub record HasOnly (asked : ℕ → ℕ → Bool) (f : FrontState) : Type 0 where
+  pub holders : (session conn : ℕ) → holder_of f.service.seats session ≡ Some conn → asked conn session ≡ true
+  pub sessions : (conn session : ℕ) → session_on f.connections conn ≡ Some session → asked conn session ≡ true
 
-module _ (asked : ℕ → List ℕ) where
+module _ (asked : ℕ → ℕ → Bool) where
   -- nobody has a session at first
   pub first_has : (begun : ServerState) (f : FrontState) → IsFirst begun f → HasOnly asked f
   first_has begun f first = record {
@@ -233,23 +233,23 @@ module _ (asked : ℕ → List ℕ) where
   has_lost_at : (f g h : FrontState) → h ≡ g → Loses f g → HasOnly asked f → HasOnly asked h
   has_lost_at f g h is loses has = subst (λ (x : FrontState). HasOnly asked x) (sym is) (has_lost f g loses has)
 
-  has_attached : (f : FrontState) (conn session : ℕ) → Contains (asked conn) session → HasOnly asked f → HasOnly asked (attached_to f conn session)
+  has_attached : (f : FrontState) (conn session : ℕ) → asked conn session ≡ true → HasOnly asked f → HasOnly asked (attached_to f conn session)
   has_attached f conn session may has =
       let mid : FrontState = freed (released f conn) session in
       let here : HasOnly asked mid = has_lost (released f conn) mid (freed_loses (released f conn) session) (has_lost f (released f conn) (released_loses f conn) has) in
       let seats = mid.service.seats in
       let m = mid.connections in
-      let holder : (q c : ℕ) → holder_of (insert seats session (record { holder = Some conn; closing = false })) q ≡ Some c → Contains (asked c) q = λ q c is. elim (same_or_other q session) [
+      let holder : (q c : ℕ) → holder_of (insert seats session (record { holder = Some conn; closing = false })) q ≡ Some c → asked c q ≡ true = λ q c is. elim (same_or_other q session) [
         | inl e ↦
             let who : conn ≡ c = some_same (sym (holder-inserted seats session (record { holder = Some conn; closing = false })) ∙ ap (λ (n : ℕ). holder_of (insert seats session (record { holder = Some conn; closing = false })) n) (sym e) ∙ is) in
-            subst (λ (n : ℕ). Contains (asked n) q) who (subst (λ (n : ℕ). Contains (asked conn) n) (sym e) may)
+            subst (λ (n : ℕ). asked n q ≡ true) who (subst (λ (n : ℕ). asked conn n ≡ true) (sym e) may)
         | inr ne ↦ here.holders q c (sym (holder-beside seats session (record { holder = Some conn; closing = false }) q ne) ∙ is)
       ] in
       record {
         holders = holder;
         sessions = λ q s is. elim (same_or_other q conn) [
           | inl e ↦ elim (joined_session m conn session q s e (get m conn) refl is) [
-            | inl which ↦ subst (λ (n : ℕ). Contains (asked q) n) (sym which) (subst (λ (n : ℕ). Contains (asked n) session) (sym e) may)
+            | inl which ↦ subst (λ (n : ℕ). asked q n ≡ true) (sym which) (subst (λ (n : ℕ). asked n session ≡ true) (sym e) may)
             | inr had ↦ here.sessions q s had
           ]
           | inr ne ↦ here.sessions q s (sym (session_on-with_session-beside m conn (Some session) q ne) ∙ is)

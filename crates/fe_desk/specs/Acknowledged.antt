@@ -1,5 +1,5 @@
 -- What the answers that go out are on, whatever the steps of a desk answer.
-use Rattle.std.specs.Prelude.{◌≡◌, ◌⊎◌, ℕ, ◌+◌, ◌<◌, true, false, List, [], ◌∷◌, ◌++◌, length, take, is_some, Some, IfSome, Contains, Result}
+use Rattle.std.specs.Prelude.{◌≡◌, ◌⊎◌, ℕ, ◌+◌, ◌<◌, Bool, true, false, List, [], ◌∷◌, ◌++◌, length, take, is_some, Some, IfSome, Contains, Result}
 use Rattle.std.specs.List.{flat_map, AllByRecursion}
 use Rattle.std.specs.FinMap.{get}
 use Rattle.fe_state.specs.Sessions.{kept_in}
@@ -26,7 +26,7 @@ use Rattle.fe_desk.specs.declared.step.Step.{Step}
 use Rattle.fe_desk.specs.declared.step.Step.TheVariants as step
 use Rattle.fe_desk.specs.Crash.{DeskState}
 use Rattle.fe_desk.specs.Messages.{read_by}
-use Rattle.fe_desk.specs.Standing.{Client, IsFirstStanding}
+use Rattle.fe_desk.specs.Standing.{Client, Standing, IsFirstStanding}
 use Rattle.fe_desk.specs.Steps.{Reads}
 use Rattle.fe_desk.specs.Taken.{IsStep}
 
@@ -34,27 +34,21 @@ use Rattle.fe_desk.specs.Taken.{IsStep}
 abbrev pub entries_of : List (List Entry) → List Entry
 entries_of groups = flat_map (λ group. group) groups
 
--- The entry is one of these.
-pub record IsAmong (es : List Entry) (e : Entry) : Type 0 where
-  pub before : List Entry
-  pub behind : List Entry
-  pub entries : es ≡ before ++ e ∷ behind
-
--- What a mail to a connection tells of the history is in the groups that were stored, and of a session that the connection asked
--- for: the entry of the session, or an answer with its place, where that was not kept already. A refusal, a withdrawal and a
--- report tell nothing of it.
-abbrev pub StandsOn : ServerState → List (List Entry) → List ℕ → Mail → Type 0
-StandsOn begun groups asked (mail.Welcome session floor) = Contains asked session × IsAmong (entries_of groups) (Attached session floor)
+-- What a mail to a connection tells of the history is in the groups that were stored, and of a session that the connection may
+-- ask for: the entry of the session, or an answer with its place, where that was not kept already. A refusal, a withdrawal and
+-- a report tell nothing of it.
+abbrev pub StandsOn : ServerState → List (List Entry) → (ℕ → Bool) → Mail → Type 0
+StandsOn begun groups asked (mail.Welcome session floor) = (asked session ≡ true) × Contains (entries_of groups) (Attached session floor)
 StandsOn begun groups asked (mail.Answer session number answer place) =
-    Contains asked session × IsAnswerIn begun (entries_of groups) session number answer place
+    (asked session ≡ true) × IsAnswerIn begun (entries_of groups) session number answer place
 StandsOn begun groups asked (mail.Refused number refusal) = Unit {0}
 StandsOn begun groups asked (mail.Withdrawn number) = Unit {0}
-StandsOn begun groups asked (mail.Settled floor) = (session : ℕ) × Contains asked session × IsAmong (entries_of groups) (Settled session floor)
-StandsOn begun groups asked (mail.Goodbye session) = Contains asked session × IsAmong (entries_of groups) (Closed session)
+StandsOn begun groups asked (mail.Settled floor) = (session : ℕ) × (asked session ≡ true) × Contains (entries_of groups) (Settled session floor)
+StandsOn begun groups asked (mail.Goodbye session) = (asked session ≡ true) × Contains (entries_of groups) (Closed session)
 StandsOn begun groups asked (mail.Report text) = Unit {0}
 
 -- What was written to a client is the spelling of mails, and a reply that waits is that of one; each of them is on the groups.
-pub record IsWritten (begun : ServerState) (groups : List (List Entry)) (asked : ℕ → List ℕ) (c : Client) : Type 0 where
+pub record IsWritten (begun : ServerState) (groups : List (List Entry)) (asked : ℕ → ℕ → Bool) (c : Client) : Type 0 where
   pub mails : List Mail
   pub stand : AllByRecursion (StandsOn begun groups (asked c.conn)) mails
   pub written : c.written ≡ spelled mails
@@ -64,17 +58,15 @@ pub record IsWritten (begun : ServerState) (groups : List (List Entry)) (asked :
 abbrev pub stored_groups : {D : Type 0} → DeskState D → List (List Entry)
 stored_groups d = take d.synced d.standing.groups
 
--- Every mail that lies in a box is on the groups that are stored, and so does all that was written, each for a session that
--- the connection's number asked for.
-pub record AnswersStand {D : Type 0} (begun : ServerState) (asked : ℕ → List ℕ) (d : DeskState D) : Type 0 where
-  pub boxed : (conn : ℕ) → AllByRecursion (StandsOn begun (stored_groups d) (asked conn)) (mails_on d.standing.front.connections conn)
-  pub written : AllByRecursion (IsWritten begun (stored_groups d) asked) d.standing.clients
+-- All that was written in a run is on these groups.
+abbrev pub AnswersStand : ServerState → List (List Entry) → (ℕ → ℕ → Bool) → Standing → Type 0
+AnswersStand begun groups asked s = AllByRecursion (IsWritten begun groups asked) s.clients
 
 -- ---- what is asked for
 
--- a message asks for a session only where the connection's number has it among these
-abbrev pub AsksFor : List ℕ → ClientMessage → Type 0
-AsksFor asked (message.Attach session) = Contains asked session
+-- a message asks for a session only where its connection may ask for it
+abbrev pub AsksFor : (ℕ → Bool) → ClientMessage → Type 0
+AsksFor asked (message.Attach session) = asked session ≡ true
 AsksFor asked (message.Call number request) = Unit {0}
 AsksFor asked (message.Cancel number) = Unit {0}
 AsksFor asked (message.Settle floor) = Unit {0}
@@ -82,10 +74,14 @@ AsksFor asked message.Bye = Unit {0}
 AsksFor asked message.Report = Unit {0}
 
 -- so does each message that a step's bytes complete
-abbrev pub StepAsksFor : {D : Type 0} → (ℕ → List ℕ) → DeskState D → Step → Type 0
+abbrev pub StepAsksFor : {D : Type 0} → (ℕ → ℕ → Bool) → DeskState D → Step → Type 0
 StepAsksFor asked d (step.Bytes conn piece) = (before after : Decoding) (more : List ClientMessage) → read_by d.standing conn ≡ Some before
     → Reads before after piece.items more → AllByRecursion (AsksFor (asked conn)) more
 StepAsksFor asked d other = Unit {0}
+
+-- Where every connection may ask for every session, no step asks for another.
+abbrev pub AnySessionMayBeAsked : Type 0 → Type 0
+AnySessionMayBeAsked D = (d : DeskState D) (x : Step) → StepAsksFor (λ conn session. true) d x
 
 -- ---- what each step keeps
 
@@ -112,26 +108,28 @@ IsOnItsWay begun groups f Nothing = f.durable ≡ begun.place + length (entries_
 IsOnItsWay begun groups f (Cut batch) = (f.durable ≡ begun.place + length (entries_of groups)) × (is_some f.out ≡ true) × (batch.first ≡ f.durable)
 IsOnItsWay begun groups f (Stored batch) = IsLast begun groups f.durable batch × (is_some f.out ≡ true)
 
--- A desk over a state that was opened, whatever its steps answered. Each answer is on the groups that are stored. And it stays
--- so: a connection has only sessions that its number asked for, the front is ahead of the groups by what was made since, each entry of it was answered as the table says, and only what is
--- stored is posted.
-pub record IsAcknowledged {D : Type 0} (begun : ServerState) (asked : ℕ → List ℕ) (d : DeskState D) : Type 0 where
-  pub answers : AnswersStand begun asked d
+-- A desk over a state that was opened, whatever its steps answered: each answer that was written is on the groups that are
+-- stored. The other fields are what a step needs to keep it so. Each mail in a box is on these groups; a connection has only
+-- sessions that it may ask for; the front is ahead of the groups by what was made since, each entry of it answered as the
+-- table says; and only what is stored is posted.
+pub record IsAcknowledged {D : Type 0} (begun : ServerState) (asked : ℕ → ℕ → Bool) (d : DeskState D) : Type 0 where
+  pub answers : AnswersStand begun (stored_groups d) asked d.standing
+  pub boxed : (conn : ℕ) → AllByRecursion (StandsOn begun (stored_groups d) (asked conn)) (mails_on d.standing.front.connections conn)
   pub left : AllByRecursion (λ c. AllByRecursion (AsksFor (asked c.conn)) c.left) d.standing.clients
-  pub holders : (session conn : ℕ) → holder_of d.standing.front.service.seats session ≡ Some conn → Contains (asked conn) session
-  pub sessions : (conn session : ℕ) → session_on d.standing.front.connections conn ≡ Some session → Contains (asked conn) session
+  pub holders : (session conn : ℕ) → holder_of d.standing.front.service.seats session ≡ Some conn → asked conn session ≡ true
+  pub sessions : (conn session : ℕ) → session_on d.standing.front.connections conn ≡ Some session → asked conn session ≡ true
   pub state : d.standing.front.service.state ≡ after_all begun (made_entries (stored_groups d) d.standing.handed d.standing.front)
   pub answered : AreAnswered begun (made_entries (stored_groups d) d.standing.handed d.standing.front)
   pub way : IsOnItsWay begun (stored_groups d) d.standing.front d.standing.handed
   pub all : d.keeper.store.has_failed ≡ false → d.synced ≡ length d.standing.groups
 
 -- steps one after another, each with its answer, which ask for such sessions alone
-abbrev pub AreStepsFor : {D : Type 0} → (D → ℕ) → (ℕ → List ℕ) → DeskState D → List (Step × Result (Unit {0}) DeskFault) → DeskState D → Type 0
+abbrev pub AreStepsFor : {D : Type 0} → (D → ℕ) → (ℕ → ℕ → Bool) → DeskState D → List (Step × Result (Unit {0}) DeskFault) → DeskState D → Type 0
 AreStepsFor failures asked old [] new = new ≡ old
 AreStepsFor {D} failures asked old (given ∷ more) new =
     (mid : DeskState D) × StepAsksFor asked old given.0 × IsStep failures old given.0 given.1 mid × AreStepsFor failures asked mid more new
 
 -- so is a desk that was opened, and what any steps make of it
 abbrev pub AcknowledgedStand : {D : Type 0} → (D → ℕ) → Type 0
-AcknowledgedStand {D} failures = (begun : ServerState) (asked : ℕ → List ℕ) (first last : DeskState D) (steps : List (Step × Result (Unit {0}) DeskFault)) → IsWithinLimits begun
+AcknowledgedStand {D} failures = (begun : ServerState) (asked : ℕ → ℕ → Bool) (first last : DeskState D) (steps : List (Step × Result (Unit {0}) DeskFault)) → IsWithinLimits begun
     → IsFirstStanding begun first.standing → first.synced ≡ 0 → AreStepsFor failures asked first steps last → IsAcknowledged begun asked last

@@ -10,7 +10,7 @@ use Rattle.fe_state.specs.declared.request.Request.{Request}
 use Rattle.fe_keeper.specs.Stands.{StandsFor}
 use Rattle.fe_keeper.specs.Prefix.{LeavesPrefix}
 use Rattle.fe_desk.specs.declared.step.Step.{Step}
-use Rattle.fe_desk.specs.Acknowledged.{IsWritten, IsAcknowledged, stored_groups}
+use Rattle.fe_desk.specs.Acknowledged.{AnswersStand, IsAcknowledged, stored_groups}
 use Rattle.fe_desk.specs.Crash.{DeskState}
 use Rattle.fe_desk.specs.Laws.{Life, AreLives, AreOne, kept_groups}
 use Rattle.fe_desk.specs.Standing.{Standing, discharged}
@@ -23,7 +23,7 @@ use Rattle.fe_desk.specs.Steps.{DeskStep, DeskRun, IsAgain}
 -- handed to the store; how many of all groups were stored for sure; and the image that the stop left.
 pub record Stop (D : Type 0) : Type 0 where
   pub last : DeskState D
-  pub asked : ℕ → List ℕ
+  pub asked : ℕ → ℕ → Bool
   pub under_way : List (List Entry)
   pub synced : ℕ
   pub image : List ℕ
@@ -61,10 +61,6 @@ FinishOnceIn groups = (before between behind : List Entry) (session number : ℕ
     → flat_map (λ group. group) groups ≡ before ++ Finished session number first one ∷ between ++ Finished session number second other ∷ behind
     → Contains between (Closed session)
 
--- All that was written in a life is on the groups.
-abbrev pub WrittenStand : ServerState → List (List Entry) → (ℕ → List ℕ) → Standing → Type 0
-WrittenStand begun groups asked s = AllByRecursion (IsWritten begun groups asked) s.clients
-
 -- The groups that the stops kept are one history, with any that goes on from the last image; in it a number takes effect once
 -- while its session is kept; and each answer that was written in any life, or is in one that goes on, is on it.
 pub record AreOneStore {D : Type 0} (begun : ServerState) (stops : List (Stop D)) (s : ServerState) : Type 0 where
@@ -73,8 +69,8 @@ pub record AreOneStore {D : Type 0} (begun : ServerState) (stops : List (Stop D)
   pub are : AreLives begun lives s
   pub one : (next : List (List Entry)) → IsHistory s next → AreOne begun lives s next
   pub once : (next : List (List Entry)) → IsHistory s next → FinishOnceIn (kept_groups lives ++ next)
-  pub answers : AllByRecursion (λ x. WrittenStand begun (kept_groups lives) x.asked x.last.standing) stops
-  pub later : (asked : ℕ → List ℕ) (d : DeskState D) → IsAcknowledged s asked d → WrittenStand begun (kept_groups lives ++ stored_groups d) asked d.standing
+  pub answers : AllByRecursion (λ x. AnswersStand begun (kept_groups lives) x.asked x.last.standing) stops
+  pub later : (asked : ℕ → ℕ → Bool) (d : DeskState D) → IsAcknowledged s asked d → AnswersStand begun (kept_groups lives ++ stored_groups d) asked d.standing
 
 abbrev pub StopsAreLives : Type 0 → Type 0
 StopsAreLives D = (begun s : ServerState) (stops : List (Stop D)) → IsWithinLimits begun → AreStops begun stops s → AreOneStore begun stops s

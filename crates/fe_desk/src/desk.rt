@@ -1,4 +1,4 @@
-ghost use Rattle.std.specs.Prelude.{◌≡◌, ◌≤◌, ℕ, false, List, map, [], length};
+ghost use Rattle.std.specs.Prelude.{◌≡◌, ◌≤◌, ℕ, Bool, false, List, map, [], length};
 ghost use Rattle.fe_state.specs.State.{ServerState, IsWithinLimits};
 ghost use Rattle.fe_journal.specs.Layout.{device_bytes};
 ghost use Rattle.fe_front.specs.Front.{IsFirst};
@@ -66,7 +66,7 @@ impl<D: Disk> Desk<D> {
         requires first { IsFirst keeper.state front }
         requires stands { D.honest keeper.store.disk → EachStandsFor D.may_leave keeper.store.disk keeper.state }
         ensures first { IsFirstStanding keeper.state result.standing }
-        ensures acknowledged { (asked : ℕ → List ℕ) → IsAcknowledged keeper.state asked result }
+        ensures acknowledged { (asked : ℕ → ℕ → Bool) → IsAcknowledged keeper.state asked result }
         ensures keeper { result.keeper ≡ keeper }
         ensures synced { result.synced ≡ 0 }
     {
@@ -105,7 +105,7 @@ impl<D: Disk> Desk<D> {
 
         // Of answers, whatever the step answers: each mail is that of an entry that is stored, of a session that its connection
         // asked for.
-        ensures acknowledged { (begun : ServerState) (asked : ℕ → List ℕ) → IsWithinLimits begun
+        ensures acknowledged { (begun : ServerState) (asked : ℕ → ℕ → Bool) → IsWithinLimits begun
             → StepAsksFor asked self.old step.now
             → IsAcknowledged begun asked self.old → IsAcknowledged begun asked self.new }
     {

@@ -1,6 +1,6 @@
 //! Laws of histories over stops.
 
-ghost use Rattle.fe_desk.specs.Acknowledged.{AcknowledgedStand};
+ghost use Rattle.fe_desk.specs.Acknowledged.{AcknowledgedStand, AnySessionMayBeAsked};
 ghost use Rattle.fe_desk.specs.Laws.{LivesJoin};
 ghost use Rattle.fe_desk.specs.Lives.{StopsAreLives, GivenAgain};
 
@@ -18,6 +18,11 @@ pub fn lives_join()
 /// welcome, goodbye and settled floor is that of an entry of those groups. So it is after any steps, whatever they answered.
 pub fn acknowledged_answers_stand<D: Disk>()
     ensures { AcknowledgedStand D.failures }
+{}
+
+/// With every session asked for by every connection, `Desk::step: acknowledged` asks nothing of a step.
+pub fn any_session_may_be_asked<D: Disk>()
+    ensures { AnySessionMayBeAsked D }
 {}
 
 /// Over any number of stops, where each store was opened from the image that the stop before left, there is one history: it

@@ -1,4 +1,4 @@
-ghost use Rattle.std.specs.Prelude.{◌≡◌, ◌≢◌, ◌⊎◌, ◌↔◌, ℕ, List, false, None, IfOk, IfErr, IsErrAnd};
+ghost use Rattle.std.specs.Prelude.{◌≡◌, ◌≢◌, ◌⊎◌, ◌↔◌, ℕ, Bool, List, false, None, IfOk, IfErr, IsErrAnd};
 ghost use Rattle.fe_disk.specs.Disk.{Rises};
 ghost use Rattle.fe_disk.specs.Outcome.{told as outcome};
 ghost use Rattle.fe_state.specs.State.{ServerState, first_state};
@@ -31,7 +31,7 @@ impl<D: Disk> Desk<D> {
         ensures stands { D.honest disk
             → IfOk result (λ desk. EachStandsFor D.may_leave (disk_of desk) desk.keeper.state) }
         ensures first { IfOk result (λ desk. IsFirstStanding desk.keeper.state desk.standing × (desk.synced ≡ 0)) }
-        ensures acknowledged { (asked : ℕ → List ℕ)
+        ensures acknowledged { (asked : ℕ → ℕ → Bool)
             → IfOk result (λ desk. IsAcknowledged desk.keeper.state asked desk) }
         // A valid store is refused only if the device fails or memory runs out.
         ensures refused { D.honest disk → (s : ServerState) → StandsFor (D.seen disk) s
@@ -60,7 +60,7 @@ impl<D: Disk> Desk<D> {
         ensures first { IfOk result
             (λ desk. IsFirstStanding first_state desk.standing × (desk.keeper.state ≡ first_state)
             × (desk.synced ≡ 0)) }
-        ensures acknowledged { (asked : ℕ → List ℕ) → IfOk result (λ desk. IsAcknowledged first_state asked desk) }
+        ensures acknowledged { (asked : ℕ → ℕ → Bool) → IfOk result (λ desk. IsAcknowledged first_state asked desk) }
         ensures store { IfOk result (λ desk. desk.keeper.store ≡ first_store (disk_of desk)) }
         ensures sized { IfOk result (λ desk. D.size disk ≡ device_bytes) }
         ensures unformatted { IfErr result (λ e. (e.0 ≡ Store keeper.Unformatted) ↔ (D.size disk ≢ device_bytes)) }
@@ -85,7 +85,7 @@ impl<D: Disk> Desk<D> {
 fn desk_over<D: Disk>(alloc: Global, keeper: Keeper<D>) -> Result<Desk<D>, (DeskFault, D)>
     requires works { keeper.store.has_failed ≡ false }
     ensures first { IfOk result (λ desk. IsFirstStanding keeper.state desk.standing) }
-    ensures acknowledged { (asked : ℕ → List ℕ) → IfOk result (λ desk. IsAcknowledged keeper.state asked desk) }
+    ensures acknowledged { (asked : ℕ → ℕ → Bool) → IfOk result (λ desk. IsAcknowledged keeper.state asked desk) }
     ensures keeper { IfOk result (λ desk. desk.keeper ≡ keeper) }
     ensures synced { IfOk result (λ desk. desk.synced ≡ 0) }
     ensures fault { IfErr result (λ e. e.0 ≡ NoMemory false) }

@@ -1,6 +1,8 @@
 -- Whatever was told is right, and is held.
 use Rattle.std.proofs.Common.{◌≡◌, ◌⊎◌, inl, inr, ⊎_elim, ℕ, zero, suc, ◌+◌, ◌<◌, ◌≤◌, Bool, true, false, Option, Some, List, [], ◌∷◌, ◌++◌, length, map, refl, sym, ap, subst, ◌∙◌, arith}
-use Rattle.std.specs.Prelude.{flat_map, slice_get, take, MatchBool}
+use Rattle.std.specs.Prelude.{flat_map, slice_get, take, MatchBool, Contains}
+use Rattle.std.specs.List.{AllByRecursion}
+use Rattle.std.proofs.lemmas.Option.{get_or_from_slice_get, slice_get_within}
 use Rattle.std.proofs.lemmas.List.{append-nil, length-append, length-map, length-take-le, take-take}
 use Rattle.fe_disk.specs.Disk.{LeavesOnly}
 use Rattle.fe_state.specs.State.{ServerState, after_all}
@@ -14,7 +16,7 @@ use Rattle.fe_messages.specs.Answers.{IsAnswerIn}
 use mathlib.Core.List.{IsPrefix}
 use Rattle.fe_history.proofs.Acts.{goes_at, prefix_self, prefix_trans, stores_rise}
 use Rattle.fe_hall.proofs.Committed.{appends_length}
-use Rattle.fe_history.specs.Acts.{Account, EachTold, GoesOn, HasMore, IsAccountOf, IsLegal, batches_of, entries_in, stores_in}
+use Rattle.fe_history.specs.Acts.{Account, EachTold, GoesOn, HasMore, IsAccountOf, IsLegal, StandsIn, batches_of, entries_in, stores_in}
 use Rattle.fe_hall.specs.Commits.{Append, AreAppends, AreNoted, AreNotes, Commits, HoldsSince, noted}
 use Rattle.fe_history.specs.declared.act.Act.{Act}
 use Rattle.fe_history.specs.declared.act.Act.TheVariants.{Began, Told}
@@ -22,6 +24,15 @@ use Rattle.fe_hall.specs.declared.commit_end.CommitEnd.{CommitEnd}
 use Rattle.fe_history.specs.declared.receipt.Receipt.{Receipt}
 use Rattle.fe_server.specs.Acknowledged.{IsHeld, IsAcknowledged}
 use Rattle.fe_server.specs.Serving.{HasNoted}
+
+-- ---- what was told
+
+contains_act : (acts : List Act) (a : Act) → StandsIn acts a → Contains acts a
+contains_act acts a is = (is.0, slice_get_within acts is.0 a is.1, get_or_from_slice_get acts is.0 a a is.1)
+
+contains_told : (acts : List Act) (receipts : List Receipt) → EachTold receipts acts → AllByRecursion (λ r. Contains acts (Told r)) receipts
+contains_told acts [] told = tt
+contains_told acts (r ∷ receipts) told = (contains_act acts (Told r) told.0, contains_told acts receipts told.1)
 
 -- ---- the group of an entry
 
@@ -199,7 +210,7 @@ module _ {D : Type 0} (honest : D → Type 0) (moment : D → ℕ) (left_since :
         notes = notes;
         are_notes = are_notes;
         stored = stored;
-        told = told;
+        told = contains_told account.history account.receipts told;
         right = λ alone earlier later r at. all_right whole.0 (front alone) goes earlier later r (begins ∙ at);
         held = λ alone h fine earlier later r at. all_held whole.0 (front alone) goes h fine earlier later r (begins ∙ at);
       }

@@ -1,5 +1,6 @@
 -- Whatever a client was told is right, and is in every image that a stop may leave from then on.
-use Rattle.std.specs.Prelude.{◌≡◌, ◌⊎◌, ℕ, ◌+◌, ◌<◌, ◌≤◌, true, false, List, ◌∷◌, ◌++◌, flat_map, length, slice_get, take, Some, MatchBool}
+use Rattle.std.specs.Prelude.{◌≡◌, ◌⊎◌, ℕ, ◌+◌, ◌<◌, ◌≤◌, true, false, List, ◌∷◌, ◌++◌, flat_map, length, slice_get, take, Some, MatchBool, Contains}
+use Rattle.std.specs.List.{AllByRecursion}
 use Rattle.fe_disk.specs.Disk.{LeavesOnly}
 use Rattle.fe_state.specs.State.{ServerState}
 use Rattle.fe_state.specs.declared.batch.Batch.{Batch}
@@ -7,7 +8,7 @@ use Rattle.fe_state.specs.declared.entry.Entry.{Entry}
 use Rattle.fe_keeper.specs.Keeper.{KeeperState}
 use Rattle.fe_keeper.specs.Prefix.{LeavesPrefix}
 use Rattle.fe_messages.specs.Answers.{IsAnswerIn}
-use Rattle.fe_history.specs.Acts.{Account, EachTold, HasMore, stores_in}
+use Rattle.fe_history.specs.Acts.{Account, HasMore, stores_in}
 use Rattle.fe_hall.specs.Commits.{Append, AreNotes, Commits}
 use Rattle.fe_history.specs.declared.act.Act.{Act}
 use Rattle.fe_history.specs.declared.act.Act.TheVariants.{Told}
@@ -33,7 +34,7 @@ pub record IsAcknowledged {D : Type 0} (honest : D → Type 0) (moment : D → �
   pub notes : List (Batch × ℕ)
   pub are_notes : AreNotes moment commits.appends (Some end) notes
   pub stored : MatchBool account.own (stores_in account.history ≡ notes) (HasMore notes (stores_in account.history))
-  pub told : EachTold account.receipts account.history
+  pub told : AllByRecursion (λ r. Contains account.history (Told r)) account.receipts
   pub right : account.own ≡ true → (earlier later : List Act) (r : Receipt) → account.history ≡ earlier ++ Told r ∷ later
       → IsAnswerIn old.state (flat_map (λ group. group) (take (length (stores_in earlier)) commits.groups)) r.session r.number r.answer r.place
   pub held : account.own ≡ true → honest old.store.disk → old.store.has_failed ≡ false → (earlier later : List Act) (r : Receipt) → account.history ≡ earlier ++ Told r ∷ later
