@@ -9,6 +9,7 @@ import hashlib
 import os
 import re
 
+from . import closure
 from .texts import TOP, text_of, told
 
 KEPT = "docs/clauses.txt"
@@ -71,4 +72,4 @@ def kept(_place):
     return told([*missing, "`scripts/census` writes the file anew: look at each line that it changes"] if missing else [], len(found), 600, "functions and constants")
 
 
-CHECKS = (kept,)
+CHECKS = (kept, *closure.CHECKS)

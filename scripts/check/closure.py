@@ -104,8 +104,8 @@ def headline(_place):
         found = closure(names, set(opaque[0]))
         said = [len(found), sum(len(modules()[module].definitions[name]) for module, name in found - set(opaque[0]))]
         same([int(definitions), int(count)], said, what)
-    holds(len(rows) >= 4 and len(names) >= 6, "the table has its rows")
-    return f"{rows[-1][1]} definitions, {rows[-1][2]} lines"
+    holds(len(rows) >= 5 and len(names) >= 9, "the table has its rows")
+    return ", ".join(f"{definitions} definitions of {count} lines" for _, definitions, count in rows[-2:])
 
 
 CHECKS = (headline,)
