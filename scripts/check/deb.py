@@ -184,8 +184,6 @@ class Unit:
 
     def kill(self):
         """Kills the server, and waits until systemd has started it again."""
-        # (otherwise systemd would count the kills, and give up after five in a minute)
-        self.clean.do("systemctl", "reset-failed", "femem")
         before = self.pid()
         self.clean.do("systemctl", "kill", "--signal=KILL", "--kill-whom=main", "femem")
         until(lambda: self.pid() not in (0, before) and self.is_up(), 60, "the killed server is started again")
@@ -233,6 +231,8 @@ def package(place):
         holds(f"/usr/share/man/{name}.gz" in found, f"there is no {name}")
     for name in ("operating.md", "settings.md", "formats.md", "patterns.md", "replication.md", "proved.md", "changelog"):
         holds(found.get(f"/usr/share/doc/femem/{name}.gz"), f"there is no {name}")
+    for name in ("femem-backup", "femem-restore", "femem-rescue", "femem-probe", "storefile.py"):
+        holds(f"/usr/lib/femem/{name}" in found, f"there is no {name}")
     # (what the maintainer's scripts call)
     depends = {it.split()[0] for it in re.split(r", | \| ", field("Depends"))}
     holds({"adduser", "debconf", "libc6"} <= depends, f"it depends on {sorted(depends)}")
@@ -256,7 +256,9 @@ def is_whole(unit):
 
 
 def installed(clean):
-    clean.do(*DPKG, "--install", "/srv/femem.deb")
+    # (as with libpam-tmpdir: a folder for temporary files that root alone may enter)
+    os.makedirs(clean.path("/root/own-tmp"), 0o700, exist_ok=True)
+    clean.do(*DPKG, "--install", "/srv/femem.deb", env={"TMPDIR": "/root/own-tmp"})
     unit = Unit(clean)
     unit.waits()
     return unit
@@ -336,7 +338,7 @@ def compare(unit, history, load):
 
 @within(120)
 def statuses(place):
-    """after status 2 or 0 the server stays down, after status 3 it is restarted five times; a store that is put back is served again"""
+    """after status 2 or 0 the server stays down; after status 3 it is started again until the store is back, and needs nobody"""
     with Clean(place, built(place)) as clean:
         unit = installed(clean)
         with open(clean.path("/etc/femem.toml"), encoding="ascii") as file:
@@ -350,17 +352,29 @@ def statuses(place):
         os.rename(unit.store, unit.store + ".aside")
         clean.do("systemctl", "reset-failed", "femem")
         clean.ask("systemctl", "start", "femem")
-        until(lambda: unit.shows("ActiveState", "Result") == ("failed", "exit-code") and unit.shows("NRestarts") == ("5",), 60, "five tries")
-        same(unit.shows("ExecMainStatus"), ("3",))
+        until(lambda: int(unit.shows("NRestarts")[0]) >= 7, 60, "seven tries")
+        until(lambda: unit.shows("ExecMainStatus") == ("3",), 30, "each try ends with status 3")
         holds(not os.path.exists(unit.store), "a unit whose store is missing made another")
         os.rename(unit.store + ".aside", unit.store)
-        clean.do("systemctl", "reset-failed", "femem")
+        unit.waits()
+        # the tools of the package, as docs/operating.md shows them
+        os.mkdir(clean.path("/backup"))
+        holds(clean.do("/usr/lib/femem/femem-probe", SOCKET).startswith("stored in "), "a probe")
+        same(clean.do("/usr/lib/femem/femem-backup", STORE, "/backup/femem.store"), "place 2\n")
+        connected = clean.do("sh", "-c", f"ss -xH state connected src {SOCKET}.new | wc -l")
+        with unit.connect():
+            same(int(clean.do("sh", "-c", f"ss -xH state connected src {SOCKET}.new | wc -l")), int(connected) + 1, "connections as ss counts them")
+        clean.do("systemctl", "stop", "femem")
+        same(clean.do("/usr/lib/femem/femem-restore", "/backup/femem.store", STORE), "before: place 2\nnow: place 2\n")
+        owner = os.stat(clean.path("/var/lib/femem"))
+        there = os.stat(unit.store)
+        same((there.st_uid, there.st_gid, there.st_mode & 0o777), (owner.st_uid, owner.st_gid, 0o600), "the restored store's owner and mode")
         unit.settings(settings + "accepts = 1\n")
         clean.do("systemctl", "start", "femem")
         unit.waits()
         unit.attached(7).close()
         until(lambda: unit.shows("ActiveState") == ("inactive",), 60, "the server came to its end")
-        same(clean.do("femem", "look", "--store", STORE), "place 1\nsession 7 floor 1 kept 0\n")
+        same(clean.do("femem", "look", "--store", STORE), "place 3\nsession 7 floor 1 kept 0\n")
 
 
 @within(120)

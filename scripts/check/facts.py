@@ -202,7 +202,7 @@ def unit(_place):
     holds(2 * most + 50 <= int(lines["TasksMax"]) and most + 50 <= int(lines["LimitNOFILE"]), "threads and files")
     holds(megabytes(lines["LimitFSIZE"]) * 2**20 > store.SIZE, "LimitFSIZE is above a store")
     same(lines["RequiresMountsFor"], "/var/lib/femem")
-    holds("`RequiresMountsFor=`" in page and "`MALLOC_ARENA_MAX=1`" in page and lines["Environment"] == "MALLOC_ARENA_MAX=1", "the page names them")
+    holds("RequiresMountsFor=" in page and "`MALLOC_ARENA_MAX=1`" in page and lines["Environment"] == "MALLOC_ARENA_MAX=1", "the page names them")
 
 
 CHECKS = (exchange, kinds, examples, lengths, offsets, limits, definitions, settings, statuses, unit)

@@ -25,6 +25,8 @@ TOP = pages.TOP
 
 DOCUMENTS = ("operating.md", "settings.md", "formats.md", "patterns.md", "replication.md", "proved.md")
 
+TOOLS = ("storefile.py", "femem-backup", "femem-restore", "femem-rescue", "femem-probe")
+
 
 class Tree:
     """The package's files, below a folder."""
@@ -95,6 +97,8 @@ def fill(tree, program, record):
     maintainer = re.search(r"^Maintainer: (.*)$", control, re.M)[1]
     tree.put("usr/bin/femem", program, 0o755)
     tree.put("usr/lib/femem/make-store", read("packaging", "make-store"), 0o755)
+    for name in TOOLS:
+        tree.put(f"usr/lib/femem/{name}", read("packaging", "tools", name), 0o644 if name.endswith(".py") else 0o755)
     tree.put("lib/systemd/system/femem.service", read("examples", "femem.service"))
     tree.put("etc/femem.toml", read("packaging", "femem.toml"))
     tree.folders("var/lib/femem")
