@@ -17,12 +17,12 @@ help: ## lists the targets
 	@awk -F ':.*## ' '/^[a-z-]+:.*## / { printf "make %-15s %s\n", $$1, $$2 }' $(MAKEFILE_LIST)
 
 run: toolchain ## try it: builds femem without proving it, and runs the schedule examples/first_path.txt (2 minutes)
-	@$(MAKE) -s $(UNPROVED) || $(MAKE) -s $(PROVED)
-	@[ ! -x $(UNPROVED) ] || echo "this build is unproved: 'make prove' proves this very source, 'make test' is the gate"
+	@$(MAKE) -s $(UNPROVED)
+	@echo "this build is unproved: 'make prove' proves this very source, 'make test' is the gate"
 	@echo "$(SCHEDULE):"
 	@cat $(SCHEDULE)
 	@echo "its answers:"
-	@$$([ -x $(UNPROVED) ] && echo $(UNPROVED) || echo $(PROVED)) run < $(SCHEDULE)
+	@$(UNPROVED) run < $(SCHEDULE)
 
 test: toolchain ## test it: the gate, with every proof, must-fail edit and test, and real processes (45 to 60 minutes; 4 to 6 if nothing changed)
 	@scripts/gate
@@ -50,7 +50,6 @@ man: ## makes the man pages in out/man from the documents in docs/
 	@ls out/man/*
 
 $(UNPROVED): $(SOURCES) scripts/quick | toolchain
-	@echo "builds femem without proving it, which takes about two minutes"
 	@scripts/quick
 
 $(PROVED): $(SOURCES) | toolchain
@@ -97,4 +96,5 @@ bench-serve: $(PROVED) ## measures a server, and Redis if it is installed
 	@bench/serve/run $(PROVED)
 
 toolchain:
+	@command -v python3 >/dev/null 2>&1 || { echo "femem: python3 is not on the PATH (on Debian: apt install python3)" >&2; exit 1; }
 	@command -v rt >/dev/null 2>&1 || { echo "femem: 'rt', the command of the Rattle toolchain, is not on the PATH" >&2; exit 1; }
