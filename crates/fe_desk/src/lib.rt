@@ -23,7 +23,10 @@ mod written;
 
 pub use desk::Desk;
 pub use fault::DeskFault;
-pub use laws::{acknowledged_answers_stand, any_session_may_be_asked, lives_join, steps_are_given_again, stops_are_lives};
+pub use laws::{
+    acknowledged_answers_stand, any_session_may_be_asked, lives_join, steps_are_given_again,
+    stops_are_lives,
+};
 pub use port::Port;
 pub use running::{Ran, run};
 pub use step::Step;
