@@ -41,7 +41,7 @@ class Flow:
         self.window: Optional[Window[Ticket[Any]]] = None
         self._file = file
         # Requests under keys that have no answer yet.
-        self._keys: Dict[bytes, Ticket[Any]] = {}
+        self.keys: Dict[bytes, Ticket[Any]] = {}
         self._to_send = to_send
         self._ended = ended
         self._queue: Deque[Ticket[Any]] = deque()
@@ -69,7 +69,7 @@ class Flow:
             ticket.key = asked.key
             ticket.asked_at = 0.0 if self._events is None else self._events.now()
             if asked.key is not None:
-                self._keys[asked.key] = ticket
+                self.keys[asked.key] = ticket
             if asked.ends_with_process:
                 ticket.taken_back = errors.Withdrawn("its process ended")
             tickets[number] = ticket
@@ -92,10 +92,10 @@ class Flow:
     def _is_known(self, ticket: Ticket[Any], key: bytes) -> bool:
         """Whether the key was used before. Then the ticket ends like the earlier one."""
         assert self._file is not None and ticket.request is not None
-        first = self._keys.get(key)
+        first = self.keys.get(key)
         known = self._file.keyed.get(key)
         if first is None and known is None:
-            self._keys[key] = ticket
+            self.keys[key] = ticket
             return False
         frame = first.request.frame if first is not None and first.request is not None else known[0] if known else b""
         if frame != ticket.request.frame:
@@ -227,8 +227,8 @@ class Flow:
     def _end(self, ticket: Ticket[Any], result: Any = None, error: Optional[BaseException] = None) -> None:
         ticket.end(result, error)
         self._ended.append(ticket)
-        if ticket.key is not None and self._keys.get(ticket.key) is ticket:
-            del self._keys[ticket.key]
+        if ticket.key is not None and self.keys.get(ticket.key) is ticket:
+            del self.keys[ticket.key]
         followers = [follower for follower in ticket.followers or () if not follower.done]
         if followers and isinstance(error, errors.Withdrawn):
             # It did not happen, and the others still wait for it: the first of them asks in its place.
