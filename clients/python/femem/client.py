@@ -17,7 +17,7 @@ from typing import Any, Callable, Dict, Iterable, Iterator, List, NamedTuple, Op
 from . import errors, registry, requests, worker
 from .core import Core
 from .events import OnEvent
-from .jobs import Batch, Job, first_of
+from .jobs import Batch, Job, Wait, first_of
 from .reports import Report
 from .requests import Array, ArrayLike, Request
 from .sessionfile import SessionFile
@@ -537,20 +537,20 @@ class Client:
 
     def _run_here(self, job: Job[Any]) -> bool:
         """Runs the job over lent numbers as far as it need not wait. Whether it is done; the thread goes on otherwise."""
-        worker, steps = self._worker, job.steps
+        steps = job.steps
         try:
             step = next(steps)
-            while type(step) is Batch and step.key is None:
-                lease = worker.lease
-                if lease is None or worker.is_led():
-                    break
+            while isinstance(step, (Batch, Wait)) and step.key is None:
                 tickets: List[Ticket[Any]] = [Ticket(request) for request in step.requests]
-                with worker.lead:
-                    is_done = worker.lease is lease and lease.call_all(tickets)
-                if not is_done:
+                if not self._ask_here(tickets):
                     job.asked = tickets
                     break
-                step = steps.send([ticket.result if ticket.error is None else ticket.error for ticket in tickets])
+                if isinstance(step, Batch):
+                    step = steps.send([ticket.result if ticket.error is None else ticket.error for ticket in tickets])
+                elif tickets[0].error is None:
+                    step = steps.send(tickets[0].result)
+                else:
+                    step = steps.throw(tickets[0].error)
         except StopIteration as end:
             job.end(end.value)
             return True
@@ -559,6 +559,16 @@ class Client:
             return True
         job.begun = step
         return False
+
+    def _ask_here(self, tickets: List[Ticket[Any]]) -> bool:
+        """Asks them over lent numbers, if there are enough. Whether all are done."""
+        worker = self._worker
+        lease = worker.lease
+        if lease is None or worker.is_led():
+            return False
+        # No interruption comes between the lock's taking and the block.
+        with worker.lead:
+            return worker.lease is lease and (lease.call(tickets[0]) if len(tickets) == 1 else lease.call_all(tickets))
 
     def _abandon(self, job: Job[Any]) -> None:
         """Takes back, or undoes, a job that no caller waits for. Calling it twice has the effect of once."""

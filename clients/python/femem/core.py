@@ -550,6 +550,8 @@ class Core:
                     ticket.ends_with_process = True
             if step.key is not None:
                 tickets[0].key = step.key
+            if step.seconds is not None and tickets[0].taken and not tickets[0].done:
+                self._timeouts.add(now + step.seconds, tickets[0])  # its caller had asked it
             self._await(job, step, tickets)
             self.take(tickets, step.seconds, now)
             return

@@ -5,7 +5,7 @@ from __future__ import annotations
 from typing import Any, Optional
 
 from . import frames, requests
-from .operations import Array, Key, Pattern, Steps, Tries, end_of, marked_array, once, operation, operation_with, size_of
+from .operations import Array, Key, Pattern, Steps, Tries, end_of, marked_array, once, operation_with, size_of
 from .requests import number_of_bits
 from .ring import SLOTS, Ring
 
@@ -61,7 +61,7 @@ class BoundedQueue(Pattern):
         """Takes a value. `NotNow` if there is none."""
         return (yield from self._ring.get(self._array or (yield from self._find()), None, True))
 
-    @operation
+    @operation_with(light=True)
     def qsize(self) -> Steps[int]:
         """How many values are there now."""
         return (yield from self._ring.size((yield from self._find())))
@@ -70,7 +70,7 @@ class BoundedQueue(Pattern):
 class Channel(Pattern):
     """One word that hands values on: a value lies there at most, and each is taken once."""
 
-    @operation
+    @operation_with(light=True)
     def put(self, value: int, timeout: Optional[float] = None, *, key: Optional[Key] = None) -> Steps[None]:
         """Waits until the last value is taken, and puts this one. `TimedOut` if it is not taken in time.
 
@@ -78,7 +78,7 @@ class Channel(Pattern):
         """
         yield from once(self._core, key, requests.writeef((yield from self._find()), 0, value), timeout)
 
-    @operation
+    @operation_with(light=True)
     def get(self, timeout: Optional[float] = None) -> Steps[int]:
         """Waits for a value, and takes it. `TimedOut` if there is none in time."""
         return (yield from once(self._core, None, requests.readfe((yield from self._find()), 0), timeout))

@@ -8,7 +8,7 @@ from typing import Any, Optional, Tuple
 from . import requests
 from .errors import BrokenBarrier, NameTaken, NoArray, NotNow, TimedOut
 from .jobs import Steps, Wait
-from .operations import Array, Key, Pattern, batch, end_of, is_full, left, once, operation, shared_array, size_of
+from .operations import Array, Key, Pattern, batch, end_of, is_full, left, once, operation, operation_with, shared_array, size_of
 
 
 class Counter(Pattern):
@@ -16,7 +16,7 @@ class Counter(Pattern):
 
     IS_FULL = True
 
-    @operation
+    @operation_with(light=True)
     def add(self, amount: int = 1, *, key: Optional[Key] = None) -> Steps[int]:
         """Adds, and returns the old number. A negative amount is subtracted.
 
@@ -26,7 +26,7 @@ class Counter(Pattern):
         word = yield from self._find()
         return (yield from once(self._core, key, requests.int_fetch_add(word, 0, value)))
 
-    @operation
+    @operation_with(light=True)
     def value(self) -> Steps[int]:
         (value,) = yield from batch([requests.readff((yield from self._find()), 0, nowait=True)])
         return int(value)
@@ -38,7 +38,7 @@ class Future(Pattern):
     If the client that should set the value is gone for good, the others wait until another one sets it.
     """
 
-    @operation
+    @operation_with(light=True)
     def set(self, value: int, *, key: Optional[Key] = None) -> Steps[bool]:
         """Sets the value. Returns whether this call set it, or with a key the first call under that key."""
         word = yield from self._find()
@@ -48,12 +48,12 @@ class Future(Pattern):
             return False
         return True
 
-    @operation
+    @operation_with(light=True)
     def get(self, timeout: Optional[float] = None) -> Steps[int]:
         """Waits for the value. `TimedOut` if it does not come in time."""
         return (yield from once(self._core, None, requests.readff((yield from self._find()), 0), timeout))
 
-    @operation
+    @operation_with(light=True)
     def is_set(self) -> Steps[bool]:
         (value,) = yield from batch([requests.readff((yield from self._find()), 0, nowait=True)], NotNow)
         return is_full(value)

@@ -418,7 +418,8 @@ class Worker:
         core = self.core
         seconds = min(_LINGER, self._look_at - self._now)
         self._is_at_bell = True
-        self._finish(core.take_ended())
+        while core.ended and not core.to_send:
+            self._finish(core.take_ended())
         if seconds > 0.0 and not (self._asked or core.ended or core.to_send or core.is_urgent):
             lease = self._lend()
             if lease is None:
