@@ -372,12 +372,14 @@ class ReadWriteLock(Owned):
     def acquire_write(self, timeout: Optional[float] = None, *, takeover_after: Optional[float] = None) -> Steps[bool]:
         """Waits until only this client may read and write. Returns whether it may, in time."""
         end, patience = end_of(timeout), seconds_of(takeover_after, "takeover_after")
+        broke: Optional[int] = None
         while (yield from self._acquire(end, False, patience, None)):
             is_alone = False
+            self._broke = self._broke or broke
             try:
                 is_alone = yield from self._wait_for_readers((yield from self._find()), end, patience)
             except NoArray:
-                self._array = None  # it was broken
+                self._array, broke = None, self._broke  # it was broken
                 continue
             finally:
                 if not is_alone:

@@ -11,9 +11,9 @@ from .ring import SLOTS, Ring
 
 
 class BoundedQueue(Pattern):
-    """At most `capacity` values of 64 bits, each taken once: first in, first out, unless a client is killed or times out.
+    """At most `capacity` values of 64 bits, each taken once.
 
-    Nobody waits for a client that is stopped or killed. A value whose `get` was answered to a killed client went with it.
+    First in, first out, except near a client that was killed, stopped, or gave up waiting. Nobody waits for a client that is stopped or killed. A value whose `get` was answered to a killed client went with it.
     """
 
     MARK = b"fe_ring1"

@@ -148,13 +148,19 @@ class Barrier(Pattern):
             if isinstance(number, NoArray):
                 self._array = None
             elif decided == self.BROKEN:
-                raise BrokenBarrier(self._name)
+                yield from self._pass_over(array)
             elif number < self._parties:
                 return array, int(number)
             elif (yield from self._decide(array, self.OPEN)) == self.BROKEN:
-                raise BrokenBarrier(self._name)
+                yield from self._pass_over(array)
             else:
                 yield from self._next(array)
+
+    def _pass_over(self, array: Array) -> Steps[None]:
+        """Goes on from a broken round to the next one, if there is one."""
+        self._array = None
+        if (yield from self._find()).id == array.id:
+            raise BrokenBarrier(self._name)
 
     @operation
     def wait(self, timeout: Optional[float] = None) -> Steps[int]:
