@@ -101,11 +101,13 @@ class Lease:
                 self.rest += buffer[at : at + _SETTLED]
                 at += _SETTLED
                 continue
-            if have - at < _ANSWER:
+            if have - at < 5 or have - at < _ANSWER and buffer[at + 4] in (66, 68):
                 have, at = self._more(have, at, end), 0
                 if not have:
                     return False
                 continue
+            if buffer[at + 4] != 66:
+                break
             size, kind, of, code, value, length = unpack_answer(buffer, at)
             is_answer = (size, kind, of) == (22, 66, number) and (code == ARRAY or not length and (code == VALUE or not value))
             if not is_answer or not self._take(number, Answer(number, code, value, length)):
