@@ -287,35 +287,53 @@ class Direct(WithFolder):
             client._ask = client._worker.ask
 
     def test_a_caller_that_is_held_up_keeps_its_numbers(self):
-        """Between the choice of its number and its send, or behind it: longer than the thread waits for it."""
-        self.server()
-        for late in (False, True):
-            with Client(self.path, 7) as client:
+        """Between the choice of its number and its send, and behind it: longer than the thread waits for it."""
+        model = self.server().model
+        pack, held, take, asked = lease.pack_number, threading.Event(), model.take, {}
+
+        def note(conn, message):
+            if message[0] == "call":
+                asked.setdefault(message[1], set()).add(message[2][4] if message[2][0] == "access" else 0)
+            take(conn, message)
+
+        model.take = note
+        self.addCleanup(setattr, lease, "pack_number", pack)
+        for where in ("before", "sending", "sent"):
+            with self.subTest(where=where), Client(self.path, 7) as client:
                 word = shared_array(client, "word", 1, full=True)
                 begin = client.readff(word, 0)
                 self.warm(client, word)
-                lent = client._worker.lease
-                inner, is_held = lent.connection, threading.Event()
+                lent, slow = client._worker.lease, []
+                inner = lent.connection
+                held.clear()
+
+                def wait(at):
+                    if at == where and threading.current_thread() in slow:
+                        held.set()
+                        time.sleep(5 * lease.READ_TIME)
 
                 class Slow:
                     def send(self, content, *flags):
-                        sent = None if late else inner.send(content, *flags)
-                        is_held.set()
-                        time.sleep(4 * lease.READ_TIME)
-                        return inner.send(content, *flags) if late else sent
+                        wait("sending")
+                        sent = inner.send(content, *flags)
+                        wait("sent")
+                        return sent
 
                     def __getattr__(self, name):
                         return getattr(inner, name)
 
                 lent.connection = Slow()
+                lease.pack_number = lambda *args: (wait("before"), pack(*args))
                 got = []
-                thread = threading.Thread(target=lambda: got.append(client.int_fetch_add(word, 0, 1)))
-                thread.start()
-                self.assertTrue(is_held.wait(LONG))
-                got += [client.int_fetch_add(word, 0, 1) for _ in range(20)]
-                thread.join(LONG)
-                self.assertEqual(sorted(got), list(range(begin, begin + 21)))
+                slow.append(threading.Thread(target=lambda: got.append(client.int_fetch_add(word, 0, 100))))
+                slow[0].start()
+                self.assertTrue(held.wait(LONG))
+                for _ in range(3):
+                    client.int_fetch_add(word, 0, 1)
+                slow[0].join(LONG)
+                self.assertEqual((client.readff(word, 0), len(got)), (begin + 103, 1))
                 self.assertIsNone(client.failure)
+                self.assertEqual([number for number, operands in asked.items() if len(operands) > 1], [])
 
     def test_a_client_with_a_session_file_lends_nothing(self):
         """Each of its requests must be in the file before it is sent."""
