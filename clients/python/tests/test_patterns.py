@@ -696,6 +696,53 @@ class Patterns(WithFolder):
                 queue.put(101 + value, timeout=30)
             self.assertEqual(got, [*range(8), *range(100, 112)])
 
+    def test_keys(self):
+        self.server()
+        file = self.path + ".session"
+        for life in range(2):
+            with Client(self.path, session_file=file) as client:
+                queue, counter = BoundedQueue(client, "queue", 3), Counter(client, "counter")
+                queue.put(7, key="seven")
+                self.assertEqual(counter.add(2, key="two"), 0)
+                self.assertTrue(Future(client, "future").set(3, key="three"))
+                lock, semaphore = Lock(client, "lock"), Semaphore(client, "semaphore", 2)
+                self.assertTrue(lock.acquire(key="lock"))
+                self.assertTrue(semaphore.acquire(key="permit"))
+                self.assertEqual((lock.adopted, semaphore.adopted), (life == 1, life == 1))
+                self.assertEqual((queue.qsize(), counter.value(), semaphore.holders()), (1, 2, [client.session]))
+                self.assertEqual(sorted(client.keys()), [b"lock", b"permit", b"seven", b"three", b"two"])
+                with self.assertRaises(ValueError):
+                    queue.put(8, key="seven")
+        with Client(self.path, session_file=file) as client, Client(self.path, 1) as other:
+            lock, semaphore = Lock(client, "lock"), Semaphore(client, "semaphore", 2)
+            lock.release()
+            semaphore.release()
+            for again in (lambda: lock.acquire(key="lock"), lambda: semaphore.acquire(key="permit")):
+                with self.assertRaises(femem.NotOwner):
+                    again()
+            client.forget("lock", "permit", "three")
+            self.assertTrue(lock.acquire(key="lock"))
+            self.assertEqual(sorted(client.keys()), [b"lock", b"seven", b"two"])
+            with self.assertRaises(ValueError):
+                BoundedQueue(other, "queue", 3).put(1, key="one")
+            with self.assertRaises(ValueError):
+                other.keys()
+
+    def test_two_callers_under_one_key(self):
+        self.server()
+        with Client(self.path, session_file=self.path + ".session") as client, Client(self.path, 1) as other:
+            queue = BoundedQueue(client, "queue", 1)
+            queue.put(1)
+            threads = [threading.Thread(target=queue.put, args=(7,), kwargs={"key": "seven"}) for _ in range(4)]
+            for thread in threads:
+                thread.start()
+            time.sleep(0.1)
+            theirs = BoundedQueue(other, "queue", 1)
+            self.assertEqual([theirs.get(timeout=60), theirs.get(timeout=60)], [1, 7])
+            for thread in threads:
+                thread.join(60)
+            self.assertEqual((client.keys(), theirs.qsize()), ([b"seven"], 0))
+
     def test_a_client_of_another_kind(self):
         self.server()
         for make in (Channel, Counter, Election, Future, Lock, Once):
