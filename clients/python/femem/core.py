@@ -576,7 +576,8 @@ class Core:
             nonlocal left
             left -= 1
             if left and isinstance(step, First):
-                self.withdraw_all([ticket for ticket in tickets if not ticket.done], self.clock())
+                waiting = [ticket for ticket in tickets if not ticket.done and ticket.taken_back is None]
+                self.withdraw_all(waiting, self.clock())
             elif not left:
                 self._answer(job, step, tickets)
 

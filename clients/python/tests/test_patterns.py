@@ -397,6 +397,18 @@ class Patterns(WithFolder):
                 with self.assertRaises(femem.OtherPattern):
                     Semaphore(client, "semaphore", permits)
 
+    def test_a_client_with_further_sessions_waits(self):
+        self.server()
+        with Client(self.path, 1, sessions=3) as client, Client(self.path, 2) as other:
+            queue, semaphore = BoundedQueue(client, "queue", 2), Semaphore(client, "semaphore", 1)
+            for _ in range(3):
+                with self.assertRaises(femem.TimedOut):
+                    queue.get(timeout=0.2)
+                threading.Timer(0.3, BoundedQueue(other, "queue", 2).put, (5,)).start()
+                self.assertEqual(queue.get(timeout=60), 5)
+            semaphore.acquire()
+            self.assertFalse(Semaphore(client, "semaphore", 1).acquire(timeout=0.3))
+
     def test_a_queue_whose_tickets_were_lost_goes_on(self):
         """Clients that were killed between ticket and slot: neither a value nor room is missed for long."""
         self.server()

@@ -1,9 +1,11 @@
 """One work queue that a client in C and one in Python use."""
 
+import os
 import pathlib
 import re
 import shutil
 import subprocess
+import tempfile
 import threading
 import unittest
 
@@ -25,11 +27,16 @@ def sources():
 
 @unittest.skipUnless(shutil.which("cc"), "no C compiler")
 class TwoClients(WithFolder):
+    @classmethod
+    def setUpClass(cls):
+        folder = tempfile.TemporaryDirectory()
+        cls.addClassCleanup(folder.cleanup)
+        cls.program = os.path.join(folder.name, "two_clients")
+        words = ["cc", "-O1", f"-I{LIBRARY}", "-o", cls.program, HERE / "two_clients.c", *sources()]
+        subprocess.run(words, check=True, timeout=300)
+
     def setUp(self):
         super().setUp()
-        self.program = self.path + ".two_clients"
-        words = ["cc", "-O1", f"-I{LIBRARY}", "-o", self.program, HERE / "two_clients.c", *sources()]
-        subprocess.run(words, check=True, timeout=300)
         self.server()
 
     def start(self, what, count):
