@@ -5,6 +5,8 @@ from __future__ import annotations
 from typing import Any, Optional
 
 from . import frames, requests
+from .client import seconds_of
+from .jobs import Wait
 from .operations import Array, Key, Pattern, Steps, Tries, end_of, marked_array, once, operation_with, size_of
 from .requests import number_of_bits
 from .ring import SLOTS, Ring
@@ -76,9 +78,12 @@ class Channel(Pattern):
 
         With a key, which needs a session file, the value is put once, however often this is called again.
         """
-        yield from once(self._core, key, requests.writeef((yield from self._find()), 0, value), timeout)
+        word = self._array or (yield from self._find())
+        yield from once(self._core, key, requests.writeef(word, 0, value), timeout)
 
     @operation_with(light=True)
     def get(self, timeout: Optional[float] = None) -> Steps[int]:
         """Waits for a value, and takes it. `TimedOut` if there is none in time."""
-        return (yield from once(self._core, None, requests.readfe((yield from self._find()), 0), timeout))
+        word = self._array or (yield from self._find())
+        value: int = yield Wait(requests.readfe(word, 0), seconds_of(timeout))
+        return value
