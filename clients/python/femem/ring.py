@@ -17,7 +17,7 @@ from __future__ import annotations
 
 import time
 from collections import deque
-from typing import Deque, List, Optional
+from typing import Any, Deque, List, Optional
 
 from . import requests
 from .errors import NoArray, NotNow, TimedOut, Withdrawn
@@ -32,6 +32,33 @@ SOON = 0.005
 TRUST = 1.0
 
 MARK, HEAD, TAIL, SIGNAL, SLOTS = range(5)
+
+
+class Clock:
+    """When a client that waits looks at all slots, and when it ends."""
+
+    def __init__(self, end: Optional[float]) -> None:
+        self._end = end
+        self._pause = FIRST_LOOK
+        self._look_at = time.monotonic() + FIRST_LOOK
+
+    def pause(self, is_late: bool) -> float:
+        """How long it may wait now: a moment for one that is late, otherwise until the next look."""
+        most = SOON if is_late else max(0.0, self._look_at - time.monotonic())
+        rest = left(self._end)
+        return most if rest is None else min(most, rest)
+
+    def is_over(self) -> bool:
+        return left(self._end) == 0.0
+
+    def is_due(self) -> bool:
+        """Whether a look is due. The next one is later."""
+        now = time.monotonic()
+        if now < self._look_at:
+            return False
+        self._pause = min(2 * self._pause, LAST_LOOK)
+        self._look_at = now + self._pause
+        return True
 
 
 class Ring:
@@ -52,27 +79,25 @@ class Ring:
 
     def put(self, words: Array, value: int, end: Optional[float], nowait: bool, tries: Tries) -> Steps[None]:
         ticket = yield from self._put_ticket(words)
-        pause = FIRST_LOOK
+        clock = Clock(end)
         while True:
             if (yield from self._put_at(words, ticket, value, tries)):
                 return
             (head,) = yield from batch([requests.readff(words, HEAD, nowait=True)])
             is_late = head > ticket - self.slots  # the taker of the value there has its ticket
-            rest = left(end)
-            if not nowait:
-                most = SOON if is_late else pause
-                most = most if rest is None else min(most, rest)
-                if (yield from self._wait_at(words, ticket, value, most, tries)):
-                    return
-                pause = min(2 * pause, LAST_LOOK)
-            if (yield from self._put_anywhere(words, ticket, value, tries)):
-                if not is_late:
-                    self._puts.append(ticket)
+            if not nowait and (yield from self._wait_at(words, ticket, value, clock.pause(is_late), tries)):
                 return
-            if nowait or left(end) == 0.0:
+            is_over = nowait or clock.is_over()
+            if is_over or clock.is_due():
+                if (yield from self._put_anywhere(words, ticket, value, tries)):
+                    if not is_late:
+                        self._puts.append(ticket)
+                    return
+            if is_over:
                 self._puts.append(ticket)
                 raise NotNow(f"{self.name} is full") if nowait else TimedOut(f"put {self.name}")
             if is_late:
+                # The value there is taken by the taker that gets this ticket's number.
                 ticket = yield from self._new_ticket(words, TAIL)
 
     def _put_ticket(self, words: Array) -> Steps[int]:
@@ -117,8 +142,8 @@ class Ring:
         return True
 
     def _put_anywhere(self, words: Array, ticket: int, value: int, tries: Tries) -> Steps[bool]:
-        """Puts the value into the first empty slot behind the ticket's. Its taker does not come there, so it is told."""
-        for slot, there in (yield from self._look(words, ticket + 1)):
+        """Puts the value into an empty slot, one whose next ticket comes late. Whoever waits is told."""
+        for slot, there in (yield from self._look(words, ticket + self.slots // 2)):
             if not is_full(there):
                 (done,) = yield from batch([requests.writeef(words, slot, value, nowait=True)], NotNow, key=tries.next())
                 if is_full(done):
@@ -147,7 +172,7 @@ class Ring:
     def get(self, words: Array, end: Optional[float], nowait: bool) -> Steps[int]:
         is_kept = bool(self._gets)
         ticket = self._gets.popleft() if is_kept else (yield from self._new_ticket(words, HEAD))
-        pause = FIRST_LOOK
+        clock = Clock(end)
         while True:
             slot = self.slot(ticket)
             asked = [requests.readfe(words, slot, nowait=True), requests.readff(words, TAIL, nowait=True)]
@@ -160,37 +185,34 @@ class Ring:
             if is_late and is_kept:
                 ticket, is_kept = (yield from self._new_ticket(words, HEAD)), False
                 continue
-            must_look = is_late or any(map(is_full, signal)) or time.monotonic() - self._looked_at > TRUST
             if not nowait:
-                found = yield from self._wait_for(words, slot, is_late, pause, end)
-                if found is not None:
-                    return found
-                pause = min(2 * pause, LAST_LOOK)
-                must_look = True
-            found = (yield from self._get_anywhere(words, ticket)) if must_look else None
+                value, *signal = yield from self._wait_for(words, slot, is_late, clock.pause(is_late))
+                if is_full(value):
+                    return int(value)
+            is_over = nowait or clock.is_over()
+            is_told = any(map(is_full, signal)) or nowait and (is_late or time.monotonic() - self._looked_at > TRUST)
+            found = (yield from self._get_anywhere(words, ticket)) if is_told or clock.is_over() or clock.is_due() else None
             if found is not None:
                 if not is_late:
                     self._gets.append(ticket)
                 return found
-            if nowait or left(end) == 0.0:
+            if is_over:
                 self._gets.append(ticket)
                 raise NotNow(f"{self.name} is empty") if nowait else TimedOut(f"get {self.name}")
             if is_late:
                 ticket = yield from self._new_ticket(words, HEAD)
 
-    def _wait_for(self, words: Array, slot: int, is_late: bool, pause: float, end: Optional[float]) -> Steps[Optional[int]]:
-        """Waits for the slot's value: a moment for a putter that is late, otherwise for the signal too."""
-        rest = left(end)
+    def _wait_for(self, words: Array, slot: int, is_late: bool, seconds: float) -> Steps[List[Any]]:
+        """Waits for the slot's value: for a putter that is late that alone, otherwise for the signal too."""
         asked = [requests.readfe(words, slot)]
         if not is_late:
             asked.append(requests.readff(words, SIGNAL))
-        most = SOON if is_late else pause
-        value, *signal = yield First(asked, most if rest is None else min(most, rest))
-        if is_full(value):
-            return int(value)
-        if not isinstance(value, Withdrawn) or not isinstance(value, TimedOut) and not any(map(is_full, signal)):
+        value, *signal = yield First(asked, seconds)
+        if not is_full(value) and (
+            not isinstance(value, Withdrawn) or not isinstance(value, TimedOut) and not any(map(is_full, signal))
+        ):
             raise value  # the array is gone, or the caller is interrupted
-        return None
+        return [value, *signal]
 
     def _get_anywhere(self, words: Array, ticket: int) -> Steps[Optional[int]]:
         """Takes a value from any slot, that of the lowest ticket first."""
