@@ -55,6 +55,7 @@ class Kills(WithFolder):
         if pid:
             return pid
         status = 1
+        os.closerange(3, 1024)  # the server's ends of connections among them, or its stop would not be seen
         try:
             work(k)
             status = 0
@@ -69,7 +70,8 @@ class Kills(WithFolder):
         killed = list(range(count)) if killed is None else killed
         kills, begin = 0, time.monotonic()
         server_at = [begin + self.SECONDS * (k + 1) / (server_kills + 1) for k in range(server_kills)]
-        while time.monotonic() < begin + self.SECONDS:
+        # (on a busy machine a kill takes long)
+        while time.monotonic() < begin + self.SECONDS or kills < 12 and time.monotonic() < begin + BOUND:
             time.sleep(0.02 + 0.12 * self.chance.random())
             k = self.chance.choice(killed)
             os.kill(running[k], signal.SIGKILL)
@@ -86,20 +88,26 @@ class Kills(WithFolder):
         for pid in running.values():
             while os.waitpid(pid, os.WNOHANG) == (0, 0):
                 if time.monotonic() > end:
-                    for each in running.values():
-                        os.kill(each, signal.SIGKILL)
-                    self.fail("a process does not end")
+                    self.give_up(running.values())
                 time.sleep(0.01)
         self.assertEqual(self.log("errors").lines(), [])
-        self.assertGreater(kills, 10)
+        self.assertGreater(kills, 11)
         return kills
+
+    def give_up(self, processes):
+        for pid in processes:
+            try:
+                os.kill(pid, signal.SIGKILL)
+            except ProcessLookupError:
+                pass  # it has ended
+        self.fail("a process does not end")
 
     # Queues.
 
     def put_under_keys(self, k, make):
         """A producer with a session file. A value is put once, in however many lives."""
         log = self.log(f"put{k}")
-        with Client(self.path, session_file=f"{self.path}.{k}", reconnect_timeout=BOUND) as client:
+        with Client(self.path, session_file=f"{self.path}.{k}", wait_for_server=True) as client:
             queue, chance = make(client), random.Random()
             number = len(log.lines())
             while not self.is_enough() or client.keys():
@@ -120,7 +128,7 @@ class Kills(WithFolder):
         got, stop = [], threading.Event()
 
         def take(session):
-            with Client(self.path, session, reconnect_timeout=BOUND) as client:
+            with Client(self.path, session, wait_for_server=True) as client:
                 queue = make(client)
                 while True:
                     try:
@@ -173,7 +181,7 @@ class Kills(WithFolder):
     def test_no_value_is_got_twice_and_one_at_most_goes_with_a_killed_taker(self):
         def work(k):
             log = self.log(f"w{k}")
-            with Client(self.path, 10 + k, reconnect_timeout=BOUND) as client:
+            with Client(self.path, 10 + k, wait_for_server=True) as client:
                 queue, number = BoundedQueue(client, "queue", 4), 10 * len(log.lines())
                 while not self.is_enough():
                     number += 1
@@ -218,7 +226,7 @@ class Kills(WithFolder):
 
     def check_held(self, make, work):
         def run(k):
-            with Client(self.path, 20 + k, reconnect_timeout=BOUND) as client:
+            with Client(self.path, 20 + k, wait_for_server=True) as client:
                 held = make(client)
                 while not self.is_enough():
                     work(held, k)
@@ -275,7 +283,7 @@ class Kills(WithFolder):
     def test_what_is_added_under_keys_counts_once(self):
         def work(k):
             log = self.log(f"add{k}")
-            with Client(self.path, session_file=f"{self.path}.{k}", reconnect_timeout=BOUND) as client:
+            with Client(self.path, session_file=f"{self.path}.{k}", wait_for_server=True) as client:
                 counter, number = Counter(client, "counter"), len(log.lines())
                 while not self.is_enough():
                     counter.add(key=number)
@@ -325,7 +333,7 @@ class Kills(WithFolder):
                 self.put_under_keys(k, lambda client: WorkQueue(client, "jobs", 32, attempts=16, away_after=0.5))
                 return
             log = self.log(f"take{k}")
-            with Client(self.path, 40 + k, reconnect_timeout=BOUND) as client:
+            with Client(self.path, 40 + k, wait_for_server=True) as client:
                 queue = WorkQueue(client, "jobs", 32, attempts=16, away_after=0.5)
                 while True:
                     try:
